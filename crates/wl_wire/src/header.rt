@@ -1,0 +1,45 @@
+//! The two words before a message's arguments.
+ghost use Rattle.std.specs.Prelude.{◌≡◌};
+
+use crate::word::word_at;
+use byteorder::{ByteOrder, LittleEndian};
+
+/// The first eight bytes of a message. (Section "Wire Format".)
+#[derive(Clone, Copy, Debug, PartialEq, Eq)]
+pub struct Header {
+    /// The id of the object that the message is for.
+    pub object: u32,
+    /// The number of bytes of the whole message, these eight counted.
+    pub size: u16,
+    /// The place of the message among the requests, or the events, of the object's interface.
+    pub opcode: u16,
+}
+
+impl Header {
+    ghost use Rattle.wl_wire.specs.Word.{header_bytes};
+
+    /// The header's two words: the object's, and one with the size in its upper half and the
+    /// opcode in its lower half.
+    pub fn to_bytes(self) -> [u8; 8]
+        ensures { result ≡ header_bytes self }
+    {
+        let mut bytes = [0; 8];
+        LittleEndian::write_u32(&mut bytes[..4], self.object);
+        LittleEndian::write_u16(&mut bytes[4..6], self.opcode);
+        LittleEndian::write_u16(&mut bytes[6..], self.size);
+        bytes
+    }
+
+    /// The header that these bytes are. Any eight bytes are one.
+    pub fn from_bytes(bytes: [u8; 8]) -> Header
+        ensures { bytes ≡ header_bytes result }
+    {
+        let object = word_at(&bytes[..4]);
+        let second = word_at(&bytes[4..]);
+        Header {
+            object,
+            size: (second / 65536) as u16,
+            opcode: (second % 65536) as u16,
+        }
+    }
+}

@@ -1,0 +1,20 @@
+//! The words, headers and arguments of the Wayland wire format.
+//!
+//! A stream is a row of 32-bit words in host byte order, which is little-endian here. Each message
+//! is a header of two words and then its arguments, which carry no type: the message's signature
+//! gives it. This crate reads and writes one argument or header at a time, over bytes that are
+//! handed in and out. (Chapter "Wayland Protocol and Model of Operation", section "Wire Format".)
+#![tactic(auto)]
+
+mod bytes;
+mod fixed;
+mod header;
+mod kind;
+mod value;
+mod word;
+
+pub use bytes::Bytes;
+pub use fixed::Fixed;
+pub use header::Header;
+pub use kind::{ArgFault, Iface, Kind, ReadError};
+pub use value::{Value, ValueRef};
