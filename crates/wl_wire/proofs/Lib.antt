@@ -2,3 +2,4 @@ pub mod Numbers
 pub mod Fronts
 pub mod Answered
 pub mod Taken
+pub mod Zeros
