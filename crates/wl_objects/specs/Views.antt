@@ -19,10 +19,10 @@ use Rattle.wl_objects.specs.View.{View, Sound, look, is_held, times, places, wit
 tie : (a b : ℕ) → eq_by_cmp nat_cmp a b ≡ eqb a b
 tie a b = grind (arith, common_steps, nat_tests)
 
-get_put : {X : Type 0} (m : FinMap nat_cmp X) (k : ℕ) (x : X) (q : ℕ) → get (insert m k x) q ≡ cond (eqb q k) (Some x) (get m q)
+pub get_put : {X : Type 0} (m : FinMap nat_cmp X) (k : ℕ) (x : X) (q : ℕ) → get (insert m k x) q ≡ cond (eqb q k) (Some x) (get m q)
 get_put m k x q = get-insert nat_cmp_total m k x q ∙ ap (λ b. cond b (Some x) (get m q)) (tie q k)
 
-get_gone : {X : Type 0} (m : FinMap nat_cmp X) (k q : ℕ) → get (remove m k) q ≡ cond (eqb q k) None (get m q)
+pub get_gone : {X : Type 0} (m : FinMap nat_cmp X) (k q : ℕ) → get (remove m k) q ≡ cond (eqb q k) None (get m q)
 get_gone m k q = get-remove nat_cmp_total m k q ∙ ap (λ b. cond b None (get m q)) (tie q k)
 
 ruleset steps = (get_put, get_gone, len-insert, len-remove, nat_cmp_total, nat_tests, common_steps, arith)
