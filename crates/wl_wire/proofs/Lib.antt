@@ -1,0 +1,4 @@
+pub mod Numbers
+pub mod Fronts
+pub mod Answered
+pub mod Taken

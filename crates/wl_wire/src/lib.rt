@@ -10,6 +10,7 @@ mod bytes;
 mod fixed;
 mod header;
 mod kind;
+mod reading;
 mod value;
 mod word;
 
@@ -17,4 +18,5 @@ pub use bytes::Bytes;
 pub use fixed::Fixed;
 pub use header::Header;
 pub use kind::{ArgFault, Iface, Kind, ReadError};
+pub use reading::read_ref;
 pub use value::{Value, ValueRef};
