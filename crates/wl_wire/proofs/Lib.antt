@@ -1,0 +1,5 @@
+pub mod Numbers
+pub mod Fronts
+pub mod Answered
+pub mod Taken
+pub mod Zeros

@@ -1,7 +1,7 @@
 //! The two words before a message's arguments.
-ghost use Rattle.std.specs.Prelude.{◌≡◌};
+ghost use Rattle.std.specs.Prelude.{◌≡◌, ◌≤◌, length, take};
+ghost use Rattle.wl_wire.specs.Word.{word};
 
-use crate::word::word_at;
 use byteorder::{ByteOrder, LittleEndian};
 
 /// The first eight bytes of a message. (Section "Wire Format".)
@@ -42,4 +42,12 @@ impl Header {
             opcode: (second % 65536) as u16,
         }
     }
+}
+
+/// The number whose word the first four bytes are.
+fn word_at(bytes: &[u8]) -> u32
+    requires { 4 ≤ length bytes.now }
+    ensures { take 4 bytes.now ≡ word result }
+{
+    LittleEndian::read_u32(bytes)
 }
