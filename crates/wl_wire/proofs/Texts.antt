@@ -1,6 +1,6 @@
 -- Fixed-point numbers as they are printed.
-use Rattle.std.proofs.Common.{◌≡◌, ℕ, zero, suc, ◌+◌, ◌-◌, ◌*◌, ◌/◌, ◌%◌, ◌^◌, List, [], ◌∷◌, ◌++◌, length, refl, sym, ap, subst, ◌∙◌, arith, append-nil, true, false, Bool, ℤ, pos, FitsSigned, to_z, of_z, w32}
-use Rattle.std.specs.Prelude.{decimal, replicate, negsuc, nat_abs, int_lt}
+use Rattle.std.proofs.Common.{◌≡◌, ℕ, ◌-◌, ◌*◌, ◌/◌, ◌%◌, ◌^◌, List, [], ◌∷◌, ◌++◌, length, refl, ap, arith, append-nil, true, false, ℤ, pos}
+use Rattle.std.specs.Prelude.{decimal, negsuc, nat_abs, int_lt}
 use Rattle.std.proofs.lemmas.Bool.{ltb-true, true≢false}
 use Rattle.std.specs.Fmt.{padded_integral, char_count, format_spec, styled_decimal}
 use Rattle.wl_wire.specs.Units.{decimal_to, fixed_text, sign_of}
