@@ -1,5 +1,5 @@
 -- A text tells one list of pieces, or has one first bad line.
-use Rattle.std.proofs.Common.{◌≡◌, ℕ, ◌+◌, ◌-◌, ◌<◌, ◌≤◌, List, [], ◌∷◌, ◌++◌, length, get_or, refl, sym, ap, ◌∙◌, subst, inl, inr, ◌⊎◌, arith, rules}
+use Rattle.std.proofs.Common.{◌≡◌, ℕ, ◌<◌, ◌≤◌, List, [], ◌∷◌, ◌++◌, length, get_or, refl, sym, ap, ◌∙◌, inl, inr, ◌⊎◌, arith}
 use Rattle.std.specs.Prelude.{Result, Ok, Err, IfOk, IfErr}
 use Rattle.std.specs.List.{All}
 use Rattle.std.specs.Str.Lines.{lines}
@@ -10,7 +10,7 @@ use Rattle.hex.proofs.HexLemmas.{decode_of-ok}
 use Rattle.wl_recording.specs.declared.recording.RecordingError.{RecordingError}
 use Rattle.wl_recording.specs.declared.recording.RecordingError.TheVariants.{BadLine, Memory}
 use Rattle.wl_recording.specs.Piece.{Piece, IsTellable}
-use Rattle.wl_recording.specs.Line.{IsSkipped, IsPiece, SpellsBytes, no_bytes, some_bytes, SpellsTokens, no_tokens, some_tokens}
+use Rattle.wl_recording.specs.Line.{SpellsBytes, no_bytes, some_bytes, SpellsTokens, no_tokens, some_tokens}
 use Rattle.wl_recording.specs.Text.{Tell, ends, skips, tells, Recorded, IsGood, IsFirstBad}
 use Rattle.wl_recording.proofs.PieceLemmas.{one_piece, skipped_tells_none}
 

@@ -1,5 +1,4 @@
-use Rattle.std.proofs.Common.{◌≡◌, ℕ, List, ◌∷◌, Option, Some, None, ap, ◌∙◌, refl}
-use Rattle.std.specs.Prelude.{MatchOption}
+use Rattle.std.proofs.Common.{ℕ, List, ◌∷◌, ap, ◌∙◌}
 use Rattle.wl_recording.proofs.PieceLemmas.{at_none, parts_of}
 use Rattle.wl_recording.specs.Line.{sign}
 use Rattle.wl_recording.proofs.line.read_piece.Goals as goal

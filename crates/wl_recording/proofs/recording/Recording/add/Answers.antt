@@ -1,4 +1,4 @@
-use Rattle.std.proofs.Common.{ℕ, [], arith, ◌∙◌}
+use Rattle.std.proofs.Common.{[], arith, ◌∙◌}
 use Rattle.std.proofs.lemmas.List.{map-append}
 use Rattle.std.proofs.lemmas.List.Elements.{All-push}
 use Rattle.hex.specs.Hex.{IsBytes}

@@ -1,9 +1,7 @@
-use Rattle.std.proofs.Common.{◌≡◌, true, refl, inr, arith}
-use Rattle.std.specs.Prelude.{map}
+use Rattle.std.proofs.Common.{◌≡◌, true, refl, inr}
 use Rattle.std.proofs.lemmas.List.{map-append}
-use Rattle.wl_recording.specs.Piece.{plain}
 use Rattle.wl_recording.proofs.PieceLemmas.{at_none}
-use Rattle.wl_recording.proofs.Progress.{started, skipped_line, told_line, bad_line, all_read}
+use Rattle.wl_recording.proofs.Progress.{started, skipped_line, told_line, bad_line}
 use Rattle.wl_recording.proofs.TextLemmas.{tell_tellable}
 use Rattle.wl_recording.proofs.recording.Recording.read.Goals as goal
 
