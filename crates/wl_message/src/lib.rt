@@ -7,7 +7,9 @@
 #![tactic(auto)]
 
 mod amounts;
+mod front;
+mod header;
 mod inbox;
 
 pub use amounts::{Fed, Full, Piece, Sizes, Taken};
-pub use inbox::{BadSize, Frame};
+pub use inbox::{BadSize, Frame, Inbox};
