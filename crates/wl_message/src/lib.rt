@@ -10,6 +10,9 @@ mod amounts;
 mod front;
 mod header;
 mod inbox;
+mod marks;
+mod outbox;
 
 pub use amounts::{Fed, Full, Piece, Sizes, Taken};
 pub use inbox::{BadSize, Frame, Inbox};
+pub use outbox::Outbox;
