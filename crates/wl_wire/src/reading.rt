@@ -9,7 +9,7 @@ ghost use Rattle.wl_wire.specs.Reading.{asked, argument_of, number_at, on_found,
 use crate::fixed::Fixed;
 use crate::kind::{ArgFault, Kind};
 use crate::value::ValueRef;
-use crate::word::{int_at, word_at};
+use crate::word::{int_at, padded_len, word_at};
 
 /// The argument of this kind at the front of the bytes, with how many bytes spell it. What stands
 /// behind it is not looked at, and padding may be any bytes.
@@ -47,21 +47,14 @@ fn len_at(kind: Kind, bytes: &[u8]) -> Result<usize, ArgFault>
         return Err(ArgFault::Short);
     }
     let len = match kind {
-        Kind::Str { .. } | Kind::Array => 4 + padded_len(word_at(bytes)),
-        Kind::New(None) => 12 + padded_len(word_at(bytes)),
+        Kind::Str { .. } | Kind::Array => 4 + padded_len(word_at(bytes) as usize),
+        Kind::New(None) => 12 + padded_len(word_at(bytes) as usize),
         _ => 4,
     };
     if bytes.len() < len {
         return Err(ArgFault::Short);
     }
     Ok(len)
-}
-
-/// This many bytes with their padding.
-fn padded_len(len: u32) -> usize
-    ensures { result ≡ padded len }
-{
-    (len as usize + 3) / 4 * 4
 }
 
 /// The argument at the front of bytes that are all there.
@@ -89,7 +82,7 @@ fn value_at<'a>(kind: Kind, bytes: &'a [u8]) -> Result<ValueRef<'a>, ArgFault>
         Kind::New(Some(_)) => Ok(ValueRef::New(word_at(bytes))),
         Kind::New(None) => {
             let iface = text_at(bytes)?;
-            let after = &bytes[4 + padded_len(word_at(bytes))..];
+            let after = &bytes[4 + padded_len(word_at(bytes) as usize)..];
             Ok(ValueRef::NewNamed {
                 iface,
                 version: word_at(after),

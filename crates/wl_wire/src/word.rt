@@ -1,5 +1,6 @@
 //! Words of four bytes, read.
-ghost use Rattle.std.specs.Prelude.{◌≡◌, ◌≤◌, length};
+ghost use Rattle.std.specs.Prelude.{◌≡◌, ◌≤◌, ◌^◌, length};
+ghost use Rattle.wl_wire.specs.Spelling.{padded};
 ghost use Rattle.wl_wire.specs.Reading.{number_at, signed};
 
 use byteorder::{ByteOrder, LittleEndian};
@@ -18,4 +19,12 @@ pub(crate) fn int_at(bytes: &[u8]) -> i32
     ensures { result ≡ signed (number_at bytes.now) }
 {
     LittleEndian::read_i32(bytes)
+}
+
+/// This many bytes with their padding.
+pub(crate) fn padded_len(len: usize) -> usize
+    requires { len ≤ 2 ^ 32 }
+    ensures { result ≡ padded len }
+{
+    (len + 3) / 4 * 4
 }
