@@ -3,3 +3,5 @@ pub mod Fronts
 pub mod Answered
 pub mod Taken
 pub mod Zeros
+pub mod Canonicals
+pub mod Refused

@@ -27,3 +27,6 @@ found_from kind bytes (Err fault) w e = tt
 pub fault_from : (kind : Kind) (bytes : List ℕ) (r : Result (ValueRef × ℕ) ArgFault) → Bytewise bytes → seen r ≡ reading kind bytes → IfErr r (IsFirstFault kind bytes)
 fault_from kind bytes (Ok x) w e = tt
 fault_from kind bytes (Err fault) w e = subst (IsAnswer kind bytes) (sym e) (reading-answers kind bytes w)
+
+pub reading-found : (kind : Kind) (value : Argument) (len : ℕ) (bytes : List ℕ) → Bytewise bytes → reading kind bytes ≡ Ok (value, len) → (len ≤ length bytes) × Spells kind value (take len bytes)
+reading-found kind value len bytes w e = subst (IsAnswer kind bytes) e (reading-answers kind bytes w)

@@ -10,6 +10,7 @@ mod bytes;
 mod fixed;
 mod header;
 mod kind;
+pub mod laws;
 mod owning;
 mod reading;
 mod value;
