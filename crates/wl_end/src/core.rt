@@ -36,9 +36,13 @@ pub struct Core<'t, T: Table> {
 
 impl<'t, T: Table> Model for Core<'t, T> {
     ghost use Rattle.std.specs.Prelude.{◌≤◌, vec_capacity};
+    ghost use Rattle.std.specs.Coded.{codes};
+    ghost use Rattle.wl_objects.specs.View.{view_code};
     ghost use Rattle.wl_end.specs.Core.{Core as CoreState};
 
     ghost Value = { CoreState };
+
+    ghost coded = { Prim.hlevel (codes, view_code) };
 
     ghost view = { λ c. record { tables = c.tables.now; view = T.view c.table; inbox = c.inbox; outbox = c.outbox; failed = c.failed; read = c.read } };
 
@@ -90,7 +94,10 @@ impl<'t, T: Table> Core<'t, T> {
         ensures { result ≡ in_room self.now }
     {
         if self.failed {
-            return Fed { bytes: 0, tokens: 0 };
+            return Fed {
+                bytes: 0,
+                tokens: 0,
+            };
         }
         Fed {
             bytes: self.inbox.room(),
@@ -112,7 +119,10 @@ impl<'t, T: Table> Core<'t, T> {
         ensures state { self.new ≡ with_arrived self.old (take result.bytes bytes.now) (take result.tokens tokens.now) }
     {
         if self.failed {
-            return Fed { bytes: 0, tokens: 0 };
+            return Fed {
+                bytes: 0,
+                tokens: 0,
+            };
         }
         self.inbox.feed(bytes, tokens)
     }

@@ -6,6 +6,5 @@
 #![tactic(auto)]
 
 mod core;
-mod sending;
 
 pub use crate::core::Core;
