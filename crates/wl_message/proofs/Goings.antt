@@ -1,13 +1,11 @@
 -- What goes of messages of which none is begun.
-use Rattle.std.proofs.Common.{◌≡◌, ℕ, zero, suc, ◌+◌, ◌-◌, ◌<◌, ◌≤◌, min, Bool, true, false, cond, ◌||◌, eqb, ltb, ◌⊎◌, inl, inr, List, [], ◌∷◌, ◌++◌, length, take, drop, refl, sym, ap, subst, ◌∙◌, arith, length-append}
+use Rattle.std.proofs.Common.{◌≡◌, ℕ, zero, suc, ◌+◌, ◌-◌, ◌<◌, ◌≤◌, min, Bool, true, false, cond, ◌||◌, eqb, ltb, ◌⊎◌, inl, inr, List, [], ◌∷◌, ◌++◌, length, take, refl, sym, ap, subst, ◌∙◌, arith, length-append}
 use Rattle.std.specs.List.{AllByRecursion}
-use Rattle.std.proofs.lemmas.Grind.{common_steps}
 use Rattle.std.proofs.lemmas.Bool.Decides.{nat_tests}
-use Rattle.std.proofs.lemmas.List.{append_assoc, append-nil}
 use Rattle.wl_message.specs.declared.marks.Mark.{Mark}
 use Rattle.wl_message.specs.declared.marks.Reach.{Reach}
 use Rattle.wl_message.specs.declared.amounts.Taken.{Taken}
-use Rattle.wl_message.specs.Outgoing.{Message, message, Outgoing, all_bytes, all_tokens, begun, going, newly_begun, going_bytes, MayGo, Goes, goes, waiting_bytes}
+use Rattle.wl_message.specs.Outgoing.{Message, Outgoing, all_bytes, all_tokens, begun, going, newly_begun, going_bytes, Goes, goes}
 use Rattle.wl_message.specs.Marks.{reach, Reaches}
 
 -- ---- the messages begun
@@ -67,8 +65,8 @@ tokens_at m ms b t g (suc n) e h =
     let c = begins_at b t (length m.bytes) (length m.tokens) g n e in
     let s = tokens_some m ms (suc n) (omega arith) in
     elim c.1 [
-      inl z ↦ (let y = ap (λ (i : ℕ). tokens_by i ms) z in omega (arith, s, c.0, y, tokens_none ms))
-    | inr z ↦ (let y = ap (λ (i : ℕ). tokens_by i ms) z in omega (arith, s, c.0, y, h))
+      | inl z ↦ (let y = ap (λ (i : ℕ). tokens_by i ms) z in omega (arith, s, c.0, y, tokens_none ms))
+      | inr z ↦ (let y = ap (λ (i : ℕ). tokens_by i ms) z in omega (arith, s, c.0, y, h))
     ]
 
 pub going_tokens : (b t : ℕ) (ms : List Message) → tokens_by (going b t ms) ms ≤ t
@@ -86,7 +84,7 @@ going_longest b t (suc n) (m ∷ ms) p q r =
     let e = tokens_some m ms (suc n) (omega arith) in
     let there : suc n - length m.bytes ≤ length (all_bytes ms) = omega (arith, length-append m.bytes (all_bytes ms)) in
     longest_step b t (length m.bytes) (length m.tokens) (going (b - length m.bytes) (t - length m.tokens) ms) (suc n) (tokens_by (suc n - length m.bytes) ms) (omega arith) p (omega (arith, e, r))
-      (λ x y. going_longest (b - length m.bytes) (t - length m.tokens) (suc n - length m.bytes) ms x there y)
+    (λ x y. going_longest (b - length m.bytes) (t - length m.tokens) (suc n - length m.bytes) ms x there y)
 
 -- ---- the same with what is left of the message begun last
 
@@ -110,9 +108,9 @@ goes_goes o b t =
         within = omega (arith, w);
         tokens_within = subst (λ (n : ℕ). tokens_by n o.messages ≤ t) (sym e) k;
       };
-      longest = λ n may. 
-        let l = going_longest (b - length o.left) t (n - length o.left) o.messages (omega (arith, may.within)) (omega (arith, may.there, length-append o.left (all_bytes o.messages))) may.tokens_within in
-        omega (arith, l, may.within);
+      longest = λ n may.
+          let l = going_longest (b - length o.left) t (n - length o.left) o.messages (omega (arith, may.within)) (omega (arith, may.there, length-append o.left (all_bytes o.messages))) may.tokens_within in
+          omega (arith, l, may.within);
       with_tokens = refl;
     }
 
@@ -155,7 +153,7 @@ agrees_none ms b t n =
 agrees_at : (m : Message) (ms : List Message) (b t n g : ℕ) (r : Reach) (x y z : Bool) → eqb b 0 ≡ x → ltb t (length m.tokens) ≡ y → ltb b (length m.bytes) ≡ z → 0 < length m.bytes
     → Agrees ms (b - length m.bytes) (t - length m.tokens) (n + 1) g r
     → Agrees (m ∷ ms) b t n (cond (x || y) 0 (cond z b (length m.bytes + g)))
-        (cond x (stop b t n) (cond y (stop b t n) (cond z (record { bytes = 0; tokens = t - length m.tokens; begun = n + 1; left = length m.bytes - b }) r)))
+    (cond x (stop b t n) (cond y (stop b t n) (cond z (record { bytes = 0; tokens = t - length m.tokens; begun = n + 1; left = length m.bytes - b }) r)))
 agrees_at m ms b t n g r true y z p q s h a = agrees_none (m ∷ ms) b t n
 agrees_at m ms b t n g r false true z p q s h a = agrees_none (m ∷ ms) b t n
 agrees_at m ms b t n g r false false true p q s h a =

@@ -1,13 +1,11 @@
 -- An outbox's lists, parted into messages.
-use Rattle.std.proofs.Common.{◌≡◌, ℕ, zero, suc, ◌+◌, ◌-◌, ◌*◌, ◌<◌, ◌≤◌, min, Bool, true, false, List, [], ◌∷◌, ◌++◌, length, take, drop, refl, sym, ap, subst, ◌∙◌, arith, length-append, length-drop}
+use Rattle.std.proofs.Common.{◌≡◌, ℕ, zero, suc, ◌+◌, ◌-◌, ◌*◌, ◌<◌, ◌≤◌, min, true, false, List, [], ◌∷◌, ◌++◌, length, take, drop, refl, sym, ap, subst, ◌∙◌, arith, length-append, length-drop}
 use Rattle.std.specs.List.{AllByRecursion}
-use Rattle.std.proofs.lemmas.Grind.{common_steps}
-use Rattle.std.proofs.lemmas.List.{length-take, append_assoc, append-nil, take-append-drop, take-append-le, drop-append-le, drop-drop, drop-take, take_all}
+use Rattle.std.proofs.lemmas.List.{length-take, append-nil, take-append-drop, take-append-le, drop-append-le, drop-drop, drop-take, take_all}
 use Rattle.std.proofs.Math.Seq.{take-add}
 use Rattle.wl_message.specs.declared.marks.Mark.{Mark}
 use Rattle.wl_message.specs.declared.marks.Reach.{Reach}
-use Rattle.wl_message.specs.declared.amounts.Taken.{Taken}
-use Rattle.wl_message.specs.Outgoing.{Message, message, Outgoing, all_bytes, all_tokens, begun, going, newly_begun, going_bytes, goes, waiting_bytes, waiting_tokens, with_message, with_error, after_taking}
+use Rattle.wl_message.specs.Outgoing.{Message, message, Outgoing, all_bytes, all_tokens, begun, newly_begun, going_bytes, goes, waiting_bytes, waiting_tokens, with_message, with_error, after_taking}
 use Rattle.wl_message.specs.Marks.{reach, Reaches, parted, lens, token_counts, Kept, outgoing, IsKept}
 use Rattle.wl_message.proofs.Goings.{begun_front, marks_of, reaches}
 
@@ -216,10 +214,10 @@ reaches_kept h b t first r i f e =
     let m = marks-parted h.marks _ _ p in
     let f' : first ≡ min b (length (take h.left h.bytes)) = f ∙ ap (min b) (sym l) in
     let e' : r ≡ reach (b - min b (length (take h.left h.bytes))) t 0 (marks_of (parted h.marks (drop h.left h.bytes) h.tokens)) =
-        e ∙ (λ d. reach (b - f' d) t 0 (sym m d)) in
+    e ∙ (λ d. reach (b - f' d) t 0 (sym m d)) in
     let g = reaches (outgoing h) b t r (some-parted h.marks _ _ p i.each) e' in
     subst (λ (n : ℕ). Reaches (outgoing h) b t (record { bytes = r.bytes; tokens = r.tokens; begun = r.begun; left = n + r.left }))
-      (λ d. l d - sym f' d) g
+    (λ d. l d - sym f' d) g
 
 -- the outbox once n bytes and k tokens are gone
 abbrev pub kept_after : Kept → ℕ → ℕ → ℕ → ℕ → Kept
@@ -252,27 +250,27 @@ leaves h b t n k r i g en ek =
     let count : ℕ = token_counts (take j h.marks) in
     let n_is : n ≡ going_bytes o b t = omega (arith, en, g.bytes) in
     let begun_is : newly_begun o n ≡ take j ms =
-        ap (λ (q : ℕ). newly_begun o q) n_is ∙ begun_front (going_bytes o b t - length o.left) ms ∙ ap (λ (q : ℕ). take q ms) (sym g.begun) in
+    ap (λ (q : ℕ). newly_begun o q) n_is ∙ begun_front (going_bytes o b t - length o.left) ms ∙ ap (λ (q : ℕ). take q ms) (sym g.begun) in
     let begun_len : length (newly_begun o n) ≡ j = ap (λ (q : ℕ). length (newly_begun o q)) n_is ∙ sym g.begun in
     let bytes_are : all_bytes (newly_begun o n) ≡ take size (drop l h.bytes) = ap (λ (m : List Message). all_bytes m) begun_is ∙ s.bytes in
     let tokens_are : all_tokens (newly_begun o n) ≡ take count h.tokens = ap (λ (m : List Message). all_tokens m) begun_is ∙ s.tokens in
     let size_within : size + lens (drop j h.marks) ≡ lens h.marks = lens-parts j h.marks in
     let count_within : count + token_counts (drop j h.marks) ≡ token_counts h.marks = counts-parts j h.marks in
     let bytes_len : length (all_bytes (newly_begun o n)) ≡ size =
-        ap (λ (q : List ℕ). length q) bytes_are ∙ omega (arith, length-take size (drop l h.bytes), p.bytes, size_within) in
+    ap (λ (q : List ℕ). length q) bytes_are ∙ omega (arith, length-take size (drop l h.bytes), p.bytes, size_within) in
     let tokens_len : length (all_tokens (newly_begun o n)) ≡ count =
-        ap (λ (q : List ℕ). length q) tokens_are ∙ omega (arith, length-take count h.tokens, p.tokens, count_within) in
+    ap (λ (q : List ℕ). length q) tokens_are ∙ omega (arith, length-take count h.tokens, p.tokens, count_within) in
     let reached : r.left + n ≡ length (o.left ++ all_bytes (newly_begun o n)) =
-        subst (λ (q : ℕ). r.left + q ≡ length (o.left ++ all_bytes (newly_begun o q))) (sym n_is) g.left in
+    subst (λ (q : ℕ). r.left + q ≡ length (o.left ++ all_bytes (newly_begun o q))) (sym n_is) g.left in
     let ends : l + size ≡ n + r.left = omega (arith, reached, length-append o.left (all_bytes (newly_begun o n)), left_len h i, bytes_len) in
     let k_is : k ≡ count =
-        omega (arith, ek, g.tokens, ap (λ (q : ℕ). length (all_tokens (newly_begun o q))) n_is, tokens_len) in
+    omega (arith, ek, g.tokens, ap (λ (q : ℕ). length (all_tokens (newly_begun o q))) n_is, tokens_len) in
     let front : drop n (take l h.bytes ++ all_bytes (newly_begun o n)) ≡ take r.left (drop n h.bytes) =
-        ap (λ (q : List ℕ). drop n (take l h.bytes ++ q)) bytes_are ∙ ap (drop n) (sym (take-add l size h.bytes)) ∙ ap (λ (q : ℕ). drop n (take q h.bytes)) ends ∙ drop-take n r.left h.bytes in
+    ap (λ (q : List ℕ). drop n (take l h.bytes ++ q)) bytes_are ∙ ap (drop n) (sym (take-add l size h.bytes)) ∙ ap (λ (q : ℕ). drop n (take q h.bytes)) ends ∙ drop-take n r.left h.bytes in
     let behind : drop r.left (drop n h.bytes) ≡ drop size (drop l h.bytes) =
-        drop-drop r.left n h.bytes ∙ ap (λ (q : ℕ). drop q h.bytes) (sym ends) ∙ sym (drop-drop size l h.bytes) in
+    drop-drop r.left n h.bytes ∙ ap (λ (q : ℕ). drop q h.bytes) (sym ends) ∙ sym (drop-drop size l h.bytes) in
     let others : parted (drop j h.marks) (drop r.left (drop n h.bytes)) (drop k h.tokens) ≡ drop (length (newly_begun o n)) ms =
-        (λ d. parted (drop j h.marks) (behind d) (drop (k_is d) h.tokens)) ∙ sym s.others ∙ ap (λ (q : ℕ). drop q ms) (sym begun_len) in
+    (λ d. parted (drop j h.marks) (behind d) (drop (k_is d) h.tokens)) ∙ sym s.others ∙ ap (λ (q : ℕ). drop q ms) (sym begun_len) in
     let n_there : n ≤ length h.bytes = omega (arith, ends, i.bytes, size_within) in
     record {
       bytes = n_there;

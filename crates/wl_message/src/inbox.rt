@@ -51,10 +51,11 @@ impl<A: Allocator> Model for Inbox<A> {
     ghost view = { λ i. record { bytes = i.bytes.items; tokens = i.tokens.items; capacity = i.capacity; token_capacity = i.token_capacity } };
 
     ghost invariant = { λ i. record {
-        room : length i.bytes.items ≤ i.capacity;
-        token_room : length i.tokens.items ≤ i.token_capacity;
-        reserved : i.capacity ≤ vec_capacity i.bytes;
-        tokens_reserved : i.token_capacity ≤ vec_capacity i.tokens } };
+      room : length i.bytes.items ≤ i.capacity;
+      token_room : length i.tokens.items ≤ i.token_capacity;
+      reserved : i.capacity ≤ vec_capacity i.bytes;
+      tokens_reserved : i.token_capacity ≤ vec_capacity i.tokens;
+    } };
 }
 
 impl<A: Allocator + Clone + Drop> Inbox<A> {

@@ -45,18 +45,33 @@ impl<A: Allocator> Model for Outbox<A> {
     ghost use Rattle.wl_message.specs.Marks.{Kept, outgoing, IsKept};
 
     ghost view = { λ o. outgoing (record {
-        bytes = o.bytes.items; tokens = o.tokens.items; marks = o.marks.items; left = o.left;
-        capacity = o.capacity; token_capacity = o.token_capacity;
-        has_error = o.has_error; error_from = o.error_from; error_to = o.error_to }) };
+      bytes = o.bytes.items;
+      tokens = o.tokens.items;
+      marks = o.marks.items;
+      left = o.left;
+      capacity = o.capacity;
+      token_capacity = o.token_capacity;
+      has_error = o.has_error;
+      error_from = o.error_from;
+      error_to = o.error_to;
+    }) };
 
     ghost invariant = { λ o. record {
-        kept : IsKept (record {
-            bytes = o.bytes.items; tokens = o.tokens.items; marks = o.marks.items; left = o.left;
-            capacity = o.capacity; token_capacity = o.token_capacity;
-            has_error = o.has_error; error_from = o.error_from; error_to = o.error_to });
-        reserved : o.capacity + 64 ≤ vec_capacity o.bytes;
-        tokens_reserved : o.token_capacity ≤ vec_capacity o.tokens;
-        marks_reserved : o.capacity + 64 ≤ 8 * vec_capacity o.marks } };
+      kept : IsKept (record {
+        bytes = o.bytes.items;
+        tokens = o.tokens.items;
+        marks = o.marks.items;
+        left = o.left;
+        capacity = o.capacity;
+        token_capacity = o.token_capacity;
+        has_error = o.has_error;
+        error_from = o.error_from;
+        error_to = o.error_to;
+      });
+      reserved : o.capacity + 64 ≤ vec_capacity o.bytes;
+      tokens_reserved : o.token_capacity ≤ vec_capacity o.tokens;
+      marks_reserved : o.capacity + 64 ≤ 8 * vec_capacity o.marks;
+    } };
 }
 
 impl<A: Allocator + Clone + Drop> Outbox<A> {

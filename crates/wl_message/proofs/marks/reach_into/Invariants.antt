@@ -1,4 +1,4 @@
-use Rattle.std.proofs.Common.{◌≡◌, ◌≤◌, drop}
+use Rattle.std.proofs.Common.{◌≡◌, drop}
 use Rattle.wl_message.specs.Marks.{reach}
 use Rattle.wl_message.proofs.marks.reach_into.Given as goal
 

@@ -1,4 +1,4 @@
-use Rattle.std.proofs.Common.{◌≡◌, ℕ, ◌+◌, ◌-◌, List, length, ap, sym, subst, ◌∙◌, arith}
+use Rattle.std.proofs.Common.{sym, subst}
 use Rattle.wl_message.specs.declared.amounts.Taken.{Taken}
 use Rattle.wl_message.specs.Outgoing.{Goes}
 use Rattle.wl_message.proofs.Keeps.{is_taken}
@@ -11,4 +11,4 @@ returns-clause-computed g c = is_taken c.args.self.now c.args.bytes c.args.token
 pub returns-clause-longest : goal.returns-clause-longest
 returns-clause-longest g c =
     subst (λ (t : Taken). Goes c.args.self.now c.args.bytes c.args.tokens t) (sym (is_taken c.args.self.now c.args.bytes c.args.tokens c.reach-reach.result c.reach-reach.ensures))
-      (goes_goes c.args.self.now c.args.bytes c.args.tokens)
+    (goes_goes c.args.self.now c.args.bytes c.args.tokens)

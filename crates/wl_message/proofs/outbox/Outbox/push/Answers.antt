@@ -1,4 +1,4 @@
-use Rattle.std.proofs.Common.{◌≡◌, ℕ, ◌+◌, ◌-◌, ◌*◌, ◌≤◌, ◌<◌, List, length, ap, sym, ◌∙◌, arith}
+use Rattle.std.proofs.Common.{◌≡◌, ◌+◌, ◌-◌, length, ap, ◌∙◌, arith}
 use Rattle.wl_message.specs.Outgoing.{with_message}
 use Rattle.wl_message.proofs.Keeps.{bytes_wait, tokens_wait, pushed, pushed_kept, marks_fit}
 use Rattle.wl_message.proofs.outbox.Outbox.push.Goals as goal
@@ -32,7 +32,7 @@ invariant_of-self g c =
     let s : c.token_room.result + length o.tokens.items ≡ o.token_capacity = rw (tokens_wait _ i) at (rw (← c.self.view_is) at c.token_room.ensures.within) in
     record {
       kept = rw (c.append.ensures.items, c.append-2.ensures.items, c.push_reserved.ensures.items) (pushed_kept _ c.args.message.now c.args.tokens.now i c.requires.size.header
-        (omega (arith, r, i.error_there, i.error_order, c.if-room-message.false)) (omega (arith, s, c.if-token_room-tokens.false)));
+          (omega (arith, r, i.error_there, i.error_order, c.if-room-message.false)) (omega (arith, s, c.if-token_room-tokens.false)));
       reserved = omega (arith, c.self.invariant.reserved, c.append.ensures.capacity);
       tokens_reserved = omega (arith, c.self.invariant.tokens_reserved, c.append-2.ensures.capacity);
       marks_reserved = omega (arith, c.self.invariant.marks_reserved, c.push_reserved.ensures.capacity);
@@ -41,4 +41,4 @@ invariant_of-self g c =
 pub returns-clause-ok : goal.returns-clause-ok
 returns-clause-ok g c =
     rw (c.append.ensures.items, c.append-2.ensures.items, c.push_reserved.ensures.items)
-      (pushed _ c.args.message.now c.args.tokens.now c.self.invariant.kept ∙ ap (λ w. with_message w c.args.message.now c.args.tokens.now) c.self.view_is)
+    (pushed _ c.args.message.now c.args.tokens.now c.self.invariant.kept ∙ ap (λ w. with_message w c.args.message.now c.args.tokens.now) c.self.view_is)

@@ -1,4 +1,4 @@
-use Rattle.std.proofs.Common.{◌≡◌, ℕ, ◌+◌, ◌-◌, ◌*◌, ◌≤◌, ◌<◌, false, List, length, ap, sym, ◌∙◌, arith}
+use Rattle.std.proofs.Common.{◌≡◌, false, length, ap, ◌∙◌, arith}
 use Rattle.wl_message.specs.Outgoing.{with_error}
 use Rattle.wl_message.proofs.Keeps.{pushed_error, error_kept, marks_fit}
 use Rattle.wl_message.proofs.outbox.Outbox.push_error.Goals as goal
@@ -37,4 +37,4 @@ returns g c =
     let o = c.self.inside in
     let e : c.len-self-inside.result ≡ length o.bytes.items = c.len-self-inside.ensures ∙ o.bytes.ok.0 in
     rw (e, c.append.ensures.items, c.push_reserved.ensures.items)
-      (pushed_error _ c.args.message.now c.self.invariant.kept ∙ ap (λ w. with_error w c.args.message.now) c.self.view_is)
+    (pushed_error _ c.args.message.now c.self.invariant.kept ∙ ap (λ w. with_error w c.args.message.now) c.self.view_is)

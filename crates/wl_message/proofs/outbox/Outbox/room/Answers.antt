@@ -1,4 +1,4 @@
-use Rattle.std.proofs.Common.{◌≡◌, ℕ, ◌+◌, ◌-◌, List, length, ap, sym, ◌∙◌, arith}
+use Rattle.std.proofs.Common.{arith}
 use Rattle.wl_message.proofs.Keeps.{bytes_wait}
 use Rattle.wl_message.proofs.outbox.Outbox.room.Goals as goal
 

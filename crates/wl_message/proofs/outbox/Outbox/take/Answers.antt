@@ -1,7 +1,6 @@
-use Rattle.std.proofs.Common.{◌≡◌, ℕ, ◌+◌, ◌-◌, ◌*◌, ◌≤◌, ◌<◌, List, ◌++◌, length, take, drop, ap, sym, subst, refl, ◌∙◌, arith}
+use Rattle.std.proofs.Common.{◌≡◌, ℕ, ◌-◌, List, ◌++◌, length, take, drop, ap, sym, subst, refl, ◌∙◌, arith}
 use Rattle.wl_message.specs.declared.amounts.Taken.{Taken}
 use Rattle.wl_message.specs.Outgoing.{Outgoing, Goes, after_taking, waiting_bytes, waiting_tokens}
-use Rattle.wl_message.specs.Marks.{Reaches}
 use Rattle.wl_message.proofs.Keeps.{is_taken, leaves, bytes_wait, tokens_wait}
 use Rattle.wl_message.proofs.Goings.{goes_goes}
 use Rattle.wl_message.proofs.outbox.Outbox.take.Goals as goal
@@ -34,8 +33,8 @@ invariant_of-self g c =
 pub returns-clause-longest : goal.returns-clause-longest
 returns-clause-longest g c =
     subst (λ (t : Taken). Goes c.args.self.now (length c.args.bytes.now) (length c.args.tokens.now) t)
-      (sym (is_taken c.args.self.now (length c.args.bytes.now) (length c.args.tokens.now) c.reach-reach.result c.reach-reach.ensures))
-      (goes_goes c.args.self.now (length c.args.bytes.now) (length c.args.tokens.now))
+    (sym (is_taken c.args.self.now (length c.args.bytes.now) (length c.args.tokens.now) c.reach-reach.result c.reach-reach.ensures))
+    (goes_goes c.args.self.now (length c.args.bytes.now) (length c.args.tokens.now))
 
 pub returns-clause-computed : goal.returns-clause-computed
 returns-clause-computed g c = is_taken c.args.self.now (length c.args.bytes.now) (length c.args.tokens.now) c.reach-reach.result c.reach-reach.ensures
@@ -57,4 +56,4 @@ returns-clause-rest g c =
     let n : ℕ = length c.args.bytes.now - c.reach-reach.result.bytes in
     let l = leaves _ (length c.args.bytes.now) (length c.args.tokens.now) _ _ c.reach-reach.result c.self.invariant.kept (rw (← c.self.view_is) at c.reach-reach.ensures) refl refl in
     rw (c.remove_first.ensures.items, c.remove_first-2.ensures.items, c.remove_first-3.ensures.items, c.saturating_sub-self-inside.ensures, c.saturating_sub-self-inside-2.ensures)
-      (l.after ∙ ap (λ (o : Outgoing). after_taking o n) c.self.view_is)
+    (l.after ∙ ap (λ (o : Outgoing). after_taking o n) c.self.view_is)
