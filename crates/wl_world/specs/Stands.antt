@@ -1,6 +1,5 @@
 -- When a pair stands for a world.
 use Rattle.std.specs.Prelude.{◌≡◌, ℕ, ◌<◌, ◌≤◌, ◌^◌, Bool, true, false, List, [], ◌∷◌, ◌++◌, length, map, Option, Some, None}
-use Rattle.std.specs.FinMap.{get}
 use Rattle.wl_wire.specs.declared.kind.Iface.{Iface}
 use Rattle.wl_wire.specs.declared.kind.Kind.{Kind}
 use Rattle.wl_wire.specs.Argument.{Uint, Str, Obj, New, NewNamed}
@@ -175,7 +174,7 @@ pub record StandsBy (p : PairState) (w : World) (asked : List (Message Known)) (
   pub remembered : w.remembered ≡ p.client.globals
   pub given : w.given ≡ p.server.globals
   pub registries : w.registries ≡ map marks_of p.server.registries
-  pub remembers : (name : ℕ) (g : client.Global) → get p.client.globals name ≡ Some g → WasGiven p.server.globals name g.iface g.version
+  pub remembers : Each (λ g. WasGiven p.server.globals g.name g.iface g.version) p.client.globals
   pub globals : Each (IsGlobal p.server.core.tables) p.server.globals
   pub few_globals : length p.server.globals ≤ max_globals
   pub open_registries : Each (IsRegistry p.server.core.view) p.server.registries

@@ -1,7 +1,5 @@
 -- The world of births: what both ends mean, without ids, bytes and cuts.
 use Rattle.std.specs.Prelude.{◌≡◌, ℕ, ◌+◌, Bool, true, false, ◌&&◌, nat_eq, if◌then◌else◌, List, [], ◌∷◌, ◌++◌, map, replicate, Option, Some, None}
-use Rattle.std.specs.Ordering.{nat_cmp}
-use Rattle.std.specs.FinMap.{FinMap, empty}
 use Rattle.wl_wire.specs.Argument.{Argument, reshaped}
 use Rattle.wl_sigs.specs.Tables.{Interface, interface_at}
 use Rattle.wl_sigs.specs.Fixed.{display, registry}
@@ -33,7 +31,7 @@ pub record World : Type 0 where
   pub client : ℕ → Option Row
   pub server : ℕ → Option Born
   -- globals: those that the client remembers, those that the server gave, and what each open registry was told and had removed
-  pub remembered : FinMap nat_cmp Remembered
+  pub remembered : List Remembered
   pub given : List Global
   pub registries : List Marks
   -- an error was posted
@@ -116,7 +114,7 @@ is_open (Some (Open x)) = true
 is_open _ = false
 
 -- an event of a registry that is open teaches the client
-abbrev pub learned : List Interface → (ℕ → Option Row) → Message Born → FinMap nat_cmp Remembered → FinMap nat_cmp Remembered
+abbrev pub learned : List Interface → (ℕ → Option Row) → Message Born → List Remembered → List Remembered
 learned tables client m remembered =
     if is_registry m.target && is_open (client m.target.birth) then globals_told tables remembered m.opcode (map nameless m.args) else remembered
 
@@ -187,7 +185,7 @@ opening = record {
   events = [];
   client = put nothing 0 (Some (Open display_born));
   server = put nothing 0 (Some display_born);
-  remembered = empty;
+  remembered = [];
   given = [];
   registries = [];
   ended = false;
