@@ -11,3 +11,12 @@ ghost use Rattle.wl_world.specs.Runs.{Runs, IsMove, Agree, Keeps};
 pub fn ended_stands()
     ensures { (p : PairState) (w : World) → w.ended ≡ true → Stands p w }
 {}
+
+ghost use Rattle.std.specs.Prelude.{ℕ};
+
+/// Trying lemmas.
+#[tactic(auto, using(crate::proofs::Readings::sized))]
+pub fn dummy()
+    ensures { (n : ℕ) → n ≡ n }
+{
+}
