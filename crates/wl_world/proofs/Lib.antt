@@ -4,3 +4,8 @@ pub mod Sets
 pub mod Channels
 pub mod Bridges
 pub mod Readings
+pub mod Afters
+pub mod Registries
+pub mod Findings
+pub mod ServerReads
+pub mod ServerNext

@@ -15,7 +15,7 @@ pub fn ended_stands()
 ghost use Rattle.std.specs.Prelude.{ℕ};
 
 /// Trying lemmas.
-#[tactic(auto, using(crate::proofs::Readings::sized))]
+#[tactic(auto, using(crate::proofs::ServerNext::server_next_keeps))]
 pub fn dummy()
     ensures { (n : ℕ) → n ≡ n }
 {
