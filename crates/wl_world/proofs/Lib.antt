@@ -9,3 +9,7 @@ pub mod Registries
 pub mod Findings
 pub mod ServerReads
 pub mod ServerNext
+pub mod Learning
+pub mod ClientReads
+pub mod ClientNext
+pub mod Carries

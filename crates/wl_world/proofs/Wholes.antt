@@ -56,6 +56,7 @@ pub record TellsAt (test : Born → Bool) (es : List Tell) (v w : Rows Row) (x :
   pub target : Held v x
   pub args : Each (Held v) xs
   pub rest : Reads test es (client_ends b x v) w
+  pub ends_it : b ≡ true → test x.born ≡ true
 
 pub record DeletesAt (test : Born → Bool) (es : List Tell) (v w : Rows Row) (x : Known) : Type 0 where
   pub mortal : x.id ≢ 1
@@ -179,14 +180,14 @@ module _ {test : Born → Bool} where
   reads_all (x ∷ xs) (name h r) = let k = reads_all xs r in ((h, k.0), k.1)
 
   rest_ends : {es : List Tell} {v w : Rows Row} (b : Bool) (x : Known) → Reads test (ends b x ++ es) v w
-      → Reads test es (client_ends b x v) w
-  rest_ends false x r = r
-  rest_ends true x (end a b r) = r
+      → Reads test es (client_ends b x v) w × (b ≡ true → test x.born ≡ true)
+  rest_ends false x r = (r, λ h. absurd (cc h))
+  rest_ends true x (end a b r) = (r, λ h. a)
 
   pub tells_at : {es : List Tell} {v w : Rows Row} (x : Known) (xs : List Known) (b : Bool) → Reads test ((Name x ∷ (map Name xs ++ ends b x)) ++ es) v w → TellsAt test es v w x xs b
   tells_at {es} {v} {w} x xs b (name h r) =
       let k = reads_all xs (subst (λ (l : List Tell). Reads test l v w) (simp append_assoc) r) in
-      record { target = h; args = k.0; rest = rest_ends b x k.1 }
+      let e = rest_ends b x k.1 in record { target = h; args = k.0; rest = e.0; ends_it = e.1 }
 
   pub deletes_at : {es : List Tell} {v w : Rows Row} (x : Known) → Reads test (Delete x ∷ es) v w → DeletesAt test es v w x
   deletes_at x (delete z h c r) = record { mortal = z; held = h; rest = r }

@@ -6,7 +6,7 @@ use Rattle.wl_wire.specs.Argument.{Uint, Str, Obj, New, NewNamed}
 use Rattle.wl_wire.specs.Spelling.{Suits}
 use Rattle.wl_sigs.specs.declared.signature.Side.{Side}
 use Rattle.wl_sigs.specs.declared.signature.Side.TheVariants.{Request as request_side, Event as event_side}
-use Rattle.wl_sigs.specs.Tables.{Interface, signature_at, interface_at, destroys_target}
+use Rattle.wl_sigs.specs.Tables.{Interface, signature_at, interface_at, place_of, destroys_target}
 use Rattle.wl_sigs.specs.Tables as sigs
 use Rattle.wl_sigs.specs.Fixed.{registry}
 use Rattle.wl_sigs.specs.Valid.{Valid}
@@ -103,7 +103,7 @@ pub record TellsGiven (tables : List Interface) (given : List server.Global) (ar
   pub version : ℕ
   pub args_are : args ≡ Uint name ∷ Str (Some (name_at tables iface)) ∷ Uint version ∷ []
   pub was_given : WasGiven given name iface version
-  pub there : iface.0 < length tables
+  pub known : place_of tables (name_at tables iface) ≡ Some iface
 
 -- the arguments of wl_registry.bind, of a global that was given, at a version from 1 to the given one
 pub record BindsGiven (tables : List Interface) (given : List server.Global) (args : List (Arg Known)) : Type 0 where
