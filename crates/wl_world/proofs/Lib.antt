@@ -13,3 +13,5 @@ pub mod Learning
 pub mod ClientReads
 pub mod ClientNext
 pub mod Carries
+pub mod Calls
+pub mod Rules

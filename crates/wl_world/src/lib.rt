@@ -15,7 +15,7 @@ pub fn ended_stands()
 ghost use Rattle.std.specs.Prelude.{ℕ};
 
 /// Trying lemmas.
-#[tactic(auto, using(crate::proofs::ClientNext::client_next_keeps, crate::proofs::Carries::carry_to_client_keeps, crate::proofs::ServerNext::server_next_keeps))]
+#[tactic(auto, using(crate::proofs::Rules::display_lasts))]
 pub fn dummy()
     ensures { (n : ℕ) → n ≡ n }
 {
