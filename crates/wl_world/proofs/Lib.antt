@@ -15,3 +15,5 @@ pub mod ClientNext
 pub mod Carries
 pub mod Calls
 pub mod Rules
+pub mod Written
+pub mod ClientSends

@@ -15,7 +15,7 @@ pub fn ended_stands()
 ghost use Rattle.std.specs.Prelude.{ℕ};
 
 /// Trying lemmas.
-#[tactic(auto, using(crate::proofs::Rules::display_lasts))]
+#[tactic(auto, using(crate::proofs::ClientSends::ask_stands))]
 pub fn dummy()
     ensures { (n : ℕ) → n ≡ n }
 {
