@@ -17,3 +17,4 @@ pub mod Calls
 pub mod Rules
 pub mod Written
 pub mod ClientSends
+pub mod ClientSend

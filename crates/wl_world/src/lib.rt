@@ -15,7 +15,7 @@ pub fn ended_stands()
 ghost use Rattle.std.specs.Prelude.{ℕ};
 
 /// Trying lemmas.
-#[tactic(auto, using(crate::proofs::ClientSends::ask_stands))]
+#[tactic(auto, using(crate::proofs::ClientSend::client_send_keeps))]
 pub fn dummy()
     ensures { (n : ℕ) → n ≡ n }
 {
