@@ -421,3 +421,46 @@ version_of view new version (kinds.New None ∷ ks) (NewNamed name own x ∷ giv
 version_of view new version (kinds.Array ∷ ks) (Array z ∷ given) r m h = version_of view new version ks given r.1 m.1 h
 version_of view new version (kinds.Fd ∷ ks) (Fd z ∷ given) r m h = version_of view new version ks given r.1 m.1 h
 version_of view new version (_ ∷ ks) (_ ∷ given) r m h = absurd (cc r.0.suit)
+
+-- ---- a call that makes no object
+
+pub no_made : (view : View) (new : Known) (ks : List Kind) (given : List Given) → AllRight view ks given → length (new_objects ks) ≤ 0 → made_in (map (meant view new) given) ≡ None
+no_made view new [] [] r h = refl
+no_made view new [] (a ∷ given) r h = absurd r
+no_made view new (k ∷ ks) [] r h = absurd r
+no_made view new (kinds.Int ∷ ks) (Int z ∷ given) r h = no_made view new ks given r.1 h
+no_made view new (kinds.Uint ∷ ks) (Uint z ∷ given) r h = no_made view new ks given r.1 h
+no_made view new (kinds.Fixed ∷ ks) (Fixed z ∷ given) r h = no_made view new ks given r.1 h
+no_made view new (kinds.Str n ∷ ks) (Str z ∷ given) r h = no_made view new ks given r.1 h
+no_made view new (kinds.Obj n i ∷ ks) (Obj z ∷ given) r h = no_made view new ks given r.1 h
+no_made view new (kinds.New (Some iface) ∷ ks) (New x ∷ given) r h = absurd (omega arith)
+no_made view new (kinds.New None ∷ ks) (NewNamed name own x ∷ given) r h = absurd (omega arith)
+no_made view new (kinds.Array ∷ ks) (Array z ∷ given) r h = no_made view new ks given r.1 h
+no_made view new (kinds.Fd ∷ ks) (Fd z ∷ given) r h = no_made view new ks given r.1 h
+no_made view new (_ ∷ ks) (_ ∷ given) r h = absurd (cc r.0.suit)
+
+none_rest : (a : Arg Known) (args : List (Arg Known)) → made_in (a ∷ args) ≡ None → made_in args ≡ None
+none_rest a args h = (or_none (new_in a) (made_in args) h).1
+
+handed_if : (view : View) (new : Known) (births : ℕ) (k : Kind) (a : Given) → new_in (meant view new a) ≡ None → Right view k a → rearg birth_of (rearg born_of (meant view new a)) ≡ handed births a
+handed_if view new births k (Int z) e r = refl
+handed_if view new births k (Uint z) e r = refl
+handed_if view new births k (Fixed z) e r = refl
+handed_if view new births k (Str z) e r = refl
+handed_if view new births k (Obj None) e r = refl
+handed_if view new births k (Obj (Some x)) e r =
+    let l = live_as x.birth (look view x.id) (and_both _ _ r.named).0 in
+    ap (λ (b : ℕ). Obj (Some b)) (ap (λ o. (born_at o).birth) l.there ∙ l.birth_is)
+handed_if view new births k (New x) e r = absurd (cc e)
+handed_if view new births k (NewNamed name own x) e r = absurd (cc e)
+handed_if view new births k (Array z) e r = refl
+handed_if view new births k (Fd z) e r = refl
+
+pub handed_none : (view : View) (new : Known) (births : ℕ) (ks : List Kind) (given : List Given) → made_in (map (meant view new) given) ≡ None → AllRight view ks given
+    → map (rearg birth_of) (map (rearg born_of) (map (meant view new) given)) ≡ map (handed births) given
+handed_none view new births [] [] e r = refl
+handed_none view new births [] (a ∷ given) e r = absurd r
+handed_none view new births (k ∷ ks) [] e r = absurd r
+handed_none view new births (k ∷ ks) (a ∷ given) e r =
+    let n = or_none (new_in (meant view new a)) (made_in (map (meant view new) given)) e in
+    rw (handed_if view new births k a n.0 r.0, handed_none view new births ks given n.1 r.1) refl

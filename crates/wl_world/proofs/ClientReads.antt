@@ -213,7 +213,7 @@ event_stands p w m cs asked s n i y =
       client_sound = client_sound v m.target None what s.client_sound (λ e. y (sym d ∙ e));
       server_sound = s.server_sound;
       client_display = display_kept v m.target.id what s.client_display (λ e. y (sym d ∙ e));
-      server_live = s.server_live;
+      server_display = s.server_display; server_live = s.server_live;
       requests = s.requests;
       events = refl;
       to_server = s.to_server;
@@ -357,7 +357,7 @@ delete_stands p w x cs asked s n i =
       client_sound = Sound-closed v x.id s.client_sound held t.mortal;
       server_sound = s.server_sound;
       client_display = look-closed v x.id 1 ∙ rw b s.client_display;
-      server_live = s.server_live;
+      server_display = s.server_display; server_live = s.server_live;
       requests = s.requests;
       events = refl;
       to_server = s.to_server;

@@ -120,7 +120,7 @@ ask_stands p w asked told s m c =
       client_sound = client_sound v m.target new what (opens_sound v new s.client_sound c.new_next c.new_can) (λ h. c.mortal (sym d ∙ h));
       server_sound = s.server_sound;
       client_display = display_after v new m.target.id what (live_entry display_born) c.new s.client_display (λ h. c.mortal (sym d ∙ h));
-      server_live = s.server_live;
+      server_display = s.server_display; server_live = s.server_live;
       requests = ap (λ (l : List (Message Born)). l ++ renamed born_of m ∷ []) s.requests ∙ sym (map-append (renamed born_of) asked (m ∷ []));
       events = s.events;
       to_server = subst (λ (l : List boxes.Message). InFlight (asked_core p.client.core m what).outbox p.server.core.inbox l) (sym (map-append spelled asked (m ∷ [])))

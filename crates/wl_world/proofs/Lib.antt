@@ -18,3 +18,4 @@ pub mod Rules
 pub mod Written
 pub mod ClientSends
 pub mod ClientSend
+pub mod ServerTells

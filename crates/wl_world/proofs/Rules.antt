@@ -6,8 +6,9 @@ use Rattle.std.specs.List.{All}
 use Rattle.std.specs.declared.option.Option.{Option}
 use Rattle.std.specs.declared.option.Option.TheVariants.{None, Some}
 use Rattle.std.proofs.lemmas.Bool.{eqb-true, eq-eqb}
-use Rattle.std.proofs.lemmas.Option.{slice_get_within, slice_get_past}
+use Rattle.std.proofs.lemmas.Option.{slice_get_within, slice_get_past, get_or_from_slice_get}
 use Rattle.std.proofs.lemmas.List.Elements.{All-tail}
+use Rattle.std.proofs.lemmas.List.Folds.{list_any_at}
 use Rattle.wl_wire.specs.declared.kind.Kind.{Kind}
 use Rattle.wl_wire.specs.declared.kind.Kind.TheVariants as kinds
 use Rattle.wl_wire.specs.declared.kind.Iface.{Iface}
@@ -144,3 +145,19 @@ display_keeps (suc (suc n)) m h = absurd (cc h)
 
 pub display_lasts : (tables : List Interface) → Valid tables → (opcode : ℕ) (m : Message) → signature_at tables 0 Request opcode ≡ Some m → destroys_target m.destroys ≡ false
 display_lasts tables v opcode m h = display_keeps opcode m (ap (option_and_then (message_of Request opcode)) (sym v.fixed_three.display) ∙ h)
+
+-- an interface with a destroying event has one
+event_ends : (i : Interface) (opcode : ℕ) (m : Message) → slice_get i.events opcode ≡ Some m → destroys_target m.destroys ≡ true → has_destroying_event i ≡ true
+event_ends i opcode m h d =
+    list_any_at (λ (x : Message). destroys_target x.destroys) i.events opcode m (slice_get_within i.events opcode m h) (ap (λ (x : Message). destroys_target x.destroys) (get_or_from_slice_get i.events opcode m m h) ∙ d)
+
+pub ends_so : (tables : List Interface) (x : Born) (opcode : ℕ) (m : Message) → signature_at tables x.iface.0 Event opcode ≡ Some m → destroys_target m.destroys ≡ true → by_event tables x ≡ true
+ends_so tables x opcode m h d =
+    let o = of_message tables x.iface.0 Event opcode m h in
+    ap ends_by_event o.there ∙ event_ends o.interface opcode m o.message d
+
+pub no_event_new : (tables : List Interface) → Valid tables → (place opcode : ℕ) (m : Message) → signature_at tables place Event opcode ≡ Some m → length (new_objects m.kinds) ≤ 0
+no_event_new tables v place opcode m h = let e = ap length (v.few_objects_made.events place opcode m h) in omega (arith, e)
+
+pub display_plain : (tables : List Interface) → Valid tables → ends_by_event (interface_at tables 0) ≡ false
+display_plain tables v = rw v.fixed_three.display refl

@@ -1,6 +1,7 @@
 -- The server reads.
 use Rattle.std.proofs.Common.{◌≡◌, ◌≢◌, ℕ, ◌+◌, ◌<◌, ◌≤◌, Bool, true, false, cond, List, [], ◌∷◌, ◌++◌, map, length, take, drop, refl, sym, ap, subst, ◌∙◌, arith, min}
-use Rattle.std.specs.Prelude.{option_map, nat_lt, not, ◌&&◌, if◌then◌else◌}
+use Rattle.std.proofs.lemmas.Bool.{ne_eqb}
+use Rattle.std.specs.Prelude.{option_map, nat_eq, nat_lt, not, ◌&&◌, if◌then◌else◌}
 use Rattle.std.specs.declared.option.Option.{Option}
 use Rattle.std.specs.declared.option.Option.TheVariants.{None, Some}
 use Rattle.std.specs.declared.result.Result.{Result}
@@ -10,6 +11,7 @@ use Rattle.std.proofs.lemmas.Bool.Decides.{nat_tests}
 use Rattle.std.proofs.lemmas.List.{append_assoc, append-nil, map-append}
 use Rattle.wl_sigs.specs.declared.signature.Side.TheVariants.{Request as request_side, Event as event_side}
 use Rattle.wl_sigs.specs.declared.signature.Destroys.{Destroys}
+use Rattle.wl_sigs.specs.declared.signature.Destroys.TheVariants.{Nothing, Target}
 use Rattle.wl_sigs.specs.Tables.{Interface, destroys_target}
 use Rattle.wl_message.specs.Cut.{usual_limit, front, Front, More, Bad, Whole, HasMessage, IsMessage}
 use Rattle.wl_message.specs.Outgoing.{Outgoing, room_of, message}
@@ -21,7 +23,8 @@ use Rattle.wl_objects.specs.declared.error.Fault.{Fault}
 use Rattle.wl_objects.specs.declared.error.NextError.{NextError}
 use Rattle.wl_objects.specs.declared.error.NextError.TheVariants as errors
 use Rattle.wl_objects.specs.View.{View, Sound, look}
-use Rattle.wl_objects.specs.Messages.{Received, made as made_message, is_bind, Server as server_end, after}
+use Rattle.wl_objects.specs.Views.{look-opened_at, look-closed}
+use Rattle.wl_objects.specs.Messages.{Received, opens, made as made_message, is_bind, Server as server_end, after}
 use Rattle.wl_objects.specs.Writing.{message_bytes}
 use Rattle.wl_objects.specs.Reading.{descriptors}
 use Rattle.wl_end.specs.Core.{Core, past, with_view}
@@ -30,8 +33,8 @@ use Rattle.wl_end.specs.Sending.{with_following, with_delete_id, delete_id_len}
 use Rattle.wl_server.specs.State as server
 use Rattle.wl_server.specs.State.{global_of}
 use Rattle.wl_server.specs.Requests.{Report, judged, request, is_good_bind, bind_fits, made_in as made_by_message, destroys_it, core_after, state_past, registries_after, without_registry, report, is_out_full, answer_found, next_answer, state_found, after_next}
-use Rattle.wl_world.specs.Meant.{Born, Known, Message, Coming, Event, Delete, Arg, renamed, recoming, rearg, born_of, birth_of, wire, tokens, spelled, spelled_coming, new_in, made_in, objects, plain}
-use Rattle.wl_world.specs.World.{World, Row, Open, Ending, Each, IfThere, delete, request_read, gone, born_into, same, with_registry, without_registry as without_marks, Steps, reads_request, ReadRequest}
+use Rattle.wl_world.specs.Meant.{Born, Known, Message, Coming, Event, Delete, Arg, renamed, recoming, rearg, born_of, birth_of, wire, tokens, spelled, spelled_coming, new_in, made_in, objects, plain, live_entry}
+use Rattle.wl_world.specs.World.{World, display_born, Row, Open, Ending, Each, IfThere, delete, request_read, gone, born_into, same, with_registry, without_registry as without_marks, Steps, reads_request, ReadRequest}
 use Rattle.wl_world.specs.Pair.{PairState, with_server, Nexts, answered, no_memory, has_arguments, is_none}
 use Rattle.wl_world.specs.Answers.{ReportsRequest, rows_of_server, HasNone, HasOne, IsOutFull, ReadsRequest, KeepsRequest, ReadsAtServer}
 use Rattle.wl_world.specs.Flight.{Rows, at, Fresh, Reads, Tied, Meets, asks, tells, all_asks, all_tells, client_rows, server_rows, row, as_row}
@@ -90,15 +93,15 @@ no_bad_bind true g h = rw (h refl) refl
 
 -- ---- the end after it
 
-followed : (b : Bool) (x : Known) (c : Core) → with_following b x.id c ≡ record c { outbox = record c.outbox { messages = c.outbox.messages ++ map spelled_coming (delete b x) } }
+pub followed : (b : Bool) (x : Known) (c : Core) → with_following b x.id c ≡ record c { outbox = record c.outbox { messages = c.outbox.messages ++ map spelled_coming (delete b x) } }
 followed false x c = λ i. record c { outbox = record c.outbox { messages = sym (append-nil c.outbox.messages) i } }
 followed true x c = refl
 
-delete_whole : (b : Bool) (x : Known) → Each (λ (m : boxes.Message). IsMessage usual_limit m.bytes) (map spelled_coming (delete b x))
+pub delete_whole : (b : Bool) (x : Known) → Each (λ (m : boxes.Message). IsMessage usual_limit m.bytes) (map spelled_coming (delete b x))
 delete_whole false x = tt
 delete_whole true x = (bytes_whole 1 1 (Uint x.id ∷ []) (omega arith) (omega arith), tt)
 
-map_delete : (b : Bool) (x : Known) → map (recoming born_of) (delete b x) ≡ delete b x.born
+pub map_delete : (b : Bool) (x : Known) → map (recoming born_of) (delete b x) ≡ delete b x.born
 map_delete false x = refl
 map_delete true x = refl
 
@@ -106,7 +109,7 @@ births_of : (v : View) (n : Option Known) → IfThere (Fresh (server_rows v)) n 
 births_of v None g = tt
 births_of v (Some x) g = g.birth
 
-delete_fits : (p : PairState) (b : Bool) (x : Known) → x.id ≤ 1048576 → Each (ComesFitly p.server.core.tables p.server.globals) (delete b x)
+pub delete_fits : (p : PairState) (b : Bool) (x : Known) → x.id ≤ 1048576 → Each (ComesFitly p.server.core.tables p.server.globals) (delete b x)
 delete_fits p false x h = tt
 delete_fits p true x h = (h, tt)
 
@@ -142,6 +145,19 @@ left_is st m n entry f s =
 
 -- ---- the pair stands again
 
+display_opens : (v : View) (n : Option Known) (e : Entry) → IfThere (Fresh (server_rows v)) n → look v 1 ≡ Some e → look (opens v (option_map made_of n)) 1 ≡ Some e
+display_opens v None e f h = h
+display_opens v (Some x) e f h = look-opened_at v x.id x.born.iface x.born.version 1 ∙ rw (other x.id f.free) h
+  where
+    other : (i : ℕ) → (server_rows v).rows i ≡ None → nat_eq 1 i ≡ false
+    other i g = ne_eqb 1 i (λ k. (let q : ◌≡◌ {A = Option Born} (Some (plain e)) None = ap (option_map plain) (sym h ∙ ap (look v) k) ∙ g in cc q))
+
+pub display_after : (v : View) (n : Option Known) (x : ℕ) (what : Destroys) (e : Entry) → IfThere (Fresh (server_rows v)) n → look v 1 ≡ Some e → (destroys_target what ≡ true → x ≢ 1)
+    → look (after server_end v (option_map made_of n) what x) 1 ≡ Some e
+display_after v n x Nothing e f h y = display_opens v n e f h
+display_after v n x Target e f h y =
+    let b : nat_eq 1 x ≡ false = ne_eqb 1 x (λ k. y refl (sym k)) in look-closed (opens v (option_map made_of n)) x 1 ∙ rw b (display_opens v n e f h)
+
 rows_there : (p : PairState) (w : World) (m : Message Known) (n : Option Known) (what : Destroys) (b : Bool) → destroys_target what ≡ b → IfThere (Fresh (server_rows p.server.core.view)) n
     → server_rows (after server_end p.server.core.view (option_map made_of n) what m.target.id) ≡ server_ends b m.target (server_makes (server_rows p.server.core.view) n)
 rows_there p w m n what b e g =
@@ -170,6 +186,7 @@ server_read_stands p w m ms told s n a up =
       client_sound = s.client_sound;
       server_sound = server_sound v m.target new what s.server_sound a.new a.target (λ e. a.mortal (sym d ∙ e));
       client_display = s.client_display;
+      server_display = display_after v new m.target.id what (live_entry display_born) a.new s.server_display (λ e. a.mortal (sym d ∙ e));
       server_live = server_live v m.target.id new what s.server_live;
       requests = refl;
       events = ap (λ (l : List (Coming Born)). l ++ delete m.destroys m.target.born) s.events ∙ ap (λ (l : List (Coming Born)). map (recoming born_of) told ++ l) (sym (map_delete m.destroys m.target))
