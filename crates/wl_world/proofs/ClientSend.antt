@@ -88,7 +88,7 @@ not_display p w asked told s id opcode entry signature l h d one =
 pub valid_client : (p : PairState) (w : World) (asked : List (Message Known)) (told : List (Coming Known)) → StandsBy p w asked told → Valid p.client.core.tables
 valid_client p w asked told s = subst Valid (sym s.same_tables) s.valid
 
-made_same : (core : Core) (target : Object) (given : List Given) (signature : sigs.Message) (entry : Entry) → look core.view target.id ≡ Some entry → made_at core target signature given ≡ the_made core entry given signature
+pub made_same : (core : Core) (target : Object) (given : List Given) (signature : sigs.Message) (entry : Entry) → look core.view target.id ≡ Some entry → made_at core target signature given ≡ the_made core entry given signature
 made_same core target given signature entry h = ap (λ o. made core.tables (version_at o) signature.kinds (map (wired (next_id core.view)) given)) h
 
 signed_there : (p : PairState) (w : World) (asked : List (Message Known)) (told : List (Coming Known)) (s : StandsBy p w asked told) (target : Object) (opcode : ℕ) (given : List Given) (signature : sigs.Message)

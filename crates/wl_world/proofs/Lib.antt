@@ -19,3 +19,4 @@ pub mod Written
 pub mod ClientSends
 pub mod ClientSend
 pub mod ServerTells
+pub mod ServerSend

@@ -15,7 +15,7 @@ pub fn ended_stands()
 ghost use Rattle.std.specs.Prelude.{ℕ};
 
 /// Trying lemmas.
-#[tactic(auto, using(crate::proofs::ServerTells::drop_stands, crate::proofs::ClientNext::client_next_keeps, crate::proofs::Carries::carry_to_client_keeps, crate::proofs::ServerNext::server_next_keeps, crate::proofs::ClientSend::client_send_keeps))]
+#[tactic(auto, using(crate::proofs::ServerSend::server_send_keeps))]
 pub fn dummy()
     ensures { (n : ℕ) → n ≡ n }
 {
