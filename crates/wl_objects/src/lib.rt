@@ -7,9 +7,11 @@
 #![tactic(auto)]
 
 mod argument;
+mod calling;
 mod error;
 mod object;
 mod table;
+mod writing;
 
 pub use argument::{Arg, Got, GotRef, Named};
 pub use error::{Fault, NextError, SendError};

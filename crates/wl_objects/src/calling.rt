@@ -1,0 +1,92 @@
+//! The arguments of a call, checked before a message is made of them.
+ghost use Rattle.std.specs.Prelude.{◌≡◌, ℕ, suc, ◌<◌, ◌≤◌, ◌+◌, length, map, Some, None, drop, option_map};
+ghost use Rattle.wl_objects.specs.View.{look};
+ghost use Rattle.wl_objects.specs.Reading.{is_of, iface_of};
+ghost use Rattle.wl_objects.specs.Writing.{given, given_of, suits, has_no_nul, wrong_place, lost_place, can_name, names_one};
+
+use crate::argument::Arg;
+use crate::object::{Entry, Object, State};
+use crate::table::Table;
+use wl_wire::{Iface, Kind};
+
+/// Whether a text can stand in a string.
+fn has_no_nul(text: &[u8]) -> bool
+    ensures { result ≡ has_no_nul text.now }
+{
+    !text.contains(&0)
+}
+
+/// Whether an argument is of the kind.
+fn suits(kind: Kind, arg: &Arg<'_>) -> bool
+    ensures { result ≡ suits kind (given_of arg.now) }
+{
+    match (kind, arg) {
+        (Kind::Int, Arg::Int(_))
+        | (Kind::Uint, Arg::Uint(_))
+        | (Kind::Fixed, Arg::Fixed(_))
+        | (Kind::New(Some(_)), Arg::New)
+        | (Kind::Array, Arg::Array(_))
+        | (Kind::Fd, Arg::Fd(_)) => true,
+        (Kind::Str { null }, Arg::Str(None)) | (Kind::Obj { null, .. }, Arg::Obj(None)) => null,
+        (Kind::Str { .. }, Arg::Str(Some(text))) => has_no_nul(text),
+        (Kind::Obj { .. }, Arg::Obj(Some(_))) => true,
+        _ => false,
+    }
+}
+
+/// The place of the first argument of the wrong kind; where the numbers differ and all before
+/// suit, the smaller number.
+fn wrong_place(kinds: &[Kind], args: &[Arg<'_>]) -> Option<usize>
+    ensures { result ≡ wrong_place 0 kinds.now (given args.now) }
+{
+    'kinds: for (place, kind) in kinds.iter().enumerate() {
+        match args.get(place) {
+            Some(arg) if suits(*kind, arg) => {}
+            _ => return Some(place),
+        }
+    }
+    if kinds.len() < args.len() {
+        Some(kinds.len())
+    } else {
+        None
+    }
+}
+
+/// Whether an object is live with this birth, and of the interface, if one is asked for.
+fn names_one<T: Table>(table: &T, iface: Option<Iface>, object: Object) -> bool
+    ensures { result ≡ names_one iface object (look (T.view table.now) object.id) }
+{
+    match table.look(object.id) {
+        Some(entry) => {
+            entry.birth == object.birth
+                && entry.state == State::Live
+                && iface.is_none_or(|iface| iface == entry.iface)
+        }
+        None => false,
+    }
+}
+
+/// Whether an argument of this kind names no object, or one that can be named.
+fn can_name<T: Table>(table: &T, kind: Kind, arg: &Arg<'_>) -> bool
+    ensures { result ≡ can_name (look (T.view table.now)) kind (given_of arg.now) }
+{
+    match (kind, arg) {
+        (Kind::Obj { iface, .. }, Arg::Obj(Some(object))) => names_one(table, iface, *object),
+        (_, Arg::Obj(Some(object))) => names_one(table, None, *object),
+        _ => true,
+    }
+}
+
+/// The place of the first object that is not live or of another interface.
+fn lost_place<T: Table>(table: &T, kinds: &[Kind], args: &[Arg<'_>]) -> Option<usize>
+    ensures { result ≡ lost_place (look (T.view table.now)) 0 kinds.now (given args.now) }
+{
+    'kinds: for (place, kind) in kinds.iter().enumerate() {
+        match args.get(place) {
+            Some(arg) if can_name(table, *kind, arg) => {}
+            Some(_) => return Some(place),
+            None => return None,
+        }
+    }
+    None
+}
