@@ -2,11 +2,14 @@
 use Rattle.std.proofs.Common.{◌≡◌, ℕ, suc, ◌+◌, ◌<◌, ◌≤◌, Bool, true, false, List, [], ◌∷◌, length, get_or, drop, Some, None, refl, sym, ap, ◌∙◌, arith, add-one, drop-cons}
 use Rattle.std.specs.Prelude.{Option, if◌then◌else◌}
 use Rattle.std.proofs.lemmas.List.{drop_all}
+use Rattle.std.proofs.lemmas.Bool.{lt-ltb}
 use Rattle.wl_wire.specs.declared.kind.Kind.{Kind}
 use Rattle.wl_objects.specs.declared.argument.Arg.{Arg}
 use Rattle.wl_objects.specs.declared.argument.Arg.TheVariants as args
 use Rattle.wl_objects.specs.declared.object.Entry.{Entry}
-use Rattle.wl_objects.specs.Writing.{Given, given, given_of, suits, can_name, wrong_place, lost_place}
+use Rattle.wl_wire.specs.Argument.{Argument}
+use Rattle.wl_wire.specs.Spelling.{spelled_len}
+use Rattle.wl_objects.specs.Writing.{Given, wired, on_wire, message_len, len_in_limit, given, given_of, suits, can_name, wrong_place, lost_place}
 
 pub wrong-missing : (i : ℕ) (ks : List Kind) (list : List Arg) (k : Kind) → i < length ks → length list ≤ i
     → wrong_place i (drop i ks) (given (drop i list)) ≡ Some i
@@ -29,3 +32,22 @@ lost-here rows i ks list k a p q e t = rw (drop-cons ks i k p, drop-cons list i 
 pub lost-missing : (rows : ℕ → Option Entry) (i : ℕ) (ks : List Kind) (list : List Arg) (k : Kind) → i < length ks → length list ≤ i
     → lost_place rows i (drop i ks) (given (drop i list)) ≡ None
 lost-missing rows i ks list k p q = rw (drop-cons ks i k p, drop_all i list q) refl
+
+pub len-at : (i : ℕ) (list : List Arg) (a : Arg) → i < length list
+    → message_len (on_wire 0 (drop i list)) ≡ spelled_len (wired 0 (given_of (get_or list i a))) + message_len (on_wire 0 (drop (i + 1) list))
+len-at i list a q = rw (add-one, drop-cons list i a q) refl
+
+pub len-least : (values : List Argument) → 8 ≤ message_len values
+len-least [] = omega arith
+len-least (value ∷ values) = let more : 8 ≤ message_len values = len-least values in omega arith
+
+pub too_long : (values : List Argument) → 4096 < message_len values → len_in_limit values ≡ None
+too_long values h = rw (lt-ltb 4096 (message_len values) h) refl
+
+pub too_long_there : (i len : ℕ) (list : List Arg) (a : Arg) → i < length list
+    → len + message_len (on_wire 0 (drop i list)) ≡ message_len (on_wire 0 list) + 8
+    → 4096 < len + spelled_len (wired 0 (given_of (get_or list i a))) → len_in_limit (on_wire 0 list) ≡ None
+too_long_there i len list a q e h =
+    let at : message_len (on_wire 0 (drop i list)) ≡ spelled_len (wired 0 (given_of (get_or list i a))) + message_len (on_wire 0 (drop (i + 1) list)) = len-at i list a q in
+    let least : 8 ≤ message_len (on_wire 0 (drop (i + 1) list)) = len-least (on_wire 0 (drop (i + 1) list)) in
+    too_long (on_wire 0 list) (omega arith)

@@ -4,7 +4,7 @@ use Rattle.std.specs.List.{list_any}
 use Rattle.wl_wire.specs.declared.kind.Kind.{Kind}
 use Rattle.wl_wire.specs.declared.kind.Kind.TheVariants as kinds
 use Rattle.wl_wire.specs.declared.kind.Iface.{Iface}
-use Rattle.wl_wire.specs.Argument.{Argument, Shape, reshaped, Int, Uint, Fixed, Str, Obj, New, NewNamed, Array, Fd}
+use Rattle.wl_wire.specs.Argument.{Argument, Shape, reshaped, units, Int, Uint, Fixed, Str, Obj, New, NewNamed, Array, Fd}
 use Rattle.wl_wire.specs.Word.{header_bytes}
 use Rattle.wl_wire.specs.Spelling.{canonical, spelled_len}
 use Rattle.wl_objects.specs.declared.argument.Arg.{Arg}
@@ -112,7 +112,7 @@ tokens_of (_ ∷ given) = tokens_of given
 abbrev pub given_of : Arg → Given
 given_of (args.Int z) = Int z
 given_of (args.Uint n) = Uint n
-given_of (args.Fixed z) = Fixed z
+given_of (args.Fixed z) = Fixed (units z)
 given_of (args.Str None) = Str None
 given_of (args.Str (Some text)) = Str (Some text.now)
 given_of (args.Obj object) = Obj object

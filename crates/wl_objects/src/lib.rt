@@ -11,6 +11,7 @@ mod calling;
 mod error;
 mod object;
 mod table;
+mod values;
 mod writing;
 
 pub use argument::{Arg, Got, GotRef, Named};
