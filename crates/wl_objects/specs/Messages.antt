@@ -15,6 +15,7 @@ use Rattle.wl_sigs.specs.Tables.{Message, Interface, signature_at, place_of}
 use Rattle.wl_sigs.specs.Fixed.{display, registry}
 use Rattle.wl_objects.specs.declared.object.Object.{Object}
 use Rattle.wl_objects.specs.declared.object.Entry.{Entry}
+use Rattle.wl_objects.specs.declared.made.Made.{Made}
 use Rattle.wl_objects.specs.declared.error.Fault.{Fault}
 use Rattle.wl_objects.specs.declared.error.Fault.TheVariants as faults
 use Rattle.wl_objects.specs.declared.error.SendError.{SendError}
@@ -92,12 +93,6 @@ abbrev pub received : List Interface → Side → Reader → Header → List ℕ
 received tables side reader header body waiting = received_by tables side reader header body waiting (reader.object header.object)
 
 -- ---- what a message does to the objects
-
--- a new object: its id, its interface, its version
-pub record Made : Type 0 where
-  pub id : ℕ
-  pub iface : Iface
-  pub version : ℕ
 
 -- the new object of one argument: of the signature's interface and its maker's version, or of those that it names
 abbrev pub made_by : List Interface → ℕ → Kind → Argument → Option Made

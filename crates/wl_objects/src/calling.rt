@@ -1,13 +1,69 @@
 //! The arguments of a call, checked before a message is made of them.
-ghost use Rattle.std.specs.Prelude.{◌≡◌, ℕ, suc, ◌<◌, ◌≤◌, ◌+◌, length, map, Some, None, drop, option_map};
+ghost use Rattle.std.specs.Prelude.{◌≡◌, ℕ, suc, ◌<◌, ◌≤◌, ◌+◌, IfOk, IfSome, length, Some};
 ghost use Rattle.wl_objects.specs.View.{look};
 ghost use Rattle.wl_objects.specs.Reading.{is_of, iface_of};
+ghost use Rattle.wl_objects.specs.Messages.{checked, live_row};
+ghost use Rattle.wl_objects.specs.Seen.{signature_in};
 ghost use Rattle.wl_objects.specs.Writing.{given, given_of, suits, has_no_nul, wrong_place, lost_place, can_name, names_one};
 
 use crate::argument::Arg;
+use crate::error::SendError;
+use crate::messages::is_hidden;
 use crate::object::{Entry, Object, State};
 use crate::table::Table;
+use crate::writing::message_len;
+use wl_sigs::{Side, Signature, Tables};
 use wl_wire::{Iface, Kind};
+
+/// Checks a call before its room is looked at: the first of S2, S3, S4, S5, S6 and S8, else the
+/// target's entry and the message's signature. Takes no memory.
+pub fn check_call<'t, T: Table>(
+    tables: &'t Tables,
+    side: Side,
+    table: &T,
+    target: Object,
+    opcode: u16,
+    args: &[Arg<'_>],
+) -> Result<(Entry, &'t Signature), SendError>
+    ensures answer { signature_in result ≡ checked tables.now side (T.view table.now) target opcode (given args.now) }
+    ensures entry { IfOk result (λ found. look (T.view table.now) target.id ≡ Some found.0) }
+{
+    let entry = match live_row(table, target) {
+        Some(entry) => entry,
+        None => return Err(SendError::Stale),
+    };
+    if is_hidden(side, entry.iface, opcode) {
+        return Err(SendError::NoSuchMessage);
+    }
+    let signature = match tables.message(entry.iface, side, opcode) {
+        Some(signature) => signature,
+        None => return Err(SendError::NoSuchMessage),
+    };
+    if entry.version < signature.since() {
+        return Err(SendError::TooOld);
+    }
+    if let Some(place) = wrong_place(signature.kinds(), args) {
+        return Err(SendError::WrongArgs(place));
+    }
+    if let Some(place) = lost_place(table, signature.kinds(), args) {
+        return Err(SendError::BadObject(place));
+    }
+    if message_len(args).is_none() {
+        return Err(SendError::TooLong);
+    }
+    Ok((entry, signature))
+}
+
+/// The entry of an object that is live with this birth.
+fn live_row<T: Table>(table: &T, object: Object) -> Option<Entry>
+    ensures row { result ≡ live_row (T.view table.now) object }
+    ensures held { IfSome result (λ entry. look (T.view table.now) object.id ≡ Some entry) }
+{
+    match table.look(object.id) {
+        Some(entry) if entry.birth == object.birth && entry.state == State::Live => Some(entry),
+        _ => None,
+    }
+}
 
 /// Whether a text can stand in a string.
 fn has_no_nul(text: &[u8]) -> bool

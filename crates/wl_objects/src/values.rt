@@ -27,6 +27,17 @@ impl<'a> Model for Values<'a> {
 }
 
 impl<'a> Values<'a> {
+    /// The values at the front of a message's body, whose spellings were tested before.
+    pub(crate) fn of(kinds: &'a [Kind], forgives: bool, body: &'a [u8]) -> Values<'a>
+        ensures { result ≡ values_at forgives kinds.now body.now }
+    {
+        Values {
+            kinds,
+            body,
+            forgives,
+        }
+    }
+
     /// Takes out the first value.
     pub fn next(&mut self) -> Option<ValueRef<'a>>
         ensures { MatchOption result ((self.old ≡ []) × (self.new ≡ [])) (λ value. self.old ≡ lent value ∷ self.new) }
@@ -51,7 +62,7 @@ impl<'a> Values<'a> {
 }
 
 /// The kind as a reader takes it: one that forgives lets an object be null.
-fn kind_at(forgives: bool, kind: Kind) -> Kind
+pub(crate) fn kind_at(forgives: bool, kind: Kind) -> Kind
     ensures { result ≡ kind_at forgives kind }
 {
     match kind {

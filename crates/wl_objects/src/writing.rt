@@ -2,10 +2,10 @@
 ghost use Rattle.std.specs.Prelude.{◌≡◌, ◌<◌, ◌≤◌, ◌+◌, MatchOption, length, map, take, List};
 ghost use Rattle.wl_wire.specs.Argument.{lent};
 ghost use Rattle.wl_wire.specs.Spelling.{spelled_len, padded};
-ghost use Rattle.wl_objects.specs.Writing.{given, given_of, wired, on_wire, message_len, len_in_limit, call_makes, new_iface, tokens_of};
+ghost use Rattle.wl_objects.specs.Writing.{given, given_of, wired, on_wire, message_len, len_in_limit, tokens_of};
 
 use crate::argument::Arg;
-use wl_wire::{Iface, Kind, ValueRef};
+use wl_wire::ValueRef;
 
 /// The most bytes that a message has.
 const LIMIT: usize = 4096;
@@ -63,18 +63,6 @@ pub(crate) fn message_len(args: &[Arg<'_>]) -> Option<usize>
         }
     }
     Some(len)
-}
-
-/// The interface of the object that a call with this signature makes, if it makes one.
-pub fn call_makes(kinds: &[Kind]) -> Option<Iface>
-    ensures { result ≡ call_makes kinds.now }
-{
-    'kinds: for kind in kinds {
-        if let Kind::New(Some(iface)) = kind {
-            return Some(*iface);
-        }
-    }
-    None
 }
 
 /// Writes the tokens of a call's arguments, in order, and answers how many there are.
