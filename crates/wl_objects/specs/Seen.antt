@@ -34,17 +34,12 @@ abbrev pub received_in : Result Read Fault → Result Received Fault
 received_in (Err fault) = Err fault
 received_in (Ok read) = Ok (record { target = read.target; entry = read.entry; signature = read.signature.now; values = read.values })
 
--- bytes that were found
-abbrev pub rest_in : Result (Bor (List ℕ)) Fault → Result (List ℕ) Fault
-rest_in (Err fault) = Err fault
-rest_in (Ok rest) = Ok rest.now
+-- these values, and the bytes that were found behind them
+abbrev pub with_rest : List Argument → Result (Bor (List ℕ)) Fault → Result (List Argument × List ℕ) Fault
+with_rest values (Err fault) = Err fault
+with_rest values (Ok rest) = Ok (values, rest.now)
 
 -- a signature that was found
 abbrev pub signature_in : Result (Entry × Bor Message) SendError → Result Message SendError
 signature_in (Err refusal) = Err refusal
 signature_in (Ok found) = Ok found.1.now
-
--- what lies behind arguments
-abbrev pub left_behind : Result (List Argument × List ℕ) Fault → Result (List ℕ) Fault
-left_behind (Err fault) = Err fault
-left_behind (Ok found) = Ok found.1

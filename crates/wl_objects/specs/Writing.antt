@@ -6,7 +6,7 @@ use Rattle.wl_wire.specs.declared.kind.Kind.TheVariants as kinds
 use Rattle.wl_wire.specs.declared.kind.Iface.{Iface}
 use Rattle.wl_wire.specs.Argument.{Argument, Shape, reshaped, units, Int, Uint, Fixed, Str, Obj, New, NewNamed, Array, Fd}
 use Rattle.wl_wire.specs.Word.{header_bytes}
-use Rattle.wl_wire.specs.Spelling.{canonical, spelled_len}
+use Rattle.wl_wire.specs.Spelling.{canonical, spelled_len, Fits}
 use Rattle.wl_objects.specs.declared.argument.Arg.{Arg}
 use Rattle.wl_objects.specs.declared.argument.Arg.TheVariants as args
 use Rattle.wl_objects.specs.declared.object.Object.{Object}
@@ -101,6 +101,15 @@ message_len (value ∷ values) = spelled_len value + message_len values
 abbrev pub message_bytes : ℕ → ℕ → List Argument → List ℕ
 message_bytes object opcode values = header_bytes (record { object = object; size = message_len values; opcode = opcode }) ++ spelled values
 
+-- each value has a spelling
+abbrev pub EachFits : List Argument → Type 0
+EachFits [] = Unit {0}
+EachFits (value ∷ values) = Fits value × EachFits values
+
+-- the arguments of wl_registry.bind
+abbrev pub bind_values : ℕ → List ℕ → ℕ → ℕ → List Argument
+bind_values name iface version id = Uint name ∷ NewNamed iface version id ∷ []
+
 -- the tokens of a call, in order
 abbrev pub tokens_of : List Given → List ℕ
 tokens_of [] = []
@@ -131,15 +140,8 @@ on_wire id list = map (wired id) (given list)
 abbrev pub len_in_limit : List Argument → Option ℕ
 len_in_limit values = if nat_lt 4096 (message_len values) then None else Some (message_len values)
 
-abbrev pub or_iface : Option Iface → Option Iface → Option Iface
-or_iface None other = other
-or_iface (Some iface) other = Some iface
-
-abbrev pub new_iface : Kind → Option Iface
-new_iface (kinds.New iface) = iface
-new_iface _ = None
-
 -- the interface of the object that a call makes: that of the signature's new object
 abbrev pub call_makes : List Kind → Option Iface
 call_makes [] = None
-call_makes (kind ∷ ks) = or_iface (new_iface kind) (call_makes ks)
+call_makes (kinds.New (Some iface) ∷ ks) = Some iface
+call_makes (_ ∷ ks) = call_makes ks

@@ -28,4 +28,4 @@ pub use reading::{Received, descriptors, receive};
 pub use reporting::{Gots, named, report_arguments};
 pub use table::Table;
 pub use values::Values;
-pub use writing::tokens_of;
+pub use writing::{encode_bind, encode_call, tokens_of};

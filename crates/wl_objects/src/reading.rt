@@ -1,10 +1,10 @@
 //! One message read against an end's table.
-ghost use Rattle.std.specs.Prelude.{◌≡◌, length, count_by};
+ghost use Rattle.std.specs.Prelude.{◌≡◌};
 ghost use Rattle.wl_wire.specs.Argument.{lent};
 ghost use Rattle.wl_objects.specs.View.{look};
-ghost use Rattle.wl_objects.specs.Reading.{arguments_at, descriptors, forgiving, value_fault, object_fault, new_fault, is_of, iface_of, kind_at};
+ghost use Rattle.wl_objects.specs.Reading.{arguments_at, descriptors, forgiving, value_fault, object_fault, new_fault, iface_of, values_at};
 ghost use Rattle.wl_objects.specs.Messages.{reader_of, received};
-ghost use Rattle.wl_objects.specs.Seen.{received_in, left_behind, rest_in};
+ghost use Rattle.wl_objects.specs.Seen.{received_in, with_rest};
 
 use crate::error::Fault;
 use crate::messages::is_error;
@@ -86,7 +86,7 @@ fn rest_behind<'a, T: Table>(
     kinds: &[Kind],
     body: &'a [u8],
 ) -> Result<&'a [u8], Fault>
-    ensures { rest_in result ≡ left_behind (arguments_at (forgiving forgives (reader_of (T.view table.now))) 0 kinds.now body.now) }
+    ensures { with_rest (values_at forgives kinds.now body.now) result ≡ arguments_at (forgiving forgives (reader_of (T.view table.now))) 0 kinds.now body.now }
 {
     let mut rest = body;
     'kinds: for (place, kind) in kinds.iter().enumerate() {
