@@ -26,9 +26,9 @@ pub fn made_by_message(
 ) -> Option<Made>
     ensures { result ≡ made tables.now version kinds.now values.now }
 {
-    let mut values = values.again();
+    let mut left = values.again();
     'kinds: for kind in kinds {
-        let value = match values.next() {
+        let value = match left.next() {
             Some(value) => value,
             None => return None,
         };

@@ -1,8 +1,8 @@
 //! The arguments of a message as its reader reports them.
-ghost use Rattle.std.specs.Prelude.{◌≡◌, [], ◌∷◌, ◌++◌, IfOk, map};
+ghost use Rattle.std.specs.Prelude.{◌≡◌, [], ◌∷◌, ◌++◌, IfOk};
 ghost use Rattle.wl_wire.specs.Argument.{lent};
 ghost use Rattle.wl_objects.specs.View.{look};
-ghost use Rattle.wl_objects.specs.Reading.{report_of, reports_of, named_at};
+ghost use Rattle.wl_objects.specs.Reading.{first_or, named_at, report_of, reports_of, tokens_after};
 ghost use Rattle.wl_objects.specs.Messages.{reader_of};
 ghost use Rattle.wl_objects.specs.Seen.{got, gots};
 
@@ -65,16 +65,34 @@ pub fn report_arguments<A: Allocator + Clone + Drop, T: Table>(
     ensures { IfOk result (λ reported. reported ≡ reports_of (reader_of (T.view table.now)) tokens.now values.now) }
 {
     let mut items = Vec::new(alloc.clone()?);
-    let mut values = values.again();
-    let mut tokens = tokens;
-    'values: while let Some(value) = values.next() {
-        let token = tokens.first().copied().unwrap_or(0);
-        if matches!(&value, ValueRef::Fd) {
-            tokens = tokens.get(1..).unwrap_or(&[]);
-        }
+    let mut left = values.again();
+    let mut waiting = tokens;
+    'left: while let Some(value) = left.next() {
+        let token = next_token(waiting);
+        waiting = tokens_after(&value, waiting);
         items.push(report_of(&alloc, table, token, value)?)?;
     }
     Ok(Gots { items })
+}
+
+/// The token that waits first, or 0.
+fn next_token(tokens: &[u32]) -> u32
+    ensures { result ≡ first_or tokens.now 0 }
+{
+    match tokens.first() {
+        Some(token) => *token,
+        None => 0,
+    }
+}
+
+/// The tokens behind those that an argument takes.
+fn tokens_after<'a>(value: &ValueRef<'_>, tokens: &'a [u32]) -> &'a [u32]
+    ensures { result.now ≡ tokens_after (lent value.now) tokens.now }
+{
+    match value {
+        ValueRef::Fd if !tokens.is_empty() => &tokens[1..],
+        _ => tokens,
+    }
 }
 
 /// One argument as it is reported, where the token is the next that waits.

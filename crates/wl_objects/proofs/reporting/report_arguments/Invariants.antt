@@ -5,10 +5,10 @@ use Rattle.wl_objects.specs.Seen.{gots}
 use Rattle.wl_objects.proofs.reporting.report_arguments.Given as goal
 
 -- what is reported, and the values and tokens that are left to report
-abbrev pub invariant-values : goal.invariant-values
-invariant-values g l =
-    gots l.items.items ++ reports_of (reader_of (g.T.Table.view l.table)) l.tokens-2 l.values-2
+abbrev pub invariant-left : goal.invariant-left
+invariant-left g l =
+    gots l.items.items ++ reports_of (reader_of (g.T.Table.view l.table)) l.waiting l.left
     ≡ reports_of (reader_of (g.T.Table.view l.table)) l.tokens l.values
 
-abbrev pub decreases-values : goal.decreases-values
-decreases-values g l = length l.values-2
+abbrev pub decreases-left : goal.decreases-left
+decreases-left g l = length l.left
