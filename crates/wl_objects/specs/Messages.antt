@@ -15,18 +15,14 @@ use Rattle.wl_sigs.specs.Tables.{Message, Interface, signature_at, place_of}
 use Rattle.wl_sigs.specs.Fixed.{display, registry}
 use Rattle.wl_objects.specs.declared.object.Object.{Object}
 use Rattle.wl_objects.specs.declared.object.Entry.{Entry}
-use Rattle.wl_objects.specs.declared.made.Made.{Made}
 use Rattle.wl_objects.specs.declared.error.Fault.{Fault}
 use Rattle.wl_objects.specs.declared.error.Fault.TheVariants as faults
 use Rattle.wl_objects.specs.declared.error.SendError.{SendError}
 use Rattle.wl_objects.specs.declared.error.SendError.TheVariants as refusals
 use Rattle.wl_objects.specs.View.{View, look, free_or_next, has_room, opened_at, closed, zombied, is_held}
-<<<<<<< HEAD
-use Rattle.wl_objects.specs.Reading.{NewId, Free, Wrong, TooMany, Reader, forgiving, arguments_at, descriptors, named}
-=======
-use Rattle.wl_objects.specs.Reading.{NewId, Free, Wrong, TooMany, Reader, arguments_at, descriptors}
->>>>>>> main
+use Rattle.wl_objects.specs.Reading.{NewId, Free, Wrong, TooMany, Reader, forgiving, arguments_at, descriptors}
 use Rattle.wl_objects.specs.Writing.{Given, wrong_place, lost_place, is_live_as, wired, message_len}
+pub use Rattle.wl_objects.specs.declared.made.Made.{Made}
 
 -- ---- reading
 

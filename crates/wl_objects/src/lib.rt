@@ -9,6 +9,7 @@
 mod argument;
 mod calling;
 mod error;
+pub mod laws;
 mod made;
 mod map_table;
 mod messages;
