@@ -7,6 +7,7 @@ use Rattle.std.specs.declared.result.Result.TheVariants.{Ok, Err}
 use Rattle.std.proofs.lemmas.Bool.{both_ways, and_parts, eqb-true, eqb-false, eq-eqb, ne_eqb}
 use Rattle.std.proofs.lemmas.List.{drop_at}
 use Rattle.std.proofs.lemmas.List.Folds.{list_any_at}
+use Rattle.std.proofs.lemmas.List.Sums.{sum_by-cons}
 use Rattle.std.proofs.lemmas.List.Elements.{All-tail}
 use Rattle.wl_wire.specs.declared.kind.Kind.{Kind}
 use Rattle.wl_wire.specs.declared.kind.Kind.TheVariants as kinds
@@ -17,7 +18,7 @@ use Rattle.wl_wire.proofs.Canonicals.{canonical-spells, spelled-len, reading-can
 use Rattle.wl_objects.specs.declared.object.Object.{Object}
 use Rattle.wl_objects.specs.declared.object.Entry.{Entry}
 use Rattle.wl_objects.specs.declared.error.Fault.{Fault}
-use Rattle.wl_objects.specs.Reading.{Reader, kind_at, is_of, iface_of, value_fault, arguments_at, report_of, reports_of, first_or, tokens_after, descriptors}
+use Rattle.wl_objects.specs.Reading.{Reader, kind_at, is_of, iface_of, value_fault, arguments_at, report_of, reports_of, first_or, tokens_after, descriptors, is_descriptor_kind}
 use Rattle.wl_objects.specs.Writing.{Given, wired, spelled, suits, text_suits, has_no_nul, can_name, names_one, is_live_as, row_is_of, wrong_place, lost_place, tokens_of}
 use Rattle.wl_objects.specs.Carried.{InRange, IsHeld, IsExpected, arrived, Arrive}
 
@@ -156,7 +157,9 @@ taken-one (kinds.Obj null iface) (Obj object) ks list e h = h
 taken-one (kinds.New (Some iface)) (New x) ks list e h = h
 taken-one (kinds.New None) (NewNamed iface version x) ks list e h = h
 taken-one kinds.Array (Array bytes) ks list e h = h
-taken-one kinds.Fd (Fd token) ks list e h = rw h refl
+taken-one kinds.Fd (Fd token) ks list e h =
+    let count : descriptors (kinds.Fd ∷ ks) ≡ 1 + descriptors ks = sum_by-cons (λ (k : Kind). if is_descriptor_kind k then 1 else 0) kinds.Fd ks in
+    omega (arith, count, h)
 taken-one kind x ks list e h = absurd (cc)
 
 pub arrive-taken : (place : ℕ) (ks : List Kind) (list : List Given) → wrong_place place ks list ≡ None → descriptors ks ≡ length (tokens_of list)
