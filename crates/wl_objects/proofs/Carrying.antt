@@ -31,7 +31,7 @@ no_nul text e k d h z =
     not_true true e = sym e
     not_true false e = refl
 
-text_is : (text : List ℕ) → has_no_nul text ≡ true → length text + 1 < 2 ^ 32 → IsText text
+pub text_is : (text : List ℕ) → has_no_nul text ≡ true → length text + 1 < 2 ^ 32 → IsText text
 text_is text e h = record { no_nul = no_nul text e; len = h }
 
 -- an argument of the kind stands on the wire as a value of the kind
@@ -49,7 +49,7 @@ suits-wired n kinds.Array (Array bytes) e h b o = h
 suits-wired n kinds.Fd (Fd token) e h b o = tt
 suits-wired n kind x e h b o = absurd (cc)
 
-if-none : (b : Bool) (x : Option ℕ) (p : ℕ) → (if b then x else Some p) ≡ None → (b ≡ true) × (x ≡ None)
+pub if-none : (b : Bool) (x : Option ℕ) (p : ℕ) → (if b then x else Some p) ≡ None → (b ≡ true) × (x ≡ None)
 if-none true x p e = (refl, e)
 if-none false x p e = absurd (cc)
 

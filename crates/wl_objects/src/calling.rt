@@ -1,10 +1,10 @@
 //! The arguments of a call, checked before a message is made of them.
-ghost use Rattle.std.specs.Prelude.{◌≡◌, ℕ, suc, ◌<◌, ◌≤◌, ◌+◌, IfOk, IfSome, length, Some};
+ghost use Rattle.std.specs.Prelude.{◌≡◌, ◌≤◌, ℕ, suc, ◌<◌, ◌≤◌, ◌+◌, IfOk, IfSome, length, Some};
 ghost use Rattle.wl_objects.specs.View.{look};
 ghost use Rattle.wl_objects.specs.Reading.{is_of, iface_of};
 ghost use Rattle.wl_objects.specs.Messages.{checked, live_row};
 ghost use Rattle.wl_objects.specs.Seen.{signature_in};
-ghost use Rattle.wl_objects.specs.Writing.{given, given_of, suits, has_no_nul, wrong_place, lost_place, can_name, names_one};
+ghost use Rattle.wl_objects.specs.Writing.{EachFits, can_name, given, given_of, has_no_nul, lost_place, message_len, names_one, on_wire, suits, wrong_place};
 
 use crate::argument::Arg;
 use crate::error::SendError;
@@ -27,6 +27,9 @@ pub fn check_call<'t, T: Table>(
 ) -> Result<(Entry, &'t Signature), SendError>
     ensures answer { signature_in result ≡ checked tables.now side (T.view table.now) target opcode (given args.now) }
     ensures entry { IfOk result (λ found. look (T.view table.now) target.id ≡ Some found.0) }
+    // So the message can be written, whatever the id of its new object.
+    ensures fits { IfOk result (λ _. (id : ℕ) → EachFits (on_wire id args.now) × (message_len (on_wire id args.now) ≤ 4096)) }
+    ensures few { IfOk result (λ _. length args.now ≤ 20) }
 {
     let entry = match live_row(table, target) {
         Some(entry) => entry,

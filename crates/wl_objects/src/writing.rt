@@ -146,7 +146,10 @@ fn start<A: Allocator>(store: &mut Vec<u8, A>, object: u32, size: usize, opcode:
 {
     store.clear();
     append(store, ValueRef::Uint(object));
-    append(store, ValueRef::Uint(size as u32 * 65536 + u32::from(opcode)));
+    append(
+        store,
+        ValueRef::Uint(size as u32 * 65536 + u32::from(opcode)),
+    );
 }
 
 /// Appends a value's spelling, for which there is room.

@@ -13,6 +13,7 @@ returns-in-None g c =
     sym (lost-missing _ _ _ _ Int c.kinds-test.true missing) ∙ c.kinds.invariant.1
 
 pub kinds-preserved : goal.kinds-preserved
-kinds-preserved g c =
-    (omega (arith, c.in-Some.ensures.lookup.3.0),
-     sym (lost-next _ _ _ _ Int _ c.kinds-test.true c.in-Some.ensures.lookup.3.0 c.in-Some.ensures.lookup.1 (sym c.if-can_name.ensures)) ∙ c.kinds.invariant.1)
+kinds-preserved g c = (
+  omega (arith, c.in-Some.ensures.lookup.3.0),
+  sym (lost-next _ _ _ _ Int _ c.kinds-test.true c.in-Some.ensures.lookup.3.0 c.in-Some.ensures.lookup.1 (sym c.if-can_name.ensures)) ∙ c.kinds.invariant.1,
+)

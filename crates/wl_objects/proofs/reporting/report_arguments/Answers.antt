@@ -8,7 +8,7 @@ pub left-preserved : goal.left-preserved
 left-preserved g c =
     let r : Reader = reader_of (g.T.Table.view c.args.table.now) in
     rw c.in_ok-push.ensures.items
-      (report-next r c.left.items.items _ _ _ _ _ _ _ c.in-Some.ensures c.next_token-token.ensures c.tokens_after-waiting.ensures c.in_ok-report_of.ensures ∙ c.left.invariant)
+    (report-next r c.left.items.items _ _ _ _ _ _ _ c.in-Some.ensures c.next_token-token.ensures c.tokens_after-waiting.ensures c.in_ok-report_of.ensures ∙ c.left.invariant)
 
 pub returns : goal.returns
 returns g c =
