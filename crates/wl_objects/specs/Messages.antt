@@ -22,7 +22,7 @@ use Rattle.wl_objects.specs.declared.error.SendError.TheVariants as refusals
 use Rattle.wl_objects.specs.View.{View, look, free_or_next, has_room, opened_at, closed, zombied, is_held}
 use Rattle.wl_objects.specs.Reading.{NewId, Free, Wrong, TooMany, Reader, forgiving, arguments_at, descriptors}
 use Rattle.wl_objects.specs.Writing.{Given, wrong_place, lost_place, is_live_as, wired, message_len}
-pub use Rattle.wl_objects.specs.declared.made.Made.{Made}
+use Rattle.wl_objects.specs.declared.made.Made.{Made as NewObject}
 
 -- ---- reading
 
@@ -93,6 +93,10 @@ abbrev pub received : List Interface → Side → Reader → Header → List ℕ
 received tables side reader header body waiting = received_by tables side reader header body waiting (reader.object header.object)
 
 -- ---- what a message does to the objects
+
+-- a new object: its id, its interface, its version
+abbrev pub Made : Type 0
+Made = NewObject
 
 -- the new object of one argument: of the signature's interface and its maker's version, or of those that it names
 abbrev pub made_by : List Interface → ℕ → Kind → Argument → Option Made
