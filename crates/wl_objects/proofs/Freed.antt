@@ -1,15 +1,11 @@
 -- The freed ids as a vector keeps them, the latest last.
-use Rattle.std.proofs.Common.{◌≡◌, ℕ, ◌+◌, ◌<◌, ◌≤◌, List, [], ◌∷◌, ◌++◌, refl, sym, ◌∙◌, ap, cond, Bool, true, false, length, reverse, arith}
+use Rattle.std.proofs.Common.{◌≡◌, ℕ, ◌+◌, ◌<◌, ◌≤◌, List, [], ◌∷◌, ◌++◌, refl, sym, ◌∙◌, ap, cond, Bool, true, false, reverse, arith}
 use Rattle.std.proofs.lemmas.List.{reverse-append}
 use Rattle.std.proofs.lemmas.List.Elements.{filter-append}
 use Rattle.std.specs.List.{filter}
 use Rattle.std.proofs.lemmas.Grind.{common_steps}
 use Rattle.std.proofs.lemmas.Bool.Decides.{nat_tests}
 use Rattle.wl_objects.specs.View.{times, without}
-
-nil_of : (xs : List ℕ) → length xs ≡ 0 → xs ≡ []
-nil_of [] e = refl
-nil_of (x ∷ xs) e = absurd (omega arith)
 
 times-append : (id : ℕ) (xs ys : List ℕ) → times id (xs ++ ys) ≡ times id xs + times id ys
 times-append id [] ys = omega arith
@@ -30,9 +26,6 @@ times-last id (y ∷ ys) = let h = times-last id ys in omega arith
 pub without-last : (id : ℕ) (ys : List ℕ) → times id (ys ++ id ∷ []) ≤ 1 → without id (ys ++ id ∷ []) ≡ ys
 without-last id [] h = grind (arith, common_steps, nat_tests)
 without-last id (y ∷ ys) h = let w = without-last id ys in let t = times-last id ys in grind (arith, common_steps, nat_tests, w, t, h)
-
-pub none-popped : (id : ℕ) (xs ys : List ℕ) (m n : ℕ) → (m ≡ 0) × (n ≡ 0) → length xs ≡ m → length ys ≡ n → ys ≡ without id xs
-none-popped id xs ys m n h f g = nil_of ys (g ∙ h.1) ∙ sym (ap (without id) (nil_of xs (f ∙ h.0)))
 
 one : (p : ℕ → Bool) (x : ℕ) → reverse (filter p (x ∷ [])) ≡ filter p (x ∷ [])
 one p x = elim (p x) as (λ b. reverse (cond b (x ∷ []) []) ≡ cond b (x ∷ []) []) [ true ↦ refl | false ↦ refl ]
