@@ -2,3 +2,4 @@ pub mod Fronts
 pub mod Goings
 pub mod Keeps
 pub mod Cuts
+pub mod Passing
