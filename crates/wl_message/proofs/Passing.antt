@@ -3,7 +3,7 @@ use Rattle.std.proofs.Common.{◌≡◌, ℕ, zero, suc, ◌+◌, ◌-◌, ◌<�
 use Rattle.std.proofs.lemmas.List.{append_assoc, append-nil, take-append-drop, take-append-le, drop-append-le, length-take, take_all, map-append}
 use Rattle.wl_message.specs.declared.amounts.Taken.{Taken}
 use Rattle.wl_message.specs.Outgoing.{Message, message, Outgoing, all_bytes, all_tokens, begun, newly_begun, MayGo, Goes, goes, waiting_bytes, waiting_tokens, after_taking}
-use Rattle.wl_message.specs.InStep.{Part, part_bytes, part_tokens, Need, need, total_size, total_need, InStep, Passes, Carried, part_taken}
+use Rattle.wl_message.specs.InStep.{Part, part_bytes, part_tokens, Need, need, total_size, total_need, InStep, Passes, Carried, part_taken, Gave, starts, adds, adds_error, takes}
 use Rattle.wl_message.proofs.Goings.{begun_front}
 
 pub bytes_append : (xs ys : List Message) → all_bytes (xs ++ ys) ≡ all_bytes xs ++ all_bytes ys
@@ -150,3 +150,23 @@ pub keeps_step : (sent waiting : List Message) (left : List ℕ) (parts : List P
     → InStep (map need (sent ++ waiting)) parts → InStep (map need (sent ++ waiting)) (parts ++ more ∷ [])
 keeps_step sent waiting left parts more c s before this after e earlier here later f low high =
     keeps_at sent waiting left parts more c s before this after e earlier here later low high (ends_with parts more earlier here later f)
+
+-- what an outbox gave is in step, whatever messages follow
+abbrev pub Tidy : List Message → List Part → Outgoing → Type 0
+Tidy sent parts o = Carried sent o.left parts × ((waiting : List Message) → InStep (map need (sent ++ waiting)) parts)
+
+tidy : (sent : List Message) (parts : List Part) (o : Outgoing) → Gave sent parts o → Tidy sent parts o
+tidy sent parts o starts = (record { bytes = refl; tokens = refl }, λ waiting before this after e earlier here later f low high. absurd (no_more earlier here later f))
+tidy sent parts o (adds bytes tokens g) = tidy sent parts _ g
+tidy sent parts o (adds_error bytes g) = tidy sent parts _ g
+tidy sent parts o (takes {sent = ms} {parts = ps} {o = p} {b = b} {t = t} {taken = taken} goes g) =
+    let h = tidy ms ps p g in
+    (carried ms p ps b t taken goes h.0,
+     λ waiting. subst (λ (l : List Message). InStep (map need l) (ps ++ part_taken p taken ∷ [])) (sym (append_assoc ms (newly_begun p taken.bytes) waiting))
+       (keeps_step ms (newly_begun p taken.bytes ++ waiting) p.left ps (part_taken p taken) h.0 (h.1 (newly_begun p taken.bytes ++ waiting))))
+
+pub gave_in_step : (sent : List Message) (parts : List Part) (o : Outgoing) → Gave sent parts o → InStep (map need (sent ++ o.messages)) parts
+gave_in_step sent parts o g = (tidy sent parts o g).1 o.messages
+
+pub gave_all : (sent : List Message) (parts : List Part) (o : Outgoing) → Gave sent parts o → Carried sent o.left parts
+gave_all sent parts o g = (tidy sent parts o g).0

@@ -2,7 +2,7 @@
 use Rattle.std.specs.Prelude.{◌≡◌, ℕ, ◌+◌, ◌<◌, ◌≤◌, ◌⊎◌, List, [], ◌∷◌, ◌++◌, length, take}
 use Rattle.wl_message.specs.declared.amounts.Piece.{Piece}
 use Rattle.wl_message.specs.declared.amounts.Taken.{Taken}
-use Rattle.wl_message.specs.Outgoing.{Message, Outgoing, all_bytes, all_tokens, waiting_bytes, waiting_tokens, newly_begun, after_taking}
+use Rattle.wl_message.specs.Outgoing.{Message, Outgoing, all_bytes, all_tokens, waiting_bytes, waiting_tokens, newly_begun, Goes, after_taking, no_messages, with_message, with_error}
 
 -- what came, or went, at one time
 pub record Part : Type 0 where
@@ -62,3 +62,12 @@ pub record Passes (o : Outgoing) (taken : Taken) : Type 0 where
 pub record Carried (sent : List Message) (left : List ℕ) (parts : List Part) : Type 0 where
   pub bytes : part_bytes parts ++ left ≡ all_bytes sent
   pub tokens : part_tokens parts ≡ all_tokens sent
+
+-- What an outbox gave since it was new: the messages that were begun, and the pieces that were taken, one after another,
+-- while messages were added in between.
+pub data Gave : List Message → List Part → Outgoing → Type 0 where
+  starts : {bytes tokens : ℕ} → Gave [] [] (no_messages bytes tokens)
+  adds : {sent : List Message} {parts : List Part} {o : Outgoing} (bytes tokens : List ℕ) → Gave sent parts o → Gave sent parts (with_message o bytes tokens)
+  adds_error : {sent : List Message} {parts : List Part} {o : Outgoing} (bytes : List ℕ) → Gave sent parts o → Gave sent parts (with_error o bytes)
+  takes : {sent : List Message} {parts : List Part} {o : Outgoing} {b t : ℕ} {taken : Taken} → Goes o b t taken → Gave sent parts o
+      → Gave (sent ++ newly_begun o taken.bytes) (parts ++ part_taken o taken ∷ []) (after_taking o taken.bytes)
