@@ -129,8 +129,8 @@ joined_cut limit (m ∷ ms) r (suc count) w l h =
     let t = take_front m (concat ms ++ r) in
     let d = drop_front m (concat ms ++ r) in
     ap (λ (s : List ℕ). cut_within (suc count) limit s) e ∙ cut_whole limit (m ++ (concat ms ++ r)) count (length m) f
-      ∙ (λ k. record { messages = t k ∷ (cut_within count limit (d k)).messages; rest = (cut_within count limit (d k)).rest })
-      ∙ (λ k. record { messages = m ∷ (i k).messages; rest = (i k).rest })
+    ∙ (λ k. record { messages = t k ∷ (cut_within count limit (d k)).messages; rest = (cut_within count limit (d k)).rest })
+    ∙ (λ k. record { messages = m ∷ (i k).messages; rest = (i k).rest })
 
 -- a stream has one cut
 pub one_cut : (limit : ℕ) (stream : List ℕ) (ms : List (List ℕ)) (r : List ℕ) → IsCut limit stream ms r → cut_within (length stream) limit stream ≡ record { messages = ms; rest = r }
@@ -166,7 +166,7 @@ cut_enough limit zero bytes h =
     rw (cut_more limit bytes zero e) (no_message limit bytes More e (λ n x. cc x))
 cut_enough limit (suc count) bytes h =
     cut_at limit count bytes (front limit bytes) refl
-      (λ n w. let s = front_stands limit bytes n w in cut_enough limit count (drop n bytes) (omega (arith, length-drop n bytes, s.size.header)))
+    (λ n w. let s = front_stands limit bytes n w in cut_enough limit count (drop n bytes) (omega (arith, length-drop n bytes, s.size.header)))
 
 -- each stream has a cut
 pub is_cut : (limit : ℕ) (stream : List ℕ) → IsCut limit stream (messages_of limit stream) (rest_of limit stream)
@@ -183,7 +183,7 @@ all_append P (x ∷ xs) ys p q = (p.0, all_append P xs ys p.1 q)
 pub cut_append : (limit : ℕ) (xs ys : List ℕ) (ms ns : List (List ℕ)) (r t : List ℕ) → IsCut limit xs ms r → IsCut limit (r ++ ys) ns t → IsCut limit (xs ++ ys) (ms ++ ns) t
 cut_append limit xs ys ms ns r t c d = record {
   joined =
-    ap (λ (l : List ℕ). l ++ ys) c.joined ∙ append_assoc (concat ms) r ys ∙ ap (λ (l : List ℕ). concat ms ++ l) d.joined
+      ap (λ (l : List ℕ). l ++ ys) c.joined ∙ append_assoc (concat ms) r ys ∙ ap (λ (l : List ℕ). concat ms ++ l) d.joined
       ∙ sym (append_assoc (concat ms) (concat ns) t) ∙ ap (λ (l : List ℕ). l ++ t) (sym (concat-append ms ns));
   whole = all_append (IsMessage limit) ms ns c.whole d.whole;
   last = d.last;

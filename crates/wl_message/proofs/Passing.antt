@@ -32,17 +32,17 @@ passes o b t taken g =
     let after = drop (length begins) o.messages in
     let front : begins ≡ take (length begins) o.messages = begun_front (n - length o.left) o.messages in
     let all : o.messages ≡ begins ++ after =
-        sym (take-append-drop (length begins) o.messages) ∙ ap (λ (l : List Message). l ++ after) (sym front) in
+    sym (take-append-drop (length begins) o.messages) ∙ ap (λ (l : List Message). l ++ after) (sym front) in
     let bytes : waiting_bytes o ≡ (o.left ++ all_bytes begins) ++ all_bytes after =
-        ap (λ (l : List Message). o.left ++ all_bytes l) all ∙ ap (λ (l : List ℕ). o.left ++ l) (bytes_append begins after) ∙ sym (append_assoc o.left (all_bytes begins) (all_bytes after)) in
+    ap (λ (l : List Message). o.left ++ all_bytes l) all ∙ ap (λ (l : List ℕ). o.left ++ l) (bytes_append begins after) ∙ sym (append_assoc o.left (all_bytes begins) (all_bytes after)) in
     let enough : n ≤ length (o.left ++ all_bytes begins) =
-        let e = begun_enough (n - length o.left) o.messages (omega (arith, g.may.there, length-append o.left (all_bytes o.messages))) in
-        omega (arith, e, length-append o.left (all_bytes begins)) in
+    let e = begun_enough (n - length o.left) o.messages (omega (arith, g.may.there, length-append o.left (all_bytes o.messages))) in
+    omega (arith, e, length-append o.left (all_bytes begins)) in
     let tokens : waiting_tokens o ≡ all_tokens begins ++ all_tokens after = ap (λ (l : List Message). all_tokens l) all ∙ tokens_append begins after in
     record {
       rest = all;
       gone = sym (take-append-drop n (o.left ++ all_bytes begins))
-        ∙ ap (λ (l : List ℕ). l ++ drop n (o.left ++ all_bytes begins)) (sym (ap (take n) bytes ∙ take-append-le n (o.left ++ all_bytes begins) (all_bytes after) enough));
+          ∙ ap (λ (l : List ℕ). l ++ drop n (o.left ++ all_bytes begins)) (sym (ap (take n) bytes ∙ take-append-le n (o.left ++ all_bytes begins) (all_bytes after) enough));
       with_tokens = ap (λ (k : ℕ). take k (waiting_tokens o)) g.with_tokens ∙ ap (take (length (all_tokens begins))) tokens ∙ take_front (all_tokens begins) (all_tokens after);
     }
 
@@ -65,12 +65,12 @@ carried sent o parts b t taken g c =
     let left = (after_taking o taken.bytes).left in
     record {
       bytes =
-        ap (λ (l : List ℕ). l ++ left) (part_bytes_append parts (here ∷ []) ∙ ap (λ (l : List ℕ). part_bytes parts ++ l) (append-nil here.bytes))
-        ∙ append_assoc (part_bytes parts) here.bytes left ∙ ap (λ (l : List ℕ). part_bytes parts ++ l) (sym p.gone)
-        ∙ sym (append_assoc (part_bytes parts) o.left (all_bytes begins)) ∙ ap (λ (l : List ℕ). l ++ all_bytes begins) c.bytes ∙ sym (bytes_append sent begins);
+          ap (λ (l : List ℕ). l ++ left) (part_bytes_append parts (here ∷ []) ∙ ap (λ (l : List ℕ). part_bytes parts ++ l) (append-nil here.bytes))
+          ∙ append_assoc (part_bytes parts) here.bytes left ∙ ap (λ (l : List ℕ). part_bytes parts ++ l) (sym p.gone)
+          ∙ sym (append_assoc (part_bytes parts) o.left (all_bytes begins)) ∙ ap (λ (l : List ℕ). l ++ all_bytes begins) c.bytes ∙ sym (bytes_append sent begins);
       tokens =
-        part_tokens_append parts (here ∷ []) ∙ ap (λ (l : List ℕ). part_tokens parts ++ l) (append-nil here.tokens ∙ p.with_tokens)
-        ∙ ap (λ (l : List ℕ). l ++ all_tokens begins) c.tokens ∙ sym (tokens_append sent begins);
+          part_tokens_append parts (here ∷ []) ∙ ap (λ (l : List ℕ). part_tokens parts ++ l) (append-nil here.tokens ∙ p.with_tokens)
+          ∙ ap (λ (l : List ℕ). l ++ all_tokens begins) c.tokens ∙ sym (tokens_append sent begins);
     }
 
 -- a message whose first byte is among the bytes of these has its tokens among theirs
@@ -133,7 +133,7 @@ came_before sent waiting left parts c before this after e earlier here fewer lat
     let tokens = ap (λ (l : List Part). length (part_tokens l)) f ∙ ap (λ (l : List ℕ). length l) (part_tokens_append earlier (here ∷ fewer)) ∙ length-append (part_tokens earlier) (here.tokens ++ part_tokens fewer) in
     let sizes = ap (λ (l : List ℕ). length l) c.bytes in
     let within : total_size before < total_size (map need sent) =
-        omega (arith, high, bytes, length-append here.bytes (part_bytes fewer), sizes, length-append (part_bytes parts) left, need_size sent) in
+    omega (arith, high, bytes, length-append here.bytes (part_bytes fewer), sizes, length-append (part_bytes parts) left, need_size sent) in
     let enough = among (map need sent) (map need waiting) before this after (sym (map-append need sent waiting) ∙ e) within in
     inl (omega (arith, enough, need_tokens sent, ap (λ (l : List ℕ). length l) c.tokens, tokens, length-append here.tokens (part_tokens fewer), ap (λ (l : List ℕ). length l) none))
 
@@ -160,10 +160,11 @@ tidy sent parts o starts = (record { bytes = refl; tokens = refl }, λ waiting b
 tidy sent parts o (adds bytes tokens g) = tidy sent parts _ g
 tidy sent parts o (adds_error bytes g) = tidy sent parts _ g
 tidy sent parts o (takes {sent = ms} {parts = ps} {o = p} {b = b} {t = t} {taken = taken} goes g) =
-    let h = tidy ms ps p g in
-    (carried ms p ps b t taken goes h.0,
-     λ waiting. subst (λ (l : List Message). InStep (map need l) (ps ++ part_taken p taken ∷ [])) (sym (append_assoc ms (newly_begun p taken.bytes) waiting))
-       (keeps_step ms (newly_begun p taken.bytes ++ waiting) p.left ps (part_taken p taken) h.0 (h.1 (newly_begun p taken.bytes ++ waiting))))
+    let h = tidy ms ps p g in (
+      carried ms p ps b t taken goes h.0,
+      λ waiting. subst (λ (l : List Message). InStep (map need l) (ps ++ part_taken p taken ∷ [])) (sym (append_assoc ms (newly_begun p taken.bytes) waiting))
+          (keeps_step ms (newly_begun p taken.bytes ++ waiting) p.left ps (part_taken p taken) h.0 (h.1 (newly_begun p taken.bytes ++ waiting))),
+    )
 
 pub gave_in_step : (sent : List Message) (parts : List Part) (o : Outgoing) → Gave sent parts o → InStep (map need (sent ++ o.messages)) parts
 gave_in_step sent parts o g = (tidy sent parts o g).1 o.messages
