@@ -1,8 +1,10 @@
 -- The messages of a stream and its rest.
-use Rattle.std.proofs.Common.{◌≡◌, ◌≢◌, ℕ, zero, suc, ◌+◌, ◌*◌, ◌≤◌, false, List, [], ◌∷◌, ◌++◌, length, take, drop, refl, sym, ap, subst, ◌∙◌, arith, length-append}
+use Rattle.std.proofs.Common.{◌≡◌, ◌≢◌, ℕ, zero, suc, ◌+◌, ◌*◌, ◌/◌, ◌%◌, ◌<◌, ◌≤◌, ◌^◌, false, List, [], ◌∷◌, ◌++◌, length, take, drop, refl, sym, ap, subst, ◌∙◌, arith, length-append}
 use Rattle.std.specs.List.{concat, AllByRecursion}
 use Rattle.std.proofs.lemmas.List.{length-take, length-drop, get_or-take, get_or_append_left, append_assoc, append-nil, take-append-drop, take-append-le, drop-append-le, take_all, drop_all}
 use Rattle.std.proofs.lemmas.List.Folds.{concat-append}
+use Rattle.wl_wire.specs.declared.header.Header.{Header}
+use Rattle.wl_wire.specs.Word.{header_bytes}
 use Rattle.wl_message.specs.Cut.{front, Front, More, Bad, Whole, told_size, is_size, IsSize, IsMessage, IsCut, Cut, cut_within, messages_of, rest_of}
 use Rattle.wl_message.proofs.Fronts.{Seen, short, long, whole, bad, seen, front_stands, is_size-true}
 
@@ -83,6 +85,16 @@ bad_stays limit bytes more n h =
 pub front_none : (limit : ℕ) → front limit [] ≡ More
 unfolding front
 front_none limit = refl
+
+told_header : (n o : ℕ) → n < 2 ^ 16 → o < 2 ^ 16 → (n * 65536 + o) / 65536 % 256 + 256 * ((n * 65536 + o) / 16777216 % 256) ≡ n
+told_header n o p q = omega arith
+
+-- a header that tells as many bytes as there are makes a whole message
+pub headed : (limit : ℕ) (header : Header) (arguments : List ℕ) → header.size ≡ length (header_bytes header ++ arguments) → header.size < 2 ^ 16 → header.opcode < 2 ^ 16
+    → IsSize limit header.size → IsMessage limit (header_bytes header ++ arguments)
+headed limit header arguments e s o h = 
+    let same : told_size (header_bytes header) ≡ header.size = told_header header.size header.opcode s o in
+    record { told = told_append (header_bytes header) arguments (omega arith) ∙ same ∙ e; size = subst (IsSize limit) e h }
 
 -- ---- the cut
 

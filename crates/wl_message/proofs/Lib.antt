@@ -3,3 +3,4 @@ pub mod Goings
 pub mod Keeps
 pub mod Cuts
 pub mod Passing
+pub mod Steps

@@ -1,13 +1,13 @@
 //! What holds of streams and queues as such. These functions do nothing: each is called for what
 //! it ensures.
-ghost use Rattle.std.specs.Prelude.{◌≡◌, ◌≢◌, ◌<◌, ◌^◌, ℕ, List, [], ◌∷◌, ◌++◌, length, map, take, drop};
+ghost use Rattle.std.specs.Prelude.{◌≡◌, ◌≢◌, ◌<◌, ◌≤◌, ◌⊎◌, ◌^◌, ℕ, List, [], ◌∷◌, ◌++◌, length, map, take, drop};
 ghost use Rattle.std.specs.List.{concat, AllByRecursion};
 ghost use Rattle.wl_wire.specs.declared.header.Header.{Header};
 ghost use Rattle.wl_wire.specs.Word.{header_bytes};
 ghost use Rattle.wl_message.specs.declared.amounts.Taken.{Taken};
 ghost use Rattle.wl_message.specs.Cut.{front, Bad, Whole, IsSize, IsMessage, IsCut, messages_of, rest_of};
 ghost use Rattle.wl_message.specs.Outgoing.{Message, Outgoing, Goes, goes, newly_begun, after_taking};
-ghost use Rattle.wl_message.specs.InStep.{Part, need, InStep, Passes, Carried, part_taken, Gave};
+ghost use Rattle.wl_message.specs.InStep.{Part, Need, need, part_tokens, InStep, Passes, Carried, part_taken, Gave};
 
 /// A header that tells as many bytes as there are makes a whole message, where a message may have
 /// so many.
@@ -75,3 +75,27 @@ pub fn pieces_in_step()
     ensures step { (sent : List Message) (parts : List Part) (o : Outgoing) → Gave sent parts o → InStep (map need (sent ++ o.messages)) parts }
     ensures carried { (sent : List Message) (parts : List Part) (o : Outgoing) → Gave sent parts o → Carried sent o.left parts }
 {}
+
+/// A reader may go through pieces in step as it likes: once the first message was read with its
+/// tokens the others are still in step, two pieces that come one directly after the other count as
+/// one, and a piece of which only some of the bytes are taken at first, with all of its tokens,
+/// counts as two.
+pub fn reading_in_step()
+    ensures first {
+        (n : Need) (needs : List Need) (p : Part) (parts : List Part) → InStep (n ∷ needs) (p ∷ parts) → 0 < length p.bytes
+            → (n.tokens ≤ length p.tokens) ⊎ (part_tokens parts ≡ [])
+    }
+    ensures read {
+        (n : Need) (needs : List Need) (p : Part) (parts : List Part) → InStep (n ∷ needs) (p ∷ parts) → n.size ≤ length p.bytes → n.tokens ≤ length p.tokens
+            → InStep needs (record { bytes = drop n.size p.bytes; tokens = drop n.tokens p.tokens } ∷ parts)
+    }
+    ensures joined {
+        (needs : List Need) (p q : Part) (parts : List Part) → InStep needs (p ∷ q ∷ parts)
+            → InStep needs (record { bytes = p.bytes ++ q.bytes; tokens = p.tokens ++ q.tokens } ∷ parts)
+    }
+    ensures parted {
+        (needs : List Need) (p : Part) (n : ℕ) (parts : List Part) → InStep needs (p ∷ parts)
+            → InStep needs (record { bytes = take n p.bytes; tokens = p.tokens } ∷ record { bytes = drop n p.bytes; tokens = [] } ∷ parts)
+    }
+{
+}

@@ -326,4 +326,5 @@ fn laws_do_nothing() {
     one_amount();
     take_keeps_step();
     pieces_in_step();
+    reading_in_step();
 }
