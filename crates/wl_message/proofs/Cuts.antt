@@ -92,7 +92,7 @@ told_header n o p q = omega arith
 -- a header that tells as many bytes as there are makes a whole message
 pub headed : (limit : ℕ) (header : Header) (arguments : List ℕ) → header.size ≡ length (header_bytes header ++ arguments) → header.size < 2 ^ 16 → header.opcode < 2 ^ 16
     → IsSize limit header.size → IsMessage limit (header_bytes header ++ arguments)
-headed limit header arguments e s o h = 
+headed limit header arguments e s o h =
     let same : told_size (header_bytes header) ≡ header.size = told_header header.size header.opcode s o in
     record { told = told_append (header_bytes header) arguments (omega arith) ∙ same ∙ e; size = subst (IsSize limit) e h }
 

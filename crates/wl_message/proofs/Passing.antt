@@ -1,8 +1,8 @@
 -- What leaves an outbox, and that it leaves in step.
 use Rattle.std.proofs.Common.{◌≡◌, ℕ, zero, suc, ◌+◌, ◌-◌, ◌<◌, ◌≤◌, ◌⊎◌, inl, inr, List, [], ◌∷◌, ◌++◌, length, take, drop, map, refl, sym, ap, subst, ◌∙◌, arith, length-append}
-use Rattle.std.proofs.lemmas.List.{append_assoc, append-nil, take-append-drop, take-append-le, drop-append-le, length-take, take_all, map-append}
+use Rattle.std.proofs.lemmas.List.{append_assoc, append-nil, take-append-drop, take-append-le, take_all, map-append}
 use Rattle.wl_message.specs.declared.amounts.Taken.{Taken}
-use Rattle.wl_message.specs.Outgoing.{Message, message, Outgoing, all_bytes, all_tokens, begun, newly_begun, MayGo, Goes, goes, waiting_bytes, waiting_tokens, after_taking}
+use Rattle.wl_message.specs.Outgoing.{Message, Outgoing, all_bytes, all_tokens, begun, newly_begun, Goes, goes, waiting_bytes, waiting_tokens, after_taking}
 use Rattle.wl_message.specs.InStep.{Part, part_bytes, part_tokens, Need, need, total_size, total_need, InStep, Passes, Carried, part_taken, Gave, starts, adds, adds_error, takes}
 use Rattle.wl_message.proofs.Goings.{begun_front}
 

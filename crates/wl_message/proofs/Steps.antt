@@ -1,5 +1,5 @@
 -- Pieces that bring messages in step, as a reader goes through them.
-use Rattle.std.proofs.Common.{◌≡◌, ℕ, ◌+◌, ◌-◌, ◌<◌, ◌≤◌, ◌⊎◌, inl, inr, Bool, true, false, ltb, List, [], ◌∷◌, ◌++◌, length, take, drop, refl, sym, ap, subst, ◌∙◌, arith, length-append}
+use Rattle.std.proofs.Common.{◌≡◌, ℕ, ◌+◌, ◌-◌, ◌<◌, ◌≤◌, ◌⊎◌, inl, inr, true, false, ltb, List, [], ◌∷◌, ◌++◌, length, take, drop, refl, sym, ap, ◌∙◌, arith, length-append}
 use Rattle.std.proofs.lemmas.Bool.Decides.{nat_tests}
 use Rattle.std.proofs.lemmas.List.{length-drop, length-take}
 use Rattle.wl_message.specs.InStep.{Part, part_bytes, part_tokens, Need, total_size, total_need, InStep}
@@ -31,9 +31,9 @@ step_read n needs p parts s size tokens before this after e (y ∷ earlier) here
     let q : less p n.size n.tokens ≡ y = cc f in
     let r : parts ≡ earlier ++ here ∷ later = cc f in
     let hb : length (y.bytes ++ part_bytes earlier) ≡ (length p.bytes - n.size) + length (part_bytes earlier) =
-        length-append y.bytes (part_bytes earlier) ∙ ap (λ (x : ℕ). x + length (part_bytes earlier)) (ap (λ (x : Part). length x.bytes) (sym q) ∙ length-drop n.size p.bytes) in
+    length-append y.bytes (part_bytes earlier) ∙ ap (λ (x : ℕ). x + length (part_bytes earlier)) (ap (λ (x : Part). length x.bytes) (sym q) ∙ length-drop n.size p.bytes) in
     let ht : length (y.tokens ++ part_tokens earlier) ≡ (length p.tokens - n.tokens) + length (part_tokens earlier) =
-        length-append y.tokens (part_tokens earlier) ∙ ap (λ (x : ℕ). x + length (part_tokens earlier)) (ap (λ (x : Part). length x.tokens) (sym q) ∙ length-drop n.tokens p.tokens) in
+    length-append y.tokens (part_tokens earlier) ∙ ap (λ (x : ℕ). x + length (part_tokens earlier)) (ap (λ (x : Part). length x.tokens) (sym q) ∙ length-drop n.tokens p.tokens) in
     let pb = length-append p.bytes (part_bytes earlier) in
     let pt = length-append p.tokens (part_tokens earlier) in
     let g = s (n ∷ before) this after (ap (λ (x : List Need). n ∷ x) e) (p ∷ earlier) here later (ap (λ (x : List Part). p ∷ x) r) (omega arith) (omega arith) in
@@ -68,16 +68,16 @@ step_joined needs p q parts s before this after e [] here later f low high =
     let hb : length here.bytes ≡ length p.bytes + length q.bytes = ap (λ (x : Part). length x.bytes) (sym k) ∙ length-append p.bytes q.bytes in
     let ht : length here.tokens ≡ length p.tokens + length q.tokens = ap (λ (x : Part). length x.tokens) (sym k) ∙ length-append p.tokens q.tokens in
     elim (joined_at needs p q parts s before this after e (omega arith) (side (total_size before) (length p.bytes))) [
-      inl x ↦ inl (omega arith)
-    | inr x ↦ inr (ap (λ (l : List Part). part_tokens l) (sym r) ∙ x)
+      | inl x ↦ inl (omega arith)
+      | inr x ↦ inr (ap (λ (l : List Part). part_tokens l) (sym r) ∙ x)
     ]
 step_joined needs p q parts s before this after e (y ∷ earlier) here later f low high =
     let k : joined p q ≡ y = cc f in
     let r : parts ≡ earlier ++ here ∷ later = cc f in
     let hb : length (y.bytes ++ part_bytes earlier) ≡ (length p.bytes + length q.bytes) + length (part_bytes earlier) =
-        length-append y.bytes (part_bytes earlier) ∙ ap (λ (x : ℕ). x + length (part_bytes earlier)) (ap (λ (x : Part). length x.bytes) (sym k) ∙ length-append p.bytes q.bytes) in
+    length-append y.bytes (part_bytes earlier) ∙ ap (λ (x : ℕ). x + length (part_bytes earlier)) (ap (λ (x : Part). length x.bytes) (sym k) ∙ length-append p.bytes q.bytes) in
     let ht : length (y.tokens ++ part_tokens earlier) ≡ (length p.tokens + length q.tokens) + length (part_tokens earlier) =
-        length-append y.tokens (part_tokens earlier) ∙ ap (λ (x : ℕ). x + length (part_tokens earlier)) (ap (λ (x : Part). length x.tokens) (sym k) ∙ length-append p.tokens q.tokens) in
+    length-append y.tokens (part_tokens earlier) ∙ ap (λ (x : ℕ). x + length (part_tokens earlier)) (ap (λ (x : Part). length x.tokens) (sym k) ∙ length-append p.tokens q.tokens) in
     let pb = length-append p.bytes (q.bytes ++ part_bytes earlier) in
     let qb = length-append q.bytes (part_bytes earlier) in
     let pt = length-append p.tokens (q.tokens ++ part_tokens earlier) in
@@ -96,8 +96,8 @@ step_parted needs p n parts s before this after e [] here later f low high =
     let ht : length here.tokens ≡ length p.tokens = ap (λ (x : Part). length x.tokens) (sym k) in
     let tb = length-take n p.bytes in
     elim (s before this after e [] p parts refl (omega arith) (omega arith)) [
-      inl x ↦ inl (omega arith)
-    | inr x ↦ inr (ap (λ (l : List Part). part_tokens l) (sym r) ∙ x)
+      | inl x ↦ inl (omega arith)
+      | inr x ↦ inr (ap (λ (l : List Part). part_tokens l) (sym r) ∙ x)
     ]
 step_parted needs p n parts s before this after e (y ∷ []) here later f low high =
     let first : Part = record { bytes = take n p.bytes; tokens = p.tokens } in
@@ -110,8 +110,8 @@ step_parted needs p n parts s before this after e (y ∷ []) here later f low hi
     let hb : length here.bytes ≡ length p.bytes - n = ap (λ (x : Part). length x.bytes) (sym j) ∙ length-drop n p.bytes in
     let tb = length-take n p.bytes in
     elim (s before this after e [] p parts refl (omega arith) (omega arith)) [
-      inl x ↦ inl (omega arith)
-    | inr x ↦ inr (ap (λ (l : List Part). part_tokens l) (sym r) ∙ x)
+      | inl x ↦ inl (omega arith)
+      | inr x ↦ inr (ap (λ (l : List Part). part_tokens l) (sym r) ∙ x)
     ]
 step_parted needs p n parts s before this after e (y ∷ z ∷ earlier) here later f low high =
     let first : Part = record { bytes = take n p.bytes; tokens = p.tokens } in

@@ -81,21 +81,12 @@ pub fn pieces_in_step()
 /// one, and a piece of which only some of the bytes are taken at first, with all of its tokens,
 /// counts as two.
 pub fn reading_in_step()
-    ensures first {
-        (n : Need) (needs : List Need) (p : Part) (parts : List Part) → InStep (n ∷ needs) (p ∷ parts) → 0 < length p.bytes
-            → (n.tokens ≤ length p.tokens) ⊎ (part_tokens parts ≡ [])
-    }
-    ensures read {
-        (n : Need) (needs : List Need) (p : Part) (parts : List Part) → InStep (n ∷ needs) (p ∷ parts) → n.size ≤ length p.bytes → n.tokens ≤ length p.tokens
-            → InStep needs (record { bytes = drop n.size p.bytes; tokens = drop n.tokens p.tokens } ∷ parts)
-    }
-    ensures joined {
-        (needs : List Need) (p q : Part) (parts : List Part) → InStep needs (p ∷ q ∷ parts)
-            → InStep needs (record { bytes = p.bytes ++ q.bytes; tokens = p.tokens ++ q.tokens } ∷ parts)
-    }
-    ensures parted {
-        (needs : List Need) (p : Part) (n : ℕ) (parts : List Part) → InStep needs (p ∷ parts)
-            → InStep needs (record { bytes = take n p.bytes; tokens = p.tokens } ∷ record { bytes = drop n p.bytes; tokens = [] } ∷ parts)
-    }
-{
-}
+    ensures first { (n : Need) (needs : List Need) (p : Part) (parts : List Part) → InStep (n ∷ needs) (p ∷ parts) → 0 < length p.bytes
+        → (n.tokens ≤ length p.tokens) ⊎ (part_tokens parts ≡ []) }
+    ensures read { (n : Need) (needs : List Need) (p : Part) (parts : List Part) → InStep (n ∷ needs) (p ∷ parts) → n.size ≤ length p.bytes → n.tokens ≤ length p.tokens
+        → InStep needs (record { bytes = drop n.size p.bytes; tokens = drop n.tokens p.tokens } ∷ parts) }
+    ensures joined { (needs : List Need) (p q : Part) (parts : List Part) → InStep needs (p ∷ q ∷ parts)
+        → InStep needs (record { bytes = p.bytes ++ q.bytes; tokens = p.tokens ++ q.tokens } ∷ parts) }
+    ensures parted { (needs : List Need) (p : Part) (n : ℕ) (parts : List Part) → InStep needs (p ∷ parts)
+        → InStep needs (record { bytes = take n p.bytes; tokens = p.tokens } ∷ record { bytes = drop n p.bytes; tokens = [] } ∷ parts) }
+{}
