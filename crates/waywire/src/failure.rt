@@ -1,0 +1,37 @@
+//! Why a job has no output.
+
+use thiserror::Error;
+
+/// Why a job has no output. Its text is what standard error says behind `waywire: `.
+#[derive(Clone, Copy, Debug, PartialEq, Eq, Error)]
+pub enum Failure<'a> {
+    /// The file of this name cannot be opened, or its reading failed.
+    #[error("cannot read {0}")]
+    CannotRead(&'a str),
+    /// The file has more than 16,777,216 bytes.
+    #[error("file too long")]
+    TooLong,
+    /// This line is no line of a recording. Lines are counted from 1.
+    #[error("line {0}: bad line")]
+    BadLine(usize),
+    /// The recording has what cannot be traced yet.
+    #[error("not in this stage")]
+    OutsideStage,
+    /// The output was not taken.
+    #[error("cannot write")]
+    CannotWrite,
+    /// There is no memory.
+    #[error("out of memory")]
+    Memory,
+}
+
+impl Failure<'_> {
+    /// The exit status: 1 for what is not traced yet, 4 for want of memory, else 3.
+    pub fn status(&self) -> u8 {
+        match self {
+            Failure::OutsideStage => 1,
+            Failure::Memory => 4,
+            _ => 3,
+        }
+    }
+}
