@@ -1,3 +1,5 @@
 pub mod Word
 pub mod Argument
 pub mod Spelling
+pub mod Faults
+pub mod Reading

@@ -81,3 +81,17 @@ spelled_len (NewNamed iface version id) = 12 + padded (length iface + 1)
 spelled_len (Array bytes) = 4 + padded (length bytes)
 spelled_len (Fd _) = 0
 spelled_len _ = 4
+
+-- The value is one of the kind, and all its numbers are in range: there are bytes that spell it.
+abbrev pub Suits : Kind → Argument → Type 0
+Suits kinds.Int (Int z) = FitsSigned w32 z
+Suits kinds.Uint (Uint n) = n < 2 ^ 32
+Suits kinds.Fixed (Fixed z) = FitsSigned w32 z
+Suits (kinds.Str null) (Str None) = null ≡ true
+Suits (kinds.Str null) (Str (Some text)) = IsText text
+Suits (kinds.Obj null iface) (Obj id) = (id < 2 ^ 32) × (id ≡ 0 → null ≡ true)
+Suits (kinds.New (Some iface)) (New id) = id < 2 ^ 32
+Suits (kinds.New None) (NewNamed iface version id) = IsText iface × (version < 2 ^ 32) × (id < 2 ^ 32)
+Suits kinds.Array (Array bytes) = length bytes < 2 ^ 32
+Suits kinds.Fd (Fd _) = Unit {0}
+Suits _ _ = ⊥

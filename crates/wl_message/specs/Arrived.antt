@@ -1,0 +1,61 @@
+-- Bytes and tokens that came in and wait.
+use Rattle.std.specs.Prelude.{◌≡◌, ℕ, ◌-◌, ◌≤◌, nat_le, min, if◌then◌else◌, List, [], ◌++◌, length, take, drop, Result, Ok, Err, Option, Some, None}
+use Rattle.wl_wire.specs.Word.{header_bytes}
+use Rattle.wl_message.specs.declared.amounts.Fed.{Fed}
+use Rattle.wl_message.specs.declared.amounts.Sizes.{Sizes}
+use Rattle.wl_message.specs.declared.inbox.BadSize.{BadSize}
+use Rattle.wl_message.specs.declared.inbox.Frame.{Frame}
+use Rattle.wl_message.specs.Cut.{usual_limit, front, More, Bad, Whole}
+
+-- an inbox: the bytes and the tokens that wait, and how many of each may wait
+pub record Arrived : Type 0 where
+  pub bytes : List ℕ
+  pub tokens : List ℕ
+  pub capacity : ℕ
+  pub token_capacity : ℕ
+
+-- nothing waits
+abbrev pub nothing_arrived : ℕ → ℕ → Arrived
+nothing_arrived bytes tokens = record { bytes = []; tokens = []; capacity = bytes; token_capacity = tokens }
+
+-- how many bytes are free
+abbrev pub free_bytes : Arrived → ℕ
+free_bytes a = a.capacity - length a.bytes
+
+-- how many tokens are free
+abbrev pub free_tokens : Arrived → ℕ
+free_tokens a = a.token_capacity - length a.tokens
+
+-- How much is taken in of these bytes and tokens: as many tokens as fit, and where these are all, as many bytes as fit.
+abbrev pub fed : Arrived → List ℕ → List ℕ → Fed
+fed a bytes tokens = record {
+  bytes = if nat_le (length tokens) (free_tokens a) then min (length bytes) (free_bytes a) else 0;
+  tokens = min (length tokens) (free_tokens a);
+}
+
+-- with these bytes and tokens behind the others
+abbrev pub with_more : Arrived → List ℕ → List ℕ → Arrived
+with_more a bytes tokens = record a { bytes = a.bytes ++ bytes; tokens = a.tokens ++ tokens }
+
+-- without so many of the first bytes and tokens
+abbrev pub without_first : Arrived → ℕ → ℕ → Arrived
+without_first a bytes tokens = record a { bytes = drop bytes a.bytes; tokens = drop tokens a.tokens }
+
+-- What is told of the message in front: its header, the bytes behind that, and how many tokens wait; a bad size;
+-- or nothing, as long as more bytes are needed.
+abbrev pub Tells : Arrived → Result (Option Frame) BadSize → Type 0
+Tells a (Ok None) = front usual_limit a.bytes ≡ More
+Tells a (Ok (Some f)) =
+    (front usual_limit a.bytes ≡ Whole f.header.size)
+    × (take f.header.size a.bytes ≡ header_bytes f.header ++ f.body.now)
+    × (f.tokens ≡ length a.tokens)
+Tells a (Err e) = front usual_limit a.bytes ≡ Bad e.size
+
+-- how large the two boxes of an end may be
+pub record AreSizes (sizes : Sizes) : Type 0 where
+  pub out_bytes : sizes.out_bytes ≤ 16777216
+  pub out_tokens : sizes.out_tokens ≤ 65536
+  pub in_bytes_low : usual_limit ≤ sizes.in_bytes
+  pub in_bytes : sizes.in_bytes ≤ 16777216
+  pub in_tokens_low : 20 ≤ sizes.in_tokens
+  pub in_tokens : sizes.in_tokens ≤ 65536

@@ -1,0 +1,83 @@
+-- A stream cut into messages, by the sizes in their headers alone.
+use Rattle.std.specs.Prelude.{◌≡◌, ◌≢◌, ℕ, zero, suc, ◌+◌, ◌*◌, ◌%◌, ◌≤◌, Bool, ◌&&◌, ◌==◌, nat_lt, nat_le, if◌then◌else◌, List, [], ◌∷◌, ◌++◌, length, take, drop, slice_index}
+use Rattle.std.specs.List.{concat, AllByRecursion}
+
+-- the most bytes that a message has
+abbrev pub usual_limit : ℕ
+usual_limit = 4096
+
+-- A message may have n bytes: its header has 8, it is a row of words, and it is within the limit.
+pub record IsSize (limit n : ℕ) : Type 0 where
+  pub header : 8 ≤ n
+  pub words : n % 4 ≡ 0
+  pub within : n ≤ limit
+
+-- the same as a test
+abbrev pub is_size : ℕ → ℕ → Bool
+is_size limit n = (nat_le 8 n && n % 4 == 0) && nat_le n limit
+
+-- the size that a header tells: the upper half of its second word, header included
+abbrev pub told_size : List ℕ → ℕ
+told_size bytes = slice_index bytes 6 + 256 * slice_index bytes 7
+
+-- a whole message: its header tells how many bytes there are, and a message may have so many
+pub record IsMessage (limit : ℕ) (bytes : List ℕ) : Type 0 where
+  pub told : told_size bytes ≡ length bytes
+  pub size : IsSize limit (length bytes)
+
+-- what stands in front of bytes
+pub data Front : Type 0 where
+  -- no whole header, or one that tells more bytes than there are
+  More : Front
+  -- a header that tells a size which no message has
+  Bad : ℕ → Front
+  -- a message of so many bytes
+  Whole : ℕ → Front
+
+-- A header is judged as soon as its 8 bytes are there.
+unfoldable pub front : ℕ → List ℕ → Front
+front limit bytes =
+    if nat_lt (length bytes) 8 then More else
+    (if is_size limit (told_size bytes) then (if nat_lt (length bytes) (told_size bytes) then More else Whole (told_size bytes)) else Bad (told_size bytes))
+
+-- a whole message stands in front
+abbrev pub HasMessage : Front → Type 0
+HasMessage (Whole n) = Unit {0}
+HasMessage _ = ⊥
+
+-- how many bytes it has
+abbrev pub message_size : Front → ℕ
+message_size (Whole n) = n
+message_size _ = 0
+
+-- The stream is cut into these messages and this rest: it is the messages joined and then the rest,
+-- each message is whole, and no whole message stands in front of the rest.
+pub record IsCut (limit : ℕ) (stream : List ℕ) (messages : List (List ℕ)) (rest : List ℕ) : Type 0 where
+  pub joined : stream ≡ concat messages ++ rest
+  pub whole : AllByRecursion (IsMessage limit) messages
+  pub last : (n : ℕ) → front limit rest ≢ Whole n
+
+-- messages and a rest
+pub record Cut : Type 0 where
+  pub messages : List (List ℕ)
+  pub rest : List ℕ
+
+-- at most so many messages are cut off
+unfoldable pub cut_within : ℕ → ℕ → List ℕ → Cut
+cut_within zero limit bytes = record { messages = []; rest = bytes }
+cut_within (suc count) limit bytes = elim (front limit bytes) [
+  | More ↦ record { messages = []; rest = bytes }
+  | Bad n ↦ record { messages = []; rest = bytes }
+  | Whole n ↦ record {
+    messages = take n bytes ∷ (cut_within count limit (drop n bytes)).messages;
+    rest = (cut_within count limit (drop n bytes)).rest;
+  }
+]
+
+-- the messages of a stream, which has no more of them than bytes
+abbrev pub messages_of : ℕ → List ℕ → List (List ℕ)
+messages_of limit stream = (cut_within (length stream) limit stream).messages
+
+-- what is left behind them: no whole message, or bytes that begin with a bad size
+abbrev pub rest_of : ℕ → List ℕ → List ℕ
+rest_of limit stream = (cut_within (length stream) limit stream).rest

@@ -1,0 +1,5 @@
+pub mod Cut
+pub mod Spelled
+pub mod Outgoing
+pub mod Arrived
+pub mod InStep

@@ -1,0 +1,116 @@
+-- Messages that wait to go out, with their tokens.
+use Rattle.std.specs.Prelude.{◌≡◌, ℕ, ◌+◌, ◌-◌, ◌≤◌, Bool, true, false, ◌||◌, ◌==◌, nat_lt, if◌then◌else◌, min, List, [], ◌∷◌, ◌++◌, length, drop}
+use Rattle.wl_message.specs.declared.amounts.Taken.{Taken}
+
+-- a message: its bytes, and the tokens that go with the first of them
+pub record Message : Type 0 where
+  pub bytes : List ℕ
+  pub tokens : List ℕ
+
+abbrev pub message : List ℕ → List ℕ → Message
+message bytes tokens = record { bytes = bytes; tokens = tokens }
+
+abbrev pub all_bytes : List Message → List ℕ
+all_bytes [] = []
+all_bytes (m ∷ ms) = m.bytes ++ all_bytes ms
+
+abbrev pub all_tokens : List Message → List ℕ
+all_tokens [] = []
+all_tokens (m ∷ ms) = m.tokens ++ all_tokens ms
+
+-- An outbox: what has not gone of the message that was begun last, whose tokens are gone; the messages that
+-- are not begun; and how many bytes and tokens of ordinary messages may wait.
+-- One error event may stand among the messages, beyond these numbers. Its bytes are those of the waiting ones
+-- from the place error_from up to error_to, counted from 0; where both are 0 none of it waits.
+pub record Outgoing : Type 0 where
+  pub left : List ℕ
+  pub messages : List Message
+  pub capacity : ℕ
+  pub token_capacity : ℕ
+  pub has_error : Bool
+  pub error_from : ℕ
+  pub error_to : ℕ
+
+-- nothing waits, and no error event was added
+abbrev pub no_messages : ℕ → ℕ → Outgoing
+no_messages bytes tokens = record { left = []; messages = []; capacity = bytes; token_capacity = tokens; has_error = false; error_from = 0; error_to = 0 }
+
+-- the bytes that wait, in order
+abbrev pub waiting_bytes : Outgoing → List ℕ
+waiting_bytes o = o.left ++ all_bytes o.messages
+
+-- the tokens that wait, in order
+abbrev pub waiting_tokens : Outgoing → List ℕ
+waiting_tokens o = all_tokens o.messages
+
+-- how many bytes of ordinary messages wait
+abbrev pub ordinary_len : Outgoing → ℕ
+ordinary_len o = length (waiting_bytes o) - (o.error_to - o.error_from)
+
+-- how many bytes are free for ordinary messages
+abbrev pub room_of : Outgoing → ℕ
+room_of o = o.capacity - ordinary_len o
+
+-- how many tokens are free
+abbrev pub token_room_of : Outgoing → ℕ
+token_room_of o = o.token_capacity - length (waiting_tokens o)
+
+-- one message more at the end
+abbrev pub with_message : Outgoing → List ℕ → List ℕ → Outgoing
+with_message o bytes tokens = record o { messages = o.messages ++ message bytes tokens ∷ [] }
+
+-- the error event at the end; it has no tokens
+abbrev pub with_error : Outgoing → List ℕ → Outgoing
+with_error o bytes = record o {
+  messages = o.messages ++ message bytes [] ∷ [];
+  has_error = true;
+  error_from = length (waiting_bytes o);
+  error_to = length (waiting_bytes o) + length bytes;
+}
+
+-- the messages of which a byte is among their first n
+abbrev pub begun : ℕ → List Message → List Message
+begun n [] = []
+begun n (m ∷ ms) = if n == 0 then [] else m ∷ begun (n - length m.bytes) ms
+
+-- the messages that the first n of the waiting bytes newly begin
+abbrev pub newly_begun : Outgoing → ℕ → List Message
+newly_begun o n = begun (n - length o.left) o.messages
+
+-- The first n of the waiting bytes may go where there is room for b bytes and t tokens.
+pub record MayGo (o : Outgoing) (b t n : ℕ) : Type 0 where
+  pub there : n ≤ length (waiting_bytes o)
+  pub within : n ≤ b
+  -- the messages newly begun have at most so many tokens together
+  pub tokens_within : length (all_tokens (newly_begun o n)) ≤ t
+
+-- What goes where there is room for b bytes and t tokens: the longest beginning of the waiting bytes that may go,
+-- and with it exactly the tokens of the messages which it newly begins. These are the first of the waiting tokens.
+pub record Goes (o : Outgoing) (b t : ℕ) (taken : Taken) : Type 0 where
+  pub may : MayGo o b t taken.bytes
+  pub longest : (n : ℕ) → MayGo o b t n → n ≤ taken.bytes
+  pub with_tokens : taken.tokens ≡ length (all_tokens (newly_begun o taken.bytes))
+
+-- how many bytes of these messages, of which none is begun, go into a room for b bytes and t tokens
+abbrev pub going : ℕ → ℕ → List Message → ℕ
+going b t [] = 0
+going b t (m ∷ ms) =
+    if b == 0 || nat_lt t (length m.tokens) then 0 else
+    (if nat_lt b (length m.bytes) then b else length m.bytes + going (b - length m.bytes) (t - length m.tokens) ms)
+
+-- how many of the waiting bytes go
+abbrev pub going_bytes : Outgoing → ℕ → ℕ → ℕ
+going_bytes o b t = min b (length o.left) + going (b - length o.left) t o.messages
+
+-- what goes, computed
+unfoldable pub goes : Outgoing → ℕ → ℕ → Taken
+goes o b t = record { bytes = going_bytes o b t; tokens = length (all_tokens (newly_begun o (going_bytes o b t))) }
+
+-- the outbox once the first n of the waiting bytes are gone, with the tokens of the messages newly begun
+abbrev pub after_taking : Outgoing → ℕ → Outgoing
+after_taking o n = record o {
+  left = drop n (o.left ++ all_bytes (newly_begun o n));
+  messages = drop (length (newly_begun o n)) o.messages;
+  error_from = o.error_from - n;
+  error_to = o.error_to - n;
+}

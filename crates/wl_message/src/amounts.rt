@@ -1,0 +1,38 @@
+//! Numbers of bytes and tokens, and what comes at one time.
+
+/// How large the boxes of an end are, in bytes and in tokens.
+///
+/// An outbox has at most 16,777,216 bytes and 65,536 tokens, an inbox 4096 to 16,777,216 bytes
+/// and 20 to 65,536 tokens.
+#[derive(Clone, Copy, Debug, PartialEq, Eq)]
+pub struct Sizes {
+    pub out_bytes: usize,
+    pub out_tokens: usize,
+    pub in_bytes: usize,
+    pub in_tokens: usize,
+}
+
+/// How many bytes and tokens were taken in.
+#[derive(Clone, Copy, Debug, PartialEq, Eq)]
+pub struct Fed {
+    pub bytes: usize,
+    pub tokens: usize,
+}
+
+/// How many bytes and tokens were taken out.
+#[derive(Clone, Copy, Debug, PartialEq, Eq)]
+pub struct Taken {
+    pub bytes: usize,
+    pub tokens: usize,
+}
+
+/// The bytes or the tokens of a message do not fit.
+#[derive(Clone, Copy, Debug, PartialEq, Eq)]
+pub struct Full;
+
+/// Bytes and tokens that came at one time.
+#[derive(Clone, Copy, Debug)]
+pub struct Piece<'a> {
+    pub bytes: &'a [u8],
+    pub tokens: &'a [u32],
+}

@@ -1,0 +1,4 @@
+pub mod Tables
+pub mod Fixed
+pub mod Core
+pub mod Valid

@@ -1,0 +1,75 @@
+-- Signature tables, without where they lie in memory.
+use Rattle.std.specs.Prelude.{ℕ, List, [], ◌∷◌, Bool, true, false, slice_get, bytes_eq, position, Option, Some, None, option_map, option_and_then}
+use Rattle.std.specs.List.{list_any}
+use Rattle.wl_wire.specs.declared.kind.Kind.{Kind}
+use Rattle.wl_wire.specs.declared.kind.Kind.TheVariants as kinds
+use Rattle.wl_wire.specs.declared.kind.Iface.{Iface}
+use Rattle.wl_sigs.specs.declared.signature.Destroys.{Destroys}
+use Rattle.wl_sigs.specs.declared.signature.Destroys.TheVariants.{Nothing, Target}
+use Rattle.wl_sigs.specs.declared.signature.Side.{Side}
+use Rattle.wl_sigs.specs.declared.signature.Side.TheVariants.{Request, Event}
+
+-- a request or an event: its name, the version of its interface that brought it, the kinds of its arguments, and what it destroys
+pub record Message : Type 0 where
+  pub name : List ℕ
+  pub since : ℕ
+  pub kinds : List Kind
+  pub destroys : Destroys
+
+-- an interface: its messages stand at their opcodes, from 0
+pub record Interface : Type 0 where
+  pub name : List ℕ
+  pub version : ℕ
+  pub requests : List Message
+  pub events : List Message
+
+-- the interface at a place of the tables, if there is one
+abbrev pub interface_at : List Interface → ℕ → Option Interface
+interface_at tables place = slice_get tables place
+
+-- an interface's messages of one side
+abbrev pub messages_of : Side → Interface → List Message
+messages_of Request i = i.requests
+messages_of Event i = i.events
+
+-- the message of one side of an interface at an opcode, if there is one
+abbrev pub message_of : Side → ℕ → Interface → Option Message
+message_of side opcode i = slice_get (messages_of side i) opcode
+
+-- the message at an opcode of one side of the interface at a place, if there are such
+abbrev pub signature_at : List Interface → ℕ → Side → ℕ → Option Message
+signature_at tables place side opcode = option_and_then (message_of side opcode) (interface_at tables place)
+
+-- the place of the first interface of this name, if there is one
+abbrev pub place_of : List Interface → List ℕ → Option Iface
+place_of tables name = option_map (λ place. record { 0 = place }) (position (λ i. bytes_eq i.name name) tables)
+
+-- for each new object among the arguments, in order, its interface, or none where the signature gives none
+abbrev pub new_objects : List Kind → List (Option Iface)
+new_objects [] = []
+new_objects (kinds.New iface ∷ more) = iface ∷ new_objects more
+new_objects (_ ∷ more) = new_objects more
+
+abbrev pub first : {X : Type 0} → List X → Option X
+first [] = None
+first (x ∷ xs) = Some x
+
+-- Whether a message makes an object, and of which interface: `Some None` where only the bytes tell.
+-- In valid tables no message makes more than one.
+abbrev pub makes : Message → Option (Option Iface)
+makes m = first (new_objects m.kinds)
+
+-- whether a message destroys the object that it is for
+abbrev pub destroys_target : Destroys → Bool
+destroys_target Nothing = false
+destroys_target Target = true
+
+-- whether an event of the interface destroys its object
+abbrev pub has_destroying_event : Interface → Bool
+has_destroying_event i = list_any (λ m. destroys_target m.destroys) i.events
+
+-- the interface that an argument names: of an object or a new object, where the signature gives one
+abbrev pub named_interface : Kind → Option Iface
+named_interface (kinds.Obj null iface) = iface
+named_interface (kinds.New iface) = iface
+named_interface _ = None

@@ -1,0 +1,13 @@
+//! The signatures of the messages of Wayland's core interfaces.
+//!
+//! Arguments carry no type on the wire: the signature of a message says which they are. The tables
+//! list interfaces, and for each its requests and its events, at their opcodes. (Chapter "Wayland
+//! Protocol and Model of Operation", sections "Interfaces" and "Wire Format".)
+#![tactic(auto)]
+
+mod interface;
+mod signature;
+mod tables;
+
+pub use signature::{Destroys, Side, Signature};
+pub use tables::Tables;

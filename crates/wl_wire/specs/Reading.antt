@@ -1,0 +1,85 @@
+-- What stands at the front of bytes, for an argument of a kind: the answer of a reader, as a function of the bytes.
+use Rattle.std.specs.Prelude.{◌≡◌, ℕ, ℤ, pos, negsuc, ◌+◌, ◌-◌, ◌*◌, ◌%◌, ◌^◌, ◌==◌, ◌&&◌, nat_lt, if◌then◌else◌, List, take, drop, length, slice_index, Some, None, Result, Ok, Err}
+use Rattle.std.specs.List.{list_any}
+use Rattle.wl_wire.specs.declared.kind.Kind.{Kind}
+use Rattle.wl_wire.specs.declared.kind.Kind.TheVariants as kinds
+use Rattle.wl_wire.specs.declared.kind.ArgFault.{ArgFault}
+use Rattle.wl_wire.specs.declared.kind.ArgFault.TheVariants.{Short, NullNotAllowed, NoEndingNul, InnerNul}
+use Rattle.wl_wire.specs.declared.kind.ReadError.{ReadError}
+use Rattle.wl_wire.specs.declared.kind.ReadError.TheVariants as errors
+use Rattle.wl_wire.specs.declared.value.Value.{Value}
+use Rattle.wl_wire.specs.declared.value.ValueRef.{ValueRef}
+use Rattle.wl_wire.specs.Argument.{Argument, Int, Uint, Fixed, Str, Obj, New, NewNamed, Array, Fd, plain, lent}
+use Rattle.wl_wire.specs.Spelling.{padded}
+
+-- the number that the first four bytes are, the lowest byte first
+abbrev pub number_at : List ℕ → ℕ
+number_at bytes = slice_index bytes 0 % 256 + slice_index bytes 1 % 256 * 256 + slice_index bytes 2 % 256 * 65536 + slice_index bytes 3 % 256 * 16777216
+
+-- the signed number that this number is in two's complement of 32 bits
+abbrev pub signed : ℕ → ℤ
+signed n = if nat_lt n (2 ^ 31) then pos n else negsuc (2 ^ 32 - 1 - n)
+
+-- How many bytes an argument takes: its words, and the padded bytes that a length asks for.
+abbrev pub asked : Kind → List ℕ → ℕ
+asked kinds.Int bytes = 4
+asked kinds.Uint bytes = 4
+asked kinds.Fixed bytes = 4
+asked (kinds.Str null) bytes = 4 + padded (number_at bytes)
+asked (kinds.Obj null iface) bytes = 4
+asked (kinds.New (Some iface)) bytes = 4
+asked (kinds.New None) bytes = 12 + padded (number_at bytes)
+asked kinds.Array bytes = 4 + padded (number_at bytes)
+asked kinds.Fd bytes = 0
+
+-- the n bytes after the first word
+abbrev pub counted : ℕ → List ℕ → List ℕ
+counted n bytes = take n (drop 4 bytes)
+
+-- the string after a length of n, which counts the ending NUL
+abbrev pub text_of : ℕ → List ℕ → Result (List ℕ) ArgFault
+text_of n bytes =
+    if n == 0 then Err NullNotAllowed
+    else if slice_index bytes (n + 3) == 0 then (if list_any (λ b. b == 0) (counted (n - 1) bytes) then Err InnerNul else Ok (counted (n - 1) bytes))
+    else Err NoEndingNul
+
+-- the same fault, or this function of what was found
+abbrev pub on_found : {X Y : Type 0} → (X → Y) → Result X ArgFault → Result Y ArgFault
+on_found f (Ok x) = Ok (f x)
+on_found f (Err fault) = Err fault
+
+-- The argument that bytes are, where all that it asks for are there.
+abbrev pub argument_of : Kind → List ℕ → Result Argument ArgFault
+argument_of kinds.Int bytes = Ok (Int (signed (number_at bytes)))
+argument_of kinds.Uint bytes = Ok (Uint (number_at bytes))
+argument_of kinds.Fixed bytes = Ok (Fixed (signed (number_at bytes)))
+argument_of (kinds.Str null) bytes = if (number_at bytes == 0) && null then Ok (Str None) else on_found (λ text. Str (Some text)) (text_of (number_at bytes) bytes)
+argument_of (kinds.Obj null iface) bytes = if number_at bytes == 0 then (if null then Ok (Obj 0) else Err NullNotAllowed) else Ok (Obj (number_at bytes))
+argument_of (kinds.New (Some iface)) bytes = Ok (New (number_at bytes))
+argument_of (kinds.New None) bytes =
+    let after = drop (4 + padded (number_at bytes)) bytes in
+    on_found (λ name. NewNamed name (number_at after) (number_at (drop 4 after))) (text_of (number_at bytes) bytes)
+argument_of kinds.Array bytes = Ok (Array (counted (number_at bytes) bytes))
+argument_of kinds.Fd bytes = Ok (Fd tt)
+
+-- What stands at the front of the bytes for an argument of the kind, and how many bytes it takes; or the first fault.
+abbrev pub reading : Kind → List ℕ → Result (Argument × ℕ) ArgFault
+reading kind bytes = if nat_lt (length bytes) (asked kind bytes) then Err Short else on_found (λ value. (value, asked kind bytes)) (argument_of kind bytes)
+
+-- the value holds bytes of its own, if it is owned
+abbrev pub HoldsBytes : Argument → Type 0
+HoldsBytes (Str (Some text)) = Unit {0}
+HoldsBytes (NewNamed iface version id) = Unit {0}
+HoldsBytes (Array bytes) = Unit {0}
+HoldsBytes _ = ⊥
+
+-- what a reader answers, seen without memory
+abbrev pub seen : Result (ValueRef × ℕ) ArgFault → Result (Argument × ℕ) ArgFault
+seen (Ok found) = Ok (lent found.0, found.1)
+seen (Err fault) = Err fault
+
+-- This is the answer of a reader that makes a value of its own: as `reading`, or want of memory, which only a value with bytes meets.
+abbrev pub IsRead : {A : Type 0} → Kind → List ℕ → Result (Value A × ℕ) ReadError → Type 0
+IsRead kind bytes (Ok found) = reading kind bytes ≡ Ok (plain found.0, found.1)
+IsRead kind bytes (Err (errors.Arg fault)) = reading kind bytes ≡ Err fault
+IsRead kind bytes (Err errors.Memory) = (value : Argument) × (len : ℕ) × (reading kind bytes ≡ Ok (value, len)) × HoldsBytes value
