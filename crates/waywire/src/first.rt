@@ -1,6 +1,14 @@
 //! The first two requests of a client.
+ghost use Rattle.std.specs.Prelude.{◌≡◌, ◌≢◌, ℕ, ◌+◌, ◌-◌, ◌≤◌, ◌<◌, ◌⊎◌, ◌++◌, List, length, IfOk, IfErr, IfSome, IfNone, MatchOption, MatchResult, Ok, Err};
+ghost use Rattle.wl_message.specs.Cut.{front, More, Bad, Whole, IsMessage, is_size, usual_limit, told_size};
+ghost use Rattle.waywire.specs.First.{AreLines, IsOutside};
 
-use std::alloc::{AllocError, AllocFailed, Allocator};
+use std::alloc::{AllocError, Allocator};
+use wl_message::BadSize;
+use wl_wire::Header;
+
+/// The most bytes of a message.
+const LIMIT: u16 = 4096;
 
 /// Why a stream has no lines.
 #[derive(Clone, Copy, Debug, PartialEq, Eq)]
@@ -11,11 +19,113 @@ pub enum FirstError {
     Memory,
 }
 
-pub fn lines<A: Allocator>(alloc: A, stream: &[u8]) -> Result<Vec<u8, A>, FirstError> {
-    if stream.is_empty() {
-        return Err(FirstError::OutsideStage { offset: 0 });
+impl From<AllocError> for FirstError {
+    ghost from_gives = { λ _ e. e ≡ FirstError.Memory };
+
+    fn from(_error: AllocError) -> FirstError {
+        FirstError::Memory
     }
+}
+
+/// The size that a header tells. The whole header stands in front of the bytes.
+fn size_told(bytes: &[u8]) -> u16
+    requires { 8 ≤ length bytes.now }
+    ensures { result ≡ told_size bytes.now }
+{
+    let mut first = [0; 8];
+    first.copy_from_slice(&bytes[..8]);
+    Header::from_bytes(first).size
+}
+
+/// Whether a message may have so many bytes.
+fn is_size(size: u16) -> bool
+    ensures { result ≡ is_size usual_limit size }
+{
+    size >= 8 && size % 4 == 0 && size <= LIMIT
+}
+
+/// The message in front of bytes and what stands behind it, or none where it is not whole.
+#[tactic(auto, unfolding(wl_message::specs::Cut::front))]
+fn split_message(bytes: &[u8]) -> Result<Option<(&[u8], &[u8])>, BadSize>
+    ensures bad { IfErr result (λ e. front usual_limit bytes.now ≡ Bad e.size) }
+    ensures part { IfOk result (λ found. IfNone found (front usual_limit bytes.now ≡ More)) }
+    ensures joined { IfOk result (λ found. IfSome found (λ x. bytes.now ≡ x.0.now ++ x.1.now)) }
+    ensures whole { IfOk result (λ found. IfSome found (λ x. IsMessage usual_limit x.0.now)) }
+{
+    if bytes.len() < 8 {
+        return Ok(None);
+    }
+    let size = size_told(bytes);
+    if !is_size(size) {
+        return Err(BadSize { size });
+    }
+    let len = usize::from(size);
+    if bytes.len() < len {
+        return Ok(None);
+    }
+    Ok(Some((&bytes[..len], &bytes[len..])))
+}
+
+/// A request of wl_display, as its line tells it.
+struct Making<'a> {
+    name: &'a [u8],
+    /// The new object's interface.
+    interface: &'a [u8],
+    /// The new object's id.
+    id: u32,
+}
+
+/// The request that a message is, if it is one of wl_display's, for object 1.
+fn request_of<'t, A: Allocator>(tables: &'t Tables<A>, message: &[u8]) -> Option<Making<'t>>
+    requires core { tables.now ≡ core_tables }
+    requires whole { IsMessage usual_limit message.now }
+    ensures found { IfSome result (λ r. IsFirst message.now (told r)) }
+    ensures only { IfNone result ((r : first.Making) → IsFirst message.now r → ⊥) }
+{
+    None
+}
+
+/// Appends the line of a request.
+fn push_line<A: Allocator>(out: &mut Vec<u8, A>, request: &Making<'_>) -> Result<(), FirstError>
+    ensures line { OnOk result (out.new.items ≡ out.old.items ++ first_line (told request.now)) }
+    ensures memory { IfErr result (λ e. e ≡ FirstError.Memory) }
+{
+    let Making {
+        name,
+        interface,
+        id,
+    } = *request;
+    out.extend_from_slice(b"-> wl_display@1.")?;
+    out.extend_from_slice(name)?;
+    out.extend_from_slice(b"(new id ")?;
+    out.extend_from_slice(interface)?;
+    write!(out, "@{id})\n").map_err(|_| FirstError::Memory)?;
+    Ok(())
+}
+
+/// The lines of the messages of a stream.
+pub fn lines<A: Allocator>(alloc: A, stream: &[u8]) -> Result<Vec<u8, A>, FirstError>
+    ensures lines { IfOk result (λ out. AreLines stream.now out.items) }
+    ensures outside { (offset : ℕ) → IsErrOf result (FirstError.OutsideStage offset) → IsOutside stream.now offset }
+{
+    let tables = Tables::core(alloc.clone()?)?;
     let mut out = Vec::new(alloc);
-    out.push(1).map_err(|_| FirstError::Memory)?;
-    Ok(out)
+    let mut rest = stream;
+    'messages: loop {
+        let Ok(found) = split_message(rest) else {
+            return Err(FirstError::OutsideStage {
+                offset: stream.len() - rest.len(),
+            });
+        };
+        let Some((message, after)) = found else {
+            return Ok(out);
+        };
+        let Some(request) = request_of(&tables, message) else {
+            return Err(FirstError::OutsideStage {
+                offset: stream.len() - rest.len(),
+            });
+        };
+        push_line(&mut out, &request)?;
+        rest = after;
+    }
 }
