@@ -3,7 +3,7 @@ use Rattle.std.specs.Prelude.{◌≡◌, ℕ, ◌⊎◌, List, [], ◌∷◌, �
 use Rattle.std.specs.List.{concat, AllByRecursion}
 use Rattle.wl_wire.specs.declared.kind.Iface.{Iface}
 use Rattle.wl_wire.specs.Argument.{New}
-use Rattle.wl_sigs.specs.declared.signature.Side.TheVariants.{Request}
+use Rattle.wl_sigs.specs.declared.signature.Side.TheVariants as sides
 use Rattle.wl_sigs.specs.Tables.{Message, Interface, interface_at, signature_at, makes}
 use Rattle.wl_sigs.specs.Fixed.{display}
 use Rattle.wl_sigs.specs.Core.{core_tables}
@@ -12,26 +12,26 @@ use Rattle.wl_message.specs.Spelled.{MessageSpells}
 use Rattle.waywire.specs.Line.{Named, Told, new_text, line_of}
 
 -- a request that makes an object, as its line tells it: its name, and the object
-pub record Making : Type 0 where
+pub record Request : Type 0 where
   pub name : List ℕ
   pub made : Named
 
 -- The message is wl_display's sync or get_registry, for object 1, of which every wl_display has the version: a header and one new id,
 -- with nothing left over. Ids are not judged.
-pub record IsFirst (message : List ℕ) (request : Making) : Type 0 where
+pub record IsFirst (message : List ℕ) (request : Request) : Type 0 where
   pub opcode : ℕ
   pub signature : Message
   pub iface : Iface
-  pub known : signature_at core_tables display.0 Request opcode ≡ Some signature
+  pub known : signature_at core_tables display.0 sides.Request opcode ≡ Some signature
   pub makes : makes signature ≡ Some (Some iface)
   pub spelled : MessageSpells usual_limit signature.kinds 1 opcode (New request.made.id ∷ []) message
   pub name : request.name ≡ signature.name
   pub interface : option_map (λ (i : Interface). i.name) (interface_at core_tables iface.0) ≡ Some request.made.interface
 
 -- the line of such a request
-abbrev pub first_line : Making → List ℕ
+abbrev pub first_line : Request → List ℕ
 first_line request = line_of (record {
-  side = Request;
+  side = sides.Request;
   target = record { interface = codes "wl_display"; id = 1 };
   name = request.name;
   arguments = new_text request.made ∷ [];
@@ -40,7 +40,7 @@ first_line request = line_of (record {
 -- Each of the messages, in order, is such a request, and the text is their lines.
 pub data AreFirst : List (List ℕ) → List ℕ → Type 0 where
   none : {text : List ℕ} → text ≡ [] → AreFirst [] text
-  more : {message after text : List ℕ} {messages : List (List ℕ)} {request : Making}
+  more : {message after text : List ℕ} {messages : List (List ℕ)} {request : Request}
       → IsFirst message request → AreFirst messages after → text ≡ first_line request ++ after → AreFirst (message ∷ messages) text
 
 -- a rest that begins with a bad size
@@ -59,7 +59,7 @@ pub record AreLines (stream text : List ℕ) : Type 0 where
 -- rest begins with a bad size.
 abbrev pub BeginsOutside : List (List ℕ) → List ℕ → Type 0
 BeginsOutside [] rest = IsBad rest
-BeginsOutside (message ∷ messages) rest = (request : Making) → ¬ IsFirst message request
+BeginsOutside (message ∷ messages) rest = (request : Request) → ¬ IsFirst message request
 
 -- The bytes of the stream from this place on are outside, and each message before it is such a request.
 pub record IsOutside (stream : List ℕ) (offset : ℕ) : Type 0 where

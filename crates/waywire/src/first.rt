@@ -1,10 +1,15 @@
 //! The first two requests of a client.
-ghost use Rattle.std.specs.Prelude.{◌≡◌, ◌≢◌, ℕ, ◌+◌, ◌-◌, ◌≤◌, ◌<◌, ◌⊎◌, ◌++◌, List, length, IfOk, IfErr, IfSome, IfNone, MatchOption, MatchResult, Ok, Err};
+ghost use Rattle.std.specs.Prelude.{OnOk, IsErrOf, ◌≡◌, ◌≢◌, ℕ, ◌+◌, ◌-◌, ◌≤◌, ◌<◌, ◌⊎◌, ◌++◌, List, length, IfOk, IfErr, IfSome, IfNone, MatchOption, MatchResult, Ok, Err};
+ghost use Rattle.waywire.specs.declared.first.FirstError.TheVariants.{Memory};
 ghost use Rattle.wl_message.specs.Cut.{front, More, Bad, Whole, IsMessage, is_size, usual_limit, told_size};
-ghost use Rattle.waywire.specs.First.{AreLines, IsOutside};
+ghost use Rattle.wl_sigs.specs.Core.{core_tables};
+ghost use Rattle.waywire.specs.First.{AreLines, IsFirst, IsOutside, first_line};
+ghost use Rattle.waywire.specs.Seen.{told, Request};
 
 use std::alloc::{AllocError, Allocator};
+use std::io::Write;
 use wl_message::BadSize;
+use wl_sigs::Tables;
 use wl_wire::Header;
 
 /// The most bytes of a message.
@@ -20,7 +25,7 @@ pub enum FirstError {
 }
 
 impl From<AllocError> for FirstError {
-    ghost from_gives = { λ _ e. e ≡ FirstError.Memory };
+    ghost from_gives = { λ _ e. e ≡ Memory };
 
     fn from(_error: AllocError) -> FirstError {
         FirstError::Memory
@@ -80,7 +85,7 @@ fn request_of<'t, A: Allocator>(tables: &'t Tables<A>, message: &[u8]) -> Option
     requires core { tables.now ≡ core_tables }
     requires whole { IsMessage usual_limit message.now }
     ensures found { IfSome result (λ r. IsFirst message.now (told r)) }
-    ensures only { IfNone result ((r : first.Making) → IsFirst message.now r → ⊥) }
+    ensures only { IfNone result ((r : Request) → IsFirst message.now r → ⊥) }
 {
     None
 }
@@ -104,7 +109,7 @@ fn push_line<A: Allocator>(out: &mut Vec<u8, A>, request: &Making<'_>) -> Result
 }
 
 /// The lines of the messages of a stream.
-pub fn lines<A: Allocator>(alloc: A, stream: &[u8]) -> Result<Vec<u8, A>, FirstError>
+pub fn lines<A: Allocator + Clone + Drop>(alloc: A, stream: &[u8]) -> Result<Vec<u8, A>, FirstError>
     ensures lines { IfOk result (λ out. AreLines stream.now out.items) }
     ensures outside { (offset : ℕ) → IsErrOf result (FirstError.OutsideStage offset) → IsOutside stream.now offset }
 {

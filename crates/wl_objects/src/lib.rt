@@ -1,12 +1,17 @@
-//! The objects of one end of a Wayland connection, by id.
+//! The objects of one end of a Wayland connection, by id, and what both ends do with the arguments
+//! of a message.
 //!
 //! Ids are made by the client, from 1 on, and used again after they were freed. A birth is the
 //! number of an object, counted by each end for itself and never used again. (Chapter "Wayland
 //! Protocol and Model of Operation", section "Creating Objects".)
 #![tactic(auto)]
 
+mod argument;
+mod error;
 mod object;
 mod table;
 
+pub use argument::{Arg, Got, GotRef, Named};
+pub use error::{Fault, NextError, SendError};
 pub use object::{Entry, Object, State, TableError};
 pub use table::Table;

@@ -42,6 +42,10 @@ pub trait Table {
     fn used(&self) -> u32
         ensures { result ≡ (view self.now).used };
 
+    /// How many objects were opened, wl_display counted: the birth that the next object gets.
+    fn births(&self) -> u64
+        ensures { result ≡ (view self.now).births };
+
     /// How many entries the table has, live and zombie. There is always that of id 1.
     fn len(&self) -> u32
         ensures { result ≡ row_count (view self.now).rows };

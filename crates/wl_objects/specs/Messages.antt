@@ -1,0 +1,182 @@
+-- A whole message at an end: what it means to its reader, what a writer must meet, and what it makes of the end's objects.
+use Rattle.std.specs.Prelude.{◌≡◌, ℕ, suc, ◌+◌, Bool, true, false, ◌&&◌, ◌||◌, not, List, [], ◌∷◌, length, map, nat_eq, nat_lt, if◌then◌else◌, Option, Some, None, option_map}
+use Rattle.std.specs.declared.result.Result.{Result}
+use Rattle.std.specs.declared.result.Result.TheVariants.{Ok, Err}
+use Rattle.wl_wire.specs.declared.kind.Kind.{Kind}
+use Rattle.wl_wire.specs.declared.kind.Kind.TheVariants as kinds
+use Rattle.wl_wire.specs.declared.kind.Iface.{Iface}
+use Rattle.wl_wire.specs.declared.header.Header.{Header}
+use Rattle.wl_wire.specs.Argument.{Argument, Shape, Int, Uint, Fixed, Str, Obj, New, NewNamed, Array, Fd}
+use Rattle.wl_sigs.specs.declared.signature.Side.{Side}
+use Rattle.wl_sigs.specs.declared.signature.Side.TheVariants.{Request, Event}
+use Rattle.wl_sigs.specs.declared.signature.Destroys.{Destroys}
+use Rattle.wl_sigs.specs.declared.signature.Destroys.TheVariants.{Nothing, Target}
+use Rattle.wl_sigs.specs.Tables.{Message, Interface, signature_at, place_of}
+use Rattle.wl_sigs.specs.Fixed.{display, registry}
+use Rattle.wl_objects.specs.declared.object.Object.{Object}
+use Rattle.wl_objects.specs.declared.object.Entry.{Entry}
+use Rattle.wl_objects.specs.declared.error.Fault.{Fault}
+use Rattle.wl_objects.specs.declared.error.Fault.TheVariants as faults
+use Rattle.wl_objects.specs.declared.error.SendError.{SendError}
+use Rattle.wl_objects.specs.declared.error.SendError.TheVariants as refusals
+use Rattle.wl_objects.specs.View.{View, look, free_or_next, has_room, opened_at, closed, zombied, is_held}
+use Rattle.wl_objects.specs.Reading.{NewId, Free, Wrong, TooMany, Reader, arguments_at, descriptors, named}
+use Rattle.wl_objects.specs.Writing.{Given, wrong_place, lost_place, is_live_as, wired, message_len}
+
+-- ---- reading
+
+-- what an id is as a new one: F6 stands before F10
+abbrev pub new_id_of : Bool → Bool → NewId
+new_id_of free room = if free then (if room then Free else TooMany) else Wrong
+
+-- what an end knows that has these objects
+abbrev pub reader_of : View → Reader
+reader_of view = record {
+  object = look view;
+  new_id = λ id. new_id_of (free_or_next view id) (has_room view id);
+  birth = view.births;
+  forgives = false;
+}
+
+abbrev pub same_iface : Iface → Iface → Bool
+same_iface a b = nat_eq a.0 b.0
+
+-- wl_display.error: the object that it names may be null or unknown
+abbrev pub is_error : Side → Iface → ℕ → Bool
+is_error Request iface opcode = false
+is_error Event iface opcode = same_iface iface display && nat_eq opcode 0
+
+-- wl_display.delete_id
+abbrev pub is_delete_id : Side → Iface → ℕ → Bool
+is_delete_id Request iface opcode = false
+is_delete_id Event iface opcode = same_iface iface display && nat_eq opcode 1
+
+-- wl_registry.bind
+abbrev pub is_bind : Side → Iface → ℕ → Bool
+is_bind Request iface opcode = same_iface iface registry && nat_eq opcode 0
+is_bind Event iface opcode = false
+
+-- A message that was read: the object that it is for, that object's row, the signature, and the arguments as they are spelled.
+pub record Received : Type 0 where
+  pub target : Object
+  pub entry : Entry
+  pub signature : Message
+  pub values : List Argument
+
+abbrev pub is_empty : List ℕ → Bool
+is_empty [] = true
+is_empty (b ∷ bytes) = false
+
+abbrev pub received_whole : Header → Entry → Message → ℕ → Result (List Argument × List ℕ) Fault → Result Received Fault
+received_whole header entry signature waiting (Err fault) = Err fault
+received_whole header entry signature waiting (Ok found) =
+    if not (is_empty found.1) then Err faults.TrailingBytes
+    else if nat_lt waiting (descriptors signature.kinds) then Err faults.MissingDescriptor
+    else Ok (record { target = record { id = header.object; birth = entry.birth }; entry = entry; signature = signature; values = found.0 })
+
+abbrev pub received_as : Side → Reader → Header → List ℕ → ℕ → Entry → Option Message → Result Received Fault
+received_as side reader header body waiting entry None = Err faults.UnknownMessage
+received_as side reader header body waiting entry (Some signature) =
+    if nat_lt entry.version signature.since then Err faults.UnknownMessage
+    else received_whole header entry signature waiting
+    (arguments_at (record reader { forgives = is_error side entry.iface header.opcode }) 0 signature.kinds body)
+
+abbrev pub received_by : List Interface → Side → Reader → Header → List ℕ → ℕ → Option Entry → Result Received Fault
+received_by tables side reader header body waiting None = Err faults.UnknownObject
+received_by tables side reader header body waiting (Some entry) =
+    received_as side reader header body waiting entry (signature_at tables entry.iface.0 side header.opcode)
+
+-- What a message of one side is to its reader, where so many tokens wait: what was read, or the first fault of F2; F3; for each
+-- argument from the left F4, F5, F6, F10; then F7, F8.
+abbrev pub received : List Interface → Side → Reader → Header → List ℕ → ℕ → Result Received Fault
+received tables side reader header body waiting = received_by tables side reader header body waiting (reader.object header.object)
+
+-- ---- what a message does to the objects
+
+-- a new object: its id, its interface, its version
+pub record Made : Type 0 where
+  pub id : ℕ
+  pub iface : Iface
+  pub version : ℕ
+
+-- the new object of one argument: of the signature's interface and its maker's version, or of those that it names
+abbrev pub made_by : List Interface → ℕ → Kind → Argument → Option Made
+made_by tables version (kinds.New (Some iface)) (New id) = Some (record { id = id; iface = iface; version = version })
+made_by tables version (kinds.New None) (NewNamed name own id) = option_map (λ iface. record { id = id; iface = iface; version = own }) (place_of tables name)
+made_by tables version _ _ = None
+
+abbrev pub or_else : Option Made → Option Made → Option Made
+or_else None other = other
+or_else (Some made) other = Some made
+
+-- the object that a message makes, where its target has this version
+abbrev pub made : List Interface → ℕ → List Kind → List Argument → Option Made
+made tables version (kind ∷ ks) (value ∷ values) = or_else (made_by tables version kind value) (made tables version ks values)
+made tables version _ _ = None
+
+-- the two ends
+pub data End : Type 0 where
+  Client : End
+  Server : End
+
+-- an object destroyed: at the client a zombie, until its delete_id comes; at the server gone, and its id free
+abbrev pub destroyed : End → View → ℕ → View
+destroyed Client view id = zombied view id
+destroyed Server view id = closed view id
+
+abbrev pub opens : View → Option Made → View
+opens view None = view
+opens view (Some m) = opened_at view m.id m.iface m.version
+
+abbrev pub destroys : End → Destroys → ℕ → View → View
+destroys end Nothing target view = view
+destroys end Target target view = destroyed end view target
+
+-- The objects of an end after it has written or read a message, other than delete_id: the making comes first.
+abbrev pub after : End → View → Option Made → Destroys → ℕ → View
+after end view new what target = destroys end what target (opens view new)
+
+-- The client's objects after delete_id: the row of a held id other than 1 is closed.
+abbrev pub after_delete_id : View → ℕ → View
+after_delete_id view id = if is_held view id && not (nat_eq id 1) then closed view id else view
+
+-- ---- writing
+
+-- the messages that `send` does not write: bind, and the events of wl_display and wl_registry
+abbrev pub is_hidden : Side → Iface → ℕ → Bool
+is_hidden Request iface opcode = same_iface iface registry && nat_eq opcode 0
+is_hidden Event iface opcode = same_iface iface display || same_iface iface registry
+
+abbrev pub of_length : ℕ → Message → Result Message SendError
+of_length len signature = if nat_lt 4096 len then Err refusals.TooLong else Ok signature
+
+abbrev pub unless_lost : Option ℕ → ℕ → Message → Result Message SendError
+unless_lost None len signature = of_length len signature
+unless_lost (Some place) len signature = Err (refusals.BadObject place)
+
+abbrev pub unless_wrong : Option ℕ → Option ℕ → ℕ → Message → Result Message SendError
+unless_wrong None lost len signature = unless_lost lost len signature
+unless_wrong (Some place) lost len signature = Err (refusals.WrongArgs place)
+
+abbrev pub checked_as : View → List Given → Entry → Option Message → Result Message SendError
+checked_as view given entry None = Err refusals.NoSuchMessage
+checked_as view given entry (Some signature) =
+    if nat_lt entry.version signature.since then Err refusals.TooOld
+    else unless_wrong (wrong_place 0 signature.kinds given) (lost_place (look view) 0 signature.kinds given) (message_len (map (wired 0) given)) signature
+
+abbrev pub unless_hidden : Bool → Option Message → Option Message
+unless_hidden true signature = None
+unless_hidden false signature = signature
+
+abbrev pub checked_by : List Interface → Side → View → ℕ → List Given → Option Entry → Result Message SendError
+checked_by tables side view opcode given None = Err refusals.Stale
+checked_by tables side view opcode given (Some entry) =
+    checked_as view given entry (unless_hidden (is_hidden side entry.iface opcode) (signature_at tables entry.iface.0 side opcode))
+
+-- the row of an object that is live with this birth
+abbrev pub live_row : View → Object → Option Entry
+live_row view object = if is_live_as object.birth (look view object.id) then look view object.id else None
+
+-- What stands against a write before its room is looked at: the first of S2, S3, S4, S5, S6, S8; else the message's signature.
+abbrev pub checked : List Interface → Side → View → Object → ℕ → List Given → Result Message SendError
+checked tables side view target opcode given = checked_by tables side view opcode given (live_row view target)

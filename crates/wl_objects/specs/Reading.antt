@@ -1,0 +1,137 @@
+-- What the arguments of a message mean to the end that reads it.
+use Rattle.std.specs.Prelude.{◌≡◌, ℕ, suc, ◌+◌, Bool, true, false, List, [], ◌∷◌, drop, length, nat_eq, if◌then◌else◌, Option, Some, None, count_by}
+use Rattle.std.specs.declared.result.Result.{Result}
+use Rattle.std.specs.declared.result.Result.TheVariants.{Ok, Err}
+use Rattle.wl_wire.specs.declared.kind.Kind.{Kind}
+use Rattle.wl_wire.specs.declared.kind.Kind.TheVariants as kinds
+use Rattle.wl_wire.specs.declared.kind.Iface.{Iface}
+use Rattle.wl_wire.specs.declared.kind.ArgFault.{ArgFault}
+use Rattle.wl_wire.specs.Argument.{Argument, Shape, reshaped, Int, Uint, Fixed, Str, Obj, New, NewNamed, Array, Fd}
+use Rattle.wl_wire.specs.Reading.{reading}
+use Rattle.wl_objects.specs.declared.object.Object.{Object}
+use Rattle.wl_objects.specs.declared.object.Entry.{Entry}
+use Rattle.wl_objects.specs.declared.object.State.{State}
+use Rattle.wl_objects.specs.declared.object.State.TheVariants as states
+use Rattle.wl_objects.specs.declared.argument.Named.{Named}
+use Rattle.wl_objects.specs.declared.argument.Named.TheVariants as named_as
+use Rattle.wl_objects.specs.declared.error.Fault.{Fault}
+use Rattle.wl_objects.specs.declared.error.Fault.TheVariants as faults
+
+-- What an id is to a reader that finds it as a new object's.
+pub data NewId : Type 0 where
+  -- a freed id or the next one, and the object can be opened
+  Free : NewId
+  -- 0, in use, or neither freed nor the next
+  Wrong : NewId
+  -- as Free, but the connection has no more room
+  TooMany : NewId
+
+-- What a reader knows when a message comes: the object that each id names, what each id is as a new one, and the birth
+-- that a new object gets. Where it forgives, an object argument may be null, unknown and of any interface.
+pub record Reader : Type 0 where
+  pub object : ℕ → Option Entry
+  pub new_id : ℕ → NewId
+  pub birth : ℕ
+  pub forgives : Bool
+
+-- the kind as the reader takes it
+abbrev pub kind_at : Bool → Kind → Kind
+kind_at true (kinds.Obj null iface) = kinds.Obj true iface
+kind_at _ kind = kind
+
+-- the interface that a kind asks of an object; none asks for no particular one
+abbrev pub iface_of : Kind → Option Iface
+iface_of (kinds.Obj null iface) = iface
+iface_of _ = None
+
+-- whether an object is of the interface that is asked for
+abbrev pub is_of : Option Iface → Entry → Bool
+is_of None entry = true
+is_of (Some iface) entry = nat_eq iface.0 entry.iface.0
+
+abbrev pub object_fault : ℕ → Option Iface → Option Entry → Option Fault
+object_fault place iface None = Some (faults.BadObject place)
+object_fault place iface (Some entry) = if is_of iface entry then None else Some (faults.BadObject place)
+
+abbrev pub new_fault : ℕ → NewId → Option Fault
+new_fault place Free = None
+new_fault place Wrong = Some (faults.BadNewId place)
+new_fault place TooMany = Some faults.TooManyObjects
+
+-- what is wrong with a value that its bytes spell: an object that is unknown or of another interface, a new id that is not free
+abbrev pub value_fault : Reader → ℕ → Kind → Argument → Option Fault
+value_fault r place kind (Obj id) = if r.forgives then None else (if nat_eq id 0 then None else object_fault place (iface_of kind) (r.object id))
+value_fault r place kind (New id) = new_fault place (r.new_id id)
+value_fault r place kind (NewNamed iface version id) = new_fault place (r.new_id id)
+value_fault r place kind _ = None
+
+-- a value and its length, unless there is a fault
+abbrev pub unless : Option Fault → Argument × ℕ → Result (Argument × ℕ) Fault
+unless None value = Ok value
+unless (Some fault) value = Err fault
+
+abbrev pub judged : Reader → ℕ → Kind → Result (Argument × ℕ) ArgFault → Result (Argument × ℕ) Fault
+judged r place kind (Err fault) = Err (faults.BadArgument place fault)
+judged r place kind (Ok value) = unless (value_fault r place kind value.0) value
+
+-- a value before those that were read behind it
+abbrev pub before : Argument → Result (List Argument × List ℕ) Fault → Result (List Argument × List ℕ) Fault
+before value (Err fault) = Err fault
+before value (Ok more) = Ok (value ∷ more.0, more.1)
+
+abbrev pub and_those : (List ℕ → Result (List Argument × List ℕ) Fault) → List ℕ → Result (Argument × ℕ) Fault → Result (List Argument × List ℕ) Fault
+and_those others bytes (Err fault) = Err fault
+and_those others bytes (Ok value) = before value.0 (others (drop value.1 bytes))
+
+-- The arguments that stand at the front of bytes, one of each kind, and the bytes behind them; or the first fault, from the
+-- left. The place is that of the first kind.
+abbrev pub arguments_at : Reader → ℕ → List Kind → List ℕ → Result (List Argument × List ℕ) Fault
+arguments_at r place [] bytes = Ok ([], bytes)
+arguments_at r place (kind ∷ ks) bytes = and_those (arguments_at r (suc place) ks) bytes (judged r place kind (reading (kind_at r.forgives kind) bytes))
+
+-- ---- what is reported
+
+-- an argument of a report: objects as the reader has them, a new object with its birth, a descriptor's token
+abbrev pub Reported : Type 0
+Reported = Shape Named Object ℕ
+
+abbrev pub in_state : State → Object → Named
+in_state states.Live object = named_as.Live object
+in_state states.Zombie object = named_as.Dead object
+
+-- the object of an id, by the birth of its row, live or dead as the row is
+abbrev pub named : ℕ → Option Entry → Named
+named id None = named_as.Null
+named id (Some entry) = in_state entry.state (record { id = id; birth = entry.birth })
+
+abbrev pub named_at : Reader → ℕ → Named
+named_at r id = if nat_eq id 0 then named_as.Null else named id (r.object id)
+
+abbrev pub is_descriptor : {O N F : Type 0} → Shape O N F → Bool
+is_descriptor (Fd x) = true
+is_descriptor _ = false
+
+abbrev pub is_descriptor_kind : Kind → Bool
+is_descriptor_kind kinds.Fd = true
+is_descriptor_kind _ = false
+
+-- how many tokens a message of these kinds takes
+abbrev pub descriptors : List Kind → ℕ
+descriptors ks = count_by is_descriptor_kind ks
+
+abbrev pub first_or : List ℕ → ℕ → ℕ
+first_or [] d = d
+first_or (x ∷ xs) d = x
+
+-- One argument as it is reported, where the token is the next that waits.
+abbrev pub report_of : Reader → ℕ → Argument → Reported
+report_of r token value = reshaped (named_at r) (λ id. record { id = id; birth = r.birth }) (λ _. token) value
+
+-- the tokens behind those that an argument takes
+abbrev pub tokens_after : Argument → List ℕ → List ℕ
+tokens_after value tokens = if is_descriptor value then drop 1 tokens else tokens
+
+-- The arguments as they are reported: the descriptors are the first tokens that wait, in order.
+abbrev pub reports_of : Reader → List ℕ → List Argument → List Reported
+reports_of r tokens [] = []
+reports_of r tokens (value ∷ values) = report_of r (first_or tokens 0) value ∷ reports_of r (tokens_after value tokens) values

@@ -1,0 +1,42 @@
+-- The arguments of a whole message on the wire, as relations.
+use Rattle.std.specs.Prelude.{◌≡◌, ℕ, suc, ◌+◌, ◌≤◌, List, [], ◌∷◌, ◌++◌, length, Some, None, Bool}
+use Rattle.wl_wire.specs.declared.kind.Kind.{Kind}
+use Rattle.wl_wire.specs.declared.kind.ArgFault.{ArgFault}
+use Rattle.wl_wire.specs.Argument.{Argument}
+use Rattle.wl_wire.specs.Word.{header_bytes}
+use Rattle.wl_wire.specs.Spelling.{Spells}
+use Rattle.wl_wire.specs.Faults.{IsFirstFault}
+use Rattle.wl_objects.specs.declared.error.Fault.{Fault}
+use Rattle.wl_objects.specs.declared.error.Fault.TheVariants as faults
+use Rattle.wl_objects.specs.Reading.{Reader, kind_at, value_fault}
+
+-- The bytes are a joining of spellings of these kinds, in order, with nothing left.
+pub data SpellsAll : List Kind → List Argument → List ℕ → Type 0 where
+  none : {bytes : List ℕ} → bytes ≡ [] → SpellsAll [] [] bytes
+  more : {kind : Kind} {ks : List Kind} {value : Argument} {values : List Argument} {front rest bytes : List ℕ}
+      → Spells kind value front → SpellsAll ks values rest → bytes ≡ front ++ rest → SpellsAll (kind ∷ ks) (value ∷ values) bytes
+
+-- The bytes are a message of these kinds: a header with their number, and a joining of spellings.
+pub record MessageSpells (ks : List Kind) (object opcode : ℕ) (values : List Argument) (bytes : List ℕ) : Type 0 where
+  pub rest : List ℕ
+  pub whole : bytes ≡ header_bytes (record { object = object; size = length bytes; opcode = opcode }) ++ rest
+  pub spelled : SpellsAll ks values rest
+  pub in_limit : length bytes ≤ 4096
+
+-- The bytes begin with arguments of these kinds, and nothing is wrong with any of them; the rest lies behind them.
+pub data Meets (r : Reader) : ℕ → List Kind → List ℕ → List Argument → List ℕ → Type 0 where
+  none : {place : ℕ} {bytes : List ℕ} → Meets r place [] bytes [] bytes
+  more : {place : ℕ} {kind : Kind} {ks : List Kind} {value : Argument} {values : List Argument} {front behind bytes rest : List ℕ}
+      → Spells (kind_at r.forgives kind) value front → value_fault r place kind value ≡ None → Meets r (suc place) ks behind values rest
+      → bytes ≡ front ++ behind → Meets r place (kind ∷ ks) bytes (value ∷ values) rest
+
+-- The first argument at fault: it is no spelling of its kind, or its value is at fault; and all before it are right.
+pub data FirstFault (r : Reader) : ℕ → List Kind → List ℕ → Fault → Type 0 where
+  spelling : {place : ℕ} {kind : Kind} {ks : List Kind} {bytes : List ℕ} {fault : ArgFault}
+      → IsFirstFault (kind_at r.forgives kind) bytes fault → FirstFault r place (kind ∷ ks) bytes (faults.BadArgument place fault)
+  meaning : {place : ℕ} {kind : Kind} {ks : List Kind} {value : Argument} {front bytes : List ℕ} {fault : Fault} (behind : List ℕ)
+      → Spells (kind_at r.forgives kind) value front → value_fault r place kind value ≡ Some fault
+      → bytes ≡ front ++ behind → FirstFault r place (kind ∷ ks) bytes fault
+  later : {place : ℕ} {kind : Kind} {ks : List Kind} {value : Argument} {front behind bytes : List ℕ} {fault : Fault}
+      → Spells (kind_at r.forgives kind) value front → value_fault r place kind value ≡ None → FirstFault r (suc place) ks behind fault
+      → bytes ≡ front ++ behind → FirstFault r place (kind ∷ ks) bytes fault

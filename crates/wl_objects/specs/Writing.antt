@@ -1,0 +1,102 @@
+-- What a call's arguments must be, and the message that they become.
+use Rattle.std.specs.Prelude.{◌≡◌, ℕ, suc, ◌+◌, ◌<◌, Bool, true, false, ◌&&◌, not, List, [], ◌∷◌, ◌++◌, length, map, nat_eq, nat_lt, if◌then◌else◌, Option, Some, None, is_none}
+use Rattle.std.specs.List.{list_any}
+use Rattle.wl_wire.specs.declared.kind.Kind.{Kind}
+use Rattle.wl_wire.specs.declared.kind.Kind.TheVariants as kinds
+use Rattle.wl_wire.specs.declared.kind.Iface.{Iface}
+use Rattle.wl_wire.specs.Argument.{Argument, Shape, reshaped, Int, Uint, Fixed, Str, Obj, New, NewNamed, Array, Fd}
+use Rattle.wl_wire.specs.Word.{header_bytes}
+use Rattle.wl_wire.specs.Spelling.{canonical, spelled_len}
+use Rattle.wl_objects.specs.declared.object.Object.{Object}
+use Rattle.wl_objects.specs.declared.object.Entry.{Entry}
+use Rattle.wl_objects.specs.declared.object.State.{State}
+use Rattle.wl_objects.specs.declared.object.State.TheVariants as states
+use Rattle.wl_objects.specs.Reading.{is_of, iface_of}
+
+-- an argument of a call: an object or none, a new object that the call makes, a descriptor's token
+abbrev pub Given : Type 0
+Given = Shape (Option Object) (Unit {0}) ℕ
+
+-- a text that a string can hold
+abbrev pub has_no_nul : List ℕ → Bool
+has_no_nul text = not (list_any (λ b. nat_eq b 0) text)
+
+abbrev pub text_suits : Bool → Option (List ℕ) → Bool
+text_suits null None = null
+text_suits null (Some text) = has_no_nul text
+
+abbrev pub object_suits : Bool → Option Object → Bool
+object_suits null None = null
+object_suits null (Some object) = true
+
+-- Whether an argument is of the kind: null only where that is allowed, and no string has a byte 0.
+abbrev pub suits : Kind → Given → Bool
+suits kinds.Int (Int z) = true
+suits kinds.Uint (Uint n) = true
+suits kinds.Fixed (Fixed z) = true
+suits (kinds.Str null) (Str text) = text_suits null text
+suits (kinds.Obj null iface) (Obj object) = object_suits null object
+suits (kinds.New (Some iface)) (New x) = true
+suits (kinds.New None) (NewNamed iface version x) = has_no_nul iface
+suits kinds.Array (Array bytes) = true
+suits kinds.Fd (Fd token) = true
+suits _ _ = false
+
+-- The place of the first argument of the wrong kind; where the numbers differ and all before suit, the smaller number.
+abbrev pub wrong_place : ℕ → List Kind → List Given → Option ℕ
+wrong_place place [] [] = None
+wrong_place place [] (given ∷ others) = Some place
+wrong_place place (kind ∷ ks) [] = Some place
+wrong_place place (kind ∷ ks) (given ∷ others) = if suits kind given then wrong_place (suc place) ks others else Some place
+
+abbrev pub is_live : State → Bool
+is_live states.Live = true
+is_live states.Zombie = false
+
+-- whether the row is the live one of that birth
+abbrev pub is_live_as : ℕ → Option Entry → Bool
+is_live_as birth None = false
+is_live_as birth (Some entry) = nat_eq entry.birth birth && is_live entry.state
+
+abbrev pub row_is_of : Option Iface → Option Entry → Bool
+row_is_of iface None = false
+row_is_of iface (Some entry) = is_of iface entry
+
+-- whether an object can be named: it is live, and of the interface that the kind asks for
+abbrev pub can_name : (ℕ → Option Entry) → Kind → Given → Bool
+can_name rows kind (Obj (Some object)) = is_live_as object.birth (rows object.id) && row_is_of (iface_of kind) (rows object.id)
+can_name rows kind _ = true
+
+-- The place of the first object that is not live or of another interface.
+abbrev pub lost_place : (ℕ → Option Entry) → ℕ → List Kind → List Given → Option ℕ
+lost_place rows place (kind ∷ ks) (given ∷ others) = if can_name rows kind given then lost_place rows (suc place) ks others else Some place
+lost_place rows place _ _ = None
+
+-- ---- the message
+
+abbrev pub id_of : Option Object → ℕ
+id_of None = 0
+id_of (Some object) = object.id
+
+-- an argument as it stands on the wire, where the new object gets this id
+abbrev pub wired : ℕ → Given → Argument
+wired id given = reshaped id_of (λ _. id) (λ _. tt) given
+
+abbrev pub spelled : List Argument → List ℕ
+spelled [] = []
+spelled (value ∷ values) = canonical value ++ spelled values
+
+-- how many bytes a message has
+abbrev pub message_len : List Argument → ℕ
+message_len [] = 8
+message_len (value ∷ values) = spelled_len value + message_len values
+
+-- the message with these arguments, each in its canonical spelling
+abbrev pub message_bytes : ℕ → ℕ → List Argument → List ℕ
+message_bytes object opcode values = header_bytes (record { object = object; size = message_len values; opcode = opcode }) ++ spelled values
+
+-- the tokens of a call, in order
+abbrev pub tokens_of : List Given → List ℕ
+tokens_of [] = []
+tokens_of (Fd token ∷ given) = token ∷ tokens_of given
+tokens_of (_ ∷ given) = tokens_of given

@@ -1,0 +1,117 @@
+//! Why a call writes nothing, and why a message cannot be read.
+
+ghost use Rattle.std.specs.Prelude.{◌≡◌};
+ghost use Rattle.wl_objects.specs.Texts.{argument_fault_number};
+
+use std::fmt::{self, Display, Formatter};
+use wl_wire::ArgFault;
+
+/// Why a message was not written. The causes are tested in this order, and nothing has changed.
+#[derive(Clone, Copy, Debug, PartialEq, Eq)]
+pub enum SendError {
+    /// S1: the end has failed and writes nothing more.
+    Failed,
+    /// S2: the target is not live with this birth.
+    Stale,
+    /// S3: the target's interface has no such message, or another call writes it.
+    NoSuchMessage,
+    /// S4: the message is newer than the target's version.
+    TooOld,
+    /// S5: the argument at this place is of the wrong kind, is null where that is not allowed, or
+    /// is a string with a byte 0. Where the numbers of arguments differ and all before fit, the
+    /// smaller number.
+    WrongArgs(usize),
+    /// S6: the object at this place is not live, or of another interface.
+    BadObject(usize),
+    /// S7: the name is not that of a remembered global of this interface, or the version is 0 or
+    /// above the advertised one or the one in the tables.
+    BadBind,
+    /// S8: the message is longer than 4096 bytes.
+    TooLong,
+    /// S9: the outbox has too few free bytes or tokens.
+    Full,
+    /// S10: no more objects can be opened.
+    NoIds,
+    /// S11: there is no memory for the new object.
+    Memory,
+    /// S12: the object's interface does not end by an event.
+    NotDroppable,
+}
+
+/// What is wrong with a message that was read. Places of arguments are counted from 0.
+#[derive(Clone, Copy, Debug, PartialEq, Eq)]
+pub enum Fault {
+    /// F1: the size is below 8, no multiple of 4, or above the limit.
+    BadSize,
+    /// F2: the message is for an object that the reader does not know.
+    UnknownObject,
+    /// F3: the interface has no such message at the object's version.
+    UnknownMessage,
+    /// F4: the argument at this place is no spelling of its kind.
+    BadArgument(usize, ArgFault),
+    /// F5: the object at this place is unknown, or of another interface.
+    BadObject(usize),
+    /// F6: the new id at this place is 0, in use, or neither freed nor the next.
+    BadNewId(usize),
+    /// F7: bytes are left behind the last argument.
+    TrailingBytes,
+    /// F8: fewer tokens wait than the message has descriptors.
+    MissingDescriptor,
+    /// F9: no global of this name was ever advertised, or with another interface, or the version
+    /// is 0 or above the advertised one.
+    BadBind,
+    /// F10: the connection has no more room for a new object.
+    TooManyObjects,
+}
+
+/// Why no message was read.
+#[derive(Clone, Copy, Debug, PartialEq, Eq)]
+pub enum NextError {
+    /// The message that begins `offset` bytes after the beginning of the stream is at fault. The
+    /// end has failed.
+    Fault { fault: Fault, offset: u64 },
+    /// The end had failed before.
+    Failed,
+    /// There is no memory for the report. The message stays and can be read again.
+    Memory,
+    /// The outbox has no room for the answer to a request that destroys an object. The message
+    /// stays and can be read again.
+    OutFull,
+}
+
+impl Display for Fault {
+    ghost use Rattle.std.specs.Prelude.{Some};
+    ghost use Rattle.wl_objects.specs.Texts.{fault_text};
+
+    ghost output = { λ fault. Some (fault_text fault) };
+
+    fn fmt<W: fmt::Write>(&self, f: &mut Formatter<W>) -> fmt::Result {
+        match self {
+            Fault::BadSize => f.write_str("F1 bad message size"),
+            Fault::UnknownObject => f.write_str("F2 unknown object"),
+            Fault::UnknownMessage => f.write_str("F3 unknown message"),
+            Fault::BadArgument(place, fault) => {
+                let number = argument_fault_number(*fault);
+                write!(f, "F4 malformed argument {place} (A{number})")
+            }
+            Fault::BadObject(place) => write!(f, "F5 bad object, argument {place}"),
+            Fault::BadNewId(place) => write!(f, "F6 bad new id, argument {place}"),
+            Fault::TrailingBytes => f.write_str("F7 trailing bytes"),
+            Fault::MissingDescriptor => f.write_str("F8 missing descriptor"),
+            Fault::BadBind => f.write_str("F9 bad bind"),
+            Fault::TooManyObjects => f.write_str("F10 too many objects"),
+        }
+    }
+}
+
+/// The number in the names A1 to A4.
+fn argument_fault_number(fault: ArgFault) -> u8
+    ensures { result ≡ argument_fault_number fault }
+{
+    match fault {
+        ArgFault::Short => 1,
+        ArgFault::NullNotAllowed => 2,
+        ArgFault::NoEndingNul => 3,
+        ArgFault::InnerNul => 4,
+    }
+}

@@ -1,0 +1,28 @@
+-- What passes between two ends, one piece at a time.
+use Rattle.std.specs.Prelude.{ℕ, ◌-◌, ◌≤◌, ◌==◌, ◌&&◌, nat_lt, if◌then◌else◌, List, [], ◌∷◌, length}
+use Rattle.hex.specs.Hex.{IsBytes}
+use Rattle.wl_recording.specs.declared.piece.Direction.{Direction}
+use Rattle.wl_recording.specs.declared.piece.Passed.{Passed}
+
+-- one piece: which way it went, its bytes, and how many descriptor tokens came with it
+pub record Piece : Type 0 where
+  pub direction : Direction
+  pub bytes : List ℕ
+  pub tokens : ℕ
+
+-- a kept piece, without where its bytes lie
+abbrev pub plain : {A : Type 0} → Passed A → Piece
+plain kept = record { direction = kept.direction; bytes = kept.bytes; tokens = kept.tokens }
+
+-- a line can tell it: its bytes are below 256, and its tokens at most 65,535
+pub record IsTellable (piece : Piece) : Type 0 where
+  pub bytes : IsBytes piece.bytes
+  pub tokens : piece.tokens ≤ 65535
+
+-- What is recorded where these bytes and tokens, at most 65,536, pass at once. Where nothing moved it is no piece. One
+-- piece counts at most 65,535 tokens, so 65,536 are two pieces: 65,535 tokens alone, then the bytes with one.
+abbrev pub passed : Direction → List ℕ → ℕ → List Piece
+passed direction bytes tokens =
+    if nat_lt 65535 tokens
+    then record { direction = direction; bytes = []; tokens = 65535 } ∷ record { direction = direction; bytes = bytes; tokens = tokens - 65535 } ∷ []
+    else (if length bytes == 0 && tokens == 0 then [] else record { direction = direction; bytes = bytes; tokens = tokens } ∷ [])

@@ -1,0 +1,36 @@
+-- Recordings as text.
+use Rattle.std.specs.Prelude.{◌≡◌, ℕ, ◌+◌, ◌⊎◌, List, [], ◌∷◌, ◌++◌, length}
+use Rattle.std.specs.List.{All}
+use Rattle.std.specs.Str.Lines.{lines}
+use Rattle.wl_recording.specs.Piece.{Piece}
+use Rattle.wl_recording.specs.Line.{IsSkipped, IsPiece, line_of}
+
+-- Those of the lines that are not skipped tell these pieces, one each, in their order.
+pub data Tell : List (List ℕ) → List Piece → Type 0 where
+  ends : Tell [] []
+  skips : {line : List ℕ} {more : List (List ℕ)} {pieces : List Piece} → IsSkipped line → Tell more pieces → Tell (line ∷ more) pieces
+  tells : {line : List ℕ} {more : List (List ℕ)} {piece : Piece} {pieces : List Piece} → IsPiece line piece → Tell more pieces → Tell (line ∷ more) (piece ∷ pieces)
+
+-- The text records these pieces. Its lines are each ended by a line feed, which the last may lack; one carriage return before
+-- a line feed is no part of its line.
+abbrev pub Recorded : List ℕ → List Piece → Type 0
+Recorded text pieces = Tell (lines text) pieces
+
+-- a line that may stand in a recording
+abbrev pub IsGood : List ℕ → Type 0
+IsGood line = IsSkipped line ⊎ ((piece : Piece) × IsPiece line piece)
+
+-- Line n, counted from 1, skipped lines counted too, is the first of the text that may not stand in a recording.
+pub record IsFirstBad (text : List ℕ) (n : ℕ) : Type 0 where
+  pub before : List (List ℕ)
+  pub line : List ℕ
+  pub after : List (List ℕ)
+  pub whole : lines text ≡ before ++ line ∷ after
+  pub place : n ≡ length before + 1
+  pub good : All IsGood before
+  pub bad : ¬ IsGood line
+
+-- the one text that a writer gives: each piece's line, ended by a line feed
+abbrev pub text_of : List Piece → List ℕ
+text_of [] = []
+text_of (piece ∷ pieces) = line_of piece ++ 10 ∷ text_of pieces
