@@ -42,3 +42,58 @@ cut_more {limit} {m} {s} {rest} {messages} whole cut = record {
 -- nothing is cut off where no message stands in front
 pub cut_nothing : {limit : ℕ} {s : List ℕ} → ((n : ℕ) → front limit s ≢ Whole n) → IsCut limit s [] s
 cut_nothing last = record { joined = refl; whole = tt; last = last }
+
+-- what it says that a whole message stands in front
+record StandsWhole (limit n : ℕ) (s : List ℕ) : Type 0 where
+  told : told_size s ≡ n
+  low : 8 ≤ n
+  words : n % 4 ≡ 0
+  high : n ≤ limit
+  there : n ≤ length s
+
+from_front : (limit n : ℕ) (s : List ℕ) → front limit s ≡ Whole n → (told_size s ≡ n) × (is_size limit n ≡ true) × (n ≤ length s)
+unfolding front
+from_front limit n s h = grind (arith, nat_tests)
+
+stands_whole : (limit n : ℕ) (s : List ℕ) → front limit s ≡ Whole n → StandsWhole limit n s
+stands_whole limit n s h =
+    let parts = from_front limit n s h in
+    let size = from_is_size limit n (parts.1) in
+    record { told = parts.0; low = size.0; words = size.1; high = size.2; there = parts.2 }
+
+message_taken : (limit n : ℕ) (s : List ℕ) → StandsWhole limit n s → IsMessage limit (take n s)
+message_taken limit n s h =
+    let len : length (take n s) ≡ n = length-take-le n s h.there in
+    let same : told_size (take n s ++ drop n s) ≡ told_size (take n s) = told_size-append (take n s) (drop n s) (rw len h.low) in
+    record {
+      told = sym same ∙ ap told_size (take-append-drop n s) ∙ h.told ∙ sym len;
+      size = record { header = rw len h.low; words = rw len h.words; within = rw len h.high };
+    }
+
+-- a stream with its cut
+pub record HasCut (limit : ℕ) (s : List ℕ) : Type 0 where
+  pub messages : List (List ℕ)
+  pub rest : List ℕ
+  pub cut : IsCut limit s messages rest
+
+cut_after : (limit n : ℕ) (s : List ℕ) → StandsWhole limit n s → HasCut limit (drop n s) → HasCut limit s
+cut_after limit n s h c = record {
+  messages = take n s ∷ c.messages;
+  rest = c.rest;
+  cut = let both = cut_more (message_taken limit n s h) c.cut in rw take-append-drop at both;
+}
+
+cut_front : (limit count : ℕ) (s : List ℕ) → length s ≤ count → ((t : List ℕ) → length t < length s → HasCut limit t) → (f : Front) → front limit s ≡ f → HasCut limit s
+cut_front limit count s short shorter More h = record { messages = []; rest = s; cut = cut_nothing (λ n w. cc) }
+cut_front limit count s short shorter (Bad n) h = record { messages = []; rest = s; cut = cut_nothing (λ k w. cc) }
+cut_front limit count s short shorter (Whole n) h =
+    let whole = stands_whole limit n s h in
+    let len : length (drop n s) ≡ length s - n = length-drop n s in
+    cut_after limit n s whole (shorter (drop n s) (omega (arith, len, whole.low, whole.there)))
+
+cut_within : (limit count : ℕ) (s : List ℕ) → length s ≤ count → HasCut limit s
+cut_within limit zero s short = cut_front limit zero s short (λ t less. absurd (omega arith)) (front limit s) refl
+cut_within limit (suc count) s short = cut_front limit (suc count) s short (λ t less. cut_within limit count t (omega arith)) (front limit s) refl
+
+pub cut_any : (limit : ℕ) (s : List ℕ) → HasCut limit s
+cut_any limit s = cut_within limit (length s) s (omega arith)
