@@ -1,0 +1,5 @@
+mod Deciding
+mod Distinct
+mod ByPlace
+mod RulesDecide
+mod CoreValid

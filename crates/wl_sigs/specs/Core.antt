@@ -7,52 +7,52 @@ use Rattle.wl_sigs.specs.Tables.{Interface}
 use Rattle.wl_sigs.specs.Fixed.{message, int, uint, fixed, string, array, fd, object, object_or_null, new, callback, wl_display, wl_registry, wl_callback}
 
 -- the places of the further interfaces
-abbrev pub compositor : Iface
+abbrev compositor : Iface
 compositor = record { 0 = 3 }
 
-abbrev pub shm : Iface
+abbrev shm : Iface
 shm = record { 0 = 4 }
 
-abbrev pub shm_pool : Iface
+abbrev shm_pool : Iface
 shm_pool = record { 0 = 5 }
 
-abbrev pub buffer : Iface
+abbrev buffer : Iface
 buffer = record { 0 = 6 }
 
-abbrev pub surface : Iface
+abbrev surface : Iface
 surface = record { 0 = 7 }
 
-abbrev pub region : Iface
+abbrev region : Iface
 region = record { 0 = 8 }
 
-abbrev pub seat : Iface
+abbrev seat : Iface
 seat = record { 0 = 9 }
 
-abbrev pub pointer : Iface
+abbrev pointer : Iface
 pointer = record { 0 = 10 }
 
-abbrev pub keyboard : Iface
+abbrev keyboard : Iface
 keyboard = record { 0 = 11 }
 
-abbrev pub touch : Iface
+abbrev touch : Iface
 touch = record { 0 = 12 }
 
-abbrev pub output : Iface
+abbrev output : Iface
 output = record { 0 = 13 }
 
-abbrev pub subcompositor : Iface
+abbrev subcompositor : Iface
 subcompositor = record { 0 = 14 }
 
-abbrev pub subsurface : Iface
+abbrev subsurface : Iface
 subsurface = record { 0 = 15 }
 
-abbrev pub shell : Iface
+abbrev shell : Iface
 shell = record { 0 = 16 }
 
-abbrev pub shell_surface : Iface
+abbrev shell_surface : Iface
 shell_surface = record { 0 = 17 }
 
-abbrev pub wl_compositor : Interface
+abbrev wl_compositor : Interface
 wl_compositor = record {
   name = codes "wl_compositor";
   version = 6;
@@ -63,7 +63,7 @@ wl_compositor = record {
   events = [];
 }
 
-abbrev pub wl_shm : Interface
+abbrev wl_shm : Interface
 wl_shm = record {
   name = codes "wl_shm";
   version = 2;
@@ -76,7 +76,7 @@ wl_shm = record {
       [];
 }
 
-abbrev pub wl_shm_pool : Interface
+abbrev wl_shm_pool : Interface
 wl_shm_pool = record {
   name = codes "wl_shm_pool";
   version = 2;
@@ -88,7 +88,7 @@ wl_shm_pool = record {
   events = [];
 }
 
-abbrev pub wl_buffer : Interface
+abbrev wl_buffer : Interface
 wl_buffer = record {
   name = codes "wl_buffer";
   version = 1;
@@ -100,7 +100,7 @@ wl_buffer = record {
       [];
 }
 
-abbrev pub wl_surface : Interface
+abbrev wl_surface : Interface
 wl_surface = record {
   name = codes "wl_surface";
   version = 6;
@@ -125,7 +125,7 @@ wl_surface = record {
       [];
 }
 
-abbrev pub wl_region : Interface
+abbrev wl_region : Interface
 wl_region = record {
   name = codes "wl_region";
   version = 1;
@@ -137,7 +137,7 @@ wl_region = record {
   events = [];
 }
 
-abbrev pub wl_seat : Interface
+abbrev wl_seat : Interface
 wl_seat = record {
   name = codes "wl_seat";
   version = 9;
@@ -153,7 +153,7 @@ wl_seat = record {
       [];
 }
 
-abbrev pub wl_pointer : Interface
+abbrev wl_pointer : Interface
 wl_pointer = record {
   name = codes "wl_pointer";
   version = 9;
@@ -176,7 +176,7 @@ wl_pointer = record {
       [];
 }
 
-abbrev pub wl_keyboard : Interface
+abbrev wl_keyboard : Interface
 wl_keyboard = record {
   name = codes "wl_keyboard";
   version = 9;
@@ -193,7 +193,7 @@ wl_keyboard = record {
       [];
 }
 
-abbrev pub wl_touch : Interface
+abbrev wl_touch : Interface
 wl_touch = record {
   name = codes "wl_touch";
   version = 9;
@@ -211,7 +211,7 @@ wl_touch = record {
       [];
 }
 
-abbrev pub wl_output : Interface
+abbrev wl_output : Interface
 wl_output = record {
   name = codes "wl_output";
   version = 4;
@@ -228,7 +228,7 @@ wl_output = record {
       [];
 }
 
-abbrev pub wl_subcompositor : Interface
+abbrev wl_subcompositor : Interface
 wl_subcompositor = record {
   name = codes "wl_subcompositor";
   version = 1;
@@ -239,7 +239,7 @@ wl_subcompositor = record {
   events = [];
 }
 
-abbrev pub wl_subsurface : Interface
+abbrev wl_subsurface : Interface
 wl_subsurface = record {
   name = codes "wl_subsurface";
   version = 1;
@@ -254,7 +254,7 @@ wl_subsurface = record {
   events = [];
 }
 
-abbrev pub wl_shell : Interface
+abbrev wl_shell : Interface
 wl_shell = record {
   name = codes "wl_shell";
   version = 1;
@@ -264,7 +264,7 @@ wl_shell = record {
   events = [];
 }
 
-abbrev pub wl_shell_surface : Interface
+abbrev wl_shell_surface : Interface
 wl_shell_surface = record {
   name = codes "wl_shell_surface";
   version = 1;
@@ -287,8 +287,8 @@ wl_shell_surface = record {
       [];
 }
 
--- the interfaces, in their order
-abbrev pub core_tables : List Interface
+-- The interfaces, in their order. Proofs about tables go by the rules of valid tables, and do not open this list.
+unfoldable pub core_tables : List Interface
 core_tables =
     wl_display ∷
     wl_registry ∷

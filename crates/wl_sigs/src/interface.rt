@@ -1,7 +1,11 @@
 //! An interface and its messages.
+ghost use Rattle.std.specs.Prelude.{◌≡◌, IfOk, map, slice_get, option_copied, option_map};
+ghost use Rattle.wl_sigs.specs.Tables.{message_of};
+ghost use Rattle.wl_sigs.specs.Written.{message_written, interface_written};
 
-use crate::signature::Signature;
-use std::alloc::{Allocator, Global};
+use crate::core_interfaces::{CoreInterface, CoreMessage};
+use crate::signature::{Side, Signature};
+use std::alloc::{AllocError, Allocator, Global};
 use std::marker::Model;
 
 /// One interface of the tables.
@@ -19,4 +23,53 @@ impl<A: Allocator> Model for Entry<A> {
     ghost Value = { Interface };
 
     ghost view = { λ i. record { name = i.name.items; version = i.version; requests = i.requests.items; events = i.events.items } };
+}
+
+impl<A: Allocator> Entry<A> {
+    pub(crate) fn name(&self) -> &[u8]
+        ensures { result.now ≡ self.now.name }
+    {
+        self.name.as_slice()
+    }
+
+    pub(crate) fn version(&self) -> u32
+        ensures { result ≡ self.now.version }
+    {
+        self.version
+    }
+
+    pub(crate) fn message(&self, side: Side, opcode: u16) -> Option<&Signature<A>>
+        ensures { option_copied result ≡ message_of side opcode self.now }
+    {
+        match side {
+            Side::Request => self.requests.get(opcode as usize),
+            Side::Event => self.events.get(opcode as usize),
+        }
+    }
+}
+
+impl<A: Allocator + Clone + Drop> Entry<A> {
+    pub(crate) fn of(alloc: &A, interface: &CoreInterface) -> Result<Self, AllocError>
+        ensures { IfOk result (λ i. i ≡ interface_written interface.now) }
+    {
+        Ok(Entry {
+            name: Vec::from_slice(alloc.clone()?, interface.name)?,
+            version: interface.version,
+            requests: signatures_of(alloc, interface.requests)?,
+            events: signatures_of(alloc, interface.events)?,
+        })
+    }
+}
+
+fn signatures_of<A: Allocator + Clone + Drop>(
+    alloc: &A,
+    messages: &[CoreMessage],
+) -> Result<Vec<Signature<A>, A>, AllocError>
+    ensures { IfOk result (λ v. v.items ≡ map message_written messages.now) }
+{
+    let mut signatures = Vec::with_capacity(alloc.clone()?, messages.len())?;
+    'messages: for message in messages {
+        signatures.push(Signature::of(alloc, message)?)?;
+    }
+    Ok(signatures)
 }

@@ -5,9 +5,12 @@
 //! Protocol and Model of Operation", sections "Interfaces" and "Wire Format".)
 #![tactic(auto)]
 
+mod core_interfaces;
 mod interface;
+mod laws;
 mod signature;
 mod tables;
 
+pub use laws::valid_where_tests_pass;
 pub use signature::{Destroys, Side, Signature};
 pub use tables::Tables;

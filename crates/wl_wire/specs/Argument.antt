@@ -1,5 +1,6 @@
 -- The values of arguments, without where they lie in memory.
 use Rattle.std.specs.Prelude.{ℕ, ℤ, List, Option, Some, None}
+use Rattle.wl_wire.specs.declared.fixed.Fixed as fixed
 use Rattle.wl_wire.specs.declared.value.Value.{Value}
 use Rattle.wl_wire.specs.declared.value.Value.TheVariants as values
 use Rattle.wl_wire.specs.declared.value.ValueRef.{ValueRef}
@@ -34,11 +35,15 @@ reshaped o n f (Fd x) = Fd (f x)
 abbrev pub Argument : Type 0
 Argument = Shape ℕ ℕ (Unit {0})
 
+-- how many 256ths a fixed-point number is
+abbrev pub units : fixed.Fixed → ℤ
+units z = z.raw
+
 -- what an owned value is
 abbrev pub plain : {A : Type 0} → Value A → Argument
 plain (values.Int z) = Int z
 plain (values.Uint n) = Uint n
-plain (values.Fixed z) = Fixed z
+plain (values.Fixed z) = Fixed (units z)
 plain (values.Str text) = Str text
 plain (values.Obj id) = Obj id
 plain (values.New id) = New id
@@ -50,7 +55,7 @@ plain values.Fd = Fd tt
 abbrev pub lent : ValueRef → Argument
 lent (refs.Int z) = Int z
 lent (refs.Uint n) = Uint n
-lent (refs.Fixed z) = Fixed z
+lent (refs.Fixed z) = Fixed (units z)
 lent (refs.Str None) = Str None
 lent (refs.Str (Some text)) = Str (Some text.now)
 lent (refs.Obj id) = Obj id

@@ -1,5 +1,5 @@
 -- What stands at the front of bytes, for an argument of a kind: the answer of a reader, as a function of the bytes.
-use Rattle.std.specs.Prelude.{◌≡◌, ℕ, ℤ, pos, negsuc, ◌+◌, ◌-◌, ◌*◌, ◌%◌, ◌^◌, ◌==◌, ◌&&◌, nat_lt, if◌then◌else◌, List, take, drop, length, slice_index, Some, None, Result, Ok, Err}
+use Rattle.std.specs.Prelude.{◌≡◌, ℕ, ◌+◌, ◌-◌, ◌==◌, ◌&&◌, nat_lt, if◌then◌else◌, List, take, drop, length, slice_index, Some, None, Result, Ok, Err}
 use Rattle.std.specs.List.{list_any}
 use Rattle.wl_wire.specs.declared.kind.Kind.{Kind}
 use Rattle.wl_wire.specs.declared.kind.Kind.TheVariants as kinds
@@ -11,14 +11,7 @@ use Rattle.wl_wire.specs.declared.value.Value.{Value}
 use Rattle.wl_wire.specs.declared.value.ValueRef.{ValueRef}
 use Rattle.wl_wire.specs.Argument.{Argument, Int, Uint, Fixed, Str, Obj, New, NewNamed, Array, Fd, plain, lent}
 use Rattle.wl_wire.specs.Spelling.{padded}
-
--- the number that the first four bytes are, the lowest byte first
-abbrev pub number_at : List ℕ → ℕ
-number_at bytes = slice_index bytes 0 % 256 + slice_index bytes 1 % 256 * 256 + slice_index bytes 2 % 256 * 65536 + slice_index bytes 3 % 256 * 16777216
-
--- the signed number that this number is in two's complement of 32 bits
-abbrev pub signed : ℕ → ℤ
-signed n = if nat_lt n (2 ^ 31) then pos n else negsuc (2 ^ 32 - 1 - n)
+pub use Rattle.wl_wire.specs.Word.{number_at, signed}
 
 -- How many bytes an argument takes: its words, and the padded bytes that a length asks for.
 abbrev pub asked : Kind → List ℕ → ℕ

@@ -1,7 +1,7 @@
 //! The two words before a message's arguments.
-ghost use Rattle.std.specs.Prelude.{◌≡◌};
+ghost use Rattle.std.specs.Prelude.{◌≡◌, ◌≤◌, length, take};
+ghost use Rattle.wl_wire.specs.Word.{word};
 
-use crate::word::word_at;
 use byteorder::{ByteOrder, LittleEndian};
 
 /// The first eight bytes of a message. (Section "Wire Format".)
@@ -16,7 +16,7 @@ pub struct Header {
 }
 
 impl Header {
-    ghost use Rattle.wl_wire.specs.Word.{header_bytes};
+    ghost use Rattle.wl_wire.specs.Word.{header_at, header_bytes};
 
     /// The header's two words: the object's, and one with the size in its upper half and the
     /// opcode in its lower half.
@@ -32,7 +32,8 @@ impl Header {
 
     /// The header that these bytes are. Any eight bytes are one.
     pub fn from_bytes(bytes: [u8; 8]) -> Header
-        ensures { bytes ≡ header_bytes result }
+        ensures spelled { bytes ≡ header_bytes result }
+        ensures computes { result ≡ header_at bytes }
     {
         let object = word_at(&bytes[..4]);
         let second = word_at(&bytes[4..]);
@@ -42,4 +43,12 @@ impl Header {
             opcode: (second % 65536) as u16,
         }
     }
+}
+
+/// The number whose word the first four bytes are.
+fn word_at(bytes: &[u8]) -> u32
+    requires { 4 ≤ length bytes.now }
+    ensures { take 4 bytes.now ≡ word result }
+{
+    LittleEndian::read_u32(bytes)
 }

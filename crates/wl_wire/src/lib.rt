@@ -10,11 +10,18 @@ mod bytes;
 mod fixed;
 mod header;
 mod kind;
+pub mod laws;
+mod owning;
+mod reading;
 mod value;
 mod word;
+mod writing;
 
 pub use bytes::Bytes;
 pub use fixed::Fixed;
 pub use header::Header;
 pub use kind::{ArgFault, Iface, Kind, ReadError};
+pub use owning::read_value;
+pub use reading::read_ref;
 pub use value::{Value, ValueRef};
+pub use writing::encode_value;

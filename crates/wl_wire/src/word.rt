@@ -1,13 +1,14 @@
-//! Words of four bytes, read and written.
-ghost use Rattle.std.specs.Prelude.{◌≡◌, ◌≤◌, length, take};
-ghost use Rattle.wl_wire.specs.Word.{word, int_word};
+//! Words of four bytes, read.
+ghost use Rattle.std.specs.Prelude.{◌≡◌, ◌≤◌, ◌^◌, length};
+ghost use Rattle.wl_wire.specs.Spelling.{padded};
+ghost use Rattle.wl_wire.specs.Reading.{number_at, signed};
 
 use byteorder::{ByteOrder, LittleEndian};
 
 /// The number that the first four bytes are.
 pub(crate) fn word_at(bytes: &[u8]) -> u32
     requires { 4 ≤ length bytes.now }
-    ensures { take 4 bytes.now ≡ word result }
+    ensures { result ≡ number_at bytes.now }
 {
     LittleEndian::read_u32(bytes)
 }
@@ -15,7 +16,15 @@ pub(crate) fn word_at(bytes: &[u8]) -> u32
 /// The signed number that the first four bytes are.
 pub(crate) fn int_at(bytes: &[u8]) -> i32
     requires { 4 ≤ length bytes.now }
-    ensures { take 4 bytes.now ≡ int_word result }
+    ensures { result ≡ signed (number_at bytes.now) }
 {
     LittleEndian::read_i32(bytes)
+}
+
+/// This many bytes with their padding.
+pub(crate) fn padded_len(len: usize) -> usize
+    requires { len ≤ 2 ^ 32 }
+    ensures { result ≡ padded len }
+{
+    (len + 3) / 4 * 4
 }

@@ -1,0 +1,9 @@
+-- The core tables are valid: the tests compute.
+use Rattle.std.proofs.Common.{refl}
+use Rattle.wl_sigs.specs.Core.{core_tables}
+use Rattle.wl_sigs.specs.Valid.{Valid}
+use Rattle.wl_sigs.proofs.RulesDecide.{tested_valid}
+
+pub core_valid : Valid core_tables
+unfolding core_tables
+core_valid = tested_valid core_tables (record { display = refl; registry = refl; callback = refl }, refl)

@@ -1,0 +1,68 @@
+//! One argument, written.
+ghost use Rattle.std.specs.Prelude.{◌≡◌, ◌<◌, ◌≤◌, ◌+◌, ◌-◌, ◌++◌, length, OnOk, OnErr, IsOk, vec_len, vec_capacity};
+ghost use Rattle.wl_wire.specs.Argument.{lent};
+ghost use Rattle.wl_wire.specs.Spelling.{canonical, padded, zeros, Fits, spelled_len};
+ghost use Rattle.wl_wire.specs.Word.{word};
+
+use crate::value::ValueRef;
+use crate::word::padded_len;
+use std::alloc::{AllocError, Allocator};
+
+const ZEROS: [u8; 4] = [0; 4];
+
+/// Appends the bytes of a value, padded with zeros. Asks `fits`. No memory is taken where the
+/// vector has spare room for them.
+pub fn encode_value<A: Allocator>(
+    value: ValueRef<'_>,
+    out: &mut Vec<u8, A>,
+) -> Result<(), AllocError>
+    requires { Fits (lent value) }
+    ensures ok { OnOk result (out.new.items ≡ out.old.items ++ canonical (lent value.entry)) }
+    ensures len { OnOk result (vec_len out.new ≡ vec_len out.old + spelled_len (lent value.entry)) }
+    ensures err { OnErr result (out.new.items ≡ out.old.items) }
+    ensures room { vec_len out.old + spelled_len (lent value.entry) ≤ vec_capacity out.old → IsOk result }
+    ensures capacity { vec_capacity out.old ≤ vec_capacity out.new }
+{
+    out.reserve(value.spelled_len())?;
+    match value {
+        ValueRef::Int(z) => append(out, &z.to_le_bytes()),
+        ValueRef::Fixed(z) => append(out, &z.raw().to_le_bytes()),
+        ValueRef::Uint(n) => append(out, &n.to_le_bytes()),
+        ValueRef::Obj(id) => append(out, &id.to_le_bytes()),
+        ValueRef::New(id) => append(out, &id.to_le_bytes()),
+        ValueRef::Str(None) => append(out, &ZEROS),
+        ValueRef::Str(Some(text)) => append_padded(out, text.len() as u32 + 1, text),
+        ValueRef::NewNamed { iface, version, id } => {
+            append_padded(out, iface.len() as u32 + 1, iface);
+            append(out, &version.to_le_bytes());
+            append(out, &id.to_le_bytes());
+        }
+        ValueRef::Array(bytes) => append_padded(out, bytes.len() as u32, bytes),
+        ValueRef::Fd => {}
+    }
+    Ok(())
+}
+
+/// Appends bytes for which there is room.
+fn append<A: Allocator>(out: &mut Vec<u8, A>, bytes: &[u8])
+    requires { vec_len out.old + length bytes.now ≤ vec_capacity out.old }
+    ensures items { out.new.items ≡ out.old.items ++ bytes.now }
+    ensures len { vec_len out.new ≡ vec_len out.old + length bytes.now }
+    ensures capacity { vec_capacity out.old ≤ vec_capacity out.new }
+{
+    let _ = out.extend_from_slice(bytes);
+}
+
+/// Appends a length, the bytes, and zeros up to a multiple of 4.
+fn append_padded<A: Allocator>(out: &mut Vec<u8, A>, len: u32, bytes: &[u8])
+    requires len { (length bytes.now ≤ len) × (len ≤ length bytes.now + 1) }
+    requires room { vec_len out.old + (4 + padded len) ≤ vec_capacity out.old }
+    ensures items { out.new.items ≡ out.old.items ++ (word len ++ bytes.now ++ zeros (padded len - length bytes.now)) }
+    ensures len { vec_len out.new ≡ vec_len out.old + (4 + padded len) }
+    ensures capacity { vec_capacity out.old ≤ vec_capacity out.new }
+{
+    append(out, &len.to_le_bytes());
+    append(out, bytes);
+    let extra = padded_len(len as usize) - bytes.len();
+    append(out, &ZEROS[..extra]);
+}
