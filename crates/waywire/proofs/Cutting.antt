@@ -34,7 +34,7 @@ front-message limit m s whole =
 -- one message more in front
 pub cut_more : {limit : ℕ} {m s rest : List ℕ} {messages : List (List ℕ)} → IsMessage limit m → IsCut limit s messages rest → IsCut limit (m ++ s) (m ∷ messages) rest
 cut_more {limit} {m} {s} {rest} {messages} whole cut = record {
-  joined = ap (λ t. m ++ t) cut.joined ∙ sym append_assoc;
+  joined = ap (λ t. m ++ t) cut.joined ∙ sym (append_assoc m (concat messages) rest);
   whole = (whole, cut.whole);
   last = cut.last;
 }
@@ -97,3 +97,33 @@ cut_within limit (suc count) s short = cut_front limit (suc count) s short (λ t
 
 pub cut_any : (limit : ℕ) (s : List ℕ) → HasCut limit s
 cut_any limit s = cut_within limit (length s) s (omega arith)
+
+-- equal joinings, of which the first parts are as long
+split_same : (a b x y : List ℕ) → length a ≡ length b → a ++ x ≡ b ++ y → (a ≡ b) × (x ≡ y)
+split_same a b x y len e =
+    let first : a ≡ b = sym (take-append_seam a x) ∙ ap (take (length a)) e ∙ ap (λ n. take n (b ++ y)) len ∙ take-append_seam b y in
+    let second : x ≡ y = sym (drop-append_seam a x) ∙ ap (drop (length a)) e ∙ ap (λ n. drop n (b ++ y)) len ∙ drop-append_seam b y in
+    (first, second)
+
+-- two cuts of a stream are one
+pub record SameCut (messages others : List (List ℕ)) (rest other : List ℕ) : Type 0 where
+  pub messages : messages ≡ others
+  pub rest : rest ≡ other
+
+whole_size : {m n : ℕ} → Whole m ≡ Whole n → m ≡ n
+whole_size h = cc
+
+pub one_cut : {limit : ℕ} (s t : List ℕ) (messages others : List (List ℕ)) (rest other : List ℕ) → s ≡ t → IsCut limit s messages rest → IsCut limit t others other → SameCut messages others rest other
+one_cut s t [] [] rest other e a b = record { messages = refl; rest = sym a.joined ∙ e ∙ b.joined }
+one_cut {limit} s t [] (m ∷ others) rest other e a b =
+    absurd (a.last (length m) (ap (front limit) (sym a.joined ∙ e ∙ b.joined ∙ append_assoc m (concat others) other) ∙ front-message limit m (concat others ++ other) b.whole.0))
+one_cut {limit} s t (m ∷ messages) [] rest other e a b =
+    absurd (b.last (length m) (ap (front limit) (sym b.joined ∙ sym e ∙ a.joined ∙ append_assoc m (concat messages) rest) ∙ front-message limit m (concat messages ++ rest) a.whole.0))
+one_cut {limit} s t (m ∷ messages) (n ∷ others) rest other e a b =
+    let joined : m ++ (concat messages ++ rest) ≡ n ++ (concat others ++ other) =
+        sym (append_assoc m (concat messages) rest) ∙ sym a.joined ∙ e ∙ b.joined ∙ append_assoc n (concat others) other in
+    let len : length m ≡ length n = whole_size (sym (front-message limit m (concat messages ++ rest) a.whole.0) ∙ ap (front limit) joined ∙ front-message limit n (concat others ++ other) b.whole.0) in
+    let parts = split_same m n (concat messages ++ rest) (concat others ++ other) len joined in
+    let more = one_cut (concat messages ++ rest) (concat others ++ other) messages others rest other parts.1
+        (record { joined = refl; whole = a.whole.1; last = a.last }) (record { joined = refl; whole = b.whole.1; last = b.last }) in
+    record { messages = ap (λ x. x ∷ messages) parts.0 ∙ ap (λ xs. n ∷ xs) more.messages; rest = more.rest }

@@ -39,8 +39,8 @@ outside_rest {s} n h = record {
 }
 
 -- another message in front
-pub outside_message : {m s : List ℕ} → IsMessage usual_limit m → ((r : Request) → ¬ IsFirst m r) → IsOutside (m ++ s) 0
-outside_message {m} {s} whole not =
+pub outside_message : {m : List ℕ} (s : List ℕ) → IsMessage usual_limit m → ((r : Request) → ¬ IsFirst m r) → IsOutside (m ++ s) 0
+outside_message {m} s whole not =
     let c = cut_any usual_limit s in
     record {
       before = [];

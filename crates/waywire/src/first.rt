@@ -1,6 +1,11 @@
 //! The first two requests of a client.
-ghost use Rattle.std.specs.Prelude.{OnOk, IsErrOf, ◌≡◌, ◌≢◌, ℕ, ◌+◌, ◌-◌, ◌≤◌, ◌<◌, ◌⊎◌, ◌++◌, List, length, IfOk, IfErr, IfSome, IfNone, MatchOption, MatchResult, Ok, Err};
+ghost use Rattle.std.specs.Prelude.{OnOk, [], ◌∷◌, Some, take, IsErrAnd, ◌≡◌, ◌≢◌, ℕ, ◌+◌, ◌-◌, ◌≤◌, ◌<◌, ◌⊎◌, ◌++◌, List, length, IfOk, IfErr, IfSome, IfNone, MatchOption, MatchResult, Ok, Err};
 ghost use Rattle.waywire.specs.declared.first.FirstError.TheVariants.{Memory};
+ghost use Rattle.wl_wire.specs.Argument.{New};
+ghost use Rattle.wl_wire.specs.Word.{header_at, header_bytes};
+ghost use Rattle.wl_wire.specs.declared.kind.Iface.{Iface as SpecIface};
+ghost use Rattle.wl_wire.specs.declared.kind.Kind.TheVariants as kind;
+ghost use Rattle.wl_message.specs.Spelled.{SpellsEach};
 ghost use Rattle.wl_message.specs.Cut.{front, More, Bad, Whole, IsMessage, is_size, usual_limit, told_size};
 ghost use Rattle.wl_sigs.specs.Core.{core_tables};
 ghost use Rattle.waywire.specs.First.{AreLines, IsFirst, IsOutside, Request, first_line};
@@ -10,11 +15,16 @@ ghost use Rattle.waywire.specs.Seen.{told};
 use std::alloc::{AllocError, Allocator};
 use std::io::Write;
 use wl_message::BadSize;
-use wl_sigs::Tables;
-use wl_wire::Header;
+use wl_sigs::{Side, Tables};
+use wl_wire::laws::header_is_read;
+use wl_wire::{Header, Iface, Kind, ValueRef, read_ref};
 
 /// The most bytes of a message.
 const LIMIT: u16 = 4096;
+
+/// The id of the one wl_display, and the place of its interface in the tables.
+const DISPLAY_ID: u32 = 1;
+const DISPLAY: Iface = Iface(0);
 
 /// Why a stream has no lines.
 #[derive(Clone, Copy, Debug, PartialEq, Eq)]
@@ -33,14 +43,16 @@ impl From<AllocError> for FirstError {
     }
 }
 
-/// The size that a header tells. The whole header stands in front of the bytes.
-fn size_told(bytes: &[u8]) -> u16
+/// The header in front of bytes.
+fn header_of(bytes: &[u8]) -> Header
     requires { 8 ≤ length bytes.now }
-    ensures { result ≡ told_size bytes.now }
+    ensures read { result ≡ header_at (take 8 bytes.now) }
+    ensures spelled { take 8 bytes.now ≡ header_bytes result }
+    ensures size { result.size ≡ told_size bytes.now }
 {
     let mut first = [0; 8];
     first.copy_from_slice(&bytes[..8]);
-    Header::from_bytes(first).size
+    Header::from_bytes(first)
 }
 
 /// Whether a message may have so many bytes.
@@ -61,7 +73,7 @@ fn split_message(bytes: &[u8]) -> Result<Option<(&[u8], &[u8])>, BadSize>
     if bytes.len() < 8 {
         return Ok(None);
     }
-    let size = size_told(bytes);
+    let size = header_of(bytes).size;
     if !is_size(size) {
         return Err(BadSize { size });
     }
@@ -82,6 +94,28 @@ struct Making<'a> {
     id: u32,
 }
 
+/// The interface of the one argument, where these are the kinds of one new object alone.
+fn made_by(kinds: &[Kind]) -> Option<Iface>
+    ensures found { IfSome result (λ iface. kinds.now ≡ kind.New (Some iface) ∷ []) }
+    ensures only { IfNone result ((iface : SpecIface) → kinds.now ≢ kind.New (Some iface) ∷ []) }
+{
+    match kinds {
+        [Kind::New(iface)] => *iface,
+        _ => None,
+    }
+}
+
+/// The new id that these arguments are, if they are one and nothing else.
+fn new_id(iface: Iface, arguments: &[u8]) -> Option<u32>
+    ensures found { IfSome result (λ id. SpellsEach (kind.New (Some iface) ∷ []) (New id ∷ []) arguments.now) }
+    ensures only { IfNone result ((id : ℕ) → SpellsEach (kind.New (Some iface) ∷ []) (New id ∷ []) arguments.now → ⊥) }
+{
+    match read_ref(Kind::New(Some(iface)), arguments) {
+        Ok((ValueRef::New(id), len)) if len == arguments.len() => Some(id),
+        _ => None,
+    }
+}
+
 /// The request that a message is, if it is one of wl_display's, for object 1.
 fn request_of<'t, A: Allocator>(tables: &'t Tables<A>, message: &[u8]) -> Option<Making<'t>>
     requires core { tables.now ≡ core_tables }
@@ -89,7 +123,19 @@ fn request_of<'t, A: Allocator>(tables: &'t Tables<A>, message: &[u8]) -> Option
     ensures found { IfSome result (λ r. IsFirst message.now (told r)) }
     ensures only { IfNone result ((r : Request) → IsFirst message.now r → ⊥) }
 {
-    None
+    header_is_read();
+    let header = header_of(message);
+    if header.object != DISPLAY_ID {
+        return None;
+    }
+    let signature = tables.message(DISPLAY, Side::Request, header.opcode)?;
+    let made = made_by(signature.kinds())?;
+    let id = new_id(made, &message[8..])?;
+    Some(Making {
+        name: signature.name(),
+        interface: tables.name(made)?,
+        id,
+    })
 }
 
 /// Appends an object as a line names it: its interface's name, an `@`, its id.
@@ -150,7 +196,14 @@ fn lines_by<T: Allocator, A: Allocator>(
 }
 
 /// The lines of the messages of a stream.
-pub fn lines<A: Allocator>(alloc: A, stream: &[u8]) -> Result<Vec<u8, A>, FirstError> {
-    let _ = stream;
-    Ok(Vec::new(alloc))
+pub fn lines<A: Allocator + Clone + Drop>(alloc: A, stream: &[u8]) -> Result<Vec<u8, A>, FirstError>
+    ensures lines { IfOk result (λ out. AreLines stream.now out.items) }
+    ensures outside { (offset : ℕ) → result ≡ Err (FirstError.OutsideStage offset) → IsOutside stream.now offset }
+    // And only there.
+    ensures only_lines { (text : List ℕ) → AreLines stream.now text → IfErr result (λ e. e ≡ FirstError.Memory) }
+    ensures only_outside { (offset : ℕ) → IsOutside stream.now offset
+        → IsErrAnd result (λ e. (e ≡ FirstError.OutsideStage offset) ⊎ (e ≡ FirstError.Memory)) }
+{
+    let tables = Tables::core(alloc.clone()?)?;
+    lines_by(&tables, alloc, stream)
 }
