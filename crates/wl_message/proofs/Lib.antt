@@ -1,0 +1,4 @@
+pub mod Fronts
+pub mod Goings
+pub mod Keeps
+pub mod Cuts

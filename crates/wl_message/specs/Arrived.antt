@@ -1,6 +1,7 @@
 -- Bytes and tokens that came in and wait.
 use Rattle.std.specs.Prelude.{◌≡◌, ℕ, ◌-◌, ◌≤◌, nat_le, min, if◌then◌else◌, List, [], ◌++◌, length, take, drop, Result, Ok, Err, Option, Some, None}
 use Rattle.wl_wire.specs.Word.{header_bytes}
+use Rattle.wl_wire.specs.declared.header.Header.{Header}
 use Rattle.wl_message.specs.declared.amounts.Fed.{Fed}
 use Rattle.wl_message.specs.declared.amounts.Sizes.{Sizes}
 use Rattle.wl_message.specs.declared.inbox.BadSize.{BadSize}
@@ -40,6 +41,18 @@ with_more a bytes tokens = record a { bytes = a.bytes ++ bytes; tokens = a.token
 -- without so many of the first bytes and tokens
 abbrev pub without_first : Arrived → ℕ → ℕ → Arrived
 without_first a bytes tokens = record a { bytes = drop bytes a.bytes; tokens = drop tokens a.tokens }
+
+-- The header of the message in front, a bad size there, or nothing as long as more bytes are needed.
+abbrev pub TellsHeader : List ℕ → Result (Option Header) BadSize → Type 0
+TellsHeader bytes (Ok None) = front usual_limit bytes ≡ More
+TellsHeader bytes (Ok (Some h)) = (front usual_limit bytes ≡ Whole h.size) × (take 8 bytes ≡ header_bytes h)
+TellsHeader bytes (Err e) = front usual_limit bytes ≡ Bad e.size
+
+-- so many bytes as the header tells are there: the header, and what stands behind it
+pub record HasParts (bytes : List ℕ) (h : Header) : Type 0 where
+  pub header : 8 ≤ h.size
+  pub there : h.size ≤ length bytes
+  pub parts : take h.size bytes ≡ header_bytes h ++ take (h.size - 8) (drop 8 bytes)
 
 -- What is told of the message in front: its header, the bytes behind that, and how many tokens wait; a bad size;
 -- or nothing, as long as more bytes are needed.

@@ -1,5 +1,5 @@
 -- Messages that wait to go out, with their tokens.
-use Rattle.std.specs.Prelude.{◌≡◌, ℕ, ◌+◌, ◌-◌, ◌≤◌, Bool, true, false, ◌||◌, ◌==◌, nat_lt, if◌then◌else◌, min, List, [], ◌∷◌, ◌++◌, length, drop}
+use Rattle.std.specs.Prelude.{◌≡◌, ℕ, zero, suc, ◌+◌, ◌-◌, ◌≤◌, Bool, true, false, ◌||◌, ◌==◌, nat_lt, if◌then◌else◌, min, List, [], ◌∷◌, ◌++◌, length, drop}
 use Rattle.wl_message.specs.declared.amounts.Taken.{Taken}
 
 -- a message: its bytes, and the tokens that go with the first of them
@@ -71,7 +71,8 @@ with_error o bytes = record o {
 -- the messages of which a byte is among their first n
 abbrev pub begun : ℕ → List Message → List Message
 begun n [] = []
-begun n (m ∷ ms) = if n == 0 then [] else m ∷ begun (n - length m.bytes) ms
+begun zero (m ∷ ms) = []
+begun (suc n) (m ∷ ms) = m ∷ begun (suc n - length m.bytes) ms
 
 -- the messages that the first n of the waiting bytes newly begin
 abbrev pub newly_begun : Outgoing → ℕ → List Message

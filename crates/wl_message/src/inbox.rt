@@ -1,5 +1,16 @@
 //! Bytes and tokens that came in.
+ghost use Rattle.std.specs.Prelude.{◌≡◌, ◌≤◌, ◌↔◌, [], length, take, IfOk, IsTrue, slice_get};
+ghost use Rattle.std.specs.Borrow.{sem};
+ghost use Rattle.std.specs.Io.BufRead.{Rests};
+ghost use Rattle.wl_message.specs.Cut.{usual_limit, front, HasMessage, message_size};
+ghost use Rattle.wl_message.specs.Arrived.{nothing_arrived, free_bytes, free_tokens, fed, with_more, without_first, Tells};
+ghost use Rattle.wl_message.specs.contracts.inbox.Inbox.{the_row};
 
+use crate::amounts::Fed;
+use crate::front::{append, remove_first};
+use crate::header::{header_in_front, message_len};
+use std::alloc::{AllocError, Allocator, Global};
+use std::marker::Model;
 use wl_wire::Header;
 
 /// A whole message in front of an inbox.
@@ -17,4 +28,132 @@ pub struct Frame<'a> {
 pub struct BadSize {
     /// The size in the header, in bytes.
     pub size: u16,
+}
+
+/// Bytes and tokens that came in and wait to be read, as messages.
+///
+/// All memory is taken by `new`.
+#[derive(Drop)]
+pub struct Inbox<A: Allocator = Global> {
+    bytes: Vec<u8, A>,
+    tokens: Vec<u32, A>,
+    // How many of each may wait.
+    capacity: usize,
+    token_capacity: usize,
+}
+
+impl<A: Allocator> Model for Inbox<A> {
+    ghost use Rattle.std.specs.Prelude.{◌≤◌, length, vec_capacity};
+    ghost use Rattle.wl_message.specs.Arrived.{Arrived};
+
+    ghost Value = { Arrived };
+
+    ghost view = { λ i. record { bytes = i.bytes.items; tokens = i.tokens.items; capacity = i.capacity; token_capacity = i.token_capacity } };
+
+    ghost invariant = { λ i. record {
+      room : length i.bytes.items ≤ i.capacity;
+      token_room : length i.tokens.items ≤ i.token_capacity;
+      reserved : i.capacity ≤ vec_capacity i.bytes;
+      tokens_reserved : i.token_capacity ≤ vec_capacity i.tokens;
+    } };
+}
+
+impl<A: Allocator + Clone + Drop> Inbox<A> {
+    /// An inbox for so many bytes and tokens, in which nothing waits.
+    pub fn new(alloc: A, bytes: usize, tokens: usize) -> Result<Inbox<A>, AllocError>
+        requires bytes { (4096 ≤ bytes) × (bytes ≤ 16777216) }
+        requires tokens { (20 ≤ tokens) × (tokens ≤ 65536) }
+        ensures { IfOk result (λ i. i ≡ nothing_arrived bytes tokens) }
+    {
+        Ok(Inbox {
+            bytes: Vec::with_capacity(alloc.clone()?, bytes)?,
+            tokens: Vec::with_capacity(alloc, tokens)?,
+            capacity: bytes,
+            token_capacity: tokens,
+        })
+    }
+}
+
+impl<A: Allocator> Inbox<A> {
+    /// How many bytes are free.
+    pub fn room(&self) -> usize
+        ensures { result ≡ free_bytes self.now }
+    {
+        self.capacity - self.bytes.len()
+    }
+
+    /// How many tokens are free.
+    pub fn token_room(&self) -> usize
+        ensures { result ≡ free_tokens self.now }
+    {
+        self.token_capacity - self.tokens.len()
+    }
+
+    /// Whether no byte and no token waits.
+    pub fn is_empty(&self) -> bool
+        ensures { IsTrue result ↔ ((self.now.bytes ≡ []) × (self.now.tokens ≡ [])) }
+    {
+        self.bytes.is_empty() && self.tokens.is_empty()
+    }
+
+    /// Takes in as many of the tokens as fit, from the first on, and where these are all of them,
+    /// as many of the bytes as fit. Answers how many of each.
+    pub fn feed(&mut self, bytes: &[u8], tokens: &[u32]) -> Fed
+        ensures amount { result ≡ fed self.old bytes.now tokens.now }
+        ensures waits { self.new ≡ with_more self.old (take result.bytes bytes.now) (take result.tokens tokens.now) }
+    {
+        let token_count = tokens.len().min(self.token_room());
+        let byte_count = if token_count < tokens.len() {
+            0
+        } else {
+            bytes.len().min(self.room())
+        };
+        append(&mut self.tokens, &tokens[..token_count]);
+        append(&mut self.bytes, &bytes[..byte_count]);
+        Fed {
+            bytes: byte_count,
+            tokens: token_count,
+        }
+    }
+
+    /// The first message, once it is whole; none before. It stays in the inbox.
+    ///
+    /// `BadSize` is answered as soon as the 8 bytes of its header are there.
+    pub fn frame(&mut self) -> Result<Option<Frame<'_>>, BadSize>
+        ensures* stays { sem 𝓛 (Rests (the_row A.row A.Allocator) self.entry (λ i. i ≡ self.old)) }
+        ensures tells { Tells self.old result }
+    {
+        let tokens = self.tokens.len();
+        let header = match header_in_front(&self.bytes)? {
+            Some(header) => header,
+            None => return Ok(None),
+        };
+        Ok(Some(Frame {
+            header,
+            body: &self.bytes[8..header.size as usize],
+            tokens,
+        }))
+    }
+
+    /// The waiting token at this place, counted from 0.
+    pub fn token(&self, place: usize) -> Option<u32>
+        ensures { result ≡ slice_get self.now.tokens place }
+    {
+        self.tokens.get(place).copied()
+    }
+
+    /// Takes the first message out, and as many of the first tokens as the slice has places, in
+    /// order.
+    pub fn pop(&mut self, tokens: &mut [u32])
+        requires message { HasMessage (front usual_limit self.old.bytes) }
+        requires tokens { length tokens.old ≤ length self.old.tokens }
+        ensures tokens { tokens.new ≡ take (length tokens.old) self.old.tokens }
+        ensures rest { self.new ≡ without_first self.old (message_size (front usual_limit self.old.bytes)) (length tokens.old) }
+    {
+        let size = message_len(&self.bytes);
+        let count = tokens.len();
+        tokens.copy_from_slice(&self.tokens[..count]);
+        remove_first(&mut self.tokens, count);
+        remove_first(&mut self.bytes, size);
+    }
 }

@@ -7,7 +7,12 @@
 #![tactic(auto)]
 
 mod amounts;
+mod front;
+mod header;
 mod inbox;
+mod marks;
+mod outbox;
 
 pub use amounts::{Fed, Full, Piece, Sizes, Taken};
-pub use inbox::{BadSize, Frame};
+pub use inbox::{BadSize, Frame, Inbox};
+pub use outbox::Outbox;

@@ -1,12 +1,12 @@
 -- What the arguments of a message mean to the end that reads it.
-use Rattle.std.specs.Prelude.{◌≡◌, ℕ, suc, ◌+◌, Bool, true, false, List, [], ◌∷◌, drop, length, nat_eq, if◌then◌else◌, Option, Some, None, count_by}
+use Rattle.std.specs.Prelude.{ℕ, suc, Bool, true, false, List, [], ◌∷◌, drop, nat_eq, if◌then◌else◌, Option, Some, None, count_by}
 use Rattle.std.specs.declared.result.Result.{Result}
 use Rattle.std.specs.declared.result.Result.TheVariants.{Ok, Err}
 use Rattle.wl_wire.specs.declared.kind.Kind.{Kind}
 use Rattle.wl_wire.specs.declared.kind.Kind.TheVariants as kinds
 use Rattle.wl_wire.specs.declared.kind.Iface.{Iface}
 use Rattle.wl_wire.specs.declared.kind.ArgFault.{ArgFault}
-use Rattle.wl_wire.specs.Argument.{Argument, Shape, reshaped, Int, Uint, Fixed, Str, Obj, New, NewNamed, Array, Fd}
+use Rattle.wl_wire.specs.Argument.{Argument, Shape, reshaped, Obj, New, NewNamed, Fd}
 use Rattle.wl_wire.specs.Reading.{reading}
 use Rattle.wl_objects.specs.declared.object.Object.{Object}
 use Rattle.wl_objects.specs.declared.object.Entry.{Entry}

@@ -11,7 +11,7 @@ use Rattle.std.specs.declared.option.Option.TheVariants.{None, Some}
 use Rattle.wl_wire.specs.declared.kind.Iface.{Iface}
 use Rattle.wl_objects.specs.declared.object.Entry.{Entry}
 use Rattle.wl_objects.specs.declared.object.State.TheVariants.{Live}
-use Rattle.wl_objects.specs.View.{View, Sound, look, is_held, times, without, first_or, next_id, free_or_next, has_room, can_open, opening, opened_at, opened, closed, zombie, with_zombie, zombied}
+use Rattle.wl_objects.specs.View.{View, Sound, look, is_held, is_live, lives_in, times, without, first_or, next_id, free_or_next, has_room, can_open, opening, opened_at, opened, closed, zombie, with_zombie, zombied}
 use Rattle.wl_objects.specs.Views
 use Rattle.wl_objects.specs.Views.{in_row, in_list, at_null, unused}
 
@@ -131,7 +131,7 @@ Sound-opening display =
     }
 
 -- what has a row is not without rows
-held_len : (m : FinMap nat_cmp Entry) (k : ℕ) → is_some (get m k) ≡ true → 0 < len m
+pub held_len : (m : FinMap nat_cmp Entry) (k : ℕ) → is_some (get m k) ≡ true → 0 < len m
 held_len m k h = ⊎_elim
     (λ e. let w : is_some (get m k) ≡ false = ap (λ n. is_some (get n k)) (empty_of_len m e) ∙ ap is_some (get-empty nat_cmp k) in let no : true ≡ false = sym h ∙ w in cc)
     (λ ne. omega arith)
@@ -168,6 +168,14 @@ len-zombied view id = len-with_zombie view.rows id (look view id) refl
 same_birth : (b : Bool) (d : Entry) → birth_of (cond b (zombie d) d) ≡ birth_of d
 same_birth true d = refl
 same_birth false d = refl
+
+live_some : (o : Option Entry) → lives_in o ≡ true → is_some o ≡ true
+live_some None h = h
+live_some (Some e) h = refl
+
+-- what lives has a row
+pub lives_held : (view : View) (id : ℕ) → is_live view id ≡ true → is_held view id ≡ true
+lives_held view id h = live_some (look view id) h
 
 -- zombie-making keeps a view sound
 pub Sound-zombied : (view : View) (id : ℕ) → Sound view → id ≢ 1 → Sound (zombied view id)

@@ -8,10 +8,12 @@
 
 mod argument;
 mod error;
+mod map_table;
 mod object;
 mod table;
 
 pub use argument::{Arg, Got, GotRef, Named};
 pub use error::{Fault, NextError, SendError};
+pub use map_table::MapTable;
 pub use object::{Entry, Object, State, TableError};
 pub use table::Table;

@@ -1,0 +1,5 @@
+mod LineLemmas
+mod PieceLemmas
+mod Progress
+mod TextLemmas
+mod WriteLemmas

@@ -11,8 +11,10 @@
 //! ```
 #![tactic(auto)]
 
+mod line;
 mod piece;
 mod recording;
+mod write;
 
 pub use piece::{Direction, Passed};
 pub use recording::{Recording, RecordingError};

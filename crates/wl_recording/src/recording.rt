@@ -1,11 +1,16 @@
 //! Recordings.
-ghost use Rattle.std.specs.Prelude.{◌≡◌, [], map};
+ghost use Rattle.std.specs.Prelude.{◌≡◌, ℕ, ◌≤◌, List, [], ◌++◌, ◌⊎◌, map, Ok, Err, IfOk, IfErr, OnOk, OnErr};
 ghost use Rattle.std.specs.List.{All};
-ghost use Rattle.wl_recording.specs.Piece.{plain, IsTellable};
+ghost use Rattle.wl_recording.specs.declared.recording.RecordingError.TheVariants.{BadLine, Memory};
+ghost use Rattle.wl_recording.specs.Piece.{Piece, plain, passed, IsTellable};
+ghost use Rattle.wl_recording.specs.Text.{Recorded, IsFirstBad, text_of};
 
-use crate::piece::Passed;
-use std::alloc::{Allocator, Global};
+use crate::line::{MOST_TOKENS, first_line, is_skipped, read_piece};
+use crate::piece::{Direction, Passed};
+use crate::write::write_piece;
+use std::alloc::{AllocError, AllocFailed, Allocator, Global};
 use std::marker::Model;
+use wl_wire::Bytes;
 
 /// Why a text is no recording.
 #[derive(Clone, Copy, Debug, PartialEq, Eq)]
@@ -14,6 +19,22 @@ pub enum RecordingError {
     BadLine { line: usize },
     /// RP2: there is no memory for the pieces.
     Memory,
+}
+
+impl From<AllocError> for RecordingError {
+    ghost from_gives = { λ _ e. e ≡ Memory };
+
+    fn from(_e: AllocError) -> RecordingError {
+        RecordingError::Memory
+    }
+}
+
+impl<T: Drop> From<AllocFailed<T>> for RecordingError {
+    ghost from_gives = { λ _ e. e ≡ Memory };
+
+    fn from(_e: AllocFailed<T>) -> RecordingError {
+        RecordingError::Memory
+    }
 }
 
 /// What passed at one point of a connection, both directions together, in its order.
@@ -50,5 +71,97 @@ impl<A: Allocator> Recording<A> {
         ensures tellable { All IsTellable self.now }
     {
         self.pieces.as_slice()
+    }
+}
+
+impl<A: Allocator + Clone> Recording<A> {
+    /// The recording that a text tells.
+    ///
+    /// The text is lines, each ended by a line feed, which the last may lack; one carriage return
+    /// before a line feed is dropped. An empty line and a line that begins with `#` are skipped. Each
+    /// other line tells one piece, as `> 0100000001000c0002000000 +1`: `>` to the server or `<` to the
+    /// client; a space; `-` for no bytes, or two hexadecimal digits, of either case, for each byte; and
+    /// where tokens came, a space, a plus sign and their number, 1 to 65,535, in 1 to 5 decimal digits.
+    ///
+    /// `BadLine` (RP1) comes exactly where some line is none of these, with the number of the first
+    /// such line. `Memory` (RP2) may come in place of any answer.
+    pub fn parse(alloc: A, text: &[u8]) -> Result<Self, RecordingError>
+        ensures told { IfOk result (λ pieces. Recorded text.now pieces) }
+        ensures bad { IfErr result (λ e. (e ≡ Memory) ⊎ ((n : ℕ) × (e ≡ BadLine n) × IsFirstBad text.now n)) }
+
+        // and what the text tells, or where it is bad, is the answer
+        ensures only { (pieces : List Piece) → Recorded text.now pieces → (result ≡ Ok pieces) ⊎ (result ≡ Err Memory) }
+        ensures first { (n : ℕ) → IsFirstBad text.now n → (result ≡ Err (BadLine n)) ⊎ (result ≡ Err Memory) }
+    {
+        Recording::read(alloc, text)
+    }
+
+    // The recording that a text tells, or its first bad line.
+    fn read(alloc: A, text: &[u8]) -> Result<Self, RecordingError>
+        ensures told { IfOk result (λ pieces. Recorded text.now pieces) }
+        ensures bad { IfErr result (λ e. (e ≡ Memory) ⊎ ((n : ℕ) × (e ≡ BadLine n) × IsFirstBad text.now n)) }
+    {
+        let mut pieces = Vec::new(alloc.clone()?);
+        let mut rest = text;
+        let mut number = 0;
+        'lines: while !rest.is_empty() {
+            let (line, after) = first_line(rest);
+            number += 1;
+            if !is_skipped(line) {
+                let Some(piece) = read_piece(alloc.clone()?, line)? else {
+                    return Err(RecordingError::BadLine { line: number });
+                };
+                pieces.push(piece)?;
+            }
+            rest = after;
+        }
+        Ok(Recording { pieces })
+    }
+
+    /// The text of the recording: a line for each piece, ended by a line feed. Digits are of lower
+    /// case, and there are no comments.
+    pub fn to_text(&self) -> Result<Vec<u8, A>, AllocError>
+        ensures text { IfOk result (λ text. text.items ≡ text_of self.now) }
+        ensures told { IfOk result (λ text. Recorded text.items self.now) }
+    {
+        let mut text = Vec::new(self.pieces.allocator().clone()?);
+        for piece in &self.pieces {
+            write_piece(&mut text, piece)?;
+        }
+        Ok(text)
+    }
+
+    /// Adds what passed at once, at most 65,536 tokens among it.
+    ///
+    /// Nothing is added where nothing passed. One piece counts at most 65,535 tokens, so 65,536 are
+    /// added as two pieces: 65,535 tokens alone, and then the bytes with one token. Where there is no
+    /// memory for all of it, none is added.
+    pub fn add(&mut self, direction: Direction, bytes: &[u8], tokens: u32) -> Result<(), AllocError>
+        requires { tokens ≤ 65536 }
+        ensures ok { OnOk result (self.new ≡ self.old ++ passed direction bytes.now tokens) }
+        ensures err { OnErr result (self.new ≡ self.old) }
+    {
+        if bytes.is_empty() && tokens == 0 {
+            return Ok(());
+        }
+        let alloc = self.pieces.allocator();
+        let none = Bytes::from_vec(Vec::new(alloc.clone()?));
+        let bytes = Bytes::copy_of(alloc.clone()?, bytes)?;
+        self.pieces.reserve(2)?;
+        let mut tokens = tokens;
+        if tokens > MOST_TOKENS {
+            self.pieces.push_reserved(Passed {
+                direction,
+                bytes: none,
+                tokens: MOST_TOKENS,
+            });
+            tokens -= MOST_TOKENS;
+        }
+        self.pieces.push_reserved(Passed {
+            direction,
+            bytes,
+            tokens,
+        });
+        Ok(())
     }
 }

@@ -1,0 +1,60 @@
+-- What a client's binding of a global answers and writes.
+use Rattle.std.specs.Prelude.{ℕ, Bool, true, false, ◌&&◌, not, nat_eq, nat_le, nat_lt, bytes_eq, if◌then◌else◌, List, [], ◌∷◌, Option, Some, None}
+use Rattle.std.specs.declared.result.Result.{Result}
+use Rattle.std.specs.declared.result.Result.TheVariants.{Ok, Err}
+use Rattle.std.specs.FinMap.{get}
+use Rattle.wl_wire.specs.declared.kind.Iface.{Iface}
+use Rattle.wl_wire.specs.Argument.{Argument, Uint, NewNamed}
+use Rattle.wl_sigs.specs.Tables.{Interface, interface_at}
+use Rattle.wl_sigs.specs.Fixed.{registry}
+use Rattle.wl_objects.specs.declared.object.Object.{Object}
+use Rattle.wl_objects.specs.declared.object.Entry.{Entry}
+use Rattle.wl_objects.specs.declared.error.SendError.{SendError}
+use Rattle.wl_objects.specs.declared.error.SendError.TheVariants as refusals
+use Rattle.wl_objects.specs.View.{View, look, next_id, opened}
+use Rattle.wl_objects.specs.Writing.{message_len}
+use Rattle.wl_objects.specs.Messages.{Made, live_row, same_iface}
+use Rattle.wl_end.specs.Core.{Core, with_view}
+use Rattle.wl_end.specs.Sending.{fits, with_sent, opening_answer}
+use Rattle.wl_client.specs.State.{State, Global}
+
+abbrev pub version_fits : ℕ → ℕ → Option Interface → List ℕ → Bool
+version_fits version advertised None name = false
+version_fits version advertised (Some i) name = bytes_eq i.name name && (nat_le 1 version && (nat_le version advertised && nat_le version i.version))
+
+-- whether a global that is remembered is of this interface, and was advertised with at least this version, which the tables know
+abbrev pub can_bind : List Interface → List ℕ → ℕ → Option Global → Bool
+can_bind tables iface version None = false
+can_bind tables iface version (Some global) = version_fits version global.version (interface_at tables global.iface.0) iface
+
+-- the arguments of wl_registry.bind
+abbrev pub bind_values : ℕ → List ℕ → ℕ → ℕ → List Argument
+bind_values name iface version id = Uint name ∷ NewNamed iface version id ∷ []
+
+abbrev pub iface_or : Option Global → Iface
+iface_or None = registry
+iface_or (Some global) = global.iface
+
+-- the object that a bind makes, at the next id
+abbrev pub bound : State → ℕ → ℕ → Made
+bound state name version = record { id = next_id state.core.view; iface = iface_or (get state.globals name); version = version }
+
+abbrev pub bind_at : State → ℕ → List ℕ → ℕ → Option Entry → Result (Option Object) SendError
+bind_at state name iface version None = Err refusals.Stale
+bind_at state name iface version (Some entry) =
+    if not (same_iface entry.iface registry) then Err refusals.NoSuchMessage
+    else if not (can_bind state.core.tables iface version (get state.globals name)) then Err refusals.BadBind
+    else if fits state.core.outbox (message_len (bind_values name iface version 0)) 0 then opening_answer state.core (Some (bound state name version))
+    else Err refusals.Full
+
+-- The answer of `bind`, where memory is not wanted: S1, S2, S3, S7, S9, S10; else the new object.
+abbrev pub bind_answer : State → Object → ℕ → List ℕ → ℕ → Result (Option Object) SendError
+bind_answer state target name iface version =
+    if state.core.failed then Err refusals.Failed else bind_at state name iface version (live_row state.core.view target)
+
+-- The client after a bind that was answered Ok.
+abbrev pub after_bind : State → Object → ℕ → List ℕ → ℕ → State
+after_bind state target name iface version = record state {
+  core = with_view (with_sent state.core target.id 0 (bind_values name iface version (next_id state.core.view)) [])
+      (opened state.core.view (bound state name version).iface version);
+}

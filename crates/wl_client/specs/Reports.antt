@@ -1,0 +1,153 @@
+-- What a client reads, and what it makes of it.
+use Rattle.std.specs.Prelude.{ℕ, Bool, true, false, ◌&&◌, ◌||◌, not, nat_eq, nat_lt, if◌then◌else◌, List, [], ◌∷◌, Option, Some, None, is_some, unwrap_or, slice_get}
+use Rattle.std.specs.declared.result.Result.{Result}
+use Rattle.std.specs.declared.result.Result.TheVariants.{Ok, Err}
+use Rattle.std.specs.Ordering.{nat_cmp}
+use Rattle.std.specs.FinMap.{FinMap, get, insert, remove, len}
+use Rattle.wl_wire.specs.declared.kind.Iface.{Iface}
+use Rattle.wl_wire.specs.Argument.{Argument, Shape, Int, Uint, Fixed, Str, Obj, New, NewNamed, Array, Fd}
+use Rattle.wl_sigs.specs.declared.signature.Side.TheVariants.{Event as event_side}
+use Rattle.wl_sigs.specs.Tables.{Interface, place_of}
+use Rattle.wl_sigs.specs.Fixed.{registry}
+use Rattle.wl_objects.specs.declared.object.Object.{Object}
+use Rattle.wl_objects.specs.declared.object.State.{State as ObjectState}
+use Rattle.wl_objects.specs.declared.object.State.TheVariants.{Live, Zombie}
+use Rattle.wl_objects.specs.declared.argument.Named.{Named}
+use Rattle.wl_objects.specs.declared.error.Fault.{Fault}
+use Rattle.wl_objects.specs.declared.error.NextError.{NextError}
+use Rattle.wl_objects.specs.declared.error.NextError.TheVariants as errors
+use Rattle.wl_objects.specs.declared.object.Entry.{Entry}
+use Rattle.wl_objects.specs.View.{View, look, is_held}
+use Rattle.wl_objects.specs.Writing.{is_live}
+use Rattle.wl_objects.specs.Reading.{Reported, named_at}
+use Rattle.wl_objects.specs.Messages.{Received, reader_of, is_error, is_delete_id, same_iface, Client as client, after, after_delete_id}
+use Rattle.wl_end.specs.Core.{Core, with_view, with_failure}
+use Rattle.wl_end.specs.Receiving.{Found, found, reported, own_tokens, past_found}
+use Rattle.wl_client.specs.State.{State, Global, max_globals, with_core}
+
+-- What a client reports.
+pub data Report : Type 0 where
+  -- an event for a live object
+  Event : (target : Object) (opcode : ℕ) (args : List Reported) → Report
+  -- an event for a zombie, and the tokens that it had
+  Discarded : (target : Object) (opcode : ℕ) (tokens : List ℕ) → Report
+  -- delete_id of an object
+  Deleted : Object → Report
+  -- delete_id of an id that names no object, or of wl_display's
+  Stray : (id : ℕ) → Report
+  -- wl_display.error: the id that it gives, the object that the client has under it, the code and the text
+  Error : (id : ℕ) (named : Named) (code : ℕ) (text : List ℕ) → Report
+
+-- ---- the report of a message
+
+abbrev pub text_or_empty : Option (List ℕ) → List ℕ
+text_or_empty None = []
+text_or_empty (Some text) = text
+
+-- an id, a number or a text among the arguments of a message that has them there
+abbrev pub id_in : Argument → ℕ
+id_in (Obj id) = id
+id_in _ = 0
+
+abbrev pub number_in : Argument → ℕ
+number_in (Uint n) = n
+number_in _ = 0
+
+abbrev pub text_in : Argument → List ℕ
+text_in (Str text) = text_or_empty text
+text_in _ = []
+
+-- the argument at a place
+abbrev pub argument : List Argument → ℕ → Argument
+argument values place = unwrap_or (slice_get values place) (Uint 0)
+
+-- wl_display.error names its object by an id alone, which may be null or unknown
+abbrev pub error_report : Core → List Argument → Report
+error_report core values = Error (id_in (argument values 0)) (named_at (reader_of core.view) (id_in (argument values 0))) (number_in (argument values 1)) (text_in (argument values 2))
+
+-- whether delete_id of an id ends an object
+abbrev pub deletes : Core → ℕ → Bool
+deletes core id = is_held core.view id && not (nat_eq id 1)
+
+abbrev pub deleted : ℕ → Option Entry → Report
+deleted id None = Stray id
+deleted id (Some entry) = Deleted (record { id = id; birth = entry.birth })
+
+abbrev pub delete_report : Core → ℕ → Report
+delete_report core id = if nat_eq id 1 then Stray 1 else deleted id (look core.view id)
+
+abbrev pub plain_report : Core → ℕ → Received → ObjectState → Report
+plain_report core opcode message Live = Event message.target opcode (reported core message)
+plain_report core opcode message Zombie = Discarded message.target opcode (own_tokens core message)
+
+-- whether a message is wl_display.error
+abbrev pub is_error_event : Found → Bool
+is_error_event f = is_error event_side f.message.entry.iface f.opcode
+
+-- whether a message is wl_display.delete_id, and of which id
+abbrev pub is_delete_event : Found → Bool
+is_delete_event f = is_delete_id event_side f.message.entry.iface f.opcode
+
+abbrev pub deleted_id : Found → ℕ
+deleted_id f = number_in (argument f.message.values 0)
+
+-- What is reported of a message.
+abbrev pub report : Core → Found → Report
+report core f =
+    if is_error_event f then error_report core f.message.values
+    else if is_delete_event f then delete_report core (deleted_id f)
+    else plain_report core f.opcode f.message f.message.entry.state
+
+-- ---- what it leaves
+
+abbrev pub view_after : Core → Found → View
+view_after core f =
+    if is_error_event f then core.view
+    else if is_delete_event f then after_delete_id core.view (deleted_id f)
+    else after client core.view None f.message.signature.destroys f.message.target.id
+
+-- a global is remembered, in place of another of its name, where there is room
+abbrev pub remembered : FinMap nat_cmp Global → ℕ → ℕ → Option Iface → FinMap nat_cmp Global
+remembered globals name version None = remove globals name
+remembered globals name version (Some iface) =
+    if is_some (get globals name) || nat_lt (len globals) max_globals then insert globals name (record { iface = iface; version = version }) else globals
+
+-- the globals after an event of wl_registry: `global` (0) tells one, `global_remove` (1) takes it out
+abbrev pub globals_told : List Interface → FinMap nat_cmp Global → ℕ → List Argument → FinMap nat_cmp Global
+globals_told tables globals opcode values =
+    if nat_eq opcode 0 then remembered globals (number_in (argument values 0)) (number_in (argument values 2)) (place_of tables (text_in (argument values 1)))
+    else if nat_eq opcode 1 then remove globals (number_in (argument values 0))
+    else globals
+
+-- only events on a live registry teach
+abbrev pub globals_after : State → Found → FinMap nat_cmp Global
+globals_after state f =
+    if same_iface f.message.entry.iface registry && is_live f.message.entry.state
+    then globals_told state.core.tables state.globals f.opcode f.message.values
+    else state.globals
+
+abbrev pub core_after : Core → Found → Core
+core_after core f = record (with_view (past_found core f) (view_after core f)) { failed = is_error_event f }
+
+abbrev pub state_past : State → Found → State
+state_past state f = record { core = core_after state.core f; globals = globals_after state f }
+
+-- ---- reading the next message, where memory is not wanted
+
+abbrev pub answer_found : Core → Result (Option Found) Fault → Result (Option Report) NextError
+answer_found core (Err fault) = Err (errors.Fault fault core.read)
+answer_found core (Ok None) = Ok None
+answer_found core (Ok (Some f)) = Ok (Some (report core f))
+
+-- What `next` answers: what the first message is, nothing where none is whole, or why it cannot be read.
+abbrev pub next_answer : State → Result (Option Report) NextError
+next_answer state = if state.core.failed then Err errors.Failed else answer_found state.core (found state.core event_side)
+
+abbrev pub state_found : State → Result (Option Found) Fault → State
+state_found state (Err fault) = with_core state (with_failure state.core)
+state_found state (Ok None) = state
+state_found state (Ok (Some f)) = state_past state f
+
+-- What `next` leaves: a fault makes the client fail, and so does wl_display.error once it is reported.
+abbrev pub after_next : State → State
+after_next state = if state.core.failed then state else state_found state (found state.core event_side)

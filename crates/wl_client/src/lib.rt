@@ -1,0 +1,2 @@
+//! The client's end of a Wayland connection.
+#![tactic(auto)]

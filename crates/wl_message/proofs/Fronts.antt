@@ -1,0 +1,65 @@
+-- What stands in front of bytes.
+use Rattle.std.proofs.Common.{◌≡◌, ℕ, ◌+◌, ◌-◌, ◌<◌, ◌≤◌, Bool, true, false, cond, List, ◌++◌, length, take, drop, refl, sym, ap, subst, ◌∙◌, arith, ltb}
+use Rattle.std.proofs.lemmas.Bool.Decides.{nat_tests}
+use Rattle.std.proofs.Math.Seq.{take-add}
+use Rattle.wl_wire.specs.Word.{header_bytes}
+use Rattle.wl_wire.specs.declared.header.Header.{Header}
+use Rattle.wl_message.specs.Arrived.{HasParts}
+use Rattle.wl_message.specs.Cut.{front, Front, More, Bad, Whole, told_size, is_size, IsSize, HasMessage, message_size}
+
+-- the test tells the fact
+pub size_is : (limit n : ℕ) → is_size limit n ≡ true → IsSize limit n
+size_is limit n h = record { header = grind (arith, nat_tests); words = grind (arith, nat_tests); within = grind (arith, nat_tests) }
+
+pub is_size-true : (limit n : ℕ) → IsSize limit n → is_size limit n ≡ true
+is_size-true limit n h = grind (arith, nat_tests, h.header, h.words, h.within)
+
+-- the cases of what stands in front
+pub data Seen (limit : ℕ) (bytes : List ℕ) : Front → Type 0 where
+  short : length bytes < 8 → Seen limit bytes More
+  long : 8 ≤ length bytes → IsSize limit (told_size bytes) → length bytes < told_size bytes → Seen limit bytes More
+  whole : IsSize limit (told_size bytes) → told_size bytes ≤ length bytes → Seen limit bytes (Whole (told_size bytes))
+  bad : 8 ≤ length bytes → is_size limit (told_size bytes) ≡ false → Seen limit bytes (Bad (told_size bytes))
+
+seen_at : (limit : ℕ) (bytes : List ℕ) (a b c : Bool) → ltb (length bytes) 8 ≡ a → is_size limit (told_size bytes) ≡ b → ltb (length bytes) (told_size bytes) ≡ c
+    → Seen limit bytes (cond a More (cond b (cond c More (Whole (told_size bytes))) (Bad (told_size bytes))))
+seen_at limit bytes true b c p q r = short (grind (arith, nat_tests))
+seen_at limit bytes false true true p q r = long (grind (arith, nat_tests)) (size_is limit _ q) (grind (arith, nat_tests))
+seen_at limit bytes false true false p q r = whole (size_is limit _ q) (grind (arith, nat_tests))
+seen_at limit bytes false false c p q r = bad (grind (arith, nat_tests)) q
+
+pub seen : (limit : ℕ) (bytes : List ℕ) → Seen limit bytes (front limit bytes)
+unfolding front
+seen limit bytes = seen_at limit bytes _ _ _ refl refl refl
+
+-- a whole message in front: its size is told, a message may have it, and so many bytes are there
+pub record Stands (limit : ℕ) (bytes : List ℕ) (n : ℕ) : Type 0 where
+  pub told : n ≡ told_size bytes
+  pub size : IsSize limit n
+  pub there : n ≤ length bytes
+
+stands_at : (limit : ℕ) (bytes : List ℕ) (n : ℕ) (f : Front) → Seen limit bytes f → f ≡ Whole n → Stands limit bytes n
+stands_at limit bytes n f (short p) e = absurd (cc e)
+stands_at limit bytes n f (long p q r) e = absurd (cc e)
+stands_at limit bytes n f (bad p q) e = absurd (cc e)
+stands_at limit bytes n f (whole q r) e =
+    let is : told_size bytes ≡ n = cc e in
+    record { told = sym is; size = subst (IsSize limit) is q; there = subst (λ (k : ℕ). k ≤ length bytes) is r }
+
+pub front_stands : (limit : ℕ) (bytes : List ℕ) (n : ℕ) → front limit bytes ≡ Whole n → Stands limit bytes n
+front_stands limit bytes n h = stands_at limit bytes n (front limit bytes) (seen limit bytes) h
+
+-- a message in front has its size
+has_at : (f : Front) → HasMessage f → f ≡ Whole (message_size f)
+has_at More h = absurd h
+has_at (Bad n) h = absurd h
+has_at (Whole n) h = refl
+
+pub has_message : (limit : ℕ) (bytes : List ℕ) → HasMessage (front limit bytes) → Stands limit bytes (message_size (front limit bytes))
+has_message limit bytes h = front_stands limit bytes _ (has_at (front limit bytes) h)
+
+-- the front of bytes is its header and what stands behind that
+pub parts_of : (bytes : List ℕ) (h : Header) → 8 ≤ h.size → h.size ≤ length bytes → take 8 bytes ≡ header_bytes h → HasParts bytes h
+parts_of bytes h low there e =
+    let n : 8 + (h.size - 8) ≡ h.size = omega arith in
+    record { header = low; there = there; parts = ap (λ (k : ℕ). take k bytes) (sym n) ∙ take-add 8 (h.size - 8) bytes ∙ ap (λ (l : List ℕ). l ++ take (h.size - 8) (drop 8 bytes)) e }

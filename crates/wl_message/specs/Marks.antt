@@ -1,0 +1,70 @@
+-- How an outbox keeps its messages: their bytes and tokens one after another, and marks that part them.
+use Rattle.std.specs.Prelude.{◌≡◌, ℕ, ◌+◌, ◌-◌, ◌≤◌, Bool, false, nat_lt, ◌==◌, if◌then◌else◌, List, [], ◌∷◌, ◌++◌, length, take, drop}
+use Rattle.std.specs.List.{AllByRecursion}
+use Rattle.wl_message.specs.declared.marks.Mark.{Mark}
+use Rattle.wl_message.specs.declared.marks.Reach.{Reach}
+use Rattle.wl_message.specs.Outgoing.{Message, message, Outgoing, all_bytes, all_tokens, newly_begun, going_bytes}
+
+-- bytes and tokens, parted into the messages that the marks tell
+abbrev pub parted : List Mark → List ℕ → List ℕ → List Message
+parted [] bytes tokens = []
+parted (k ∷ ks) bytes tokens = message (take k.len bytes) (take k.tokens tokens) ∷ parted ks (drop k.len bytes) (drop k.tokens tokens)
+
+abbrev pub lens : List Mark → ℕ
+lens [] = 0
+lens (k ∷ ks) = k.len + lens ks
+
+abbrev pub token_counts : List Mark → ℕ
+token_counts [] = 0
+token_counts (k ∷ ks) = k.tokens + token_counts ks
+
+-- an outbox's lists and numbers
+pub record Kept : Type 0 where
+  pub bytes : List ℕ
+  pub tokens : List ℕ
+  pub marks : List Mark
+  pub left : ℕ
+  pub capacity : ℕ
+  pub token_capacity : ℕ
+  pub has_error : Bool
+  pub error_from : ℕ
+  pub error_to : ℕ
+
+abbrev pub outgoing : Kept → Outgoing
+outgoing h = record {
+  left = take h.left h.bytes;
+  messages = parted h.marks (drop h.left h.bytes) h.tokens;
+  capacity = h.capacity;
+  token_capacity = h.token_capacity;
+  has_error = h.has_error;
+  error_from = h.error_from;
+  error_to = h.error_to;
+}
+
+-- the marks tell of all bytes and tokens, the error event is among the bytes, and all others are within the capacity
+pub record IsKept (h : Kept) : Type 0 where
+  pub bytes : h.left + lens h.marks ≡ length h.bytes
+  pub tokens : token_counts h.marks ≡ length h.tokens
+  pub each : AllByRecursion (λ k. 8 ≤ k.len) h.marks
+  pub room : length h.bytes + h.error_from ≤ h.capacity + h.error_to
+  pub token_room : length h.tokens ≤ h.token_capacity
+  pub error_order : h.error_from ≤ h.error_to
+  pub error_there : h.error_to ≤ length h.bytes
+  pub error_len : h.error_to ≤ h.error_from + 64
+  pub no_error : h.has_error ≡ false → h.error_to ≤ h.error_from
+
+-- How far messages go into a room for b bytes and t tokens, after n others that began: what is left of the room, how many began,
+-- and how many bytes are left of the last.
+abbrev pub reach : ℕ → ℕ → ℕ → List Mark → Reach
+reach b t n [] = record { bytes = b; tokens = t; begun = n; left = 0 }
+reach b t n (k ∷ ks) =
+    if b == 0 then record { bytes = b; tokens = t; begun = n; left = 0 } else
+    (if nat_lt t k.tokens then record { bytes = b; tokens = t; begun = n; left = 0 } else
+    (if nat_lt b k.len then record { bytes = 0; tokens = t - k.tokens; begun = n + 1; left = k.len - b } else reach (b - k.len) (t - k.tokens) (n + 1) ks))
+
+-- what goes into a room for b bytes and t tokens, told by what is left of it
+pub record Reaches (o : Outgoing) (b t : ℕ) (r : Reach) : Type 0 where
+  pub bytes : r.bytes + going_bytes o b t ≡ b
+  pub tokens : r.tokens + length (all_tokens (newly_begun o (going_bytes o b t))) ≡ t
+  pub begun : r.begun ≡ length (newly_begun o (going_bytes o b t))
+  pub left : r.left + going_bytes o b t ≡ length (o.left ++ all_bytes (newly_begun o (going_bytes o b t)))

@@ -1,0 +1,31 @@
+//! The front of vectors and slices.
+ghost use Rattle.std.specs.Prelude.{◌≡◌, ◌≤◌, ◌+◌, ◌++◌, length, take, drop, vec_capacity, vec_len};
+
+use std::alloc::Allocator;
+
+/// Takes the first n items out.
+pub(crate) fn remove_first<T: Copy + Drop, A: Allocator>(items: &mut Vec<T, A>, n: usize)
+    requires { n ≤ vec_len items.old }
+    ensures items { items.new.items ≡ drop n items.old.items }
+    ensures capacity { vec_capacity items.new ≡ vec_capacity items.old }
+{
+    drop(items.drain(..n));
+}
+
+/// Appends items for which there is room.
+pub(crate) fn append<T: Copy + Drop, A: Allocator>(items: &mut Vec<T, A>, more: &[T])
+    requires { vec_len items.old + length more.now ≤ vec_capacity items.old }
+    ensures items { items.new.items ≡ items.old.items ++ more.now }
+    ensures capacity { vec_capacity items.old ≤ vec_capacity items.new }
+{
+    let _ = items.extend_from_slice(more);
+}
+
+/// Copies the first n items.
+pub(crate) fn copy_first<T: Copy + Drop>(from: &[T], to: &mut [T], n: usize)
+    requires from { n ≤ length from.now }
+    requires to { n ≤ length to.old }
+    ensures { to.new ≡ take n from.now ++ drop n to.old }
+{
+    to[..n].copy_from_slice(&from[..n]);
+}

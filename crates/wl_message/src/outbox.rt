@@ -1,0 +1,223 @@
+//! Messages that wait to go out.
+ghost use Rattle.std.specs.Prelude.{◌≡◌, ◌≤◌, ◌<◌, ◌+◌, ◌↔◌, ◌⊎◌, ◌++◌, false, [], length, take, drop, IfOk, OnOk, OnErr, IsErr, IsTrue};
+ghost use Rattle.wl_message.specs.Cut.{usual_limit, IsMessage};
+ghost use Rattle.wl_message.specs.Outgoing.{no_messages, waiting_bytes, waiting_tokens, ordinary_len, room_of, token_room_of, with_message, with_error, Goes, goes, after_taking};
+ghost use Rattle.wl_message.specs.Marks.{Reaches};
+
+use crate::amounts::{Full, Taken};
+use crate::front::{append, copy_first, remove_first};
+use crate::marks::{Mark, Reach, reach_into};
+use std::alloc::{AllocError, Allocator, Global};
+use std::marker::Model;
+
+/// How many bytes are kept for the error event.
+const ERROR_LEN: usize = 64;
+
+/// The fewest bytes of a message: its header.
+const HEADER_LEN: usize = 8;
+
+/// Messages that wait to go out, with their tokens.
+///
+/// All memory is taken by `new`.
+#[derive(Drop)]
+pub struct Outbox<A: Allocator = Global> {
+    bytes: Vec<u8, A>,
+    tokens: Vec<u32, A>,
+    // The messages that are not begun.
+    marks: Vec<Mark, A>,
+    // How many bytes are left of the message that was begun last.
+    left: usize,
+    // How many bytes and tokens of ordinary messages may wait.
+    capacity: usize,
+    token_capacity: usize,
+    // Whether the error event was added, and where among the bytes it stands.
+    has_error: bool,
+    error_from: usize,
+    error_to: usize,
+}
+
+impl<A: Allocator> Model for Outbox<A> {
+    ghost use Rattle.std.specs.Prelude.{◌≤◌, ◌+◌, ◌*◌, vec_capacity};
+    ghost use Rattle.wl_message.specs.Outgoing.{Outgoing};
+
+    ghost Value = { Outgoing };
+
+    ghost use Rattle.wl_message.specs.Marks.{Kept, outgoing, IsKept};
+
+    ghost view = { λ o. outgoing (record {
+      bytes = o.bytes.items;
+      tokens = o.tokens.items;
+      marks = o.marks.items;
+      left = o.left;
+      capacity = o.capacity;
+      token_capacity = o.token_capacity;
+      has_error = o.has_error;
+      error_from = o.error_from;
+      error_to = o.error_to;
+    }) };
+
+    ghost invariant = { λ o. record {
+      kept : IsKept (record {
+        bytes = o.bytes.items;
+        tokens = o.tokens.items;
+        marks = o.marks.items;
+        left = o.left;
+        capacity = o.capacity;
+        token_capacity = o.token_capacity;
+        has_error = o.has_error;
+        error_from = o.error_from;
+        error_to = o.error_to;
+      });
+      reserved : o.capacity + 64 ≤ vec_capacity o.bytes;
+      tokens_reserved : o.token_capacity ≤ vec_capacity o.tokens;
+      marks_reserved : o.capacity + 64 ≤ 8 * vec_capacity o.marks;
+    } };
+}
+
+impl<A: Allocator + Clone + Drop> Outbox<A> {
+    /// An outbox with room for so many bytes and tokens, and for an error event beyond these. Nothing
+    /// waits in it.
+    pub fn new(alloc: A, bytes: usize, tokens: usize) -> Result<Outbox<A>, AllocError>
+        requires bytes { bytes ≤ 16777216 }
+        requires tokens { tokens ≤ 65536 }
+        ensures { IfOk result (λ o. o ≡ no_messages bytes tokens) }
+    {
+        let len = bytes + ERROR_LEN;
+        Ok(Outbox {
+            bytes: Vec::with_capacity(alloc.clone()?, len)?,
+            marks: Vec::with_capacity(alloc.clone()?, len.div_ceil(HEADER_LEN))?,
+            tokens: Vec::with_capacity(alloc, tokens)?,
+            left: 0,
+            capacity: bytes,
+            token_capacity: tokens,
+            has_error: false,
+            error_from: 0,
+            error_to: 0,
+        })
+    }
+}
+
+impl<A: Allocator> Outbox<A> {
+    /// How many bytes are free for ordinary messages. The bytes kept for an error event and those of
+    /// the event itself are not counted.
+    pub fn room(&self) -> usize
+        ensures room { result ≡ room_of self.now }
+        ensures within { result + ordinary_len self.now ≡ self.now.capacity }
+    {
+        let error = self.error_to - self.error_from;
+        self.capacity - (self.bytes.len() - error)
+    }
+
+    /// How many tokens are free. Those of a message that was begun are gone.
+    pub fn token_room(&self) -> usize
+        ensures room { result ≡ token_room_of self.now }
+        ensures within { result + length (waiting_tokens self.now) ≡ self.now.token_capacity }
+    {
+        self.token_capacity - self.tokens.len()
+    }
+
+    /// Whether no byte and no token waits.
+    pub fn is_empty(&self) -> bool
+        ensures waits { IsTrue result ↔ ((waiting_bytes self.now ≡ []) × (waiting_tokens self.now ≡ [])) }
+        ensures messages { IsTrue result ↔ ((self.now.left ≡ []) × (self.now.messages ≡ [])) }
+    {
+        self.bytes.is_empty()
+    }
+
+    /// Adds a whole message and its tokens at the end, or is `Full` where the bytes or the tokens do
+    /// not fit.
+    pub fn push(&mut self, message: &[u8], tokens: &[u32]) -> Result<(), Full>
+        requires { IsMessage usual_limit message.now }
+        ensures ok { OnOk result (self.new ≡ with_message self.old message.now tokens.now) }
+        ensures err { OnErr result (self.new ≡ self.old) }
+        ensures full { IsErr result ↔ ((room_of self.old < length message.now) ⊎ (token_room_of self.old < length tokens.now)) }
+    {
+        if self.room() < message.len() || self.token_room() < tokens.len() {
+            return Err(Full);
+        }
+        self.marks.push_reserved(Mark {
+            len: message.len(),
+            tokens: tokens.len(),
+        });
+        append(&mut self.bytes, message);
+        append(&mut self.tokens, tokens);
+        Ok(())
+    }
+
+    /// Adds the error event, a whole message of at most 64 bytes without tokens, at the end. It
+    /// always fits. It is added once at most.
+    pub fn push_error(&mut self, message: &[u8])
+        requires short { length message.now ≤ 64 }
+        requires whole { IsMessage usual_limit message.now }
+        requires first { self.old.has_error ≡ false }
+        ensures { self.new ≡ with_error self.old message.now }
+    {
+        self.has_error = true;
+        self.error_from = self.bytes.len();
+        self.error_to = self.error_from + message.len();
+        self.marks.push_reserved(Mark {
+            len: message.len(),
+            tokens: 0,
+        });
+        append(&mut self.bytes, message);
+    }
+
+    /// How far the messages go into a room.
+    fn reach(&self, bytes: usize, tokens: usize) -> Reach
+        ensures { Reaches self.now bytes tokens result }
+    {
+        let first = bytes.min(self.left);
+        let Reach {
+            bytes,
+            tokens,
+            begun,
+            left,
+        } = reach_into(&self.marks, bytes - first, tokens);
+        Reach {
+            bytes,
+            tokens,
+            begun,
+            left: self.left - first + left,
+        }
+    }
+
+    /// How much `take` takes into slices of these lengths.
+    pub fn goes(&self, bytes: usize, tokens: usize) -> Taken
+        ensures longest { Goes self.now bytes tokens result }
+        ensures computed { result ≡ goes self.now bytes tokens }
+    {
+        let reach = self.reach(bytes, tokens);
+        Taken {
+            bytes: bytes - reach.bytes,
+            tokens: tokens - reach.tokens,
+        }
+    }
+
+    /// Takes bytes and tokens out, from the front of the messages on, into the fronts of these
+    /// slices, and answers how many of each.
+    ///
+    /// The tokens of a message go out with its first byte. It stops where the byte slice is full, or
+    /// before a message not yet begun whose tokens do not all fit in the rest of the token slice.
+    pub fn take(&mut self, bytes: &mut [u8], tokens: &mut [u32]) -> Taken
+        ensures longest { Goes self.old (length bytes.old) (length tokens.old) result }
+        ensures computed { result ≡ goes self.old (length bytes.old) (length tokens.old) }
+        ensures bytes { bytes.new ≡ take result.bytes (waiting_bytes self.old) ++ drop result.bytes bytes.old }
+        ensures tokens { tokens.new ≡ take result.tokens (waiting_tokens self.old) ++ drop result.tokens tokens.old }
+        ensures rest { self.new ≡ after_taking self.old result.bytes }
+    {
+        let reach = self.reach(bytes.len(), tokens.len());
+        let taken = Taken {
+            bytes: bytes.len() - reach.bytes,
+            tokens: tokens.len() - reach.tokens,
+        };
+        copy_first(&self.bytes, bytes, taken.bytes);
+        copy_first(&self.tokens, tokens, taken.tokens);
+        remove_first(&mut self.bytes, taken.bytes);
+        remove_first(&mut self.tokens, taken.tokens);
+        remove_first(&mut self.marks, reach.begun);
+        self.left = reach.left;
+        self.error_from = self.error_from.saturating_sub(taken.bytes);
+        self.error_to = self.error_to.saturating_sub(taken.bytes);
+        taken
+    }
+}

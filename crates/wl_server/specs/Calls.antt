@@ -1,0 +1,92 @@
+-- What a server's other calls answer and write.
+use Rattle.std.specs.Prelude.{ℕ, ◌+◌, ◌-◌, Bool, true, false, ◌&&◌, ◌||◌, not, nat_eq, nat_lt, nat_le, if◌then◌else◌, List, [], ◌∷◌, ◌++◌, length, slice_set, Option, Some, None}
+use Rattle.std.specs.List.{list_any}
+use Rattle.std.specs.declared.result.Result.{Result}
+use Rattle.std.specs.declared.result.Result.TheVariants.{Ok, Err}
+use Rattle.wl_wire.specs.declared.kind.Iface.{Iface}
+use Rattle.wl_sigs.specs.Tables.{Interface, interface_at, has_destroying_event}
+use Rattle.wl_sigs.specs.Fixed.{display, registry}
+use Rattle.wl_objects.specs.declared.object.Object.{Object}
+use Rattle.wl_objects.specs.declared.object.Entry.{Entry}
+use Rattle.wl_objects.specs.declared.error.SendError.{SendError}
+use Rattle.wl_objects.specs.declared.error.SendError.TheVariants as refusals
+use Rattle.wl_objects.specs.View.{closed}
+use Rattle.wl_objects.specs.Messages.{live_row, same_iface}
+use Rattle.wl_end.specs.Core.{Core, with_view}
+use Rattle.wl_end.specs.Sending.{fits, with_delete_id, delete_id_len, with_error_event}
+use Rattle.wl_server.specs.State.{State, Global, global_of, max_globals, with_core}
+
+-- ---- ending an object without an event
+
+abbrev pub ends_by_event : Option Interface → Bool
+ends_by_event None = false
+ends_by_event (Some i) = has_destroying_event i
+
+-- a refusal, or none
+abbrev pub drop_at : Core → Option Entry → Option SendError
+drop_at core None = Some refusals.Stale
+drop_at core (Some entry) =
+    if not (ends_by_event (interface_at core.tables entry.iface.0)) then Some refusals.NotDroppable
+    else if fits core.outbox delete_id_len 0 then None else Some refusals.Full
+
+-- Why `drop_object` is refused: S1, S2, S12, S9.
+abbrev pub drop_refusal : Core → Object → Option SendError
+drop_refusal core object = if core.failed then Some refusals.Failed else drop_at core (live_row core.view object)
+
+-- The end after an object was dropped: delete_id is written, and the object is closed.
+abbrev pub after_drop : Core → Object → Core
+after_drop core object = with_view (with_delete_id core object.id) (closed core.view object.id)
+
+-- ---- an error by the compositor
+
+-- the most bytes that the text of an error has
+abbrev pub max_error_text : ℕ
+max_error_text = 40
+
+abbrev pub is_error_text : List ℕ → Bool
+is_error_text text = nat_le (length text) max_error_text && not (list_any (λ b. nat_eq b 0) text)
+
+abbrev pub error_at : List ℕ → Option Entry → Option SendError
+error_at text None = Some refusals.Stale
+error_at text (Some entry) = if is_error_text text then None else Some (refusals.WrongArgs 2)
+
+-- Why `post_error` is refused: S1, S2, S5(2).
+abbrev pub error_refusal : Core → Object → List ℕ → Option SendError
+error_refusal core object text = if core.failed then Some refusals.Failed else error_at text (live_row core.view object)
+
+-- The end after an error was posted: the event stands last, and the end has failed.
+abbrev pub after_error : Core → Object → ℕ → List ℕ → Core
+after_error core object code text = with_error_event core object.id code text
+
+-- ---- globals
+
+abbrev pub version_in : ℕ → Option Interface → Bool
+version_in version None = false
+version_in version (Some i) = nat_le 1 version && nat_le version i.version
+
+-- what can be advertised: any interface of the tables other than wl_display and wl_registry, at one of its versions
+abbrev pub can_be_global : List Interface → Iface → ℕ → Bool
+can_be_global tables iface version = not (same_iface iface display || same_iface iface registry) && version_in version (interface_at tables iface.0)
+
+-- the server with one global more, of the next name
+abbrev pub with_global : State → Iface → ℕ → State
+with_global state iface version = record state { globals = state.globals ++ record { iface = iface; version = version; present = true } ∷ [] }
+
+abbrev pub next_name : State → ℕ
+next_name state = length state.globals + 1
+
+-- whether a name was given and is not withdrawn
+abbrev pub is_present : Option Global → Bool
+is_present None = false
+is_present (Some global) = global.present
+
+abbrev pub withdrawn : Global → Global
+withdrawn global = record global { present = false }
+
+abbrev pub without_at : List Global → ℕ → Option Global → List Global
+without_at globals name None = globals
+without_at globals name (Some global) = slice_set globals (name - 1) (withdrawn global)
+
+-- the server with a name withdrawn
+abbrev pub after_withdraw : State → ℕ → State
+after_withdraw state name = record state { globals = without_at state.globals name (global_of state.globals name) }

@@ -1,0 +1,5 @@
+pub mod State
+pub mod Requests
+pub mod Calls
+pub mod Announcing
+pub mod Streams

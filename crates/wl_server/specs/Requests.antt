@@ -1,0 +1,138 @@
+-- What a server reads, and what it makes of it.
+use Rattle.std.specs.Prelude.{ℕ, Bool, true, false, ◌&&◌, ◌||◌, not, nat_eq, nat_lt, nat_le, bytes_eq, if◌then◌else◌, List, [], ◌∷◌, ◌++◌, codes, Option, Some, None, unwrap_or, slice_get}
+use Rattle.std.specs.declared.result.Result.{Result}
+use Rattle.std.specs.declared.result.Result.TheVariants.{Ok, Err}
+use Rattle.wl_wire.specs.declared.kind.Iface.{Iface}
+use Rattle.wl_wire.specs.Argument.{Argument, Shape, Int, Uint, Fixed, Str, Obj, New, NewNamed, Array, Fd}
+use Rattle.wl_sigs.specs.declared.signature.Side.TheVariants.{Request as request_side}
+use Rattle.wl_sigs.specs.Tables.{Interface, interface_at, destroys_target}
+use Rattle.wl_sigs.specs.Fixed.{registry}
+use Rattle.wl_message.specs.Outgoing.{room_of}
+use Rattle.wl_objects.specs.declared.object.Object.{Object}
+use Rattle.wl_objects.specs.declared.error.Fault.{Fault}
+use Rattle.wl_objects.specs.declared.error.Fault.TheVariants as faults
+use Rattle.wl_objects.specs.declared.error.NextError.{NextError}
+use Rattle.wl_objects.specs.declared.error.NextError.TheVariants as errors
+use Rattle.wl_objects.specs.View.{View}
+use Rattle.wl_objects.specs.Reading.{Reported}
+use Rattle.wl_objects.specs.Messages.{Received, Made, made, is_bind, same_iface, Server as server, after}
+use Rattle.wl_end.specs.Core.{Core, with_view}
+use Rattle.wl_end.specs.Receiving.{Found, found, reported, past_found}
+use Rattle.wl_end.specs.Sending.{with_following, with_error_event, delete_id_len}
+use Rattle.wl_server.specs.State.{State, Global, Registry, global_of, untold, with_core}
+
+-- What a server reports.
+pub record Report : Type 0 where
+  pub target : Object
+  pub opcode : ℕ
+  pub args : List Reported
+
+-- ---- the bind rule
+
+abbrev pub name_fits : List ℕ → Option Interface → Bool
+name_fits name None = false
+name_fits name (Some i) = bytes_eq i.name name
+
+-- whether a bind names a global that was ever advertised, withdrawn or not, by its interface and a version from 1 to the advertised one
+abbrev pub bind_fits : List Interface → List ℕ → ℕ → Option Global → Bool
+bind_fits tables iface version None = false
+bind_fits tables iface version (Some global) =
+    name_fits iface (interface_at tables global.iface.0) && (nat_le 1 version && nat_le version global.version)
+
+abbrev pub is_good_bind : State → List Argument → Bool
+is_good_bind state (Uint name ∷ NewNamed iface version id ∷ []) = bind_fits state.core.tables iface version (global_of state.globals name)
+is_good_bind state _ = false
+
+-- F9 comes after all other faults
+abbrev pub judged : State → Result (Option Found) Fault → Result (Option Found) Fault
+judged state (Ok (Some f)) =
+    if is_bind request_side f.message.entry.iface f.opcode && not (is_good_bind state f.message.values) then Err faults.BadBind else Ok (Some f)
+judged state other = other
+
+-- What stands in front of a server's waiting bytes.
+abbrev pub request : State → Result (Option Found) Fault
+request state = judged state (found state.core request_side)
+
+-- ---- the event of a fault
+
+abbrev pub fault_code : Fault → ℕ
+fault_code faults.UnknownObject = 0
+fault_code faults.BadBind = 0
+fault_code faults.TooManyObjects = 2
+fault_code _ = 1
+
+abbrev pub fault_message : Fault → List ℕ
+fault_message faults.BadSize = codes "bad message size"
+fault_message faults.UnknownObject = codes "unknown object"
+fault_message faults.UnknownMessage = codes "unknown request"
+fault_message (faults.BadArgument place fault) = codes "malformed request"
+fault_message (faults.BadObject place) = codes "bad object argument"
+fault_message (faults.BadNewId place) = codes "bad new id"
+fault_message faults.TrailingBytes = codes "malformed request"
+fault_message faults.MissingDescriptor = codes "missing descriptor"
+fault_message faults.BadBind = codes "bad bind"
+fault_message faults.TooManyObjects = codes "too many objects"
+
+-- the server after a fault: the error event for object 1 comes after all else
+abbrev pub after_fault : State → Fault → State
+after_fault state fault = with_core state (with_error_event state.core 1 (fault_code fault) (fault_message fault))
+
+-- ---- what a request leaves
+
+-- the object that a request makes
+abbrev pub made_in : Core → Received → Option Made
+made_in core message = made core.tables message.entry.version message.signature.kinds message.values
+
+abbrev pub destroys_it : Received → Bool
+destroys_it message = destroys_target message.signature.destroys
+
+-- the end after a request: the message is taken, its objects are opened and closed, and delete_id follows a destroying one
+abbrev pub core_after : Core → Found → Core
+core_after core f =
+    with_following (destroys_it f.message) f.message.target.id
+    (with_view (past_found core f) (after server core.view (made_in core f.message) f.message.signature.destroys f.message.target.id))
+
+-- a new registry was told nothing yet
+abbrev pub registries_after : Core → List Registry → Option Made → List Registry
+registries_after core registries None = registries
+registries_after core registries (Some m) =
+    if same_iface m.iface registry then registries ++ untold (record { id = m.id; birth = core.view.births }) ∷ [] else registries
+
+-- a registry that ends is owed nothing any more
+abbrev pub without_registry : Bool → ℕ → List Registry → List Registry
+without_registry false birth registries = registries
+without_registry true birth [] = []
+without_registry true birth (r ∷ registries) = if nat_eq r.object.birth birth then without_registry true birth registries else r ∷ without_registry true birth registries
+
+abbrev pub state_past : State → Found → State
+state_past state f = record state {
+  core = core_after state.core f;
+  registries = without_registry (destroys_it f.message) f.message.target.birth (registries_after state.core state.registries (made_in state.core f.message));
+}
+
+-- ---- reading the next message, where memory is not wanted
+
+abbrev pub report : Core → Found → Report
+report core f = record { target = f.message.target; opcode = f.opcode; args = reported core f.message }
+
+-- a destroying request needs room for its delete_id
+abbrev pub is_out_full : Core → Found → Bool
+is_out_full core f = destroys_it f.message && nat_lt (room_of core.outbox) delete_id_len
+
+abbrev pub answer_found : Core → Result (Option Found) Fault → Result (Option Report) NextError
+answer_found core (Err fault) = Err (errors.Fault fault core.read)
+answer_found core (Ok None) = Ok None
+answer_found core (Ok (Some f)) = if is_out_full core f then Err errors.OutFull else Ok (Some (report core f))
+
+-- What `next` answers: what the first message is, nothing where none is whole, or why it cannot be read.
+abbrev pub next_answer : State → Result (Option Report) NextError
+next_answer state = if state.core.failed then Err errors.Failed else answer_found state.core (request state)
+
+abbrev pub state_found : State → Result (Option Found) Fault → State
+state_found state (Err fault) = after_fault state fault
+state_found state (Ok None) = state
+state_found state (Ok (Some f)) = if is_out_full state.core f then state else state_past state f
+
+-- What `next` leaves.
+abbrev pub after_next : State → State
+after_next state = if state.core.failed then state else state_found state (request state)

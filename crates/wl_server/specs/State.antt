@@ -1,0 +1,52 @@
+-- What a server is: an end, the globals that it has given, and what each open registry was told.
+use Rattle.std.specs.Prelude.{ℕ, zero, suc, ◌-◌, Bool, true, false, not, ◌&&◌, nat_lt, List, [], slice_get, slice_set, unwrap_or, replicate, Option, Some, None}
+use Rattle.wl_wire.specs.declared.kind.Iface.{Iface}
+use Rattle.wl_sigs.specs.Tables.{Interface}
+use Rattle.wl_message.specs.declared.amounts.Sizes.{Sizes}
+use Rattle.wl_objects.specs.declared.object.Object.{Object}
+use Rattle.wl_end.specs.Core.{Core, new_core}
+
+-- a global: what is advertised, and whether it is still there or was withdrawn
+pub record Global : Type 0 where
+  pub iface : Iface
+  pub version : ℕ
+  pub present : Bool
+
+-- an open registry, with a mark for each name that it was told, and for each that it was told to be removed
+pub record Registry : Type 0 where
+  pub object : Object
+  pub told : List Bool
+  pub removed : List Bool
+
+-- The globals in the order of their names, which are 1, 2, 3, ..; the open registries in the order of their births.
+pub record State : Type 0 where
+  pub core : Core
+  pub globals : List Global
+  pub registries : List Registry
+
+-- the most globals that a server gives in its life
+abbrev pub max_globals : ℕ
+max_globals = 1024
+
+abbrev pub new_state : List Interface → Sizes → State
+new_state tables sizes = record { core = new_core tables sizes; globals = []; registries = [] }
+
+abbrev pub with_core : State → Core → State
+with_core state core = record state { core = core }
+
+-- the global of a name, whether present or withdrawn
+abbrev pub global_of : List Global → ℕ → Option Global
+global_of globals zero = None
+global_of globals (suc place) = slice_get globals place
+
+-- the mark of a name
+abbrev pub mark_of : List Bool → ℕ → Bool
+mark_of marks name = unwrap_or (slice_get marks (name - 1)) false
+
+-- the marks with that of a name set
+abbrev pub with_mark : List Bool → ℕ → List Bool
+with_mark marks name = slice_set marks (name - 1) true
+
+-- a registry that was told nothing yet
+abbrev pub untold : Object → Registry
+untold object = record { object = object; told = replicate max_globals false; removed = replicate max_globals false }

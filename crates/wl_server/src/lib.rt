@@ -1,0 +1,2 @@
+//! The server's end of a Wayland connection: what a compositor keeps for one client.
+#![tactic(auto)]
