@@ -107,23 +107,23 @@ split_same a b x y len e =
 
 -- two cuts of a stream are one
 pub record SameCut (messages others : List (List ℕ)) (rest other : List ℕ) : Type 0 where
-  pub messages : messages ≡ others
-  pub rest : rest ≡ other
+  pub messages_same : messages ≡ others
+  pub rest_same : rest ≡ other
 
 whole_size : {m n : ℕ} → Whole m ≡ Whole n → m ≡ n
 whole_size h = cc
 
 pub one_cut : {limit : ℕ} (s t : List ℕ) (messages others : List (List ℕ)) (rest other : List ℕ) → s ≡ t → IsCut limit s messages rest → IsCut limit t others other → SameCut messages others rest other
-one_cut s t [] [] rest other e a b = record { messages = refl; rest = sym a.joined ∙ e ∙ b.joined }
+one_cut s t [] [] rest other e a b = record { messages_same = refl; rest_same = sym a.joined ∙ e ∙ b.joined }
 one_cut {limit} s t [] (m ∷ others) rest other e a b =
     absurd (a.last (length m) (ap (front limit) (sym a.joined ∙ e ∙ b.joined ∙ append_assoc m (concat others) other) ∙ front-message limit m (concat others ++ other) b.whole.0))
 one_cut {limit} s t (m ∷ messages) [] rest other e a b =
     absurd (b.last (length m) (ap (front limit) (sym b.joined ∙ sym e ∙ a.joined ∙ append_assoc m (concat messages) rest) ∙ front-message limit m (concat messages ++ rest) a.whole.0))
 one_cut {limit} s t (m ∷ messages) (n ∷ others) rest other e a b =
     let joined : m ++ (concat messages ++ rest) ≡ n ++ (concat others ++ other) =
-        sym (append_assoc m (concat messages) rest) ∙ sym a.joined ∙ e ∙ b.joined ∙ append_assoc n (concat others) other in
+    sym (append_assoc m (concat messages) rest) ∙ sym a.joined ∙ e ∙ b.joined ∙ append_assoc n (concat others) other in
     let len : length m ≡ length n = whole_size (sym (front-message limit m (concat messages ++ rest) a.whole.0) ∙ ap (front limit) joined ∙ front-message limit n (concat others ++ other) b.whole.0) in
     let parts = split_same m n (concat messages ++ rest) (concat others ++ other) len joined in
     let more = one_cut (concat messages ++ rest) (concat others ++ other) messages others rest other parts.1
-        (record { joined = refl; whole = a.whole.1; last = a.last }) (record { joined = refl; whole = b.whole.1; last = b.last }) in
-    record { messages = ap (λ x. x ∷ messages) parts.0 ∙ ap (λ xs. n ∷ xs) more.messages; rest = more.rest }
+    (record { joined = refl; whole = a.whole.1; last = a.last }) (record { joined = refl; whole = b.whole.1; last = b.last }) in
+    record { messages_same = ap (λ x. x ∷ messages) parts.0 ∙ ap (λ xs. n ∷ xs) more.messages_same; rest_same = more.rest_same }

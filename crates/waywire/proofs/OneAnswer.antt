@@ -25,8 +25,8 @@ not_outside (m ∷ after) rest text (more {request = r} is first e) fine begins 
 pub lines_or_outside : {s text : List ℕ} {offset : ℕ} → AreLines s text → IsOutside s offset → ⊥
 lines_or_outside {s} {text} l o =
     let same = one_cut s s l.messages (o.before ++ o.after) l.rest o.rest refl l.cut o.cut in
-    let follows = first_after o.before o.after text (subst (λ ms. AreFirst ms text) same.messages l.first) in
-    not_outside o.after o.rest follows.text follows.first (subst (λ r. ¬ IsBad r) same.rest l.partial) o.begins
+    let follows = first_after o.before o.after text (subst (λ ms. AreFirst ms text) same.messages_same l.first) in
+    not_outside o.after o.rest follows.text follows.first (subst (λ r. ¬ IsBad r) same.rest_same l.partial) o.begins
 
 head_same : {m n : List ℕ} {ms ns : List (List ℕ)} → m ∷ ms ≡ n ∷ ns → m ≡ n
 head_same h = cc
@@ -48,7 +48,7 @@ same_before (m ∷ b) (n ∷ c) after other rest last text words e (more {after 
 pub one_place : {s : List ℕ} {i j : ℕ} → IsOutside s i → IsOutside s j → i ≡ j
 one_place {s} a b =
     let same = one_cut s s (a.before ++ a.after) (b.before ++ b.after) a.rest b.rest refl a.cut b.cut in
-    let before = same_before a.before b.before a.after b.after a.rest b.rest a.text b.text same.messages a.first b.first a.begins b.begins in
+    let before = same_before a.before b.before a.after b.after a.rest b.rest a.text b.text same.messages_same a.first b.first a.begins b.begins in
     a.place ∙ ap (λ ms. length (concat ms)) before ∙ sym b.place
 
 -- what is answered so is answered nowhere else

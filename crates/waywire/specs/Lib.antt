@@ -1,3 +1,5 @@
 pub mod Line
 pub mod First
 pub mod Seen
+pub mod Stage
+pub mod Failing

@@ -1,11 +1,16 @@
 //! A job done over any reader and writers.
+ghost use Rattle.std.specs.Prelude.{◌≡◌, ◌⊎◌, map, IfOk, IfErr, OnOk};
+ghost use Rattle.std.specs.List.{AllByRecursion};
+ghost use Rattle.wl_recording.specs.Piece.{plain};
+ghost use Rattle.waywire.specs.declared.failure.Failure.TheVariants.{Memory, OutsideStage};
+ghost use Rattle.waywire.specs.Stage.{IsTraceable, all_bytes};
 
 use crate::failure::Failure;
-use crate::first::{self, FirstError};
+use crate::first;
 use crate::job::Job;
-use crate::recording;
 use std::alloc::Allocator;
 use std::io::{ErrorKind, Read, Write};
+use wl_recording::{Direction, Passed, Recording};
 
 /// The most bytes of a file.
 const MOST: usize = 16_777_216;
@@ -27,17 +32,30 @@ fn contents<'a, A: Allocator, R: Read>(
     }
 }
 
-/// The lines of the messages that a recording brings to the server.
-fn traced<'a, A: Allocator>(
-    alloc: &'a A,
-    text: &[u8],
-) -> Result<Vec<u8, &'a A>, Failure<'static>> {
-    let stream = recording::stream_of(alloc, text)?;
-    match first::lines(alloc, &stream) {
-        Ok(lines) => Ok(lines),
-        Err(FirstError::OutsideStage { .. }) => Err(Failure::OutsideStage),
-        Err(FirstError::Memory) => Err(Failure::Memory),
+/// The bytes of the pieces, joined. All of them have to go to the server, and none has a token.
+fn stream_of<A: Allocator, P: Allocator>(
+    alloc: A,
+    pieces: &[Passed<P>],
+) -> Result<Vec<u8, A>, Failure<'static>>
+    ensures joined { IfOk result (λ stream. stream.items ≡ all_bytes (map plain pieces.now)) }
+    ensures traceable { OnOk result (AllByRecursion IsTraceable (map plain pieces.now)) }
+    ensures refused { IfErr result (λ e. (e ≡ Memory) ⊎ ((e ≡ OutsideStage) × (AllByRecursion IsTraceable (map plain pieces.now) → ⊥))) }
+{
+    let mut stream = Vec::new(alloc);
+    'pieces: for piece in pieces {
+        if piece.direction != Direction::ToServer || piece.tokens != 0 {
+            return Err(Failure::OutsideStage);
+        }
+        stream.extend_from_slice(piece.bytes.as_slice())?;
     }
+    Ok(stream)
+}
+
+/// The lines of the messages that a recording brings to the server.
+fn traced<'a, A: Allocator>(alloc: &'a A, text: &[u8]) -> Result<Vec<u8, &'a A>, Failure<'static>> {
+    let recording = Recording::parse(alloc, text)?;
+    let stream = stream_of(alloc, recording.pieces())?;
+    Ok(first::lines(alloc, &stream)?)
 }
 
 /// What the job prints, whole.
@@ -85,3 +103,6 @@ pub fn act<A: Allocator, R: Read, O: Write, E: Write>(
         }
     }
 }
+
+#[cfg(test)]
+mod tests;

@@ -1,6 +1,12 @@
 //! Why a job has no output.
+ghost use Rattle.std.specs.Prelude.{◌≡◌};
+ghost use Rattle.waywire.specs.declared.failure.Failure.TheVariants as failures;
+ghost use Rattle.waywire.specs.Failing.{recording_failure, first_failure};
 
+use crate::first::FirstError;
+use std::alloc::AllocError;
 use thiserror::Error;
+use wl_recording::RecordingError;
 
 /// Why a job has no output. Its text is what standard error says behind `waywire: `.
 #[derive(Clone, Copy, Debug, PartialEq, Eq, Error)]
@@ -32,6 +38,36 @@ impl Failure<'_> {
             Failure::OutsideStage => 1,
             Failure::Memory => 4,
             _ => 3,
+        }
+    }
+}
+
+impl From<AllocError> for Failure<'_> {
+    ghost from_gives = { λ _ e. e ≡ failures.Memory };
+
+    fn from(_error: AllocError) -> Self {
+        Failure::Memory
+    }
+}
+
+impl From<RecordingError> for Failure<'_> {
+    ghost from_gives = { λ error e. e ≡ recording_failure error };
+
+    fn from(error: RecordingError) -> Self {
+        match error {
+            RecordingError::BadLine { line } => Failure::BadLine(line),
+            RecordingError::Memory => Failure::Memory,
+        }
+    }
+}
+
+impl From<FirstError> for Failure<'_> {
+    ghost from_gives = { λ error e. e ≡ first_failure error };
+
+    fn from(error: FirstError) -> Self {
+        match error {
+            FirstError::OutsideStage { .. } => Failure::OutsideStage,
+            FirstError::Memory => Failure::Memory,
         }
     }
 }

@@ -24,6 +24,7 @@ const LIMIT: u16 = 4096;
 
 /// The id of the one wl_display, and the place of its interface in the tables.
 const DISPLAY_ID: u32 = 1;
+
 const DISPLAY: Iface = Iface(0);
 
 /// Why a stream has no lines.
@@ -207,3 +208,6 @@ pub fn lines<A: Allocator + Clone + Drop>(alloc: A, stream: &[u8]) -> Result<Vec
     let tables = Tables::core(alloc.clone()?)?;
     lines_by(&tables, alloc, stream)
 }
+
+#[cfg(test)]
+mod tests;

@@ -5,7 +5,6 @@ mod act;
 mod failure;
 mod first;
 mod job;
-mod recording;
 
 use failure::Failure;
 use job::{Job, Stop};
@@ -65,7 +64,10 @@ fn main(rt: HostRuntime) -> ExitCode {
         Err(error) => match error.kind() {
             ErrorKind::OutOfMemory => failed(&rt, &Failure::Memory),
             _ => {
-                let _ = writeln!(rt.stderr(), "error: a word of the command line is not UTF-8");
+                let _ = writeln!(
+                    rt.stderr(),
+                    "error: a word of the command line is not UTF-8"
+                );
                 2
             }
         },

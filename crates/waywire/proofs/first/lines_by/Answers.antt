@@ -36,6 +36,6 @@ messages-preserved g c =
     record {
       lines = λ text l. rw (pushed, append_assoc) (c.messages.invariant.lines _ (rw joined (lines_more whole first l)));
       outside = λ offset o. subst (IsOutside c.args.stream.now) (let same : length c.args.stream.now - length c.messages.rest.now + (length c.in-Some.message.now + offset) ≡ length c.args.stream.now - length c.in-Some.after.now + offset = omega (arith, len) in same)
-        (c.messages.invariant.outside _ (rw joined (outside_more whole first o)));
+          (c.messages.invariant.outside _ (rw joined (outside_more whole first o)));
       within = omega (arith, len);
     }

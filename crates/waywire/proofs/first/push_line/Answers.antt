@@ -17,7 +17,7 @@ line_by_parts before arrow target dot name opened made end display object told a
     e ∙ ap (λ x. x ++ codes ")\n") (m ∙ ap (λ x. x ++ object_text object) (o ∙ ap (λ x. x ++ codes "(new id ") (n ∙ ap (λ x. x ++ told)
     (d ∙ ap (λ x. x ++ codes ".") (t ∙ ap (λ x. x ++ object_text display) a ∙ ap (λ x. before ++ codes "-> " ++ object_text x) is)))))
     ∙ joined before (codes "->") (codes " ") (object_text (record { interface = codes "wl_display"; id = 1 })) (codes ".") told
-        (codes "(") (codes "new id ") (object_text object) (codes ")\n")
+    (codes "(") (codes "new id ") (object_text object) (codes ")\n")
 
 pub returns : goal.returns
 returns g c = line_by_parts _ _ _ _ _ _ _ _ _ _ _ c.in_ok-extend_from_slice.ensures.items c.in_ok-push_object.ensures refl
