@@ -16,8 +16,8 @@ pub record Request : Type 0 where
   pub name : List ℕ
   pub made : Named
 
--- The message is wl_display's sync or get_registry, for object 1, of which every wl_display has the version: a header and one new id,
--- with nothing left over. Ids are not judged.
+-- The message is one of wl_display's requests in the core tables, which are sync and get_registry, and it is for object 1: a header and
+-- a new id, with nothing left over. Which id it is, is not judged.
 pub record IsFirst (message : List ℕ) (request : Request) : Type 0 where
   pub opcode : ℕ
   pub signature : Message

@@ -3,3 +3,4 @@ pub mod First
 pub mod Seen
 pub mod Stage
 pub mod Failing
+pub mod Trace

@@ -1,15 +1,18 @@
 //! A job done over any reader and writers.
-ghost use Rattle.std.specs.Prelude.{◌≡◌, ◌⊎◌, map, IfOk, IfErr, OnOk};
+ghost use Rattle.std.specs.Prelude.{◌≡◌, ◌≤◌, ◌<◌, ◌⊎◌, ℕ, map, length, Ok, Err, IfOk, IfErr, IfSome, OnOk, List, ◌≢◌};
+ghost use Rattle.std.specs.Io.KnownBytes.{Appends};
 ghost use Rattle.std.specs.List.{AllByRecursion};
 ghost use Rattle.wl_recording.specs.Piece.{plain};
 ghost use Rattle.waywire.specs.declared.failure.Failure.TheVariants.{Memory, OutsideStage};
+ghost use Rattle.waywire.specs.Failing.{IsReadFailure, status_of};
 ghost use Rattle.waywire.specs.Stage.{IsTraceable, all_bytes};
+ghost use Rattle.waywire.specs.Trace.{IsTrace, IsOtherwise, IsRefusal};
 
 use crate::failure::Failure;
 use crate::first;
 use crate::job::Job;
 use std::alloc::Allocator;
-use std::io::{ErrorKind, Read, Write};
+use std::io::{self, ErrorKind, Read, Write};
 use wl_recording::{Direction, Passed, Recording};
 
 /// The most bytes of a file.
@@ -20,7 +23,10 @@ fn contents<'a, A: Allocator, R: Read>(
     alloc: A,
     name: &'a str,
     file: &mut R,
-) -> Result<Vec<u8, A>, Failure<'a>> {
+) -> Result<Vec<u8, A>, Failure<'a>>
+    ensures whole { IfOk result (λ bytes. IfSome (R.remaining file.old) (λ all. bytes.items ≡ all)) }
+    ensures refused { IfErr result IsReadFailure }
+{
     let mut bytes = Vec::new(alloc);
     match file.take(16_777_217).read_to_end(&mut bytes) {
         Ok(_) if bytes.len() <= MOST => Ok(bytes),
@@ -52,7 +58,10 @@ fn stream_of<A: Allocator, P: Allocator>(
 }
 
 /// The lines of the messages that a recording brings to the server.
-fn traced<'a, A: Allocator>(alloc: &'a A, text: &[u8]) -> Result<Vec<u8, &'a A>, Failure<'static>> {
+fn traced<'a, A: Allocator>(alloc: &'a A, text: &[u8]) -> Result<Vec<u8, &'a A>, Failure<'static>>
+    ensures trace { IfOk result (λ trace. IsTrace text.now trace.items) }
+    ensures refused { IfErr result (IsRefusal text.now) }
+{
     let recording = Recording::parse(alloc, text)?;
     let stream = stream_of(alloc, recording.pieces())?;
     Ok(first::lines(alloc, &stream)?)
@@ -63,24 +72,21 @@ fn output<'a, 'b, A: Allocator, R: Read>(
     alloc: &'a A,
     job: &'b Job,
     file: &mut R,
-) -> Result<Vec<u8, &'a A>, Failure<'b>> {
+) -> Result<Vec<u8, &'a A>, Failure<'b>>
+    ensures trace { IfOk result (λ trace. IfSome (R.remaining file.old) (λ text. IsTrace text trace.items)) }
+    ensures refused { IfErr result (λ e. IsReadFailure e ⊎ IfSome (R.remaining file.old) (λ text. IsRefusal text e)) }
+{
     let Job::Trace { file: name } = job;
     let text = contents(alloc, name.as_str(), file)?;
     traced(alloc, &text)
 }
 
-/// Writes what the job prints, once it is there whole.
-fn printed<'b, A: Allocator, R: Read, O: Write>(
-    alloc: &A,
-    job: &'b Job,
-    file: &mut R,
-    out: &mut O,
-) -> Result<(), Failure<'b>> {
-    let text = output(alloc, job, file)?;
-    match out.write_all(&text) {
-        Ok(()) => Ok(()),
-        Err(_) => Err(Failure::CannotWrite),
-    }
+/// Writes all the bytes through.
+fn write_through<O: Write>(out: &mut O, bytes: &[u8]) -> io::Result<()>
+    ensures { OnOk result (Appends (O.contents out.old) (O.contents out.new) bytes.now) }
+{
+    out.write_all(bytes)?;
+    out.flush()
 }
 
 /// Does the job and answers the exit status: 0 where `out` has taken the whole output, else the
@@ -94,14 +100,30 @@ pub fn act<A: Allocator, R: Read, O: Write, E: Write>(
     file: &mut R,
     out: &mut O,
     err: &mut E,
-) -> u8 {
-    match printed(&alloc, job, file, out) {
-        Ok(()) => 0,
-        Err(failure) => {
-            let _ = writeln!(err, "waywire: {failure}");
-            failure.status()
-        }
+) -> u8
+    // The trace of the recording was written.
+    ensures traced { result ≡ 0 → IfSome (R.remaining file.old) (λ text. (trace : List ℕ) × IsTrace text trace
+        × Appends (O.contents out.old) (O.contents out.new) trace) }
+    // The recording has more than can be traced.
+    ensures otherwise { result ≡ 1 → IfSome (R.remaining file.old) IsOtherwise }
+    ensures unwritten { (result ≡ 1) ⊎ (result ≡ 4) → O.contents out.new ≡ O.contents out.old }
+    ensures statuses { (result ≤ 4) × (result ≢ 2) }
+{
+    match output(&alloc, job, file) {
+        Ok(text) => match write_through(out, &text) {
+            Ok(()) => 0,
+            Err(_) => failed(err, &Failure::CannotWrite),
+        },
+        Err(failure) => failed(err, &failure),
     }
+}
+
+/// Says why there is no output, and answers the status.
+fn failed<E: Write>(err: &mut E, failure: &Failure<'_>) -> u8
+    ensures { result ≡ status_of failure.now }
+{
+    let _ = writeln!(err, "waywire: {failure}");
+    failure.status()
 }
 
 #[cfg(test)]

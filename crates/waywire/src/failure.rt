@@ -1,7 +1,7 @@
 //! Why a job has no output.
 ghost use Rattle.std.specs.Prelude.{◌≡◌};
 ghost use Rattle.waywire.specs.declared.failure.Failure.TheVariants as failures;
-ghost use Rattle.waywire.specs.Failing.{recording_failure, first_failure};
+ghost use Rattle.waywire.specs.Failing.{recording_failure, first_failure, status_of};
 
 use crate::first::FirstError;
 use std::alloc::AllocError;
@@ -33,7 +33,9 @@ pub enum Failure<'a> {
 
 impl Failure<'_> {
     /// The exit status: 1 for what is not traced yet, 4 for want of memory, else 3.
-    pub fn status(&self) -> u8 {
+    pub fn status(&self) -> u8
+        ensures { result ≡ status_of self.now }
+    {
         match self {
             Failure::OutsideStage => 1,
             Failure::Memory => 4,

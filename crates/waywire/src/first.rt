@@ -1,4 +1,9 @@
-//! The first two requests of a client.
+//! The first two requests of a client, from bytes to lines.
+//!
+//! A client that connects has one object, wl_display with the id 1. Its two requests make the first
+//! others: `sync` a wl_callback, `get_registry` a wl_registry. This module reads a stream of these
+//! two alone and writes a line for each. (wayland.xml, wl_display; chapter "Wayland Protocol and
+//! Model of Operation", section "Wire Format".)
 ghost use Rattle.std.specs.Prelude.{OnOk, [], ◌∷◌, Some, take, IsErrAnd, ◌≡◌, ◌≢◌, ℕ, ◌+◌, ◌-◌, ◌≤◌, ◌<◌, ◌⊎◌, ◌++◌, List, length, IfOk, IfErr, IfSome, IfNone, MatchOption, MatchResult, Ok, Err};
 ghost use Rattle.waywire.specs.declared.first.FirstError.TheVariants.{Memory};
 ghost use Rattle.wl_wire.specs.Argument.{New};
@@ -22,17 +27,22 @@ use wl_wire::{Header, Iface, Kind, ValueRef, read_ref};
 /// The most bytes of a message.
 const LIMIT: u16 = 4096;
 
-/// The id of the one wl_display, and the place of its interface in the tables.
+/// The id of wl_display.
 const DISPLAY_ID: u32 = 1;
 
+/// The place of wl_display in the tables.
 const DISPLAY: Iface = Iface(0);
 
 /// Why a stream has no lines.
 #[derive(Clone, Copy, Debug, PartialEq, Eq)]
 pub enum FirstError {
-    /// FR1.
+    /// FR1: the message at this byte of the stream, counted from 0, is not for object 1, or is
+    /// neither `sync` nor `get_registry` with one new id and nothing left over; or no whole message
+    /// stands there, but a header with a size that no message has: below 8, no multiple of 4, or
+    /// above 4096. All messages before it have lines.
     OutsideStage { offset: usize },
-    /// FR2.
+    /// FR2: there is no memory for the lines or the signature tables. It may come in place of any
+    /// answer.
     Memory,
 }
 
@@ -124,6 +134,7 @@ fn request_of<'t, A: Allocator>(tables: &'t Tables<A>, message: &[u8]) -> Option
     ensures found { IfSome result (λ r. IsFirst message.now (told r)) }
     ensures only { IfNone result ((r : Request) → IsFirst message.now r → ⊥) }
 {
+    // The header that a message is spelled with is the one that is read here.
     header_is_read();
     let header = header_of(message);
     if header.object != DISPLAY_ID {
@@ -178,25 +189,26 @@ fn lines_by<T: Allocator, A: Allocator>(
     let mut out = Vec::new(alloc);
     let mut rest = stream;
     'messages: loop {
+        let offset = stream.len() - rest.len();
         let Ok(found) = split_message(rest) else {
-            return Err(FirstError::OutsideStage {
-                offset: stream.len() - rest.len(),
-            });
+            return Err(FirstError::OutsideStage { offset });
         };
         let Some((message, after)) = found else {
             return Ok(out);
         };
         let Some(request) = request_of(tables, message) else {
-            return Err(FirstError::OutsideStage {
-                offset: stream.len() - rest.len(),
-            });
+            return Err(FirstError::OutsideStage { offset });
         };
         push_line(&mut out, &request)?;
         rest = after;
     }
 }
 
-/// The lines of the messages of a stream.
+/// The lines of the messages of a stream, each ended by a line feed, as
+/// `-> wl_display@1.get_registry(new id wl_registry@2)`.
+///
+/// A message is a request of wl_display, in host byte order, which is little-endian. Ids are not
+/// judged: a new id may be 0 or in use. A rest that is no whole message has no line.
 pub fn lines<A: Allocator + Clone + Drop>(alloc: A, stream: &[u8]) -> Result<Vec<u8, A>, FirstError>
     ensures lines { IfOk result (λ out. AreLines stream.now out.items) }
     ensures outside { (offset : ℕ) → result ≡ Err (FirstError.OutsideStage offset) → IsOutside stream.now offset }

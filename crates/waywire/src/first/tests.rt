@@ -25,7 +25,8 @@ fn tells_where_a_stream_is_outside(rt: HostRuntime) {
     for (stream, wanted) in OUTSIDE {
         match lines(rt.alloc(), stream) {
             Err(FirstError::OutsideStage { offset }) => assert_eq!(rt; offset, wanted),
-            _ => assert!(rt; false),
+            Ok(_text) => assert!(rt; false),
+            Err(FirstError::Memory) => assert!(rt; false),
         }
     }
 }

@@ -25,8 +25,11 @@ fn owned(alloc: Global, words: &[&str]) -> Result<Vec<String>, AllocError> {
 fn reads_the_file_of_a_trace(rt: HostRuntime) -> Result<(), Fail> {
     let words = owned(rt.alloc(), &["waywire", "trace", "a b.rec"])?;
     match job_of(rt.alloc(), words.as_slice()) {
-        Ok(Job::Trace { file }) => assert_eq!(rt; file.as_str(), "a b.rec"),
-        Err(_) => assert!(rt; false),
+        Ok(job) => {
+            let Job::Trace { file } = &job;
+            assert_eq!(rt; file.as_str(), "a b.rec");
+        }
+        Err(_stop) => assert!(rt; false),
     }
     Ok(())
 }
@@ -36,7 +39,7 @@ fn stops_at_faults_of_usage(rt: HostRuntime) -> Result<(), Fail> {
     for (words, said) in FAULTY {
         let words = owned(rt.alloc(), words)?;
         match job_of(rt.alloc(), words.as_slice()) {
-            Ok(_) => assert!(rt; false),
+            Ok(_job) => assert!(rt; false),
             Err(stop) => {
                 assert_eq!(rt; stop.status, 2);
                 assert!(rt; stop.text.as_str().contains(said), "{}", stop.text);
@@ -50,7 +53,7 @@ fn stops_at_faults_of_usage(rt: HostRuntime) -> Result<(), Fail> {
 fn helps(rt: HostRuntime) -> Result<(), Fail> {
     let words = owned(rt.alloc(), &["waywire", "--help"])?;
     match job_of(rt.alloc(), words.as_slice()) {
-        Ok(_) => assert!(rt; false),
+        Ok(_job) => assert!(rt; false),
         Err(stop) => {
             assert_eq!(rt; stop.status, 0);
             assert!(rt; stop.text.as_str().contains("trace"));
