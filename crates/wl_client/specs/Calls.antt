@@ -2,7 +2,6 @@
 use Rattle.std.specs.Prelude.{ℕ, Bool, true, false, ◌&&◌, not, nat_eq, nat_le, nat_lt, bytes_eq, if◌then◌else◌, List, [], ◌∷◌, Option, Some, None}
 use Rattle.std.specs.declared.result.Result.{Result}
 use Rattle.std.specs.declared.result.Result.TheVariants.{Ok, Err}
-use Rattle.std.specs.FinMap.{get}
 use Rattle.wl_wire.specs.declared.kind.Iface.{Iface}
 use Rattle.wl_wire.specs.Argument.{Argument, Uint, NewNamed}
 use Rattle.wl_sigs.specs.Tables.{Interface, interface_at}
@@ -16,7 +15,7 @@ use Rattle.wl_objects.specs.Writing.{message_len}
 use Rattle.wl_objects.specs.Messages.{Made, live_row, same_iface}
 use Rattle.wl_end.specs.Core.{Core, with_view}
 use Rattle.wl_end.specs.Sending.{fits, with_sent, opening_answer}
-use Rattle.wl_client.specs.State.{State, Global}
+use Rattle.wl_client.specs.State.{State, Global, global_of}
 
 abbrev pub version_fits : ℕ → ℕ → Option Interface → List ℕ → Bool
 version_fits version advertised None name = false
@@ -37,13 +36,13 @@ iface_or (Some global) = global.iface
 
 -- the object that a bind makes, at the next id
 abbrev pub bound : State → ℕ → ℕ → Made
-bound state name version = record { id = next_id state.core.view; iface = iface_or (get state.globals name); version = version }
+bound state name version = record { id = next_id state.core.view; iface = iface_or (global_of state.globals name); version = version }
 
 abbrev pub bind_at : State → ℕ → List ℕ → ℕ → Option Entry → Result (Option Object) SendError
 bind_at state name iface version None = Err refusals.Stale
 bind_at state name iface version (Some entry) =
     if not (same_iface entry.iface registry) then Err refusals.NoSuchMessage
-    else if not (can_bind state.core.tables iface version (get state.globals name)) then Err refusals.BadBind
+    else if not (can_bind state.core.tables iface version (global_of state.globals name)) then Err refusals.BadBind
     else if fits state.core.outbox (message_len (bind_values name iface version 0)) 0 then opening_answer state.core (Some (bound state name version))
     else Err refusals.Full
 

@@ -1,9 +1,7 @@
 -- What a client reads, and what it makes of it.
-use Rattle.std.specs.Prelude.{ℕ, Bool, true, false, ◌&&◌, ◌||◌, not, nat_eq, nat_lt, if◌then◌else◌, List, [], ◌∷◌, Option, Some, None, is_some, unwrap_or, slice_get}
+use Rattle.std.specs.Prelude.{ℕ, Bool, true, false, ◌&&◌, ◌||◌, not, nat_eq, nat_lt, if◌then◌else◌, List, [], ◌∷◌, ◌++◌, length, map, filter, Option, Some, None, is_some, unwrap_or, slice_get}
 use Rattle.std.specs.declared.result.Result.{Result}
 use Rattle.std.specs.declared.result.Result.TheVariants.{Ok, Err}
-use Rattle.std.specs.Ordering.{nat_cmp}
-use Rattle.std.specs.FinMap.{FinMap, get, insert, remove, len}
 use Rattle.wl_wire.specs.declared.kind.Iface.{Iface}
 use Rattle.wl_wire.specs.Argument.{Argument, Shape, Int, Uint, Fixed, Str, Obj, New, NewNamed, Array, Fd}
 use Rattle.wl_sigs.specs.declared.signature.Side.TheVariants.{Event as event_side}
@@ -23,7 +21,7 @@ use Rattle.wl_objects.specs.Reading.{Reported, named_at}
 use Rattle.wl_objects.specs.Messages.{Received, reader_of, is_error, is_delete_id, same_iface, Client as client, after, after_delete_id}
 use Rattle.wl_end.specs.Core.{Core, with_view, with_failure}
 use Rattle.wl_end.specs.Receiving.{Found, found, reported, own_tokens, past_found}
-use Rattle.wl_client.specs.State.{State, Global, max_globals, with_core}
+use Rattle.wl_client.specs.State.{State, Global, max_globals, is_named, global_of, with_core}
 
 -- What a client reports.
 pub data Report : Type 0 where
@@ -106,21 +104,35 @@ view_after core f =
     else if is_delete_event f then after_delete_id core.view (deleted_id f)
     else after client core.view None f.message.signature.destroys f.message.target.id
 
--- a global is remembered, in place of another of its name, where there is room
-abbrev pub remembered : FinMap nat_cmp Global → ℕ → ℕ → Option Iface → FinMap nat_cmp Global
-remembered globals name version None = remove globals name
-remembered globals name version (Some iface) =
-    if is_some (get globals name) || nat_lt (len globals) max_globals then insert globals name (record { iface = iface; version = version }) else globals
+-- the globals without one of this name
+abbrev pub forgotten : ℕ → List Global → List Global
+forgotten name globals = filter (λ global. not (is_named name global)) globals
+
+-- the globals with this one in the place of the other of its name
+abbrev pub replaced : Global → List Global → List Global
+replaced global globals = map (λ other. if is_named global.name other then global else other) globals
+
+-- the globals with this one: in place of another of its name, else last, where there is room
+abbrev pub remembered : Global → List Global → List Global
+remembered global globals =
+    if is_some (global_of globals global.name) then replaced global globals
+    else if nat_lt (length globals) max_globals then globals ++ global ∷ []
+    else globals
+
+-- one whose interface is not in the tables is not remembered, and its name is taken out
+abbrev pub remembered_as : ℕ → ℕ → Option Iface → List Global → List Global
+remembered_as name version None globals = forgotten name globals
+remembered_as name version (Some iface) globals = remembered (record { name = name; iface = iface; version = version }) globals
 
 -- the globals after an event of wl_registry: `global` (0) tells one, `global_remove` (1) takes it out
-abbrev pub globals_told : List Interface → FinMap nat_cmp Global → ℕ → List Argument → FinMap nat_cmp Global
+abbrev pub globals_told : List Interface → List Global → ℕ → List Argument → List Global
 globals_told tables globals opcode values =
-    if nat_eq opcode 0 then remembered globals (number_in (argument values 0)) (number_in (argument values 2)) (place_of tables (text_in (argument values 1)))
-    else if nat_eq opcode 1 then remove globals (number_in (argument values 0))
+    if nat_eq opcode 0 then remembered_as (number_in (argument values 0)) (number_in (argument values 2)) (place_of tables (text_in (argument values 1))) globals
+    else if nat_eq opcode 1 then forgotten (number_in (argument values 0)) globals
     else globals
 
 -- only events on a live registry teach
-abbrev pub globals_after : State → Found → FinMap nat_cmp Global
+abbrev pub globals_after : State → Found → List Global
 globals_after state f =
     if same_iface f.message.entry.iface registry && is_live f.message.entry.state
     then globals_told state.core.tables state.globals f.opcode f.message.values

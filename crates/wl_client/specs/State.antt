@@ -1,7 +1,6 @@
 -- What a client is: an end, and the globals that it was told.
-use Rattle.std.specs.Prelude.{ℕ, List, [], Option, Some, None}
-use Rattle.std.specs.Ordering.{nat_cmp}
-use Rattle.std.specs.FinMap.{FinMap, empty}
+use Rattle.std.specs.Prelude.{ℕ, Bool, nat_eq, List, [], Option, Some, None}
+use Rattle.std.specs.List.{find}
 use Rattle.wl_wire.specs.declared.kind.Iface.{Iface}
 use Rattle.wl_sigs.specs.Tables.{Interface}
 use Rattle.wl_message.specs.declared.amounts.Sizes.{Sizes}
@@ -9,20 +8,29 @@ use Rattle.wl_end.specs.Core.{Core, new_core}
 
 -- a global as it was advertised
 pub record Global : Type 0 where
+  pub name : ℕ
   pub iface : Iface
   pub version : ℕ
 
--- The globals that the client remembers, by name.
+-- The globals that the client remembers, no name twice, in the order in which their names were told.
 pub record State : Type 0 where
   pub core : Core
-  pub globals : FinMap nat_cmp Global
+  pub globals : List Global
+
+-- whether a global has this name
+abbrev pub is_named : ℕ → Global → Bool
+is_named name global = nat_eq global.name name
+
+-- the remembered global of a name
+abbrev pub global_of : List Global → ℕ → Option Global
+global_of globals name = find (is_named name) globals
 
 -- the most globals that a client remembers
 abbrev pub max_globals : ℕ
 max_globals = 1024
 
 abbrev pub new_state : List Interface → Sizes → State
-new_state tables sizes = record { core = new_core tables sizes; globals = empty }
+new_state tables sizes = record { core = new_core tables sizes; globals = [] }
 
 abbrev pub with_core : State → Core → State
 with_core state core = record state { core = core }

@@ -1,2 +1,10 @@
-//! What the two ends of a connection have in common: an end's tables, its objects and its two boxes.
+//! What the two ends of a Wayland connection have in common: the signature tables, the objects,
+//! the two boxes, and what is written and read through them.
+//!
+//! Requests are what a client writes and a server reads, events the other way round; so a side
+//! tells which end is meant.
 #![tactic(auto)]
+
+mod core;
+
+pub use crate::core::Core;

@@ -85,3 +85,6 @@ pub trait Table {
         requires not_display { id ≢ 1 }
         ensures { view self.new ≡ closed (view self.old) id };
 }
+
+#[cfg(test)]
+mod tests;

@@ -1,6 +1,5 @@
 -- Tests of lists, sides and messages decide what they say.
-use Rattle.std.proofs.Common.{◌≡◌, ℕ, ◌≤◌, List, [], ◌∷◌, Bool, refl, ◌∙◌, ap, subst, get_or, nat_le, slice_get, Option, Some, None}
-use Rattle.std.specs.Prelude.{option_and_then}
+use Rattle.std.proofs.Common.{◌≡◌, ℕ, ◌≤◌, List, [], ◌∷◌, Bool, refl, subst, get_or, nat_le, slice_get, Some}
 use Rattle.std.specs.List.{All, list_all}
 use Rattle.std.specs.Bool.{Decides}
 use Rattle.std.proofs.lemmas.Bool.{leb-true, le-leb}
@@ -8,8 +7,9 @@ use Rattle.std.proofs.lemmas.Bool.Decides.{Decides-by_and, Decides-like, Decides
 use Rattle.std.proofs.lemmas.Option.{slice_get_within, get_or_from_slice_get, slice_get-get_or}
 use Rattle.wl_sigs.specs.declared.signature.Side.{Side}
 use Rattle.wl_sigs.specs.declared.signature.Side.TheVariants.{Request, Event}
-use Rattle.wl_sigs.specs.Tables.{Message, Interface, interface_at, messages_of, message_of, signature_at}
+use Rattle.wl_sigs.specs.Tables.{Message, Interface, messages_of}
 use Rattle.wl_sigs.specs.Valid.{EachMessage}
+use Rattle.wl_sigs.proofs.Lookups.{found, signature_from}
 use Rattle.wl_sigs.specs.Rules.{both_sides, each_message, is_empty}
 
 pub Decides-le : (a b : ℕ) → Decides (nat_le a b) (a ≤ b)
@@ -39,23 +39,6 @@ by_side P request event Event = event
 pub Decides-both : (test : Side → Bool) (P : Side → Type 0) → ((side : Side) → Decides (test side) (P side)) → Decides (both_sides test) ((side : Side) → P side)
 Decides-both test P each =
     Decides-like (both_sides test) (λ both. by_side P both.0 both.1) (λ all. (all Request, all Event)) (Decides-and (test Request) (test Event) (each Request) (each Event))
-
--- the interface that a message was found in
-pub record Found (tables : List Interface) (place : ℕ) (side : Side) (opcode : ℕ) (m : Message) : Type 0 where
-  pub interface : Interface
-  pub at : interface_at tables place ≡ Some interface
-  pub of : message_of side opcode interface ≡ Some m
-
-then_some : {X Y : Type 0} (f : X → Option Y) (o : Option X) (y : Y) → option_and_then f o ≡ Some y → (x : X) × (o ≡ Some x) × (f x ≡ Some y)
-then_some f None y h = cc
-then_some f (Some x) y h = (x, refl, h)
-
-pub found : (tables : List Interface) (place : ℕ) (side : Side) (opcode : ℕ) (m : Message) → signature_at tables place side opcode ≡ Some m → Found tables place side opcode m
-found tables place side opcode m h =
-    let it = then_some (message_of side opcode) (interface_at tables place) m h in record { interface = it.0; at = it.1; of = it.2 }
-
-pub signature_from : (tables : List Interface) (place : ℕ) (side : Side) (opcode : ℕ) (i : Interface) (m : Message) → interface_at tables place ≡ Some i → message_of side opcode i ≡ Some m → signature_at tables place side opcode ≡ Some m
-signature_from tables place side opcode i m at of = ap (option_and_then (message_of side opcode)) at ∙ of
 
 pub Decides-message : (test : Message → Bool) (P : Message → Type 0) → ((m : Message) → Decides (test m) (P m)) → (tables : List Interface) (side : Side) → Decides (each_message test tables side) (EachMessage tables side P)
 Decides-message test P each tables side =

@@ -1,3 +1,4 @@
+pub mod Lookups
 mod Deciding
 mod Distinct
 mod ByPlace

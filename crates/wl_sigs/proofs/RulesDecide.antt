@@ -11,7 +11,8 @@ use Rattle.wl_sigs.specs.declared.signature.Side.TheVariants.{Request, Event}
 use Rattle.wl_sigs.specs.Tables.{Message, Interface, interface_at, messages_of, message_of, signature_at, new_objects, has_destroying_event, named_interface}
 use Rattle.wl_sigs.specs.Valid.{EachInterface, EachMessage, IsNameByte, IsName, NamesAreDistinct, HasFixedThree, AreSmall, MakeFewObjects, IsBind, UnnamedNewInBindAlone, NoAnyInRequests, DestroyingEventsAreRaceFree, SincesAreInRange, NamedInterfacesAreThere, Valid}
 use Rattle.wl_sigs.specs.Rules as test
-use Rattle.wl_sigs.proofs.Deciding.{Decides-le, Decides-empty, Decides-list_all, Decides-each, Decides-both, Decides-message, found, signature_from}
+use Rattle.wl_sigs.proofs.Deciding.{Decides-le, Decides-empty, Decides-list_all, Decides-each, Decides-both, Decides-message}
+use Rattle.wl_sigs.proofs.Lookups.{found, signature_from}
 use Rattle.wl_sigs.proofs.Distinct.{DistinctBy, Decides-distinct_by}
 use Rattle.wl_sigs.proofs.ByPlace.{Decides-by_place}
 

@@ -1,11 +1,16 @@
-//! A law of valid tables. It does nothing: its contract states a fact about the definitions.
-ghost use Rattle.std.specs.Prelude.{◌≡◌, ◌↔◌, List, true};
+//! Laws of valid tables. They do nothing: their contracts state facts about the definitions.
+ghost use Rattle.std.specs.Prelude.{◌≡◌, ◌↔◌, ℕ, List, true};
 ghost use Rattle.wl_sigs.specs.Rules.{keep_rules};
-ghost use Rattle.wl_sigs.specs.Tables.{Interface};
+ghost use Rattle.wl_sigs.specs.Tables.{Interface, interface_at, place_of};
 ghost use Rattle.wl_sigs.specs.Valid.{Valid, HasFixedThree};
 
 /// Tables are valid exactly where wl_display, wl_registry and wl_callback stand in front and the
 /// tests of the other rules pass.
 pub fn valid_where_tests_pass()
     ensures { (tables : List Interface) → Valid tables ↔ (HasFixedThree tables × (keep_rules tables ≡ true)) }
+{}
+
+/// In valid tables each interface is the one that is found by its name.
+pub fn found_by_its_name()
+    ensures { (tables : List Interface) (place : ℕ) (i : Interface) → Valid tables → interface_at tables place ≡ Some i → place_of tables i.name ≡ Some (record { 0 = place }) }
 {}

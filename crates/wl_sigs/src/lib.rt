@@ -10,7 +10,9 @@ mod interface;
 mod laws;
 mod signature;
 mod tables;
+#[cfg(test)]
+mod tests;
 
-pub use laws::valid_where_tests_pass;
+pub use laws::{found_by_its_name, valid_where_tests_pass};
 pub use signature::{Destroys, Side, Signature};
 pub use tables::Tables;

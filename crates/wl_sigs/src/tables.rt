@@ -51,7 +51,7 @@ impl<A: Allocator> Tables<A> {
         ensures answer { option_copied result ≡ option_map (λ i. i.name) (interface_at self.now iface.0) }
         ensures valid { Valid self.now }
     {
-        let entry = self.interfaces.get(iface.0 as usize)?;
+        let entry = self.entry(iface)?;
         Some(entry.name())
     }
 
@@ -60,7 +60,7 @@ impl<A: Allocator> Tables<A> {
         ensures answer { result ≡ option_map (λ i. i.version) (interface_at self.now iface.0) }
         ensures valid { Valid self.now }
     {
-        let entry = self.interfaces.get(iface.0 as usize)?;
+        let entry = self.entry(iface)?;
         Some(entry.version())
     }
 
@@ -70,8 +70,15 @@ impl<A: Allocator> Tables<A> {
         ensures answer { option_copied result ≡ signature_at self.now iface.0 side opcode }
         ensures valid { Valid self.now }
     {
-        let entry = self.interfaces.get(iface.0 as usize)?;
+        let entry = self.entry(iface)?;
         entry.message(side, opcode)
+    }
+
+    fn entry(&self, iface: Iface) -> Option<&Entry<A>>
+        ensures answer { option_copied result ≡ interface_at self.now iface.0 }
+        ensures valid { Valid self.now }
+    {
+        self.interfaces.get(iface.0 as usize)
     }
 }
 

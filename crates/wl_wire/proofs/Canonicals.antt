@@ -1,5 +1,5 @@
 -- Spellings of values: one for each value that suits a kind, and no two where one begins the other.
-use Rattle.std.proofs.Common.{◌≡◌, ℕ, suc, ◌+◌, ◌-◌, ◌*◌, ◌/◌, ◌%◌, ◌^◌, ◌<◌, List, [], ◌∷◌, ◌++◌, length, take, drop, Some, None, refl, sym, ap, ◌∙◌, arith, append_assoc}
+use Rattle.std.proofs.Common.{◌≡◌, ℕ, suc, ◌+◌, ◌-◌, ◌*◌, ◌/◌, ◌%◌, ◌^◌, ◌<◌, ◌≤◌, List, [], ◌∷◌, ◌++◌, length, take, drop, Some, None, refl, sym, ap, ◌∙◌, arith, append_assoc}
 use Rattle.std.specs.Prelude.{Result, Ok, FitsSigned, ℤ}
 use Rattle.std.specs.Result.{result_unwrap_or}
 use Rattle.std.specs.Int.{w32}
@@ -11,7 +11,7 @@ use Rattle.wl_wire.specs.declared.kind.ArgFault.{ArgFault}
 use Rattle.wl_wire.specs.declared.header.Header.{Header}
 use Rattle.wl_wire.specs.Word.{word, int_word, complement, header_bytes, header_at, IsHeader}
 use Rattle.wl_wire.specs.Argument.{Argument, Int, Uint, Fixed, Str, Obj, New, NewNamed, Array, Fd}
-use Rattle.wl_wire.specs.Spelling.{Spells, SpellsText, IsText, padded, zeros, text_bytes, canonical, spelled_len, Suits, is_int, is_uint, is_fixed, is_null, is_text, is_object, is_new, is_named, is_array, is_descriptor}
+use Rattle.wl_wire.specs.Spelling.{Spells, SpellsText, IsText, padded, zeros, text_bytes, canonical, spelled_len, Suits, Fits, is_int, is_uint, is_fixed, is_null, is_text, is_object, is_new, is_named, is_array, is_descriptor}
 use Rattle.wl_wire.specs.Reading.{reading, number_at, signed}
 use Rattle.wl_wire.proofs.Numbers.{Bytewise, word-number_at, number_at-word, complement_fits, signed-complement}
 use Rattle.wl_wire.proofs.Fronts.{reading-spelled, text_front}
@@ -123,3 +123,38 @@ header_bytes-at bytes w h =
     let len : length (drop 4 bytes) ≡ 4 = omega (arith, length-drop 4 bytes) in
     let second_word : drop 4 bytes ≡ word second = sym (take_all 4 (drop 4 bytes) (omega arith)) ∙ word-number_at (drop 4 bytes) (omega arith) (All-drop (λ (b : ℕ). b < 256) 4 bytes w) in
     ap (λ (n : ℕ). word (number_at bytes) ++ word n) halves ∙ ap (λ (l : List ℕ). word (number_at bytes) ++ l) (sym second_word) ∙ ap (λ (l : List ℕ). l ++ drop 4 bytes) (sym first_word) ∙ take-append-drop 4 bytes
+
+-- how long a canonical spelling is, of any value
+
+counted_len : (bytes : List ℕ) (n : ℕ) → length bytes ≤ n → length (word n ++ bytes ++ zeros (padded n - length bytes)) ≡ 4 + padded n
+counted_len bytes n h =
+    let k : ℕ = padded n - length bytes in
+    let l = length-append bytes (zeros k) in
+    let z : length (zeros k) ≡ k = length-replicate k 0 in
+    omega (arith, l, z)
+
+pub canonical-len : (value : Argument) → length (canonical value) ≡ spelled_len value
+canonical-len (Int z) = refl
+canonical-len (Uint n) = refl
+canonical-len (Fixed z) = refl
+canonical-len (Str None) = refl
+canonical-len (Str (Some text)) = counted_len text (length text + 1) (omega arith)
+canonical-len (Obj id) = refl
+canonical-len (New id) = refl
+canonical-len (NewNamed iface version id) = let l = counted_len iface (length iface + 1) (omega arith) in omega (arith, l, length-append (text_bytes iface) (word version), length-append (text_bytes iface ++ word version) (word id))
+canonical-len (Array bytes) = counted_len bytes (length bytes) (omega arith)
+canonical-len (Fd tt) = refl
+
+-- a value that suits a kind fits
+pub suits-fits : (kind : Kind) (value : Argument) → Suits kind value → Fits value
+suits-fits kinds.Int (Int z) h = tt
+suits-fits kinds.Uint (Uint n) h = tt
+suits-fits kinds.Fixed (Fixed z) h = tt
+suits-fits (kinds.Str null) (Str None) h = tt
+suits-fits (kinds.Str null) (Str (Some text)) h = h
+suits-fits (kinds.Obj null iface) (Obj id) h = tt
+suits-fits (kinds.New (Some iface)) (New id) h = tt
+suits-fits (kinds.New None) (NewNamed iface version id) h = h.0
+suits-fits kinds.Array (Array bytes) h = h
+suits-fits kinds.Fd (Fd x) h = tt
+suits-fits _ _ h = absurd h

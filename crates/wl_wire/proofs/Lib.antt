@@ -5,3 +5,4 @@ pub mod Taken
 pub mod Zeros
 pub mod Canonicals
 pub mod Refused
+pub mod Texts

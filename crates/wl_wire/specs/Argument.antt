@@ -37,7 +37,7 @@ Argument = Shape ℕ ℕ (Unit {0})
 
 -- how many 256ths a fixed-point number is
 abbrev pub units : fixed.Fixed → ℤ
-units z = z.raw
+units z = z.parts
 
 -- what an owned value is
 abbrev pub plain : {A : Type 0} → Value A → Argument

@@ -29,7 +29,7 @@ impl<A: Allocator> PartialEq for Bytes<A> {
     ghost laws = { Prim.search (comparing, rules) };
 
     fn eq(&self, other: &Bytes<A>) -> bool {
-        self.items.as_slice() == other.items.as_slice()
+        self.as_slice() == other.as_slice()
     }
 }
 
@@ -58,7 +58,8 @@ impl<A: Allocator> Bytes<A> {
     pub fn into_vec(self) -> Vec<u8, A>
         ensures { result.items ≡ self }
     {
-        self.items
+        let Bytes { items } = self;
+        items
     }
 
     /// The bytes, lent.

@@ -1,12 +1,16 @@
 //! Signed numbers in units of 1/256.
-ghost use Rattle.std.specs.Prelude.{◌≡◌};
+ghost use Rattle.std.specs.Prelude.{◌≡◌, ◌↔◌, ◌*ℤ◌, pos, IsSome, IfSome};
 ghost use Rattle.wl_wire.specs.Argument.{units};
+ghost use Rattle.wl_wire.specs.Units.{HasFixed, IsFloor};
+
+use std::fmt;
 
 /// A signed fixed-point number: 24 bits, the sign among them, before the point and 8 behind it.
 /// (Section "Wire Format", fixed.)
 #[derive(Clone, Copy, Debug, Default, PartialEq, Eq, PartialOrd, Ord, Hash)]
 pub struct Fixed {
-    raw: i32,
+    /// How many 256ths.
+    parts: i32,
 }
 
 impl Fixed {
@@ -14,13 +18,46 @@ impl Fixed {
     pub fn from_raw(raw: i32) -> Fixed
         ensures { units result ≡ raw }
     {
-        Fixed { raw }
+        Fixed { parts: raw }
     }
 
     /// How many 256ths the number is.
     pub fn raw(self) -> i32
         ensures { result ≡ units self }
     {
-        self.raw
+        self.parts
+    }
+
+    /// A whole number from -8,388,608 to 8,388,607. Others have no fixed-point number.
+    pub fn from_int(whole: i32) -> Option<Fixed>
+        ensures range { IsSome result ↔ HasFixed whole }
+        ensures value { IfSome result (λ f. units f ≡ whole *ℤ pos 256) }
+    {
+        let raw = whole.checked_mul(256)?;
+        Some(Fixed::from_raw(raw))
+    }
+
+    /// The whole number that is not above it, so -1 of -1/256.
+    pub fn to_int(self) -> i32
+        ensures { IsFloor result (units self) }
+    {
+        self.raw().div_euclid(256)
+    }
+}
+
+/// Eight decimals, which show each 256th exactly.
+impl fmt::Display for Fixed {
+    ghost use Rattle.std.specs.Prelude.{Some};
+    ghost use Rattle.wl_wire.specs.Argument.{units};
+    ghost use Rattle.wl_wire.specs.Units.{fixed_text};
+
+    ghost output = { λ z. Some (fixed_text (units z)) };
+
+    fn fmt<W: fmt::Write>(&self, f: &mut fmt::Formatter<W>) -> fmt::Result {
+        let raw = self.raw();
+        let sign = if raw < 0 { "-" } else { "" };
+        let size = raw.unsigned_abs();
+        let (whole, parts) = (size / 256, size % 256 * 390_625);
+        write!(f, "{sign}{whole}.{parts:08}")
     }
 }

@@ -1,0 +1,147 @@
+//! One end of a connection, whichever.
+ghost use Rattle.std.specs.Prelude.{◌≡◌, ◌≤◌, ◌↔◌, IfOk, IsTrue, length, take, drop, ◌++◌};
+ghost use Rattle.wl_message.specs.Arrived.{AreSizes};
+ghost use Rattle.wl_message.specs.Outgoing.{goes, waiting_bytes, waiting_tokens};
+ghost use Rattle.wl_end.specs.Core.{new_core, display_object, live, in_room, feeds, with_arrived, with_gone, is_drained};
+
+use std::alloc::AllocError;
+use std::marker::Model;
+use wl_message::{Fed, Inbox, Outbox, Sizes, Taken};
+use wl_objects::{Object, State, Table};
+use wl_sigs::Tables;
+use wl_wire::Iface;
+
+/// The interface wl_display, which stands first in all tables.
+const DISPLAY: Iface = Iface(0);
+
+/// The most bytes that a message has.
+const LIMIT: usize = 4096;
+
+/// An end: its tables, its objects and its two boxes.
+///
+/// The fields are for the two ends built on it.
+#[derive(Drop)]
+pub struct Core<'t, T: Table> {
+    pub tables: &'t Tables,
+    pub table: T,
+    pub inbox: Inbox<T::Alloc>,
+    pub outbox: Outbox<T::Alloc>,
+    /// Room for one whole message, the one that is being written.
+    pub store: Vec<u8, T::Alloc>,
+    /// Whether the end has failed. It stays so for good.
+    pub failed: bool,
+    /// The number of bytes of the messages that were read. It stays at the greatest number.
+    pub read: u64,
+}
+
+impl<'t, T: Table> Model for Core<'t, T> {
+    ghost use Rattle.std.specs.Prelude.{◌≤◌, vec_capacity};
+    ghost use Rattle.std.specs.Coded.{codes};
+    ghost use Rattle.wl_objects.specs.View.{view_code};
+    ghost use Rattle.wl_end.specs.Core.{Core as CoreState};
+
+    ghost Value = { CoreState };
+
+    ghost coded = { Prim.hlevel (codes, view_code) };
+
+    ghost view = { λ c. record { tables = c.tables.now; view = T.view c.table; inbox = c.inbox; outbox = c.outbox; failed = c.failed; read = c.read } };
+
+    ghost invariant = { λ c. 4096 ≤ vec_capacity c.store };
+}
+
+impl<'t, T: Table> Core<'t, T> {
+    /// An end with wl_display alone and empty boxes of these sizes.
+    pub fn new(alloc: T::Alloc, tables: &'t Tables, sizes: Sizes) -> Result<Self, AllocError>
+        requires { AreSizes sizes }
+        ensures { IfOk result (λ core. core ≡ new_core tables.now sizes) }
+    {
+        let inbox = Inbox::new(alloc.clone()?, sizes.in_bytes, sizes.in_tokens)?;
+        let outbox = Outbox::new(alloc.clone()?, sizes.out_bytes, sizes.out_tokens)?;
+        let store = Vec::with_capacity(alloc.clone()?, LIMIT)?;
+        let table = T::new(alloc, DISPLAY)?;
+        Ok(Core {
+            tables,
+            table,
+            inbox,
+            outbox,
+            store,
+            failed: false,
+            read: 0,
+        })
+    }
+
+    /// wl_display, id 1 and birth 0 at each end.
+    pub fn display(&self) -> Object
+        ensures { result ≡ display_object }
+    {
+        Object { id: 1, birth: 0 }
+    }
+
+    /// The interface and version of an object that is live. Answers at a failed end too.
+    pub fn live(&self, object: Object) -> Option<(Iface, u32)>
+        ensures { result ≡ live self.now object }
+    {
+        let entry = self.table.look(object.id)?;
+        if entry.birth == object.birth && entry.state == State::Live {
+            Some((entry.iface, entry.version))
+        } else {
+            None
+        }
+    }
+
+    /// The free bytes and tokens of the inbox; zeros at a failed end.
+    pub fn in_room(&self) -> Fed
+        ensures { result ≡ in_room self.now }
+    {
+        if self.failed {
+            return Fed {
+                bytes: 0,
+                tokens: 0,
+            };
+        }
+        Fed {
+            bytes: self.inbox.room(),
+            tokens: self.inbox.token_room(),
+        }
+    }
+
+    /// Whether nothing waits in either box.
+    pub fn is_drained(&self) -> bool
+        ensures { result ≡ is_drained self.now }
+    {
+        self.inbox.is_empty() && self.outbox.is_empty()
+    }
+
+    /// Takes in what comes: as many tokens as fit, and where these are all, as many bytes as fit.
+    /// A failed end takes nothing.
+    pub fn feed(&mut self, bytes: &[u8], tokens: &[u32]) -> Fed
+        ensures fed { result ≡ feeds self.old bytes.now tokens.now }
+        ensures state { self.new ≡ with_arrived self.old (take result.bytes bytes.now) (take result.tokens tokens.now) }
+    {
+        if self.failed {
+            return Fed {
+                bytes: 0,
+                tokens: 0,
+            };
+        }
+        self.inbox.feed(bytes, tokens)
+    }
+
+    /// How much `take` into slices of these lengths would take.
+    pub fn goes(&self, bytes: usize, tokens: usize) -> Taken
+        ensures { result ≡ goes self.now.outbox bytes tokens }
+    {
+        self.outbox.goes(bytes, tokens)
+    }
+
+    /// Hands out what waits to go, as much as the slices hold. The tokens of a message go with its
+    /// first byte.
+    pub fn take(&mut self, bytes: &mut [u8], tokens: &mut [u32]) -> Taken
+        ensures taken { result ≡ goes self.old.outbox (length bytes.old) (length tokens.old) }
+        ensures bytes { bytes.new ≡ take result.bytes (waiting_bytes self.old.outbox) ++ drop result.bytes bytes.old }
+        ensures tokens { tokens.new ≡ take result.tokens (waiting_tokens self.old.outbox) ++ drop result.tokens tokens.old }
+        ensures state { self.new ≡ with_gone self.old result.bytes }
+    {
+        self.outbox.take(bytes, tokens)
+    }
+}

@@ -1,0 +1,168 @@
+use super::*;
+use refusing::RefusingAllocator;
+use std::alloc::{AllocError, Allocator, Global};
+use std::fmt::Write;
+use std::test::Fail;
+use wl_wire::{Iface, Kind};
+
+// Each interface with its version, its requests and its events, in the order of their opcodes. Arguments: i int,
+// u uint, f fixed, s string, o object, n new_id, a array, h descriptor; with `?` null is allowed. D: the message
+// destroys its target. `@k`: since version k, where that is not 1. Written from wayland.xml.
+const TABLE: [&str; 18] = [
+    "wl_display 1 | sync n(wl_callback); get_registry n(wl_registry) | error o(any) u s; delete_id u",
+    "wl_registry 1 | bind u n(no interface) | global u s u; global_remove u",
+    "wl_callback 1 | none | done u D",
+    "wl_compositor 6 | create_surface n(wl_surface); create_region n(wl_region) | none",
+    "wl_shm 2 | create_pool n(wl_shm_pool) h i; release D @2 | format u",
+    "wl_shm_pool 2 | create_buffer n(wl_buffer) i i i i u; destroy D; resize i | none",
+    "wl_buffer 1 | destroy D | release",
+    "wl_surface 6 | destroy D; attach ?o(wl_buffer) i i; damage i i i i; frame n(wl_callback); set_opaque_region ?o(wl_region); set_input_region ?o(wl_region); commit; set_buffer_transform i @2; set_buffer_scale i @3; damage_buffer i i i i @4; offset i i @5 | enter o(wl_output); leave o(wl_output); preferred_buffer_scale i @6; preferred_buffer_transform u @6",
+    "wl_region 1 | destroy D; add i i i i; subtract i i i i | none",
+    "wl_seat 9 | get_pointer n(wl_pointer); get_keyboard n(wl_keyboard); get_touch n(wl_touch); release D @5 | capabilities u; name s @2",
+    "wl_pointer 9 | set_cursor u ?o(wl_surface) i i; release D @3 | enter u o(wl_surface) f f; leave u o(wl_surface); motion u f f; button u u u u; axis u u f; frame @5; axis_source u @5; axis_stop u u @5; axis_discrete u i @5; axis_value120 u i @8; axis_relative_direction u u @9",
+    "wl_keyboard 9 | release D @3 | keymap u h u; enter u o(wl_surface) a; leave u o(wl_surface); key u u u u; modifiers u u u u u; repeat_info i i @4",
+    "wl_touch 9 | release D @3 | down u u o(wl_surface) i f f; up u u i; motion u i f f; frame; cancel; shape i f f @6; orientation i f @6",
+    "wl_output 4 | release D @3 | geometry i i i i i s s i; mode u i i i; done @2; scale i @2; name s @4; description s @4",
+    "wl_subcompositor 1 | destroy D; get_subsurface n(wl_subsurface) o(wl_surface) o(wl_surface) | none",
+    "wl_subsurface 1 | destroy D; set_position i i; place_above o(wl_surface); place_below o(wl_surface); set_sync; set_desync | none",
+    "wl_shell 1 | get_shell_surface n(wl_shell_surface) o(wl_surface) | none",
+    "wl_shell_surface 1 | pong u; move o(wl_seat) u; resize o(wl_seat) u u; set_toplevel; set_transient o(wl_surface) i i u; set_fullscreen u u ?o(wl_output); set_popup o(wl_seat) u o(wl_surface) i i u; set_maximized ?o(wl_output); set_title s; set_class s | ping u; configure u i i; popup_done",
+];
+
+fn put<A: Allocator>(text: &mut String<A>, bytes: &[u8]) -> Result<(), AllocError> {
+    for byte in bytes {
+        text.push(*byte as char)?;
+    }
+    Ok(())
+}
+
+fn put_interface<A: Allocator, B: Allocator>(
+    text: &mut String<B>,
+    tables: &Tables<A>,
+    iface: Option<Iface>,
+    none: &str,
+) -> Result<(), AllocError> {
+    match iface {
+        Some(iface) => put(text, tables.name(iface).unwrap_or(b"past the tables")),
+        None => put(text, none.as_bytes()),
+    }
+}
+
+fn put_kind<A: Allocator, B: Allocator>(
+    text: &mut String<B>,
+    tables: &Tables<A>,
+    kind: Kind,
+) -> Result<(), AllocError> {
+    match kind {
+        Kind::Int => put(text, b" i"),
+        Kind::Uint => put(text, b" u"),
+        Kind::Fixed => put(text, b" f"),
+        Kind::Str { null } => put(text, if null { b" ?s".as_slice() } else { b" s" }),
+        Kind::Array => put(text, b" a"),
+        Kind::Fd => put(text, b" h"),
+        Kind::Obj { null, iface } => {
+            put(text, if null { b" ?o(".as_slice() } else { b" o(" })?;
+            put_interface(text, tables, iface, "any")?;
+            put(text, b")")
+        }
+        Kind::New(iface) => {
+            put(text, b" n(")?;
+            put_interface(text, tables, iface, "no interface")?;
+            put(text, b")")
+        }
+    }
+}
+
+fn put_messages<A: Allocator, B: Allocator>(
+    text: &mut String<B>,
+    tables: &Tables<A>,
+    iface: Iface,
+    side: Side,
+) -> Result<(), AllocError> {
+    for opcode in 0u16..256 {
+        let signature = match tables.message(iface, side, opcode) {
+            Some(signature) => signature,
+            None => {
+                if opcode == 0 {
+                    put(text, b"none")?;
+                }
+                return Ok(());
+            }
+        };
+        if opcode > 0 {
+            put(text, b"; ")?;
+        }
+        put(text, signature.name())?;
+        for kind in signature.kinds() {
+            put_kind(text, tables, *kind)?;
+        }
+        if signature.destroys() == Destroys::Target {
+            put(text, b" D")?;
+        }
+        if signature.since() != 1 {
+            write!(text, " @{}", signature.since())?;
+        }
+    }
+    Ok(())
+}
+
+fn row<A: Allocator>(
+    alloc: Global,
+    tables: &Tables<A>,
+    iface: Iface,
+) -> Result<String, AllocError> {
+    let mut text = String::new(alloc);
+    put_interface(&mut text, tables, Some(iface), "")?;
+    write!(text, " {} | ", tables.version(iface).unwrap_or(0))?;
+    put_messages(&mut text, tables, iface, Side::Request)?;
+    put(&mut text, b" | ")?;
+    put_messages(&mut text, tables, iface, Side::Event)?;
+    Ok(text)
+}
+
+// Every signature stands at its place, side and opcode, and nothing else does.
+#[test]
+fn the_core_tables_are_those_of_the_documentation(rt: HostRuntime) -> Result<(), Fail> {
+    let tables = Tables::core(rt.alloc())?;
+    let mut place = 0u16;
+    for expected in TABLE {
+        let row = row(rt.alloc(), &tables, Iface(place))?;
+        assert_eq!(rt; row.as_str(), expected);
+        place = place.wrapping_add(1);
+    }
+    assert_eq!(rt; tables.version(Iface(18)), None);
+    assert!(rt; tables.name(Iface(18)).is_none());
+    assert!(rt; tables.message(Iface(18), Side::Request, 0).is_none());
+    assert!(rt; tables.message(Iface(0), Side::Request, 2).is_none());
+    assert!(rt; tables.message(Iface(0), Side::Event, 65535).is_none());
+    assert_eq!(rt; tables.interface(b"wl_display"), Some(Iface(0)));
+    assert_eq!(rt; tables.interface(b"wl_shell_surface"), Some(Iface(17)));
+    assert_eq!(rt; tables.interface(b"wl_data_device"), None);
+    Ok(())
+}
+
+// The making of the core tables is refused each of its allocations in turn. The answer is want of memory, and the
+// same call with memory gives the tables.
+#[test]
+fn the_core_tables_are_refused_each_allocation_in_turn(rt: HostRuntime) -> Result<(), Fail> {
+    let memory = RefusingAllocator::new(rt.alloc())?;
+    let mut refused = 0u64;
+    for number in 0u64..1000 {
+        let handle = memory.clone()?;
+        memory.refuse_nth(number);
+        if Tables::core(handle).is_ok() {
+            assert!(rt; !memory.has_refused());
+            break;
+        }
+        assert!(rt; memory.has_refused());
+        assert_eq!(rt; memory.asked(), number.wrapping_add(1));
+        refused = number.wrapping_add(1);
+        let tables = Tables::core(memory.clone()?)?;
+        let last = row(rt.alloc(), &tables, Iface(17))?;
+        assert_eq!(rt; last.as_str(), TABLE[17]);
+    }
+    // One for the interfaces, and for each interface and each message one for its name and one for each of its lists
+    // that is not empty.
+    assert_eq!(rt; refused, 224);
+    Ok(())
+}
