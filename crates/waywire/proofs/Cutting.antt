@@ -1,11 +1,10 @@
 -- A stream has one cut.
-use Rattle.std.proofs.Common.{◌≡◌, ◌≢◌, ℕ, zero, suc, ◌+◌, ◌-◌, ◌*◌, ◌%◌, ◌<◌, ◌≤◌, ◌⊎◌, inl, inr, Bool, List, [], ◌∷◌, ◌++◌, length, get_or, take, drop, true, false, refl, sym, ap, ◌∙◌, append_assoc, arith, length-append, length-drop}
-use Rattle.std.specs.List.{concat, AllByRecursion}
-use Rattle.std.proofs.lemmas.List.{append_cancel_left, append_cancel_right, take-append-drop, length-take-le, get_or_append_left}
+use Rattle.std.proofs.Common.{◌≡◌, ◌≢◌, ℕ, zero, suc, ◌-◌, ◌%◌, ◌<◌, ◌≤◌, List, [], ◌∷◌, ◌++◌, length, get_or, take, drop, true, refl, sym, ap, ◌∙◌, append_assoc, arith, length-append, length-drop}
+use Rattle.std.specs.List.{concat}
+use Rattle.std.proofs.lemmas.List.{take-append-drop, length-take-le, get_or_append_left}
 use Rattle.std.proofs.Math.Seq.{take-append_seam, drop-append_seam}
 use Rattle.std.proofs.lemmas.Bool.Decides.{nat_tests}
-use Rattle.std.proofs.lemmas.Grind.{common_steps}
-use Rattle.wl_message.specs.Cut.{IsCut, IsMessage, IsSize, is_size, told_size, front, Front, More, Bad, Whole, usual_limit}
+use Rattle.wl_message.specs.Cut.{IsCut, IsMessage, is_size, told_size, front, Front, More, Bad, Whole}
 
 is_size-true : (limit n : ℕ) → 8 ≤ n → n % 4 ≡ 0 → n ≤ limit → is_size limit n ≡ true
 is_size-true limit n low words high = grind (arith, nat_tests)

@@ -2,11 +2,10 @@
 use Rattle.std.proofs.Common.{◌≡◌, ℕ, ◌⊎◌, inl, inr, List, [], ◌∷◌, ◌++◌, length, refl, sym, ap, ◌∙◌, subst, Result, Ok, Err, IfOk, IfErr}
 use Rattle.std.specs.Prelude.{IsErrAnd}
 use Rattle.std.specs.List.{concat}
-use Rattle.wl_message.specs.Cut.{IsCut, usual_limit}
 use Rattle.waywire.specs.declared.first.FirstError.{FirstError}
 use Rattle.waywire.specs.declared.first.FirstError.TheVariants.{OutsideStage, Memory}
-use Rattle.waywire.specs.First.{Request, IsFirst, AreFirst, none, more, AreLines, IsOutside, IsBad, BeginsOutside}
-use Rattle.waywire.proofs.Cutting.{SameCut, one_cut}
+use Rattle.waywire.specs.First.{AreFirst, more, AreLines, IsOutside, IsBad, BeginsOutside}
+use Rattle.waywire.proofs.Cutting.{one_cut}
 
 -- requests, the last of them
 record Follows (after : List (List ℕ)) : Type 0 where

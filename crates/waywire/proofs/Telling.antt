@@ -1,9 +1,9 @@
 -- The lines of a stream, one message after another.
-use Rattle.std.proofs.Common.{◌≡◌, ℕ, ◌+◌, List, [], ◌∷◌, ◌++◌, length, refl, sym, ap, ◌∙◌, append_assoc, arith, length-append}
+use Rattle.std.proofs.Common.{◌≡◌, ℕ, ◌+◌, List, [], ◌∷◌, ◌++◌, length, refl, sym, ap, ◌∙◌, length-append}
 use Rattle.std.specs.List.{concat}
-use Rattle.wl_message.specs.Cut.{IsCut, IsMessage, front, Front, More, Bad, Whole, usual_limit}
-use Rattle.waywire.specs.First.{Request, IsFirst, AreFirst, none, more, AreLines, IsOutside, IsBad, first_line}
-use Rattle.waywire.proofs.Cutting.{HasCut, cut_more, cut_nothing, cut_any}
+use Rattle.wl_message.specs.Cut.{IsMessage, front, More, Bad, usual_limit}
+use Rattle.waywire.specs.First.{Request, IsFirst, none, more, AreLines, IsOutside, first_line}
+use Rattle.waywire.proofs.Cutting.{cut_more, cut_nothing, cut_any}
 
 -- no message stands in front, and no bad size: there are no lines more
 pub lines_none : {s : List ℕ} → front usual_limit s ≡ More → AreLines s []

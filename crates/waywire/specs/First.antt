@@ -1,6 +1,6 @@
 -- The two requests of wl_display, and the lines of a stream that has no others.
-use Rattle.std.specs.Prelude.{◌≡◌, ℕ, ◌⊎◌, List, [], ◌∷◌, ◌++◌, length, codes, Option, Some, option_map, Result, Ok, Err}
-use Rattle.std.specs.List.{concat, AllByRecursion}
+use Rattle.std.specs.Prelude.{◌≡◌, ℕ, List, [], ◌∷◌, ◌++◌, length, codes, Some, option_map}
+use Rattle.std.specs.List.{concat}
 use Rattle.wl_wire.specs.declared.kind.Iface.{Iface}
 use Rattle.wl_wire.specs.Argument.{New}
 use Rattle.wl_sigs.specs.declared.signature.Side.TheVariants as sides
@@ -9,7 +9,7 @@ use Rattle.wl_sigs.specs.Fixed.{display}
 use Rattle.wl_sigs.specs.Core.{core_tables}
 use Rattle.wl_message.specs.Cut.{IsCut, front, Bad, usual_limit}
 use Rattle.wl_message.specs.Spelled.{MessageSpells}
-use Rattle.waywire.specs.Line.{Named, Told, new_text, line_of}
+use Rattle.waywire.specs.Line.{Named, new_text, line_of}
 
 -- a request that makes an object, as its line tells it: its name, and the object
 pub record Request : Type 0 where

@@ -1,5 +1,5 @@
 -- What the program answers for a recording.
-use Rattle.std.specs.Prelude.{◌≡◌, ℕ, ◌⊎◌, List}
+use Rattle.std.specs.Prelude.{ℕ, ◌⊎◌, List}
 use Rattle.std.specs.List.{AllByRecursion}
 use Rattle.wl_recording.specs.Piece.{Piece}
 use Rattle.wl_recording.specs.Text.{Recorded, IsFirstBad}

@@ -1,6 +1,6 @@
-use Rattle.std.proofs.Common.{◌≡◌, ℕ, ◌+◌, ◌-◌, ◌≤◌, List, [], ◌++◌, length, refl, sym, ap, ◌∙◌, subst, append_assoc, append-nil, add-zero, arith, length-append, rules}
+use Rattle.std.proofs.Common.{◌≡◌, ◌+◌, ◌-◌, [], ◌++◌, length, ap, ◌∙◌, subst, append_assoc, append-nil, arith, length-append, rules}
 use Rattle.wl_message.specs.Cut.{front, More, Bad, IsMessage, usual_limit}
-use Rattle.waywire.specs.First.{AreLines, IsOutside, IsFirst, Request, first_line}
+use Rattle.waywire.specs.First.{IsOutside, IsFirst, Request, first_line}
 use Rattle.waywire.specs.Seen.{told}
 use Rattle.waywire.proofs.Telling.{lines_none, lines_more, outside_rest, outside_message, outside_more}
 use Rattle.waywire.proofs.first.lines_by.Goals as goal

@@ -1,6 +1,5 @@
 use Rattle.std.proofs.Common.{ℕ, ◌+◌, ◌-◌, ◌≤◌, List, ◌++◌, length}
 use Rattle.waywire.specs.First.{AreLines, IsOutside}
-use Rattle.waywire.proofs.Telling
 use Rattle.waywire.proofs.first.lines_by.Given as goal
 
 abbrev pub invariant-messages : goal.invariant-messages

@@ -1,6 +1,6 @@
-use Rattle.std.proofs.Common.{◌≡◌, ◌≤◌, ℕ, List, [], ◌∷◌, ◌++◌, length, take, Some, Ok, Err, refl, sym, ap, ◌∙◌, arith, rules, subst}
+use Rattle.std.proofs.Common.{length, take, Some, sym, ap, ◌∙◌, arith}
 use Rattle.std.proofs.Math.Seq.{take-length}
-use Rattle.wl_wire.specs.Argument.{New, lent}
+use Rattle.wl_wire.specs.Argument.{New}
 use Rattle.wl_wire.specs.Spelling.{Spells}
 use Rattle.wl_wire.specs.Reading.{seen}
 use Rattle.wl_wire.specs.declared.kind.Kind.TheVariants as kinds
