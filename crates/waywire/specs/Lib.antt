@@ -4,3 +4,4 @@ pub mod Seen
 pub mod Stage
 pub mod Failing
 pub mod Trace
+pub mod Stopping

@@ -4,7 +4,7 @@ ghost use Rattle.std.specs.Io.KnownBytes.{Appends};
 ghost use Rattle.std.specs.List.{AllByRecursion};
 ghost use Rattle.wl_recording.specs.Piece.{plain};
 ghost use Rattle.waywire.specs.declared.failure.Failure.TheVariants.{Memory, OutsideStage};
-ghost use Rattle.waywire.specs.Failing.{IsReadFailure, status_of};
+ghost use Rattle.waywire.specs.Failing.{IsReadFailure};
 ghost use Rattle.waywire.specs.Stage.{IsTraceable, all_bytes};
 ghost use Rattle.waywire.specs.Trace.{IsTrace, IsOtherwise, IsRefusal};
 
@@ -112,18 +112,10 @@ pub fn act<A: Allocator, R: Read, O: Write, E: Write>(
     match output(&alloc, job, file) {
         Ok(text) => match write_through(out, &text) {
             Ok(()) => 0,
-            Err(_) => failed(err, &Failure::CannotWrite),
+            Err(_) => Failure::CannotWrite.tell(err),
         },
-        Err(failure) => failed(err, &failure),
+        Err(failure) => failure.tell(err),
     }
-}
-
-/// Says why there is no output, and answers the status.
-fn failed<E: Write>(err: &mut E, failure: &Failure<'_>) -> u8
-    ensures { result ≡ status_of failure.now }
-{
-    let _ = writeln!(err, "waywire: {failure}");
-    failure.status()
 }
 
 #[cfg(test)]

@@ -5,6 +5,7 @@ ghost use Rattle.waywire.specs.Failing.{recording_failure, first_failure, status
 
 use crate::first::FirstError;
 use std::alloc::AllocError;
+use std::io::Write;
 use thiserror::Error;
 use wl_recording::RecordingError;
 
@@ -33,7 +34,7 @@ pub enum Failure<'a> {
 
 impl Failure<'_> {
     /// The exit status: 1 for what is not traced yet, 4 for want of memory, else 3.
-    pub fn status(&self) -> u8
+    fn status(&self) -> u8
         ensures { result ≡ status_of self.now }
     {
         match self {
@@ -41,6 +42,15 @@ impl Failure<'_> {
             Failure::Memory => 4,
             _ => 3,
         }
+    }
+
+    /// Says so on `err`, which is standard error, and answers the exit status. Where `err` fails,
+    /// nothing is said.
+    pub fn tell<E: Write>(&self, err: &mut E) -> u8
+        ensures { result ≡ status_of self.now }
+    {
+        let _ = writeln!(err, "waywire: {self}");
+        self.status()
     }
 }
 

@@ -1,4 +1,6 @@
 //! What the words of a command line ask for.
+ghost use Rattle.std.specs.Prelude.{◌≡◌, ◌⊎◌, [], IfErr, string_bytes};
+ghost use Rattle.waywire.specs.Stopping.{IsStop};
 
 use clap::error::ErrorKind;
 use clap::{Arg, Command, Error};
@@ -49,14 +51,18 @@ fn parsed(alloc: Global, words: &[String]) -> Result<Option<Job>, Error> {
     }
 }
 
-fn no_memory(alloc: Global) -> Stop {
+fn no_memory(alloc: Global) -> Stop
+    ensures { IsStop result }
+{
     Stop {
         status: 4,
         text: String::new(alloc),
     }
 }
 
-fn stop_of(alloc: Global, error: &Error) -> Stop {
+fn stop_of(alloc: Global, error: &Error) -> Stop
+    ensures { IsStop result }
+{
     if matches!(error.kind(), ErrorKind::OutOfMemory) {
         return no_memory(alloc);
     }
@@ -70,7 +76,9 @@ fn stop_of(alloc: Global, error: &Error) -> Stop {
 /// The job that a command line asks for. The first word is the program's name.
 ///
 /// A command that is not known, a word too many and a word too few are faults of usage.
-pub fn job_of(alloc: Global, words: &[String]) -> Result<Job, Stop> {
+pub fn job_of(alloc: Global, words: &[String]) -> Result<Job, Stop>
+    ensures { IfErr result IsStop }
+{
     match parsed(alloc, words) {
         Ok(Some(job)) => Ok(job),
         Ok(None) => Err(Stop {

@@ -18,21 +18,15 @@ fn words(rt: &HostRuntime) -> io::Result<Vec<String>> {
     Ok(env::args(rt)?.collect(rt.alloc())?)
 }
 
-/// Says on standard error why there is no output, and answers the status.
-fn failed(rt: &HostRuntime, failure: &Failure) -> u8 {
-    let _ = writeln!(rt.stderr(), "waywire: {failure}");
-    failure.status()
-}
-
 /// Prints why there is no job, and answers the status.
 fn stopped(rt: &HostRuntime, stop: &Stop) -> u8 {
     let text = stop.text.as_str();
     match stop.status {
         0 => match io::writer(rt).write_all(text.as_bytes()) {
             Ok(()) => 0,
-            Err(_) => failed(rt, &Failure::CannotWrite),
+            Err(_) => Failure::CannotWrite.tell(&mut rt.stderr()),
         },
-        4 => failed(rt, &Failure::Memory),
+        4 => Failure::Memory.tell(&mut rt.stderr()),
         status => {
             let _ = rt.stderr().write_all(text.as_bytes());
             status
@@ -51,7 +45,7 @@ fn done(rt: &HostRuntime, job: &Job) -> u8 {
             &mut io::writer(rt),
             &mut rt.stderr(),
         ),
-        Err(_) => failed(rt, &Failure::CannotRead(name.as_str())),
+        Err(_) => Failure::CannotRead(name.as_str()).tell(&mut rt.stderr()),
     }
 }
 
@@ -62,7 +56,7 @@ fn main(rt: HostRuntime) -> ExitCode {
             Err(stop) => stopped(&rt, &stop),
         },
         Err(error) => match error.kind() {
-            ErrorKind::OutOfMemory => failed(&rt, &Failure::Memory),
+            ErrorKind::OutOfMemory => Failure::Memory.tell(&mut rt.stderr()),
             _ => {
                 let _ = writeln!(
                     rt.stderr(),

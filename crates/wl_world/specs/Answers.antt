@@ -1,0 +1,240 @@
+-- What each move is answered in the world, and what it does there.
+use Rattle.std.specs.Prelude.{◌≡◌, ◌≢◌, ℕ, ◌+◌, ◌<◌, true, false, nat_eq, if◌then◌else◌, List, [], ◌∷◌, ◌++◌, length, map, take, Option, Some, None, option_map}
+use Rattle.std.specs.declared.result.Result.{Result}
+use Rattle.std.specs.declared.result.Result.TheVariants.{Ok, Err}
+use Rattle.wl_wire.specs.Argument.{reshaped, Uint, NewNamed}
+use Rattle.wl_sigs.specs.declared.signature.Side.{Side}
+use Rattle.wl_sigs.specs.declared.signature.Side.TheVariants.{Request as request_side, Event as event_side}
+use Rattle.wl_sigs.specs.Tables.{Interface, signature_at, destroys_target}
+use Rattle.wl_sigs.specs.Tables as sigs
+use Rattle.wl_message.specs.Cut.{usual_limit, front, HasMessage}
+use Rattle.wl_message.specs.Arrived.{Arrived}
+use Rattle.wl_message.specs.Outgoing.{room_of}
+use Rattle.wl_objects.specs.declared.object.Object.{Object}
+use Rattle.wl_objects.specs.declared.argument.Named.{Named}
+use Rattle.wl_objects.specs.declared.argument.Named.TheVariants as named_as
+use Rattle.wl_objects.specs.declared.error.NextError.{NextError}
+use Rattle.wl_objects.specs.declared.error.NextError.TheVariants as errors
+use Rattle.wl_objects.specs.Reading.{Reported}
+use Rattle.wl_objects.specs.Writing.{Given}
+use Rattle.wl_end.specs.Sending.{delete_id_len}
+use Rattle.wl_client.specs.Reports as events
+use Rattle.wl_server.specs.State as server
+use Rattle.wl_server.specs.Requests as requests
+use Rattle.wl_server.specs.Calls.{without_at}
+use Rattle.wl_server.specs.Announcing.{Owing, Removal, Telling, owed_to, opcode_of, values_of}
+use Rattle.wl_world.specs.Meant.{Born, Message, Coming, Event, Delete, Arg, rearg, birth_of, made_in, tokens}
+use Rattle.wl_world.specs.World.{World, Row, Open, Ending, Marks, Deed, WriteRequest, ReadRequest, WriteEvent, Drop, ReadEvent, Steps}
+use Rattle.wl_world.specs.Pair.{PairState, Move, Reply, ClientSend, ClientBind, ServerSend, ServerDrop, PostError, AddGlobal, Withdraw, Announce, CarryToServer, CarryToClient, ClientNext, ServerNext, Does}
+
+-- ---- writes
+
+-- whether a message destroys its target, by its signature
+pub record IsMessageOf (tables : List Interface) (side : Side) (m : Message Born) : Type 0 where
+  pub signature : sigs.Message
+  pub there : signature_at tables m.target.iface.0 side m.opcode ≡ Some signature
+  pub destroys : m.destroys ≡ destroys_target signature.destroys
+
+abbrev pub birth_at : Object → ℕ
+birth_at object = object.birth
+
+-- an argument that was handed to a call, its objects by their births, its new object as the next birth
+abbrev pub handed : ℕ → Given → Arg ℕ
+handed births given = reshaped (option_map birth_at) (λ _. births) (λ t. t) given
+
+abbrev pub writing : Side → Message Born → Deed
+writing request_side m = WriteRequest m
+writing event_side m = WriteEvent m
+
+-- The message is written that the handed objects' births name; where it makes an object, that is what was answered.
+pub record WritesThat (tables : List Interface) (side : Side) (w : World) (target opcode : ℕ) (args : List (Arg ℕ)) (new : Option Object) (w' : World) : Type 0 where
+  pub message : Message Born
+  pub is : IsMessageOf tables side message
+  pub target_is : message.target.birth ≡ target
+  pub opcode_is : message.opcode ≡ opcode
+  pub args_are : map (rearg birth_of) message.args ≡ args
+  pub new_is : option_map birth_of (made_in message.args) ≡ option_map birth_at new
+  pub steps : Steps tables w (writing side message) w'
+
+-- the arguments of a bind
+abbrev pub bound : ℕ → List ℕ → ℕ → ℕ → List (Arg ℕ)
+bound name iface version births = Uint name ∷ NewNamed iface version births ∷ []
+
+-- only an acceptance does anything
+abbrev pub IfAccepted : {X E : Type 0} → Result X E → World → World → (X → Type 0) → Type 0
+IfAccepted (Ok x) w w' P = P x
+IfAccepted (Err why) w w' P = w' ≡ w
+
+-- ---- what is owed to the open registries, by births
+
+abbrev pub registry_of : Marks → server.Registry
+registry_of r = record { object = record { id = 0; birth = r.birth }; told = r.told; removed = r.removed }
+
+-- an event that is owed, and the birth of the registry that it is for
+pub record Owed : Type 0 where
+  pub birth : ℕ
+  pub owing : Owing
+
+abbrev pub owed_by : List server.Global → List Marks → List Owed
+owed_by given [] = []
+owed_by given (r ∷ registries) = map (λ owing. record { birth = r.birth; owing = owing }) (owed_to given (registry_of r)) ++ owed_by given registries
+
+abbrev pub mark : Owing → Marks → Marks
+mark (Removal name) r = record r { removed = server.with_mark r.removed name }
+mark (Telling name global) r = record r { told = server.with_mark r.told name }
+
+abbrev pub mark_in : Owed → List Marks → List Marks
+mark_in o [] = []
+mark_in o (r ∷ registries) = (if nat_eq r.birth o.birth then mark o.owing r else r) ∷ mark_in o registries
+
+-- the arguments of an owed event, which names no object
+abbrev pub told_args : List Interface → Owing → List (Arg ℕ)
+told_args tables owing = map (reshaped (λ _. None) (λ birth. birth) (λ _. 0)) (values_of tables owing)
+
+-- The events are written in this order, each to its registry, which is marked.
+pub data AnnouncesThose (tables : List Interface) : World → List Owed → World → Type 0 where
+  none : {w : World} → AnnouncesThose tables w [] w
+  more : {w between w' : World} {o : Owed} {others : List Owed}
+      → WritesThat tables event_side w o.birth (opcode_of o.owing) (told_args tables o.owing) None between
+      → AnnouncesThose tables (record between { registries = mark_in o between.registries }) others w' → AnnouncesThose tables w (o ∷ others) w'
+
+-- ---- reads
+
+-- an object in a report, by its birth: none, live or dead
+pub data Seen : Type 0 where
+  Null : Seen
+  Live : ℕ → Seen
+  Dead : ℕ → Seen
+
+abbrev pub seen : Named → Seen
+seen named_as.Null = Null
+seen (named_as.Live object) = Live object.birth
+seen (named_as.Dead object) = Dead object.birth
+
+abbrev pub by_row : ℕ → Option Row → Seen
+by_row birth (Some (Ending x)) = Dead birth
+by_row birth _ = Live birth
+
+-- how a birth is seen by an end with these objects
+abbrev pub seen_by : (ℕ → Option Row) → Option Born → Seen
+seen_by rows None = Null
+seen_by rows (Some x) = by_row x.birth (rows x.birth)
+
+-- The reported arguments are those of the message: each object as its birth, live or dead by these rows, and each token.
+abbrev pub ReportsArgs : (ℕ → Option Row) → List (Arg Born) → List Reported → Type 0
+ReportsArgs rows args reported = map (reshaped seen birth_at (λ t. t)) reported ≡ map (reshaped (seen_by rows) birth_of (λ t. t)) args
+
+abbrev pub rows_of_server : World → ℕ → Option Row
+rows_of_server w birth = option_map Open (w.server birth)
+
+-- the report of a request
+pub record ReportsRequest (w : World) (m : Message Born) (report : requests.Report) : Type 0 where
+  pub target : report.target.birth ≡ m.target.birth
+  pub opcode : report.opcode ≡ m.opcode
+  pub args : ReportsArgs (rows_of_server w) m.args report.args
+
+-- The report of what comes to the client: an event for an open object as it was meant; one for an ending object with its tokens; a delete.
+abbrev pub ReportsComing : World → Coming Born → events.Report → Type 0
+ReportsComing w (Event m) (events.Event target opcode args) =
+    ((x : Born) × (w.client m.target.birth ≡ Some (Open x))) × (target.birth ≡ m.target.birth) × (opcode ≡ m.opcode) × ReportsArgs w.client m.args args
+ReportsComing w (Event m) (events.Discarded target opcode own) =
+    ((x : Born) × (w.client m.target.birth ≡ Some (Ending x))) × (target.birth ≡ m.target.birth) × (opcode ≡ m.opcode) × (own ≡ tokens m.args)
+ReportsComing w (Delete x) (events.Deleted object) = object.birth ≡ x.birth
+ReportsComing w _ report = ⊥
+
+-- no whole message waits
+abbrev pub HasNone : Arrived → Type 0
+HasNone inbox = HasMessage (front usual_limit inbox.bytes) → ⊥
+
+abbrev pub HasOne : Arrived → Type 0
+HasOne inbox = HasMessage (front usual_limit inbox.bytes)
+
+-- a destroying request whose delete has no room
+abbrev pub IsOutFull : PairState → Message Born → Type 0
+IsOutFull p m = (m.destroys ≡ true) × (room_of p.server.core.outbox < delete_id_len)
+
+pub record ReadsRequest (tables : List Interface) (p : PairState) (w : World) (report : requests.Report) (w' : World) : Type 0 where
+  pub waits : HasOne p.server.core.inbox
+  pub message : Message Born
+  pub steps : Steps tables w (ReadRequest message) w'
+  pub reports : ReportsRequest w message report
+  pub has_room : IsOutFull p message → ⊥
+
+-- the first request stays: its delete has no room, or there was no memory for a report with arguments
+pub record KeepsRequest (p : PairState) (w : World) (cause : Message Born → Type 0) (w' : World) : Type 0 where
+  pub waits : HasOne p.server.core.inbox
+  pub message : Message Born
+  pub rest : List (Message Born)
+  pub first : w.requests ≡ message ∷ rest
+  pub because : cause message
+  pub same : w' ≡ w
+
+pub record ReadsEvent (tables : List Interface) (p : PairState) (w : World) (report : events.Report) (w' : World) : Type 0 where
+  pub waits : HasOne p.client.core.inbox
+  pub coming : Coming Born
+  pub steps : Steps tables w (ReadEvent coming) w'
+  pub reports : ReportsComing w coming report
+
+-- a delete has an argument too, the id
+abbrev pub HasArguments : Coming Born → Type 0
+HasArguments (Event m) = m.args ≢ []
+HasArguments (Delete x) = Unit {0}
+
+pub record KeepsEvent (p : PairState) (w : World) (w' : World) : Type 0 where
+  pub waits : HasOne p.client.core.inbox
+  pub coming : Coming Born
+  pub rest : List (Coming Born)
+  pub first : w.events ≡ coming ∷ rest
+  pub because : HasArguments coming
+  pub same : w' ≡ w
+
+-- The server's read takes the first request and reports it, where a whole message waits; no fault is answered, and no failure.
+abbrev pub ReadsAtServer : List Interface → PairState → World → Result (Option requests.Report) NextError → World → Type 0
+ReadsAtServer tables p w (Ok None) w' = HasNone p.server.core.inbox × (w' ≡ w)
+ReadsAtServer tables p w (Ok (Some report)) w' = ReadsRequest tables p w report w'
+ReadsAtServer tables p w (Err errors.OutFull) w' = KeepsRequest p w (IsOutFull p) w'
+ReadsAtServer tables p w (Err errors.Memory) w' = KeepsRequest p w (λ m. m.args ≢ []) w'
+ReadsAtServer tables p w (Err other) w' = ⊥
+
+-- The client's read takes the first of what comes and reports it, where a whole message waits.
+abbrev pub ReadsAtClient : List Interface → PairState → World → Result (Option events.Report) NextError → World → Type 0
+ReadsAtClient tables p w (Ok None) w' = HasNone p.client.core.inbox × (w' ≡ w)
+ReadsAtClient tables p w (Ok (Some report)) w' = ReadsEvent tables p w report w'
+ReadsAtClient tables p w (Err errors.Memory) w' = KeepsEvent p w w'
+ReadsAtClient tables p w (Err other) w' = ⊥
+
+-- ---- all moves
+
+abbrev pub IfOk : {E : Type 0} → Result (Unit {0}) E → World → World → Type 0 → Type 0
+IfOk (Ok x) w w' P = P
+IfOk (Err why) w w' P = w' ≡ w
+
+pub record Drops (tables : List Interface) (w : World) (birth : ℕ) (w' : World) : Type 0 where
+  pub object : Born
+  pub is : object.birth ≡ birth
+  pub steps : Steps tables w (Drop object) w'
+
+-- What a move does in the world, whose pair and reply are these.
+abbrev pub Means : PairState → World → Move → Reply → World → Type 0
+Means p w (ClientSend target opcode given) (ClientSend reply) w' =
+    IfAccepted reply w w' (λ new. WritesThat p.client.core.tables request_side w target.birth opcode (map (handed w.births) given) new w')
+Means p w (ClientBind target name iface version) (ClientBind reply) w' =
+    IfAccepted reply w w' (λ new. WritesThat p.client.core.tables request_side w target.birth 0 (bound name iface version w.births) new w')
+Means p w (ServerSend target opcode given) (ServerSend reply) w' =
+    IfAccepted reply w w' (λ new. WritesThat p.server.core.tables event_side w target.birth opcode (map (handed w.births) given) new w')
+Means p w (ServerDrop object) (ServerDrop reply) w' = IfOk reply w w' (Drops p.server.core.tables w object.birth w')
+Means p w (PostError object code text) (PostError reply) w' = IfOk reply w w' (w' ≡ record w { ended = true })
+Means p w (AddGlobal iface version) (AddGlobal reply) w' =
+    IfAccepted reply w w' (λ name. (name ≡ length w.given + 1) × (w' ≡ record w { given = w.given ++ record { iface = iface; version = version; present = true } ∷ [] }))
+Means p w (Withdraw name) (Withdraw reply) w' = IfOk reply w w' (w' ≡ record w { given = without_at w.given name (server.global_of w.given name) })
+Means p w Announce (Announce reply) w' = IfAccepted reply w w' (λ count. AnnouncesThose p.server.core.tables w (take count (owed_by w.given w.registries)) w')
+Means p w (CarryToServer most) (CarryToServer fed) w' = w' ≡ w
+Means p w (CarryToClient most) (CarryToClient fed) w' = w' ≡ w
+Means p w ClientNext (ClientNext reply) w' = ReadsAtClient p.client.core.tables p w reply w'
+Means p w ServerNext (ServerNext reply) w' = ReadsAtServer p.server.core.tables p w reply w'
+Means p w _ _ w' = ⊥
+
+-- What a move may be answered, and what it leaves of the pair and the world. After an error was posted all is allowed.
+pub data Answers (p : PairState) (w : World) (move : Move) (reply : Reply) (p' : PairState) (w' : World) : Type 0 where
+  before : w.ended ≡ false → Does p move reply p' → Means p w move reply w' → Answers p w move reply p' w'
+  after : w.ended ≡ true → w'.ended ≡ true → Answers p w move reply p' w'

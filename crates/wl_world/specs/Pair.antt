@@ -1,0 +1,196 @@
+-- A client and a server with nothing between, what can be done with them, and what each call answers and leaves.
+use Rattle.std.specs.Prelude.{◌≡◌, ℕ, Bool, true, false, not, min, nat_lt, if◌then◌else◌, List, [], ◌∷◌, length, take, Option, Some, None}
+use Rattle.std.specs.declared.result.Result.{Result}
+use Rattle.std.specs.declared.result.Result.TheVariants.{Ok, Err}
+use Rattle.wl_wire.specs.declared.kind.Iface.{Iface}
+use Rattle.wl_sigs.specs.declared.signature.Side.TheVariants.{Request, Event}
+use Rattle.wl_sigs.specs.Tables.{Interface}
+use Rattle.wl_message.specs.declared.amounts.Fed.{Fed}
+use Rattle.wl_message.specs.declared.amounts.Taken.{Taken}
+use Rattle.wl_message.specs.declared.amounts.Sizes.{Sizes}
+use Rattle.wl_message.specs.Outgoing.{goes, waiting_bytes, waiting_tokens}
+use Rattle.wl_objects.specs.declared.object.Object.{Object}
+use Rattle.wl_objects.specs.declared.error.SendError.{SendError}
+use Rattle.wl_objects.specs.declared.error.SendError.TheVariants as refusals
+use Rattle.wl_objects.specs.declared.error.NextError.{NextError}
+use Rattle.wl_objects.specs.declared.error.NextError.TheVariants as errors
+use Rattle.wl_objects.specs.declared.error.Fault.{Fault}
+use Rattle.wl_objects.specs.Writing.{Given}
+use Rattle.wl_objects.specs.Messages.{checked}
+use Rattle.wl_end.specs.Core.{Core, in_room, with_arrived, with_gone, is_drained}
+use Rattle.wl_end.specs.Receiving.{Found, found}
+use Rattle.wl_end.specs.Sending.{send_answer, after_send, opens_object}
+use Rattle.wl_client.specs.State as client
+use Rattle.wl_client.specs.Reports as events
+use Rattle.wl_client.specs.Calls.{bind_answer, after_bind}
+use Rattle.wl_server.specs.State as server
+use Rattle.wl_server.specs.State.{max_globals, global_of}
+use Rattle.wl_server.specs.Requests as requests
+use Rattle.wl_server.specs.Calls.{drop_refusal, after_drop, error_refusal, after_error, can_be_global, with_global, next_name, is_present, after_withdraw}
+use Rattle.wl_server.specs.Announcing.{Fitting, after_announce}
+
+pub record PairState : Type 0 where
+  pub client : client.State
+  pub server : server.State
+
+-- both ends as they begin
+abbrev pub new_pair : List Interface → Sizes → Sizes → PairState
+new_pair tables client_sizes server_sizes = record { client = client.new_state tables client_sizes; server = server.new_state tables server_sizes }
+
+-- what can be done with a pair
+pub data Move : Type 0 where
+  ClientSend : Object → (opcode : ℕ) → List Given → Move
+  ClientBind : Object → (name : ℕ) → (iface : List ℕ) → (version : ℕ) → Move
+  ServerSend : Object → (opcode : ℕ) → List Given → Move
+  ServerDrop : Object → Move
+  PostError : Object → (code : ℕ) → (text : List ℕ) → Move
+  AddGlobal : Iface → (version : ℕ) → Move
+  Withdraw : (name : ℕ) → Move
+  Announce : Move
+  CarryToServer : (most : ℕ) → Move
+  CarryToClient : (most : ℕ) → Move
+  ClientNext : Move
+  ServerNext : Move
+
+-- why a global is not added, or not withdrawn
+pub data GlobalRefusal : Type 0 where
+  Failed : GlobalRefusal
+  BadGlobal : GlobalRefusal
+  TooMany : GlobalRefusal
+  Memory : GlobalRefusal
+  NoSuchGlobal : GlobalRefusal
+
+-- what a move is answered
+pub data Reply : Type 0 where
+  ClientSend : Result (Option Object) SendError → Reply
+  ClientBind : Result (Option Object) SendError → Reply
+  ServerSend : Result (Option Object) SendError → Reply
+  ServerDrop : Result (Unit {0}) SendError → Reply
+  PostError : Result (Unit {0}) SendError → Reply
+  AddGlobal : Result ℕ GlobalRefusal → Reply
+  Withdraw : Result (Unit {0}) GlobalRefusal → Reply
+  Announce : Result ℕ SendError → Reply
+  CarryToServer : Fed → Reply
+  CarryToClient : Fed → Reply
+  ClientNext : Result (Option events.Report) NextError → Reply
+  ServerNext : Result (Option requests.Report) NextError → Reply
+
+-- ---- the pair with one end changed
+
+abbrev pub with_client : PairState → client.State → PairState
+with_client p c = record p { client = c }
+
+abbrev pub with_server : PairState → server.State → PairState
+with_server p s = record p { server = s }
+
+abbrev pub with_client_core : PairState → Core → PairState
+with_client_core p c = with_client p (client.with_core p.client c)
+
+abbrev pub with_server_core : PairState → Core → PairState
+with_server_core p c = with_server p (server.with_core p.server c)
+
+-- ---- a carry
+
+-- What goes from one end to the other: at most so many bytes, and at most what the other's inbox has room for.
+abbrev pub carries : Core → Core → ℕ → Taken
+carries from to most = goes from.outbox (min most (in_room to).bytes) (in_room to).tokens
+
+abbrev pub carried_bytes : Core → Taken → List ℕ
+carried_bytes from taken = take taken.bytes (waiting_bytes from.outbox)
+
+abbrev pub carried_tokens : Core → Taken → List ℕ
+carried_tokens from taken = take taken.tokens (waiting_tokens from.outbox)
+
+abbrev pub all_of : Taken → Fed
+all_of taken = record { bytes = taken.bytes; tokens = taken.tokens }
+
+abbrev pub after_carry_to_server : PairState → Taken → PairState
+after_carry_to_server p taken = record {
+  client = client.with_core p.client (with_gone p.client.core taken.bytes);
+  server = server.with_core p.server (with_arrived p.server.core (carried_bytes p.client.core taken) (carried_tokens p.client.core taken));
+}
+
+abbrev pub after_carry_to_client : PairState → Taken → PairState
+after_carry_to_client p taken = record {
+  client = client.with_core p.client (with_arrived p.client.core (carried_bytes p.server.core taken) (carried_tokens p.server.core taken));
+  server = server.with_core p.server (with_gone p.server.core taken.bytes);
+}
+
+-- ---- what a call answers and leaves
+
+-- A write is accepted or refused as its answer says; where it opens an object, memory may be wanted in place of an acceptance.
+-- Only an accepted one changes the pair.
+pub data Writes (answer : Result (Option Object) SendError) (opens : Bool) (before after : PairState) : Result (Option Object) SendError → PairState → Type 0 where
+  accepted : {new : Option Object} → answer ≡ Ok new → Writes answer opens before after (Ok new) after
+  refused : {why : SendError} → answer ≡ Err why → Writes answer opens before after (Err why) before
+  no_memory : {new : Option Object} → answer ≡ Ok new → opens ≡ true → Writes answer opens before after (Err refusals.Memory) before
+
+-- A call that answers no value is done, or refused as this says.
+pub data Calls {E : Type 0} (refusal : Option E) (before after : PairState) : Result (Unit {0}) E → PairState → Type 0 where
+  done : refusal ≡ None → Calls refusal before after (Ok tt) after
+  refused : {why : E} → refusal ≡ Some why → Calls refusal before after (Err why) before
+
+abbrev pub add_refusal : server.State → Iface → ℕ → Option GlobalRefusal
+add_refusal s iface version =
+    if s.core.failed then Some Failed
+    else if not (can_be_global s.core.tables iface version) then Some BadGlobal
+    else if nat_lt (length s.globals) max_globals then None
+    else Some TooMany
+
+abbrev pub withdraw_refusal : server.State → ℕ → Option GlobalRefusal
+withdraw_refusal s name = if s.core.failed then Some Failed else if is_present (global_of s.globals name) then None else Some NoSuchGlobal
+
+pub data Adds (refusal : Option GlobalRefusal) (name : ℕ) (before after : PairState) : Result ℕ GlobalRefusal → PairState → Type 0 where
+  added : refusal ≡ None → Adds refusal name before after (Ok name) after
+  refused : {why : GlobalRefusal} → refusal ≡ Some why → Adds refusal name before after (Err why) before
+  no_memory : refusal ≡ None → Adds refusal name before after (Err Memory) before
+
+-- The longest beginning of what is owed is written that fits.
+pub data Announces (p : PairState) : Result ℕ SendError → PairState → Type 0 where
+  announced : {count : ℕ} → p.server.core.failed ≡ false → Fitting p.server count → Announces p (Ok count) (with_server p (after_announce p.server count))
+  refused : p.server.core.failed ≡ true → Announces p (Err refusals.Failed) p
+
+abbrev pub is_none : {X : Type 0} → List X → Bool
+is_none [] = true
+is_none (x ∷ xs) = false
+
+-- whether a message was found that has arguments
+abbrev pub has_arguments : Result (Option Found) Fault → Bool
+has_arguments (Ok (Some f)) = not (is_none f.message.signature.kinds)
+has_arguments _ = false
+
+-- A read answers and leaves as it says, or wants memory, for a message with arguments, and changes nothing.
+pub data Nexts {R : Type 0} (answer : Result (Option R) NextError) (what : Result (Option Found) Fault) (before after : PairState) : Result (Option R) NextError → PairState → Type 0 where
+  answered : Nexts answer what before after answer after
+  no_memory : {report : R} → answer ≡ Ok (Some report) → has_arguments what ≡ true → Nexts answer what before after (Err errors.Memory) before
+
+-- What both ends answer to a move, and leave.
+abbrev pub Does : PairState → Move → Reply → PairState → Type 0
+Does p (ClientSend target opcode given) (ClientSend reply) p' =
+    Writes (send_answer p.client.core Request target opcode given) (opens_object (checked p.client.core.tables Request p.client.core.view target opcode given))
+    p (with_client_core p (after_send p.client.core Request target opcode given)) reply p'
+Does p (ClientBind target name iface version) (ClientBind reply) p' =
+    Writes (bind_answer p.client target name iface version) true p (with_client p (after_bind p.client target name iface version)) reply p'
+Does p (ServerSend target opcode given) (ServerSend reply) p' =
+    Writes (send_answer p.server.core Event target opcode given) (opens_object (checked p.server.core.tables Event p.server.core.view target opcode given))
+    p (with_server_core p (after_send p.server.core Event target opcode given)) reply p'
+Does p (ServerDrop object) (ServerDrop reply) p' = Calls (drop_refusal p.server.core object) p (with_server_core p (after_drop p.server.core object)) reply p'
+Does p (PostError object code text) (PostError reply) p' =
+    Calls (error_refusal p.server.core object text) p (with_server_core p (after_error p.server.core object code text)) reply p'
+Does p (AddGlobal iface version) (AddGlobal reply) p' =
+    Adds (add_refusal p.server iface version) (next_name p.server) p (with_server p (with_global p.server iface version)) reply p'
+Does p (Withdraw name) (Withdraw reply) p' = Calls (withdraw_refusal p.server name) p (with_server p (after_withdraw p.server name)) reply p'
+Does p Announce (Announce reply) p' = Announces p reply p'
+Does p (CarryToServer most) (CarryToServer fed) p' =
+    (fed ≡ all_of (carries p.client.core p.server.core most)) × (p' ≡ after_carry_to_server p (carries p.client.core p.server.core most))
+Does p (CarryToClient most) (CarryToClient fed) p' =
+    (fed ≡ all_of (carries p.server.core p.client.core most)) × (p' ≡ after_carry_to_client p (carries p.server.core p.client.core most))
+Does p ClientNext (ClientNext reply) p' =
+    Nexts (events.next_answer p.client) (found p.client.core Event) p (with_client p (events.after_next p.client)) reply p'
+Does p ServerNext (ServerNext reply) p' =
+    Nexts (requests.next_answer p.server) (requests.request p.server) p (with_server p (requests.after_next p.server)) reply p'
+Does p _ _ p' = ⊥
+
+-- nothing waits in any of the four boxes
+abbrev pub drained : PairState → Type 0
+drained p = (is_drained p.client.core ≡ true) × (is_drained p.server.core ≡ true)

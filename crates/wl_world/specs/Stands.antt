@@ -1,0 +1,185 @@
+-- When a pair stands for a world.
+use Rattle.std.specs.Prelude.{◌≡◌, ℕ, ◌<◌, ◌≤◌, ◌^◌, Bool, true, false, List, [], ◌∷◌, ◌++◌, length, map, Option, Some, None}
+use Rattle.wl_wire.specs.declared.kind.Iface.{Iface}
+use Rattle.wl_wire.specs.declared.kind.Kind.{Kind}
+use Rattle.wl_wire.specs.Argument.{Uint, Str, Obj, New, NewNamed}
+use Rattle.wl_wire.specs.Spelling.{Suits}
+use Rattle.wl_sigs.specs.declared.signature.Side.{Side}
+use Rattle.wl_sigs.specs.declared.signature.Side.TheVariants.{Request as request_side, Event as event_side}
+use Rattle.wl_sigs.specs.Tables.{Interface, signature_at, interface_at, destroys_target}
+use Rattle.wl_sigs.specs.Tables as sigs
+use Rattle.wl_sigs.specs.Fixed.{registry}
+use Rattle.wl_sigs.specs.Valid.{Valid}
+use Rattle.wl_message.specs.Cut.{usual_limit, IsMessage}
+use Rattle.wl_message.specs.Arrived.{Arrived}
+use Rattle.wl_message.specs.Outgoing as boxes
+use Rattle.wl_message.specs.Outgoing.{Outgoing, all_bytes, all_tokens}
+use Rattle.wl_objects.specs.declared.object.Entry.{Entry}
+use Rattle.wl_objects.specs.declared.object.State.TheVariants as states
+use Rattle.wl_objects.specs.View.{View, Sound, look, max_ids}
+use Rattle.wl_objects.specs.Reading.{iface_of, is_of}
+use Rattle.wl_objects.specs.Writing.{message_len}
+use Rattle.wl_objects.specs.Messages.{made_by, is_error, is_delete_id, is_bind, same_iface}
+use Rattle.wl_client.specs.State as client
+use Rattle.wl_server.specs.State as server
+use Rattle.wl_server.specs.State.{global_of, max_globals}
+use Rattle.wl_server.specs.Requests.{bind_fits}
+use Rattle.wl_server.specs.Calls.{ends_by_event, can_be_global}
+use Rattle.wl_server.specs.Announcing.{name_at}
+use Rattle.wl_world.specs.Meant.{Born, Known, Message, Coming, Event, Delete, Arg, renamed, recoming, born_of, birth_of, made_in, wire, spelled, spelled_coming, live_entry}
+use Rattle.wl_world.specs.World.{World, Row, Open, Ending, Marks, Each, IfThere}
+use Rattle.wl_world.specs.Pair.{PairState}
+use Rattle.wl_world.specs.Flight.{client_rows, server_rows, all_asks, all_tells, Meets}
+
+-- ---- objects by id and by birth
+
+-- The rows of an end are this set of births: each under one id, each below the number of births counted.
+pub record Shows {X : Type 0} (birth : X → ℕ) (rows : ℕ → Option X) (births : ℕ) (sets : ℕ → Option X) : Type 0 where
+  pub below : (id : ℕ) (x : X) → rows id ≡ Some x → birth x < births
+  pub one : (i j : ℕ) (x y : X) → rows i ≡ Some x → rows j ≡ Some y → birth x ≡ birth y → i ≡ j
+  pub shown : (id : ℕ) (x : X) → rows id ≡ Some x → sets (birth x) ≡ Some x
+  pub only : (b : ℕ) (x : X) → sets b ≡ Some x → (birth x ≡ b) × ((id : ℕ) × (rows id ≡ Some x))
+
+abbrev pub bare : Row → Born
+bare (Open x) = x
+bare (Ending x) = x
+
+abbrev pub birth_in : Row → ℕ
+birth_in r = (bare r).birth
+
+-- ---- messages in flight
+
+-- These messages are in flight from an outbox to an inbox: those begun, whose tokens are all in the inbox and whose bytes are in
+-- the inbox but for what is left, and then those of the outbox that are not begun.
+pub record InFlight (from : Outgoing) (to : Arrived) (messages : List boxes.Message) : Type 0 where
+  pub begun : List boxes.Message
+  pub all : messages ≡ begun ++ from.messages
+  pub bytes : to.bytes ++ from.left ≡ all_bytes begun
+  pub tokens : to.tokens ≡ all_tokens begun
+  pub whole : Each (λ m. IsMessage usual_limit m.bytes) messages
+
+-- An argument fits its kind: its value is one of the kind, an object is of the interface that the kind asks for, and a new object is
+-- as its maker, of this version, makes it.
+abbrev pub NamesRightly : List Interface → ℕ → Kind → Arg Known → Type 0
+NamesRightly tables version kind (Obj (Some x)) = (0 < x.id) × (is_of (iface_of kind) (live_entry x.born) ≡ true)
+NamesRightly tables version kind (New x) = made_by tables version kind (New x.id) ≡ Some (record { id = x.id; iface = x.born.iface; version = x.born.version })
+NamesRightly tables version kind (NewNamed name own x) =
+    made_by tables version kind (NewNamed name own x.id) ≡ Some (record { id = x.id; iface = x.born.iface; version = x.born.version })
+NamesRightly tables version kind _ = Unit {0}
+
+abbrev pub AreOf : List Interface → ℕ → List Kind → List (Arg Known) → Type 0
+AreOf tables version [] [] = Unit {0}
+AreOf tables version (kind ∷ kinds) (a ∷ args) = (Suits kind (wire a) × NamesRightly tables version kind a) × AreOf tables version kinds args
+AreOf tables version _ _ = ⊥
+
+-- A message in flight fits a signature of its target's interface and version; it is no wl_display.error and no delete_id.
+pub record Fits (tables : List Interface) (side : Side) (m : Message Known) : Type 0 where
+  pub signature : sigs.Message
+  pub there : signature_at tables m.target.born.iface.0 side m.opcode ≡ Some signature
+  pub old_enough : signature.since ≤ m.target.born.version
+  pub args : AreOf tables m.target.born.version signature.kinds m.args
+  pub destroys : m.destroys ≡ destroys_target signature.destroys
+  pub len : message_len (map wire m.args) ≤ 4096
+  pub low : m.target.id ≤ max_ids
+  pub opcode : m.opcode < 65536
+  pub new_version : IfThere (λ x. 1 ≤ x.born.version) (made_in m.args)
+  pub no_error : is_error side m.target.born.iface m.opcode ≡ false
+  pub no_delete_id : is_delete_id side m.target.born.iface m.opcode ≡ false
+
+-- ---- globals
+
+-- the server gave this name, with this interface and version
+pub record WasGiven (given : List server.Global) (name : ℕ) (iface : Iface) (version : ℕ) : Type 0 where
+  pub global : server.Global
+  pub there : global_of given name ≡ Some global
+  pub iface_is : global.iface ≡ iface
+  pub version_is : global.version ≡ version
+
+-- the arguments of wl_registry.global, of a global that was given
+pub record TellsGiven (tables : List Interface) (given : List server.Global) (args : List (Arg Known)) : Type 0 where
+  pub name : ℕ
+  pub iface : Iface
+  pub version : ℕ
+  pub args_are : args ≡ Uint name ∷ Str (Some (name_at tables iface)) ∷ Uint version ∷ []
+  pub was_given : WasGiven given name iface version
+  pub there : iface.0 < length tables
+
+-- the arguments of wl_registry.bind, of a global that was given, at a version from 1 to the given one
+pub record BindsGiven (tables : List Interface) (given : List server.Global) (args : List (Arg Known)) : Type 0 where
+  pub name : ℕ
+  pub iface : List ℕ
+  pub version : ℕ
+  pub new : Known
+  pub args_are : args ≡ Uint name ∷ NewNamed iface version new ∷ []
+  pub was_given : bind_fits tables iface version (global_of given name) ≡ true
+
+pub record AsksFitly (tables : List Interface) (given : List server.Global) (m : Message Known) : Type 0 where
+  pub fits : Fits tables request_side m
+  pub binds : is_bind request_side m.target.born.iface m.opcode ≡ true → BindsGiven tables given m.args
+
+pub record TellsFitly (tables : List Interface) (given : List server.Global) (m : Message Known) : Type 0 where
+  pub fits : Fits tables event_side m
+  pub makes_none : made_in m.args ≡ None
+  pub tells : same_iface m.target.born.iface registry ≡ true → m.opcode ≡ 0 → TellsGiven tables given m.args
+
+abbrev pub ComesFitly : List Interface → List server.Global → Coming Known → Type 0
+ComesFitly tables given (Event m) = TellsFitly tables given m
+ComesFitly tables given (Delete x) = x.id ≤ max_ids
+
+-- what can have been given
+pub record IsGlobal (tables : List Interface) (global : server.Global) : Type 0 where
+  pub can_be : can_be_global tables global.iface global.version ≡ true
+  pub word : global.version < 2 ^ 32
+
+-- an open registry is an object of the server
+pub record IsRegistry (view : View) (r : server.Registry) : Type 0 where
+  pub version : ℕ
+  pub some : 1 ≤ version
+  pub there : (server_rows view).rows r.object.id ≡ Some (record { birth = r.object.birth; iface = registry; version = version })
+
+abbrev pub marks_of : server.Registry → Marks
+marks_of r = record { birth = r.object.birth; told = r.told; removed = r.removed }
+
+-- ---- standing
+
+-- whether an object's interface has a destroying event
+abbrev pub by_event : List Interface → Born → Bool
+by_event tables x = ends_by_event (interface_at tables x.iface.0)
+
+-- The requests and events in flight are these, each object by its id and as it was meant.
+pub record StandsBy (p : PairState) (w : World) (asked : List (Message Known)) (told : List (Coming Known)) : Type 0 where
+  -- both ends have the same valid tables
+  pub same_tables : p.client.core.tables ≡ p.server.core.tables
+  pub valid : Valid p.server.core.tables
+  -- the rows at the client are the births open and ending there, those at the server the births open there
+  pub client_sets : Shows birth_in (client_rows p.client.core.view).rows p.client.core.view.births w.client
+  pub server_sets : Shows birth_of (server_rows p.server.core.view).rows p.server.core.view.births w.server
+  pub births : w.births ≡ p.client.core.view.births
+  pub client_sound : Sound p.client.core.view
+  pub server_sound : Sound p.server.core.view
+  pub server_live : (id : ℕ) (e : Entry) → look p.server.core.view id ≡ Some e → e.state ≡ states.Live
+  -- what the world has in flight are their births, what the boxes have in flight are their canonical spellings with ids
+  pub requests : w.requests ≡ map (renamed born_of) asked
+  pub events : w.events ≡ map (recoming born_of) told
+  pub to_server : InFlight p.client.core.outbox p.server.core.inbox (map spelled asked)
+  pub to_client : InFlight p.server.core.outbox p.client.core.inbox (map spelled_coming told)
+  -- each fits a signature; each bind and each global told is of a global that was given
+  pub asked_fit : Each (AsksFitly p.server.core.tables p.server.globals) asked
+  pub told_fit : Each (ComesFitly p.server.core.tables p.server.globals) told
+  -- when its turn comes, each can be read, and when all is read both ends have the same objects
+  pub meet : Meets (by_event p.server.core.tables) (all_tells told) (all_asks asked) (client_rows p.client.core.view) (server_rows p.server.core.view)
+  -- neither end has failed; the ends' globals are the world's, and the client's were given by the server
+  pub client_lives : p.client.core.failed ≡ false
+  pub server_lives : p.server.core.failed ≡ false
+  pub remembered : w.remembered ≡ p.client.globals
+  pub given : w.given ≡ p.server.globals
+  pub registries : w.registries ≡ map marks_of p.server.registries
+  pub remembers : Each (λ g. WasGiven p.server.globals g.name g.iface g.version) p.client.globals
+  pub globals : Each (IsGlobal p.server.core.tables) p.server.globals
+  pub few_globals : length p.server.globals ≤ max_globals
+  pub open_registries : Each (IsRegistry p.server.core.view) p.server.registries
+
+-- The pair stands for the world: an ended world stands with every pair.
+pub data Stands (p : PairState) (w : World) : Type 0 where
+  ended : w.ended ≡ true → Stands p w
+  stands : (asked : List (Message Known)) (told : List (Coming Known)) → w.ended ≡ false → StandsBy p w asked told → Stands p w
