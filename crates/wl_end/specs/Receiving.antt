@@ -1,5 +1,5 @@
 -- What an end finds in front of its waiting bytes.
-use Rattle.std.specs.Prelude.{ℕ, ◌+◌, ◌*◌, ◌%◌, ◌/◌, List, [], take, drop, length, Option, Some, None, slice_index}
+use Rattle.std.specs.Prelude.{ℕ, ◌%◌, ◌/◌, List, take, drop, length, Option, Some, None}
 use Rattle.std.specs.declared.result.Result.{Result}
 use Rattle.std.specs.declared.result.Result.TheVariants.{Ok, Err}
 use Rattle.wl_wire.specs.declared.header.Header.{Header}

@@ -5,6 +5,6 @@
 //! tells which end is meant.
 #![tactic(auto)]
 
-mod core;
+mod shared;
 
-pub use crate::core::Core;
+pub use shared::Core;

@@ -1,3 +1,4 @@
+pub mod FillLemmas
 mod LineLemmas
 mod PieceLemmas
 mod Progress

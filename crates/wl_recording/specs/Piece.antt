@@ -26,3 +26,15 @@ passed direction bytes tokens =
     if nat_lt 65535 tokens
     then record { direction = direction; bytes = []; tokens = 65535 } ∷ record { direction = direction; bytes = bytes; tokens = tokens - 65535 } ∷ []
     else (if length bytes == 0 && tokens == 0 then [] else record { direction = direction; bytes = bytes; tokens = tokens } ∷ [])
+
+-- how many bytes the last piece has, or 0 where there is none
+abbrev pub last_len : List Piece → ℕ
+last_len [] = 0
+last_len (piece ∷ []) = length piece.bytes
+last_len (piece ∷ next ∷ more) = last_len (next ∷ more)
+
+-- the same pieces, but the last with these bytes
+abbrev pub with_last_bytes : List Piece → List ℕ → List Piece
+with_last_bytes [] bytes = []
+with_last_bytes (piece ∷ []) bytes = record piece { bytes = bytes } ∷ []
+with_last_bytes (piece ∷ next ∷ more) bytes = piece ∷ with_last_bytes (next ∷ more) bytes

@@ -14,6 +14,8 @@
 mod line;
 mod piece;
 mod recording;
+#[cfg(test)]
+mod tests;
 mod write;
 
 pub use piece::{Direction, Passed};

@@ -1,8 +1,8 @@
 //! Recordings.
-ghost use Rattle.std.specs.Prelude.{◌≡◌, ℕ, ◌≤◌, List, [], ◌++◌, ◌⊎◌, map, Ok, Err, IfOk, IfErr, OnOk, OnErr};
+ghost use Rattle.std.specs.Prelude.{◌≡◌, ℕ, ◌≤◌, List, [], ◌++◌, ◌⊎◌, length, map, replicate, Ok, Err, IfOk, IfErr, OnOk, OnErr};
 ghost use Rattle.std.specs.List.{All};
 ghost use Rattle.wl_recording.specs.declared.recording.RecordingError.TheVariants.{BadLine, Memory};
-ghost use Rattle.wl_recording.specs.Piece.{Piece, plain, passed, IsTellable};
+ghost use Rattle.wl_recording.specs.Piece.{Piece, plain, passed, last_len, with_last_bytes, IsTellable};
 ghost use Rattle.wl_recording.specs.Text.{Recorded, IsFirstBad, text_of};
 
 use crate::line::{MOST_TOKENS, first_line, is_skipped, read_piece};
@@ -141,12 +141,33 @@ impl<A: Allocator + Clone> Recording<A> {
         ensures ok { OnOk result (self.new ≡ self.old ++ passed direction bytes.now tokens) }
         ensures err { OnErr result (self.new ≡ self.old) }
     {
-        if bytes.is_empty() && tokens == 0 {
+        self.prepare(direction, bytes.len(), tokens)?;
+        if !bytes.is_empty() {
+            self.fill_last(bytes);
+        }
+        Ok(())
+    }
+
+    /// Adds what is about to pass, with zeros in place of its bytes, as `add` would.
+    ///
+    /// So all memory is asked for before anything moves: what passes is then written over the zeros by
+    /// `fill_last`, which cannot fail. `filled_passed` of the proofs says that both together are `add`.
+    pub fn prepare(
+        &mut self,
+        direction: Direction,
+        len: usize,
+        tokens: u32,
+    ) -> Result<(), AllocError>
+        requires { tokens ≤ 65536 }
+        ensures ok { OnOk result (self.new ≡ self.old ++ passed direction (replicate len 0) tokens) }
+        ensures err { OnErr result (self.new ≡ self.old) }
+    {
+        if len == 0 && tokens == 0 {
             return Ok(());
         }
         let alloc = self.pieces.allocator();
         let none = Bytes::from_vec(Vec::new(alloc.clone()?));
-        let bytes = Bytes::copy_of(alloc.clone()?, bytes)?;
+        let zeros = Bytes::from_vec(vec![in alloc.clone()?; 0u8; len]?);
         self.pieces.reserve(2)?;
         let mut tokens = tokens;
         if tokens > MOST_TOKENS {
@@ -159,9 +180,26 @@ impl<A: Allocator + Clone> Recording<A> {
         }
         self.pieces.push_reserved(Passed {
             direction,
-            bytes,
+            bytes: zeros,
             tokens,
         });
         Ok(())
+    }
+
+    /// Writes these bytes over those of the last piece. It takes no memory.
+    pub fn fill_last(&mut self, bytes: &[u8])
+        requires { length bytes.now ≡ last_len self.old }
+        ensures { self.new ≡ with_last_bytes self.old bytes.now }
+    {
+        let Some(last) = self.pieces.pop() else {
+            return;
+        };
+        let mut held = last.bytes.into_vec();
+        held.as_mut_slice().copy_from_slice(bytes);
+        self.pieces.push_reserved(Passed {
+            direction: last.direction,
+            bytes: Bytes::from_vec(held),
+            tokens: last.tokens,
+        });
     }
 }

@@ -2,13 +2,12 @@
 ghost use Rattle.std.specs.Prelude.{◌≡◌, ◌<◌, ◌≤◌, ◌+◌, ◌-◌, ◌++◌, length, OnOk, OnErr, IsOk, vec_len, vec_capacity};
 ghost use Rattle.wl_wire.specs.Argument.{lent};
 ghost use Rattle.wl_wire.specs.Spelling.{canonical, padded, zeros, Fits, spelled_len};
-ghost use Rattle.wl_wire.specs.Word.{word};
+ghost use Rattle.wl_wire.specs.Word.{int_word, word};
 
 use crate::value::ValueRef;
 use crate::word::padded_len;
+use byteorder::{ByteOrder, LittleEndian};
 use std::alloc::{AllocError, Allocator};
-
-const ZEROS: [u8; 4] = [0; 4];
 
 /// Appends the bytes of a value, padded with zeros. Asks `fits`. No memory is taken where the
 /// vector has spare room for them.
@@ -25,17 +24,17 @@ pub fn encode_value<A: Allocator>(
 {
     out.reserve(value.spelled_len())?;
     match value {
-        ValueRef::Int(z) => append(out, &z.to_le_bytes()),
-        ValueRef::Fixed(z) => append(out, &z.raw().to_le_bytes()),
-        ValueRef::Uint(n) => append(out, &n.to_le_bytes()),
-        ValueRef::Obj(id) => append(out, &id.to_le_bytes()),
-        ValueRef::New(id) => append(out, &id.to_le_bytes()),
-        ValueRef::Str(None) => append(out, &ZEROS),
+        ValueRef::Int(z) => append_int(out, z),
+        ValueRef::Fixed(z) => append_int(out, z.raw()),
+        ValueRef::Uint(n) => append_word(out, n),
+        ValueRef::Obj(id) => append_word(out, id),
+        ValueRef::New(id) => append_word(out, id),
+        ValueRef::Str(None) => append_word(out, 0),
         ValueRef::Str(Some(text)) => append_padded(out, text.len() as u32 + 1, text),
         ValueRef::NewNamed { iface, version, id } => {
             append_padded(out, iface.len() as u32 + 1, iface);
-            append(out, &version.to_le_bytes());
-            append(out, &id.to_le_bytes());
+            append_word(out, version);
+            append_word(out, id);
         }
         ValueRef::Array(bytes) => append_padded(out, bytes.len() as u32, bytes),
         ValueRef::Fd => {}
@@ -53,6 +52,30 @@ fn append<A: Allocator>(out: &mut Vec<u8, A>, bytes: &[u8])
     let _ = out.extend_from_slice(bytes);
 }
 
+/// Appends the word of a number.
+fn append_word<A: Allocator>(out: &mut Vec<u8, A>, n: u32)
+    requires { vec_len out.old + 4 ≤ vec_capacity out.old }
+    ensures items { out.new.items ≡ out.old.items ++ word n }
+    ensures len { vec_len out.new ≡ vec_len out.old + 4 }
+    ensures capacity { vec_capacity out.old ≤ vec_capacity out.new }
+{
+    let mut bytes = [0; 4];
+    LittleEndian::write_u32(&mut bytes, n);
+    append(out, &bytes);
+}
+
+/// Appends the word of a signed number.
+fn append_int<A: Allocator>(out: &mut Vec<u8, A>, z: i32)
+    requires { vec_len out.old + 4 ≤ vec_capacity out.old }
+    ensures items { out.new.items ≡ out.old.items ++ int_word z }
+    ensures len { vec_len out.new ≡ vec_len out.old + 4 }
+    ensures capacity { vec_capacity out.old ≤ vec_capacity out.new }
+{
+    let mut bytes = [0; 4];
+    LittleEndian::write_i32(&mut bytes, z);
+    append(out, &bytes);
+}
+
 /// Appends a length, the bytes, and zeros up to a multiple of 4.
 fn append_padded<A: Allocator>(out: &mut Vec<u8, A>, len: u32, bytes: &[u8])
     requires len { (length bytes.now ≤ len) × (len ≤ length bytes.now + 1) }
@@ -61,8 +84,8 @@ fn append_padded<A: Allocator>(out: &mut Vec<u8, A>, len: u32, bytes: &[u8])
     ensures len { vec_len out.new ≡ vec_len out.old + (4 + padded len) }
     ensures capacity { vec_capacity out.old ≤ vec_capacity out.new }
 {
-    append(out, &len.to_le_bytes());
+    append_word(out, len);
     append(out, bytes);
     let extra = padded_len(len as usize) - bytes.len();
-    append(out, &ZEROS[..extra]);
+    append(out, &[0; 4][..extra]);
 }

@@ -1,25 +1,17 @@
-use Rattle.std.proofs.Common.{[], arith, ◌∙◌}
-use Rattle.std.proofs.lemmas.List.{map-append}
-use Rattle.std.proofs.lemmas.List.Elements.{All-push}
-use Rattle.hex.specs.Hex.{IsBytes}
-use Rattle.wl_recording.specs.Piece.{IsTellable}
-use Rattle.wl_recording.proofs.WriteLemmas.{tellable_with}
+use Rattle.std.proofs.Common.{◌≡◌, ◌<◌, length, replicate, sym, ◌∙◌, arith}
+use Rattle.std.proofs.lemmas.List.{length-replicate}
+use Rattle.wl_recording.proofs.FillLemmas.{last_len-passed, filled_passed}
 use Rattle.wl_recording.proofs.recording.Recording.add.Goals as goal
-use Rattle.wl_recording.proofs.recording.Recording.add.Goals.{then-tokens-gt-MOST_TOKENS, else-tokens-gt-MOST_TOKENS}
 
-pub invariant_of-self-2 : goal.invariant_of-self-2
-invariant_of-self-2 g c =
-    let small : IsBytes c.args.bytes.now = λ k. let fits = c.type_inv.bytes k in omega arith in
-    let requires = c.requires in
-    elim c.if-tokens-gt-MOST_TOKENS.branch [
-      | then-tokens-gt-MOST_TOKENS w ↦
-          rw (c.push_reserved-2.ensures.items, w.self-inside-is, w.push_reserved.ensures.items, c.in_ok-reserve.ensures.items, map-append, map-append)
-          (All-push IsTellable _ _
-          (All-push IsTellable _ _ c.self.invariant
-          (tellable_with c.args.direction _ [] 65535 (c.from_vec-none.ensures ∙ c.new.ensures.items) (λ k. omega arith) (omega arith)))
-          (tellable_with c.args.direction _ _ _ c.in_ok-bytes.ensures small (omega (arith, w.tokens-is))))
-      | else-tokens-gt-MOST_TOKENS w ↦
-          rw (c.push_reserved-2.ensures.items, w.self-inside-is, c.in_ok-reserve.ensures.items, map-append)
-          (All-push IsTellable _ _ c.self.invariant
-          (tellable_with c.args.direction _ _ _ c.in_ok-bytes.ensures small (omega (arith, w.tokens-is, w.if-tokens-gt-MOST_TOKENS.false))))
-    ]
+pub fill_last-requires : goal.fill_last-requires
+fill_last-requires g c =
+    let some : 0 < length c.args.bytes.now = grind arith in
+    let zeros = length-replicate (length c.args.bytes.now) 0 in
+    let last = last_len-passed c.args.self.now c.args.direction (replicate (length c.args.bytes.now) 0) c.args.tokens (omega (arith, zeros, some)) in
+    rw c.in_ok-prepare.ensures.ok (sym (last ∙ zeros))
+
+pub returns-then-not-is_empty-clause-ok : goal.returns-then-not-is_empty-clause-ok
+returns-then-not-is_empty-clause-ok g c =
+    let some : 0 < length c.args.bytes.now = grind arith in
+    let filled = filled_passed c.args.self.now c.args.direction c.args.bytes.now c.args.tokens some in
+    c.fill_last.ensures ∙ rw c.in_ok-prepare.ensures.ok filled
