@@ -20,3 +20,5 @@ pub mod ClientSends
 pub mod ClientSend
 pub mod ServerTells
 pub mod ServerSend
+pub mod Globals
+pub mod Opening

@@ -15,7 +15,7 @@ pub fn ended_stands()
 ghost use Rattle.std.specs.Prelude.{ℕ};
 
 /// Trying lemmas.
-#[tactic(auto, using(crate::proofs::ServerSend::server_send_keeps))]
+#[tactic(auto, using(crate::proofs::ServerSend::server_send_keeps, crate::proofs::Globals::withdraw_keeps, crate::proofs::Opening::run_more))]
 pub fn dummy()
     ensures { (n : ℕ) → n ≡ n }
 {
