@@ -22,3 +22,5 @@ pub mod ServerTells
 pub mod ServerSend
 pub mod Globals
 pub mod Opening
+pub mod Places
+pub mod Announces

@@ -15,7 +15,7 @@ pub fn ended_stands()
 ghost use Rattle.std.specs.Prelude.{ℕ};
 
 /// Trying lemmas.
-#[tactic(auto, using(crate::proofs::ServerSend::server_send_keeps, crate::proofs::Globals::withdraw_keeps, crate::proofs::Opening::run_more))]
+#[tactic(auto, using(crate::proofs::Announces::announce_keeps))]
 pub fn dummy()
     ensures { (n : ℕ) → n ≡ n }
 {
