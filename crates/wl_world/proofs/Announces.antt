@@ -63,7 +63,7 @@ each_owing P test owing from (g ∷ gs) f =
     each_if P (test from g) (owing from g) (owings test owing (suc from) gs) (subst (λ (n : ℕ). P (owing n g)) e (f 0 g refl))
       (each_owing P test owing (suc from) gs (λ k h q. (let j : from + suc k ≡ suc from + k = omega arith in subst (λ (n : ℕ). P (owing n h)) j (f (suc k) h q))))
 
-each_get : {X : Type 0} (P : X → Type 0) (xs : List X) (k : ℕ) (x : X) → Each P xs → slice_get xs k ≡ Some x → P x
+pub each_get : {X : Type 0} (P : X → Type 0) (xs : List X) (k : ℕ) (x : X) → Each P xs → slice_get xs k ≡ Some x → P x
 each_get P [] k x h e = absurd (cc e)
 each_get P (y ∷ xs) zero x h e = subst P (cc e) h.0
 each_get P (y ∷ xs) (suc k) x h e = each_get P xs k x h.1 e
@@ -296,7 +296,7 @@ marked_stands : (p : PairState) (w : World) (asked : List (Message Known)) (told
     → StandsBy (with_server p (record p.server { registries = marked_in d p.server.registries })) (record w { registries = mark_in (owed_of d) w.registries }) asked told
 marked_stands p w asked told s d = record {
   same_tables = s.same_tables; valid = s.valid; client_sets = s.client_sets; server_sets = s.server_sets; births = s.births;
-  client_sound = s.client_sound; server_sound = s.server_sound; client_display = s.client_display; server_display = s.server_display; server_live = s.server_live;
+  client_sound = s.client_sound; versions = s.versions; server_sound = s.server_sound; client_display = s.client_display; server_display = s.server_display; server_live = s.server_live;
   requests = s.requests; events = s.events; to_server = s.to_server; to_client = s.to_client; asked_fit = s.asked_fit; told_fit = s.told_fit; meet = s.meet;
   client_lives = s.client_lives; server_lives = s.server_lives; remembered = s.remembered; given = s.given;
   registries = ap (mark_in (owed_of d)) s.registries ∙ sym (marks_marked d p.server.registries);

@@ -67,7 +67,7 @@ pub given_stands : (p : PairState) (w : World) (asked : List (Message Known)) (t
     → StandsBy (with_server p (record p.server { globals = more })) (record w { given = more }) asked told
 given_stands p w asked told s more g e l = record {
   same_tables = s.same_tables; valid = s.valid; client_sets = s.client_sets; server_sets = s.server_sets; births = s.births;
-  client_sound = s.client_sound; server_sound = s.server_sound; client_display = s.client_display; server_display = s.server_display; server_live = s.server_live;
+  client_sound = s.client_sound; versions = s.versions; server_sound = s.server_sound; client_display = s.client_display; server_display = s.server_display; server_live = s.server_live;
   requests = s.requests; events = s.events; to_server = s.to_server; to_client = s.to_client;
   asked_fit = each_by (AsksFitly p.server.core.tables p.server.globals) (AsksFitly p.server.core.tables more) (asks_still p.server.globals more g p.server.core.tables) asked s.asked_fit;
   told_fit = each_by (ComesFitly p.server.core.tables p.server.globals) (ComesFitly p.server.core.tables more) (comes_still p.server.globals more g p.server.core.tables) told s.told_fit;

@@ -24,3 +24,6 @@ pub mod Globals
 pub mod Opening
 pub mod Places
 pub mod Announces
+pub mod ClientBind
+pub mod Steps
+pub mod Plain

@@ -57,6 +57,10 @@ opening_live : (b : Bool) (e : Entry) → cond b (Some (live_entry display_born)
 opening_live true e h = let q : live_entry display_born ≡ e = cc h in ap (λ (x : Entry). x.state) (sym q)
 opening_live false e h = absurd (cc h)
 
+opening_aged : (b : Bool) (e : Entry) → cond b (Some (live_entry display_born)) None ≡ Some e → 1 ≤ e.version
+opening_aged true e h = let q : live_entry display_born ≡ e = cc h in let k = ap (λ (x : Entry). x.version) q in omega (arith, k)
+opening_aged false e h = absurd (cc h)
+
 nothing_flies : (from : Outgoing) (to : Arrived) → from.left ≡ [] → from.messages ≡ [] → to.bytes ≡ [] → to.tokens ≡ [] → InFlight from to []
 nothing_flies from to a b c d = record { begun = []; all = sym b; bytes = rw (c, a) refl; tokens = d; whole = tt }
 
@@ -71,6 +75,7 @@ new_stands tables client_sizes server_sizes v = stands [] [] refl (record {
   server_sound = Sound-opening display;
   client_display = look-opening display 1;
   server_display = look-opening display 1;
+  versions = λ id e h. opening_aged (nat_eq id 1) e (sym (look-opening display id) ∙ h);
   server_live = λ id e h. opening_live (nat_eq id 1) e (sym (look-opening display id) ∙ h);
   requests = refl;
   events = refl;
