@@ -12,8 +12,8 @@ use Rattle.wl_wire.specs.Argument.{Shape, Int, Uint, Fixed, Str, Obj, New, NewNa
 use Rattle.wl_objects.specs.declared.object.Entry.{Entry}
 use Rattle.wl_objects.specs.declared.object.State.{State}
 use Rattle.wl_objects.specs.declared.object.State.TheVariants as states
-use Rattle.wl_objects.specs.View.{View, Sound, look, opened_at, closed, zombied, is_held, free_or_next, has_room}
-use Rattle.wl_objects.specs.Views.{look-opened_at, row-opened_at, row-closed}
+use Rattle.wl_objects.specs.View.{View, Sound, look, opened_at, closed, zombied, zombie, is_held, free_or_next, has_room}
+use Rattle.wl_objects.specs.Views.{look-opened_at, row-opened_at, row-closed, row-zombied}
 use Rattle.wl_objects.specs.Sounds.{Sound-opened_at, Sound-closed, Sound-zombied}
 use Rattle.wl_objects.specs.Messages.{Client, Server, after, opens}
 use Rattle.wl_world.specs.Meant.{Born, Known, Arg, rearg, born_of, object_in, objects, new_in, made_in, or_else, token_in, tokens, plain}
@@ -181,3 +181,32 @@ module _ {A B : Type 0} (f : A → B) where
 pub each_map : {X Y : Type 0} (f : X → Y) (P : Y → Type 0) (xs : List X) → Each (λ x. P (f x)) xs → Each P (map f xs)
 each_map f P [] h = tt
 each_map f P (x ∷ xs) h = (h.0, each_map f P xs h.1)
+
+-- ---- versions are from 1
+
+abbrev pub Aged : View → Type 0
+Aged v = (id : ℕ) (e : Entry) → look v id ≡ Some e → 1 ≤ e.version
+
+opens_aged : (v : View) (n : Option Known) → IfThere (λ x. 1 ≤ x.born.version) n → Aged v → Aged (opens v (option_map made_of n))
+opens_aged v None g a = a
+opens_aged v (Some y) g a = λ id e h. ⊎_elim (λ p. (let k = ap (λ (d : Entry). d.version) p.1 in omega (arith, k, g))) (λ p. a id e p.1) (row-opened_at v y.id y.born.iface y.born.version id e h)
+
+kept_version : (b : Bool) (d : Entry) → (cond b (zombie d) d).version ≡ d.version
+kept_version true d = refl
+kept_version false d = refl
+
+pub client_aged : (v : View) (x : ℕ) (n : Option Known) (what : Destroys) → IfThere (λ y. 1 ≤ y.born.version) n → Aged v → Aged (after Client v (option_map made_of n) what x)
+client_aged v x n Nothing g a = opens_aged v n g a
+client_aged v x n Target g a = λ id e h.
+    let z = row-zombied (opens v (option_map made_of n)) x id e h in
+    let k = opens_aged v n g a id z.0 z.1.0 in
+    let q = ap (λ (d : Entry). d.version) z.1.1 ∙ kept_version (eqb id x) z.0 in
+    omega (arith, k, q)
+
+pub closed_aged : (v : View) (x : ℕ) → Aged v → Aged (closed v x)
+closed_aged v x a = λ id e h. a id e (row-closed v x id e h).1
+
+-- what destroys nothing only opens
+pub only_opens : (v : View) (n : Option Known) (what : Destroys) (x : ℕ) → destroys_target what ≡ false → after Client v (option_map made_of n) what x ≡ opens v (option_map made_of n)
+only_opens v n Nothing x h = refl
+only_opens v n Target x h = absurd (cc h)

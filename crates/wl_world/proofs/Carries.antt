@@ -23,7 +23,7 @@ to_server_stands : (p : PairState) (w : World) (asked : List (Message Known)) (t
     → StandsBy (after_carry_to_server p (carries p.client.core p.server.core most)) w asked told
 to_server_stands p w asked told most s = record {
   same_tables = s.same_tables; valid = s.valid; client_sets = s.client_sets; server_sets = s.server_sets; births = s.births;
-  client_sound = s.client_sound; server_sound = s.server_sound; client_display = s.client_display; server_display = s.server_display; server_live = s.server_live;
+  client_sound = s.client_sound; versions = s.versions; server_sound = s.server_sound; client_display = s.client_display; server_display = s.server_display; server_live = s.server_live;
   requests = s.requests; events = s.events;
   to_server = flies p.client.core.outbox p.server.core.inbox (map spelled asked) (min most (in_room p.server.core).bytes) (in_room p.server.core).tokens s.to_server;
   to_client = record { begun = s.to_client.begun; all = s.to_client.all; bytes = s.to_client.bytes; tokens = s.to_client.tokens; whole = s.to_client.whole };
@@ -35,7 +35,7 @@ to_client_stands : (p : PairState) (w : World) (asked : List (Message Known)) (t
     → StandsBy (after_carry_to_client p (carries p.server.core p.client.core most)) w asked told
 to_client_stands p w asked told most s = record {
   same_tables = s.same_tables; valid = s.valid; client_sets = s.client_sets; server_sets = s.server_sets; births = s.births;
-  client_sound = s.client_sound; server_sound = s.server_sound; client_display = s.client_display; server_display = s.server_display; server_live = s.server_live;
+  client_sound = s.client_sound; versions = s.versions; server_sound = s.server_sound; client_display = s.client_display; server_display = s.server_display; server_live = s.server_live;
   requests = s.requests; events = s.events;
   to_server = record { begun = s.to_server.begun; all = s.to_server.all; bytes = s.to_server.bytes; tokens = s.to_server.tokens; whole = s.to_server.whole };
   to_client = flies p.server.core.outbox p.client.core.inbox (map spelled_coming told) (min most (in_room p.client.core).bytes) (in_room p.client.core).tokens s.to_client;

@@ -45,7 +45,7 @@ use Rattle.wl_world.proofs.Wholes.{client_ends, TellsAt, tells_at, DeletesAt, de
 use Rattle.wl_world.proofs.Sets.{client_ended, client_deleted, births_ends}
 use Rattle.wl_world.proofs.Channels.{Pops, pops}
 use Rattle.wl_world.proofs.Bridges.{client_closed}
-use Rattle.wl_world.proofs.Afters.{HeldRow, held_row, client_after, client_sound, tokens_map}
+use Rattle.wl_world.proofs.Afters.{HeldRow, held_row, client_after, client_sound, client_aged, closed_aged, tokens_map}
 use Rattle.wl_world.proofs.Readings.{HeldAt, AllMet, reports_right, tokens_taken}
 use Rattle.wl_world.proofs.Findings.{the_found, the_message, finds, all_met, news_none}
 use Rattle.wl_world.proofs.Learning.{Gave, told_same, told_keeps}
@@ -211,6 +211,7 @@ event_stands p w m cs asked s n i y =
       server_sets = s.server_sets;
       births = s.births ∙ sym (no_births v m.target.id what);
       client_sound = client_sound v m.target None what s.client_sound (λ e. y (sym d ∙ e));
+      versions = client_aged v m.target.id None what tt s.versions;
       server_sound = s.server_sound;
       client_display = display_kept v m.target.id what s.client_display (λ e. y (sym d ∙ e));
       server_display = s.server_display; server_live = s.server_live;
@@ -355,6 +356,7 @@ delete_stands p w x cs asked s n i =
       server_sets = s.server_sets;
       births = s.births;
       client_sound = Sound-closed v x.id s.client_sound held t.mortal;
+      versions = closed_aged v x.id s.versions;
       server_sound = s.server_sound;
       client_display = look-closed v x.id 1 ∙ rw b s.client_display;
       server_display = s.server_display; server_live = s.server_live;

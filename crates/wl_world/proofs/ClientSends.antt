@@ -41,7 +41,7 @@ use Rattle.wl_world.proofs.Wholes.{OpenRow, client_makes, client_ends, ask_meets
 use Rattle.wl_world.proofs.Sets.{client_made, client_ended, births_ends, births_makes}
 use Rattle.wl_world.proofs.Channels.{pushed}
 use Rattle.wl_world.proofs.Bridges.{next_fresh}
-use Rattle.wl_world.proofs.Afters.{HeldRow, held_row, client_after, client_sound, made_map, objects_map, each_map}
+use Rattle.wl_world.proofs.Afters.{HeldRow, held_row, client_after, client_sound, client_aged, made_map, objects_map, each_map}
 use Rattle.wl_world.proofs.Readings.{made_of, bytes_whole}
 use Rattle.wl_world.proofs.ServerReads.{test_of}
 use Rattle.wl_world.proofs.Calls.{Checked, is_checked, LiveAt, handed_all, tokens_all}
@@ -119,6 +119,7 @@ ask_stands p w asked told s m c =
       births = ap (λ o. counted o w.births) world_new ∙ counted_map born_of new w.births ∙ ap (counted new) s.births ∙ sym (births_after v new m.target.id what);
       client_sound = client_sound v m.target new what (opens_sound v new s.client_sound c.new_next c.new_can) (λ h. c.mortal (sym d ∙ h));
       server_sound = s.server_sound;
+      versions = client_aged v m.target.id new what f.new_version s.versions;
       client_display = display_after v new m.target.id what (live_entry display_born) c.new s.client_display (λ h. c.mortal (sym d ∙ h));
       server_display = s.server_display; server_live = s.server_live;
       requests = ap (λ (l : List (Message Born)). l ++ renamed born_of m ∷ []) s.requests ∙ sym (map-append (renamed born_of) asked (m ∷ []));

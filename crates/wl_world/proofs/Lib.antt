@@ -20,3 +20,10 @@ pub mod ClientSends
 pub mod ClientSend
 pub mod ServerTells
 pub mod ServerSend
+pub mod Globals
+pub mod Opening
+pub mod Places
+pub mod Announces
+pub mod ClientBind
+pub mod Steps
+pub mod Plain

@@ -183,7 +183,7 @@ server_read_stands p w m ms told s n a up =
       client_sets = s.client_sets;
       server_sets = rw world_new (subst (λ (r : Rows Born). Shows birth_of r.rows r.births (gone m.destroys m.target.born (born_into same (option_map born_of new) w.server))) (sym rows) sets);
       births = s.births;
-      client_sound = s.client_sound;
+      client_sound = s.client_sound; versions = s.versions;
       server_sound = server_sound v m.target new what s.server_sound a.new a.target (λ e. a.mortal (sym d ∙ e));
       client_display = s.client_display;
       server_display = display_after v new m.target.id what (live_entry display_born) a.new s.server_display (λ e. a.mortal (sym d ∙ e));

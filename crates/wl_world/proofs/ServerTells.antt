@@ -74,7 +74,7 @@ tell_stands p w asked told s m c =
       client_sets = s.client_sets;
       server_sets = subst (λ (r : Rows Born). Shows birth_of r.rows r.births (gone m.destroys m.target.born w.server)) (sym rows) sets;
       births = s.births;
-      client_sound = s.client_sound;
+      client_sound = s.client_sound; versions = s.versions;
       server_sound = server_sound v m.target None what s.server_sound tt c.target (λ e. mortal (sym d ∙ e));
       client_display = s.client_display;
       server_display = display_after v None m.target.id what (live_entry display_born) tt s.server_display (λ e. mortal (sym d ∙ e));
@@ -126,7 +126,7 @@ drop_stands p w asked told s x h e low =
       client_sets = s.client_sets;
       server_sets = subst (λ (r : Rows Born). Shows birth_of r.rows r.births (put w.server x.born.birth None)) (sym rows) sets;
       births = s.births;
-      client_sound = s.client_sound;
+      client_sound = s.client_sound; versions = s.versions;
       server_sound = server_sound v x None Target s.server_sound tt h (λ k. mortal);
       client_display = s.client_display;
       server_display = look-closed v x.id 1 ∙ rw one s.server_display;

@@ -161,6 +161,7 @@ pub record StandsBy (p : PairState) (w : World) (asked : List (Message Known)) (
   pub server_sound : Sound p.server.core.view
   pub client_display : look p.client.core.view 1 ≡ Some (live_entry display_born)
   pub server_display : look p.server.core.view 1 ≡ Some (live_entry display_born)
+  pub versions : (id : ℕ) (e : Entry) → look p.client.core.view id ≡ Some e → 1 ≤ e.version
   pub server_live : (id : ℕ) (e : Entry) → look p.server.core.view id ≡ Some e → e.state ≡ states.Live
   -- what the world has in flight are their births, what the boxes have in flight are their canonical spellings with ids
   pub requests : w.requests ≡ map (renamed born_of) asked
