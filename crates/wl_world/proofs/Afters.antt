@@ -1,28 +1,26 @@
 -- An end's objects after a message.
-use Rattle.std.proofs.Common.{◌≡◌, ◌≢◌, ℕ, ◌+◌, ◌<◌, ◌≤◌, Bool, true, false, cond, eqb, List, [], ◌∷◌, ◌++◌, map, ◌⊎◌, inl, inr, refl, sym, ap, subst, ◌∙◌, arith, is_some, ⊎_elim}
+use Rattle.std.proofs.Common.{◌≡◌, ◌≢◌, ℕ, ◌≤◌, Bool, true, false, cond, eqb, List, [], ◌∷◌, ◌++◌, map, ◌⊎◌, inl, inr, refl, sym, ap, subst, ◌∙◌, arith, is_some, ⊎_elim}
 use Rattle.std.specs.Prelude.{option_map}
 use Rattle.std.specs.declared.option.Option.{Option}
 use Rattle.std.specs.declared.option.Option.TheVariants.{None, Some}
-use Rattle.std.proofs.lemmas.Grind.{common_steps}
 use Rattle.std.proofs.lemmas.Bool.Decides.{nat_tests}
 use Rattle.wl_sigs.specs.declared.signature.Destroys.{Destroys}
 use Rattle.wl_sigs.specs.declared.signature.Destroys.TheVariants.{Nothing, Target}
 use Rattle.wl_sigs.specs.Tables.{destroys_target}
-use Rattle.wl_wire.specs.Argument.{Shape, Int, Uint, Fixed, Str, Obj, New, NewNamed, Array, Fd}
+use Rattle.wl_wire.specs.Argument.{Int, Uint, Fixed, Str, Obj, New, NewNamed, Array, Fd}
 use Rattle.wl_objects.specs.declared.object.Entry.{Entry}
 use Rattle.wl_objects.specs.declared.object.State.{State}
 use Rattle.wl_objects.specs.declared.object.State.TheVariants as states
-use Rattle.wl_objects.specs.View.{View, Sound, look, opened_at, closed, zombied, zombie, is_held, free_or_next, has_room}
+use Rattle.wl_objects.specs.View.{View, Sound, look, opened_at, closed, zombie}
 use Rattle.wl_objects.specs.Views.{look-opened_at, row-opened_at, row-closed, row-zombied}
 use Rattle.wl_objects.specs.Sounds.{Sound-opened_at, Sound-closed, Sound-zombied}
 use Rattle.wl_objects.specs.Messages.{Client, Server, after, opens}
-use Rattle.wl_world.specs.Meant.{Born, Known, Arg, rearg, born_of, object_in, objects, new_in, made_in, or_else, token_in, tokens, plain}
-use Rattle.wl_world.specs.World.{Row, Open, Ending, put, IfThere, Each}
-use Rattle.wl_world.specs.Flight.{Rows, at, made, row, as_row, client_rows, server_rows, Fresh, Held}
-use Rattle.wl_world.proofs.Deeds.{put_tells}
-use Rattle.wl_world.proofs.Wholes.{OpenRow, ThereRow, client_makes, client_ends, server_makes, server_ends, live_made}
+use Rattle.wl_world.specs.Meant.{Born, Known, Arg, rearg, object_in, objects, new_in, made_in, or_else, token_in, tokens, plain}
+use Rattle.wl_world.specs.World.{Row, Open, Ending, IfThere, Each}
+use Rattle.wl_world.specs.Flight.{Rows, at, row, as_row, client_rows, server_rows, Fresh, Held}
+use Rattle.wl_world.proofs.Wholes.{ThereRow, client_makes, client_ends, server_makes, server_ends}
 use Rattle.wl_world.proofs.Sets.{there_kept}
-use Rattle.wl_world.proofs.Bridges.{client_opened, server_opened, client_closed, server_closed, client_zombied, fresh_free, fresh_room}
+use Rattle.wl_world.proofs.Bridges.{client_opened, server_opened, server_closed, client_zombied, fresh_free, fresh_room}
 use Rattle.wl_world.proofs.Readings.{made_of}
 
 -- ---- what stands under a row
@@ -50,9 +48,9 @@ pub record HeldRow (v : View) (x : Known) : Type 0 where
 
 pub held_row : (v : View) (x : Known) → Held (client_rows v) x → HeldRow v x
 held_row v x h = elim h [
-    inl p ↦ (let m = map_some row (look v x.id) (Open x.born) p in record { entry = m.0; there = m.1; same = row_born m.0.state (plain m.0) x.born (inl m.2) })
+  | inl p ↦ (let m = map_some row (look v x.id) (Open x.born) p in record { entry = m.0; there = m.1; same = row_born m.0.state (plain m.0) x.born (inl m.2) })
   | inr p ↦ (let m = map_some row (look v x.id) (Ending x.born) p in record { entry = m.0; there = m.1; same = row_born m.0.state (plain m.0) x.born (inr m.2) })
-  ]
+]
 
 pub there_row : (v : View) (x : Known) → ThereRow (server_rows v) x → HeldRow v x
 there_row v x h = let m = map_some plain (look v x.id) x.born h in record { entry = m.0; there = m.1; same = m.2 }

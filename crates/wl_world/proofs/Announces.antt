@@ -1,42 +1,38 @@
 -- The server announces globals.
-use Rattle.std.proofs.Common.{◌≡◌, ◌≢◌, ℕ, zero, suc, ◌+◌, ◌<◌, ◌≤◌, ◌^◌, Bool, true, false, cond, List, [], ◌∷◌, ◌++◌, map, take, length, refl, sym, ap, subst, ◌∙◌, arith}
-use Rattle.std.specs.Prelude.{option_map, nat_eq, nat_le, not, ◌&&◌, ◌||◌, slice_get, codes}
+use Rattle.std.proofs.Common.{◌≡◌, ℕ, zero, suc, ◌+◌, ◌≤◌, Bool, true, false, cond, List, [], ◌∷◌, ◌++◌, map, take, length, refl, sym, ap, subst, ◌∙◌, arith}
+use Rattle.std.specs.Prelude.{option_map, nat_eq, ◌&&◌, slice_get, codes}
 use Rattle.std.specs.declared.option.Option.{Option}
 use Rattle.std.specs.declared.option.Option.TheVariants.{None, Some}
 use Rattle.std.specs.declared.result.Result.{Result}
-use Rattle.std.specs.declared.result.Result.TheVariants.{Ok, Err}
-use Rattle.std.proofs.lemmas.List.{append_assoc, append-nil, map-append}
+use Rattle.std.proofs.lemmas.List.{append-nil}
 use Rattle.std.proofs.lemmas.Option.{slice_get_within}
 use Rattle.wl_wire.specs.declared.kind.Iface.{Iface}
-use Rattle.wl_wire.specs.Argument.{Argument, Shape, Uint, Str}
+use Rattle.wl_wire.specs.Argument.{Uint, Str}
 use Rattle.wl_wire.specs.Spelling.{IsText}
 use Rattle.wl_sigs.specs.declared.signature.Side.TheVariants.{Event as event_side}
 use Rattle.wl_sigs.specs.declared.signature.Destroys.TheVariants.{Nothing, Target}
 use Rattle.wl_sigs.specs.declared.signature.Destroys.{Destroys}
-use Rattle.wl_sigs.specs.Tables.{Interface, interface_at, signature_at, place_of, destroys_target}
-use Rattle.wl_sigs.specs.Tables as sigs
+use Rattle.wl_sigs.specs.Tables.{Interface, interface_at, place_of, destroys_target}
 use Rattle.wl_sigs.specs.Fixed.{registry, wl_registry}
 use Rattle.wl_sigs.specs.Fixed as fixed
 use Rattle.wl_sigs.specs.Valid.{Valid}
 use Rattle.wl_message.specs.Outgoing.{message}
-use Rattle.wl_objects.specs.declared.object.Object.{Object}
-use Rattle.wl_objects.specs.declared.object.Entry.{Entry}
 use Rattle.wl_objects.specs.declared.error.SendError.{SendError}
-use Rattle.wl_objects.specs.View.{View, look, max_ids}
-use Rattle.wl_objects.specs.Messages.{Server as server_end, after, same_iface}
+use Rattle.wl_objects.specs.View.{View, max_ids}
+use Rattle.wl_objects.specs.Messages.{Server as server_end, after}
 use Rattle.wl_objects.specs.Writing.{message_bytes}
 use Rattle.wl_end.specs.Core.{Core}
 use Rattle.wl_end.specs.Sending.{with_sent}
 use Rattle.wl_server.specs.State as server
 use Rattle.wl_server.specs.State.{Global, Registry, global_of, max_globals}
 use Rattle.wl_server.specs.Calls.{can_be_global, version_in}
-use Rattle.wl_server.specs.Announcing.{Owing, Removal, Telling, owes_removal, owes_telling, owings, owed_to, Due, due_to, owed_in, owed, name_at, opcode_of, values_of, with_dues, marked, marked_in, all_marked, after_announce, Fitting}
-use Rattle.wl_world.specs.Meant.{Born, Known, Message, Coming, Event, Arg, renamed, recoming, rearg, born_of, birth_of, wire, tokens, spelled, spelled_coming, made_in, objects, plain}
-use Rattle.wl_world.specs.World.{World, Marks, Each, IfThere, event_written, Steps, delete}
+use Rattle.wl_server.specs.Announcing.{Owing, Removal, Telling, owes_removal, owes_telling, owings, owed_to, Due, due_to, owed_in, owed, name_at, opcode_of, values_of, with_dues, marked, marked_in, all_marked}
+use Rattle.wl_world.specs.Meant.{Born, Known, Message, Coming, Event, Arg, renamed, rearg, born_of, birth_of, wire, tokens, made_in, objects}
+use Rattle.wl_world.specs.World.{World, Each, event_written}
 use Rattle.wl_world.specs.Pair.{PairState, Announce, with_server, with_server_core, Announces, announced, refused}
-use Rattle.wl_world.specs.Answers.{Owed, owed_by, mark, mark_in, registry_of, told_args, WritesThat, AnnouncesThose, none, more, before}
+use Rattle.wl_world.specs.Answers.{Owed, owed_by, mark, mark_in, told_args, WritesThat, AnnouncesThose, none, more, before}
 use Rattle.wl_world.specs.Flight.{Rows, server_rows}
-use Rattle.wl_world.specs.Stands.{Stands, stands, StandsBy, Fits, TellsFitly, IsRegistry, IsGlobal, marks_of}
+use Rattle.wl_world.specs.Stands.{stands, StandsBy, TellsFitly, IsRegistry, IsGlobal, marks_of}
 use Rattle.wl_world.specs.Runs.{Keeps}
 use Rattle.wl_world.proofs.Wholes.{ThereRow}
 use Rattle.wl_world.proofs.Afters.{there_row, made_map}
@@ -61,7 +57,7 @@ each_owing P test owing from [] f = tt
 each_owing P test owing from (g ∷ gs) f =
     let e : from + 0 ≡ from = omega arith in
     each_if P (test from g) (owing from g) (owings test owing (suc from) gs) (subst (λ (n : ℕ). P (owing n g)) e (f 0 g refl))
-      (each_owing P test owing (suc from) gs (λ k h q. (let j : from + suc k ≡ suc from + k = omega arith in subst (λ (n : ℕ). P (owing n h)) j (f (suc k) h q))))
+    (each_owing P test owing (suc from) gs (λ k h q. (let j : from + suc k ≡ suc from + k = omega arith in subst (λ (n : ℕ). P (owing n h)) j (f (suc k) h q))))
 
 pub each_get : {X : Type 0} (P : X → Type 0) (xs : List X) (k : ℕ) (x : X) → Each P xs → slice_get xs k ≡ Some x → P x
 each_get P [] k x h e = absurd (cc e)
@@ -75,10 +71,10 @@ each_join P (x ∷ xs) ys h p = (h.0, each_join P xs ys h.1 p)
 owing_all : (tables : List Interface) (given : List Global) (r : Registry) → length given ≤ max_globals → Each (IsGlobal tables) given → Each (IsOwing tables given) (owed_to given r)
 owing_all tables given r l g =
     each_join (IsOwing tables given) (owings (owes_removal r) (λ name _. Removal name) 1 given) (owings (owes_telling r) Telling 1 given)
-      (each_owing (IsOwing tables given) (owes_removal r) (λ name _. Removal name) 1 given (λ k x h. (let n = slice_get_within given k x h in omega (arith, n, l))))
-      (each_owing (IsOwing tables given) (owes_telling r) Telling 1 given (λ k x h.
-        (let n = slice_get_within given k x h in let e : 1 + k ≡ suc k = omega arith in
-          (omega (arith, n, l), ap (global_of given) e ∙ h, each_get (IsGlobal tables) given k x g h))))
+    (each_owing (IsOwing tables given) (owes_removal r) (λ name _. Removal name) 1 given (λ k x h. (let n = slice_get_within given k x h in omega (arith, n, l))))
+    (each_owing (IsOwing tables given) (owes_telling r) Telling 1 given (λ k x h.
+    (let n = slice_get_within given k x h in let e : 1 + k ≡ suc k = omega arith in
+    (omega (arith, n, l), ap (global_of given) e ∙ h, each_get (IsGlobal tables) given k x g h))))
 
 -- an owed event is for an open registry
 pub record IsDue (tables : List Interface) (given : List Global) (s : Rows Born) (d : Due) : Type 0 where
@@ -214,7 +210,10 @@ named tables v g h =
 pub due_fits : (tables : List Interface) → Valid tables → (given : List Global) (d : Due) (version : ℕ) → 1 ≤ version → d.object.id ≤ max_ids → (o : Owing) → IsOwing tables given o → d.owing ≡ o
     → TellsFitly tables given (record {
       target = record { id = d.object.id; born = record { birth = d.object.birth; iface = registry; version = version } };
-      opcode = opcode_of o; args = due_args tables o; destroys = false })
+      opcode = opcode_of o;
+      args = due_args tables o;
+      destroys = false;
+    })
 due_fits tables v given d version w low (Removal name) h e = record {
   fits = record {
     signature = fixed.message (codes "global_remove") 1 (fixed.uint ∷ []) Nothing;
@@ -288,19 +287,41 @@ core_is : (c : Core) (d : Due) (version : ℕ) (what : Destroys) → destroys_ta
     → told_core c (due_message c.tables d version) what ≡ with_sent c d.object.id (opcode_of d.owing) (values_of c.tables d.owing) []
 core_is c d version what h = λ i. record c {
   view = keeps_view what c.view d.object.id h i;
-  outbox = record c.outbox { messages = (append-nil (c.outbox.messages ++ message (message_bytes d.object.id (opcode_of d.owing) (map wire (due_args c.tables d.owing))) (tokens (due_args c.tables d.owing)) ∷ [])
-    ∙ (λ j. c.outbox.messages ++ message (message_bytes d.object.id (opcode_of d.owing) (due_wire c.tables d.owing j)) (due_tokens c.tables d.owing j) ∷ [])) i };
+  outbox = record c.outbox {
+    messages = (append-nil (c.outbox.messages ++ message (message_bytes d.object.id (opcode_of d.owing) (map wire (due_args c.tables d.owing))) (tokens (due_args c.tables d.owing)) ∷ [])
+        ∙ (λ j. c.outbox.messages ++ message (message_bytes d.object.id (opcode_of d.owing) (due_wire c.tables d.owing j)) (due_tokens c.tables d.owing j) ∷ [])) i;
+  };
 }
 
 marked_stands : (p : PairState) (w : World) (asked : List (Message Known)) (told : List (Coming Known)) (s : StandsBy p w asked told) (d : Due)
     → StandsBy (with_server p (record p.server { registries = marked_in d p.server.registries })) (record w { registries = mark_in (owed_of d) w.registries }) asked told
 marked_stands p w asked told s d = record {
-  same_tables = s.same_tables; valid = s.valid; client_sets = s.client_sets; server_sets = s.server_sets; births = s.births;
-  client_sound = s.client_sound; versions = s.versions; server_sound = s.server_sound; client_display = s.client_display; server_display = s.server_display; server_live = s.server_live;
-  requests = s.requests; events = s.events; to_server = s.to_server; to_client = s.to_client; asked_fit = s.asked_fit; told_fit = s.told_fit; meet = s.meet;
-  client_lives = s.client_lives; server_lives = s.server_lives; remembered = s.remembered; given = s.given;
+  same_tables = s.same_tables;
+  valid = s.valid;
+  client_sets = s.client_sets;
+  server_sets = s.server_sets;
+  births = s.births;
+  client_sound = s.client_sound;
+  versions = s.versions;
+  server_sound = s.server_sound;
+  client_display = s.client_display;
+  server_display = s.server_display;
+  server_live = s.server_live;
+  requests = s.requests;
+  events = s.events;
+  to_server = s.to_server;
+  to_client = s.to_client;
+  asked_fit = s.asked_fit;
+  told_fit = s.told_fit;
+  meet = s.meet;
+  client_lives = s.client_lives;
+  server_lives = s.server_lives;
+  remembered = s.remembered;
+  given = s.given;
   registries = ap (mark_in (owed_of d)) s.registries ∙ sym (marks_marked d p.server.registries);
-  remembers = s.remembers; globals = s.globals; few_globals = s.few_globals;
+  remembers = s.remembers;
+  globals = s.globals;
+  few_globals = s.few_globals;
   open_registries = registries_marked (server_rows p.server.core.view) d p.server.registries s.open_registries;
 }
 
@@ -313,14 +334,14 @@ pub record Told (p : PairState) (w : World) (asked : List (Message Known)) (ds :
 
 one_stands : (p : PairState) (w : World) (asked : List (Message Known)) (told : List (Coming Known)) (s : StandsBy p w asked told) (d : Due) (i : IsDue p.server.core.tables p.server.globals (server_rows p.server.core.view) d)
     → let m = due_message p.server.core.tables d i.version in
-      StandsBy (with_server p (one_told p.server d)) (record (event_written w (renamed born_of m)) { registries = mark_in (owed_of d) w.registries }) asked (told ++ (Event m ∷ []))
+    StandsBy (with_server p (one_told p.server d)) (record (event_written w (renamed born_of m)) { registries = mark_in (owed_of d) w.registries }) asked (told ++ (Event m ∷ []))
 one_stands p w asked told s d i =
     let can = due_can p w asked told s d i in
     let m = due_message p.server.core.tables d i.version in
     let t = tell_stands p w asked told s m can in
     let c = core_is p.server.core d i.version can.fitly.fits.signature.destroys (sym can.fitly.fits.destroys) in
     marked_stands (with_server_core p (with_sent p.server.core d.object.id (opcode_of d.owing) (values_of p.server.core.tables d.owing) [])) (event_written w (renamed born_of m)) asked (told ++ (Event m ∷ []))
-      (subst (λ (x : Core). StandsBy (with_server_core p x) (event_written w (renamed born_of m)) asked (told ++ (Event m ∷ []))) c t) d
+    (subst (λ (x : Core). StandsBy (with_server_core p x) (event_written w (renamed born_of m)) asked (told ++ (Event m ∷ []))) c t) d
 
 writes_due : (p : PairState) (w : World) (asked : List (Message Known)) (told : List (Coming Known)) (s : StandsBy p w asked told) (d : Due) (i : IsDue p.server.core.tables p.server.globals (server_rows p.server.core.view) d)
     → WritesThat p.server.core.tables event_side w d.object.birth (opcode_of d.owing) (told_args p.server.core.tables d.owing) None (event_written w (renamed born_of (due_message p.server.core.tables d i.version)))
@@ -351,10 +372,10 @@ pub announce_keeps : (p : PairState) (w : World) (asked : List (Message Known)) 
 announce_keeps p w asked told s z reply p' (announced {count = count} l f) =
     let ds = take count (owed p.server) in
     let due = each_take (IsDue p.server.core.tables p.server.globals (server_rows p.server.core.view)) count (owed p.server)
-        (all_due p.server.core.tables p.server.globals (server_rows p.server.core.view) p.server.registries s.few_globals s.globals s.open_registries) in
+    (all_due p.server.core.tables p.server.globals (server_rows p.server.core.view) p.server.registries s.few_globals s.globals s.open_registries) in
     let r = tell_all p w asked told s z ds due in
     let owes : take count (owed_by w.given w.registries) ≡ map owed_of ds =
-        ap (take count) ((λ i. owed_by (s.given i) (s.registries i)) ∙ owed_same p.server.globals p.server.registries) ∙ take_map owed_of count (owed p.server) in
+    ap (take count) ((λ i. owed_by (s.given i) (s.registries i)) ∙ owed_same p.server.globals p.server.registries) ∙ take_map owed_of count (owed p.server) in
     record {
       world = r.world;
       answers = before z (announced l f) (subst (λ (os : List Owed). AnnouncesThose p.server.core.tables w os r.world) (sym owes) r.announces);

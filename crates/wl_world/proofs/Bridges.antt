@@ -1,20 +1,16 @@
 -- What the functions on views are to the rows.
-use Rattle.std.proofs.Common.{◌≡◌, ℕ, ◌+◌, ◌<◌, ◌≤◌, max, Bool, true, false, cond, ltb, leb, eqb, ◌&&◌, ◌||◌, List, [], ◌∷◌, ◌⊎◌, inl, inr, refl, sym, ◌∙◌, ap, subst, arith, ◌≢◌}
-use Rattle.std.proofs.lemmas.Grind.{common_steps}
+use Rattle.std.proofs.Common.{◌≡◌, ℕ, ◌+◌, ◌≤◌, max, Bool, true, false, cond, eqb, inl, inr, refl, sym, ◌∙◌, ap, arith}
 use Rattle.std.proofs.lemmas.Bool.Decides.{nat_tests}
 use Rattle.std.proofs.lemmas.Bool.{cases_eq}
 use Rattle.std.specs.Prelude.{option_map}
 use Rattle.std.specs.declared.option.Option.{Option}
 use Rattle.std.specs.declared.option.Option.TheVariants.{None, Some}
-use Rattle.wl_wire.specs.declared.kind.Iface.{Iface}
 use Rattle.wl_objects.specs.declared.object.Entry.{Entry}
-use Rattle.wl_objects.specs.declared.object.State.TheVariants as states
-use Rattle.wl_objects.specs.View.{View, Sound, look, opened_at, opened, closed, zombied, zombie, next_id, can_open, has_room, free_or_next, max_ids, max_births, is_held}
+use Rattle.wl_objects.specs.View.{View, Sound, look, opened_at, closed, zombied, zombie, next_id, can_open, has_room, free_or_next, max_ids}
 use Rattle.wl_objects.specs.Views.{look-opened_at, look-closed, look-zombied, free_is, is_free, free_or_next-next_id}
-use Rattle.wl_world.specs.Meant.{Born, Known, plain, live_entry}
-use Rattle.wl_world.specs.World.{Row, Open, Ending, put}
-use Rattle.wl_world.specs.Flight.{Rows, at, most, made, row, as_row, client_rows, server_rows, Fresh, Held}
-use Rattle.wl_world.proofs.Deeds.{put_tells}
+use Rattle.wl_world.specs.Meant.{Known, plain}
+use Rattle.wl_world.specs.World.{Open, Ending, put}
+use Rattle.wl_world.specs.Flight.{Rows, at, most, made, row, client_rows, server_rows, Fresh}
 
 module _ {X Y : Type 0} (f : X → Y) where
   pub map_put : (g h : ℕ → Option X) (k : ℕ) (o : Option X) → ((q : ℕ) → g q ≡ cond (eqb q k) o (h q)) → (q : ℕ) → option_map f (g q) ≡ put (λ i. option_map f (h i)) k (option_map f o) q
@@ -36,17 +32,17 @@ pub client_opened : (v : View) (x : Known) → x.born.birth ≡ v.births
     → client_rows (opened_at v x.id x.born.iface x.born.version) ≡ made (client_rows v) x.id (Open x.born)
 client_opened v x e =
     same_rows_at (v.births + 1)
-      (λ q. map_put row (look (opened_at v x.id x.born.iface x.born.version)) (look v) x.id _ (look-opened_at v x.id x.born.iface x.born.version) q
-        ∙ ap (λ (n : ℕ). put (λ i. option_map row (look v i)) x.id (Some (Open (record { birth = n; iface = x.born.iface; version = x.born.version }))) q) (sym e))
-      (most_max v.used x.id)
+    (λ q. map_put row (look (opened_at v x.id x.born.iface x.born.version)) (look v) x.id _ (look-opened_at v x.id x.born.iface x.born.version) q
+    ∙ ap (λ (n : ℕ). put (λ i. option_map row (look v i)) x.id (Some (Open (record { birth = n; iface = x.born.iface; version = x.born.version }))) q) (sym e))
+    (most_max v.used x.id)
 
 pub server_opened : (v : View) (x : Known) → x.born.birth ≡ v.births
     → server_rows (opened_at v x.id x.born.iface x.born.version) ≡ made (server_rows v) x.id x.born
 server_opened v x e =
     same_rows_at (v.births + 1)
-      (λ q. map_put plain (look (opened_at v x.id x.born.iface x.born.version)) (look v) x.id _ (look-opened_at v x.id x.born.iface x.born.version) q
-        ∙ ap (λ (n : ℕ). put (λ i. option_map plain (look v i)) x.id (Some (record { birth = n; iface = x.born.iface; version = x.born.version })) q) (sym e))
-      (most_max v.used x.id)
+    (λ q. map_put plain (look (opened_at v x.id x.born.iface x.born.version)) (look v) x.id _ (look-opened_at v x.id x.born.iface x.born.version) q
+    ∙ ap (λ (n : ℕ). put (λ i. option_map plain (look v i)) x.id (Some (record { birth = n; iface = x.born.iface; version = x.born.version })) q) (sym e))
+    (most_max v.used x.id)
 
 pub client_closed : (v : View) (id : ℕ) → client_rows (closed v id) ≡ at (client_rows v) id None
 client_closed v id = same_rows_at v.births (map_put row (look (closed v id)) (look v) id None (look-closed v id)) refl
@@ -56,9 +52,9 @@ server_closed v id = same_rows_at v.births (map_put plain (look (closed v id)) (
 
 zombie_at : (v : View) (id : ℕ) (e : Entry) → look v id ≡ Some e → (q : ℕ) → look (zombied v id) q ≡ cond (eqb q id) (Some (zombie e)) (look v q)
 zombie_at v id e h q = look-zombied v id q ∙ elim (cases_eq q id) [
-    inl same ↦ (let l = ap (look v) same ∙ h in rw (l, same) refl)
+  | inl same ↦ (let l = ap (look v) same ∙ h in rw (l, same) refl)
   | inr other ↦ (let b : eqb q id ≡ false = grind (arith, nat_tests) in rw b refl)
-  ]
+]
 
 pub client_zombied : (v : View) (id : ℕ) (e : Entry) → look v id ≡ Some e → client_rows (zombied v id) ≡ at (client_rows v) id (Some (Ending (plain e)))
 client_zombied v id e h = same_rows_at v.births (map_put row (look (zombied v id)) (look v) id (Some (zombie e)) (zombie_at v id e h)) refl
@@ -92,4 +88,3 @@ pub record RowAt (v : View) (x : Known) : Type 0 where
   pub entry : Entry
   pub there : look v x.id ≡ Some entry
   pub same : plain entry ≡ x.born
-

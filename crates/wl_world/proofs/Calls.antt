@@ -1,19 +1,18 @@
 -- The message that a call writes.
-use Rattle.std.proofs.Common.{◌≡◌, ◌≢◌, ℕ, zero, suc, ◌+◌, ◌<◌, ◌≤◌, ◌^◌, Bool, true, false, cond, List, [], ◌∷◌, ◌++◌, map, length, ◌⊎◌, inl, inr, refl, sym, ap, subst, ◌∙◌, arith}
-use Rattle.std.specs.Prelude.{option_map, nat_eq, nat_lt, not, ◌&&◌, if◌then◌else◌, FitsSigned}
+use Rattle.std.proofs.Common.{◌≡◌, ◌≢◌, ℕ, suc, ◌<◌, ◌≤◌, ◌^◌, Bool, true, false, cond, List, [], ◌∷◌, map, length, ◌⊎◌, inl, inr, refl, sym, ap, subst, ◌∙◌, arith}
+use Rattle.std.specs.Prelude.{nat_eq, nat_lt, not, ◌&&◌}
 use Rattle.std.specs.List.{All, list_any}
 use Rattle.std.specs.declared.option.Option.{Option}
 use Rattle.std.specs.declared.option.Option.TheVariants.{None, Some}
-use Rattle.std.specs.declared.result.Result.{Result}
 use Rattle.std.specs.declared.result.Result.TheVariants.{Ok, Err}
-use Rattle.std.proofs.lemmas.Bool.{both_ways, eqb-true, eq-eqb, ltb-false, ltb-true, le-ltb}
+use Rattle.std.proofs.lemmas.Bool.{both_ways, eqb-true, eq-eqb, ltb-false}
 use Rattle.std.proofs.lemmas.List.Folds.{list_any_at}
 use Rattle.std.proofs.lemmas.List.Elements.{All-tail}
 use Rattle.wl_wire.specs.declared.kind.Kind.{Kind}
 use Rattle.wl_wire.specs.declared.kind.Kind.TheVariants as kinds
 use Rattle.wl_wire.specs.declared.kind.Iface.{Iface}
-use Rattle.wl_wire.specs.Argument.{Argument, Shape, reshaped, Int, Uint, Fixed, Str, Obj, New, NewNamed, Array, Fd}
-use Rattle.wl_wire.specs.Spelling.{Suits, IsText, spelled_len}
+use Rattle.wl_wire.specs.Argument.{reshaped, Int, Uint, Fixed, Str, Obj, New, NewNamed, Array, Fd}
+use Rattle.wl_wire.specs.Spelling.{Suits, spelled_len}
 use Rattle.wl_sigs.specs.declared.signature.Side.{Side}
 use Rattle.wl_sigs.specs.Tables.{Interface, signature_at, new_objects}
 use Rattle.wl_sigs.specs.Tables as sigs
@@ -24,12 +23,12 @@ use Rattle.wl_objects.specs.declared.object.State.TheVariants as states
 use Rattle.wl_objects.specs.declared.error.SendError.{SendError}
 use Rattle.wl_objects.specs.View.{View, Sound, look, max_ids, next_id}
 use Rattle.wl_objects.specs.Views
-use Rattle.wl_objects.specs.Reading.{is_of, iface_of}
+use Rattle.wl_objects.specs.Reading.{is_of}
 use Rattle.wl_objects.specs.Writing.{Given, suits, has_no_nul, wrong_place, lost_place, is_live, is_live_as, row_is_of, can_name, wired, tokens_of, message_len}
-use Rattle.wl_objects.specs.Messages.{Made, made, made_by, or_else as made_or_else, live_row, checked, checked_by, checked_as, unless_hidden, unless_wrong, unless_lost, of_length, is_hidden}
-use Rattle.wl_world.specs.Meant.{Born, Known, Arg, rearg, born_of, birth_of, wire, tokens, token_in, new_in, made_in, or_else, object_in, objects, plain, live_entry}
-use Rattle.wl_world.specs.World.{Row, Open, Ending, Each, IfThere}
-use Rattle.wl_world.specs.Answers.{handed, birth_at}
+use Rattle.wl_objects.specs.Messages.{Made, made, live_row, checked, checked_by, checked_as, unless_hidden, unless_wrong, is_hidden}
+use Rattle.wl_world.specs.Meant.{Born, Known, Arg, rearg, born_of, birth_of, wire, tokens, new_in, made_in, or_else, objects, plain, live_entry}
+use Rattle.wl_world.specs.World.{Each, IfThere}
+use Rattle.wl_world.specs.Answers.{handed}
 use Rattle.wl_world.specs.Stands.{AreOf, NamesRightly}
 use Rattle.wl_world.specs.Runs.{IsGiven}
 
@@ -97,7 +96,7 @@ not_old view given entry s t true why e h = absurd (cc h)
 not_old view given entry s t false why e h =
     let f = fine _ _ _ s t h in
     subst (λ (x : sigs.Message). AsChecked view given entry (Some s) x) f.same
-      (record { there = refl; old_enough = ltb-false _ _ e; suit = f.suit; found = f.found; len = f.short })
+    (record { there = refl; old_enough = ltb-false _ _ e; suit = f.suit; found = f.found; len = f.short })
 
 as_checked : (view : View) (given : List Given) (entry : Entry) (o : Option sigs.Message) (s : sigs.Message) → checked_as view given entry o ≡ Ok s → AsChecked view given entry o s
 as_checked view given entry None s h = absurd (cc h)

@@ -1,10 +1,9 @@
 -- What a write, a carry and a read do to the messages in flight.
-use Rattle.std.proofs.Common.{◌≡◌, ℕ, zero, suc, ◌+◌, ◌-◌, ◌<◌, ◌≤◌, min, List, [], ◌∷◌, ◌++◌, length, length-append, take, drop, refl, sym, ◌∙◌, ap, subst, arith}
-use Rattle.std.proofs.lemmas.Grind.{common_steps}
-use Rattle.std.proofs.lemmas.List.{append_assoc, append-nil, take-append-le, drop-append-le, take_all, drop_all, take-append-drop, take_at, length-take}
-use Rattle.wl_message.specs.Cut.{front, Front, More, Bad, Whole, usual_limit, IsMessage, HasMessage}
+use Rattle.std.proofs.Common.{◌≡◌, ℕ, zero, suc, ◌-◌, ◌≤◌, List, [], ◌∷◌, ◌++◌, length, length-append, take, drop, refl, sym, ◌∙◌, ap, subst, arith}
+use Rattle.std.proofs.lemmas.List.{append_assoc, append-nil, take-append-le, drop-append-le, take_all, drop_all, take-append-drop, take_at}
+use Rattle.wl_message.specs.Cut.{front, More, Bad, Whole, usual_limit, IsMessage}
 use Rattle.wl_message.specs.Arrived.{Arrived, with_more, without_first}
-use Rattle.wl_message.specs.Outgoing.{Message, message, Outgoing, all_bytes, all_tokens, waiting_bytes, waiting_tokens, with_message, newly_begun, begun, after_taking, going_bytes, goes}
+use Rattle.wl_message.specs.Outgoing.{Message, Outgoing, all_bytes, all_tokens, waiting_bytes, waiting_tokens, newly_begun, begun, after_taking, goes}
 use Rattle.wl_message.proofs.Cuts.{front_message, whole_stays, bad_stays, front_none}
 use Rattle.wl_message.proofs.Fronts.{front_stands}
 use Rattle.wl_message.proofs.Goings.{begun_front, going_there}
@@ -50,10 +49,11 @@ gone_at : (o : Outgoing) (n : ℕ) (b ms rest : List Message) → ms ≡ b ++ re
     → (o.left ++ all_bytes b ≡ take n (o.left ++ all_bytes ms) ++ drop n (o.left ++ all_bytes b)) × (take (length (all_tokens b)) (all_tokens ms) ≡ all_tokens b)
 gone_at o n b ms rest e f h =
     let whole : o.left ++ all_bytes ms ≡ (o.left ++ all_bytes b) ++ all_bytes rest =
-        ap (λ (x : List Message). o.left ++ all_bytes x) e ∙ ap (λ (x : List ℕ). o.left ++ x) (all_bytes_more b rest) ∙ sym (append_assoc o.left (all_bytes b) (all_bytes rest)) in
-    let t : take n (o.left ++ all_bytes ms) ≡ take n (o.left ++ all_bytes b) = ap (take n) whole ∙ take-append-le n (o.left ++ all_bytes b) (all_bytes rest) h in
-    (sym (take-append-drop n (o.left ++ all_bytes b)) ∙ ap (λ (x : List ℕ). x ++ drop n (o.left ++ all_bytes b)) (sym t),
-     ap (λ (x : List Message). take (length (all_tokens b)) (all_tokens x)) e ∙ ap (take (length (all_tokens b))) (all_tokens_more b rest) ∙ take_at (all_tokens b) (all_tokens rest) (length (all_tokens b)) refl)
+    ap (λ (x : List Message). o.left ++ all_bytes x) e ∙ ap (λ (x : List ℕ). o.left ++ x) (all_bytes_more b rest) ∙ sym (append_assoc o.left (all_bytes b) (all_bytes rest)) in
+    let t : take n (o.left ++ all_bytes ms) ≡ take n (o.left ++ all_bytes b) = ap (take n) whole ∙ take-append-le n (o.left ++ all_bytes b) (all_bytes rest) h in (
+      sym (take-append-drop n (o.left ++ all_bytes b)) ∙ ap (λ (x : List ℕ). x ++ drop n (o.left ++ all_bytes b)) (sym t),
+      ap (λ (x : List Message). take (length (all_tokens b)) (all_tokens x)) e ∙ ap (take (length (all_tokens b))) (all_tokens_more b rest) ∙ take_at (all_tokens b) (all_tokens rest) (length (all_tokens b)) refl,
+    )
 
 pub gone : (o : Outgoing) (n : ℕ) → n ≤ length (waiting_bytes o) → Gone o n
 gone o n h =
@@ -103,9 +103,10 @@ pub record Pops (o : Outgoing) (i : Arrived) (ms : List Message) (n : ℕ) : Typ
 
 split : (xs ys ms zs : List ℕ) (n : ℕ) → xs ++ ys ≡ ms ++ zs → n ≡ length ms → n ≤ length xs → (take n xs ≡ ms) × (drop n xs ++ ys ≡ zs)
 split xs ys ms zs n e h l =
-    let m : n ≤ length ms = omega arith in
-    (sym (take-append-le n xs ys l) ∙ ap (take n) e ∙ take-append-le n ms zs m ∙ take_all n ms (omega arith),
-     sym (drop-append-le n xs ys l) ∙ ap (drop n) e ∙ drop-append-le n ms zs m ∙ ap (λ k. k ++ zs) (drop_all n ms (omega arith)))
+    let m : n ≤ length ms = omega arith in (
+      sym (take-append-le n xs ys l) ∙ ap (take n) e ∙ take-append-le n ms zs m ∙ take_all n ms (omega arith),
+      sym (drop-append-le n xs ys l) ∙ ap (drop n) e ∙ drop-append-le n ms zs m ∙ ap (λ k. k ++ zs) (drop_all n ms (omega arith)),
+    )
 
 front_nil : (xs ys : List ℕ) → xs ++ ys ≡ [] → xs ≡ []
 front_nil [] ys h = refl

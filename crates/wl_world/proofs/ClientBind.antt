@@ -1,17 +1,16 @@
 -- A move of the client's binding.
-use Rattle.std.proofs.Common.{◌≡◌, ◌≢◌, ℕ, zero, suc, ◌+◌, ◌<◌, ◌≤◌, ◌^◌, Bool, true, false, cond, List, [], ◌∷◌, ◌++◌, map, length, inl, inr, refl, sym, ap, subst, ◌∙◌, arith}
-use Rattle.std.specs.Prelude.{option_map, nat_eq, nat_le, bytes_eq, not, ◌&&◌, codes, slice_get}
+use Rattle.std.proofs.Common.{◌≡◌, ℕ, zero, suc, ◌≤◌, Bool, true, false, cond, List, [], ◌∷◌, ◌++◌, length, refl, sym, ap, subst, ◌∙◌, arith}
+use Rattle.std.specs.Prelude.{option_map, nat_le, bytes_eq, not, ◌&&◌, codes}
 use Rattle.std.specs.List.{find}
 use Rattle.std.specs.declared.option.Option.{Option}
 use Rattle.std.specs.declared.option.Option.TheVariants.{None, Some}
 use Rattle.std.specs.declared.result.Result.{Result}
 use Rattle.std.specs.declared.result.Result.TheVariants.{Ok, Err}
-use Rattle.std.proofs.lemmas.Grind.{common_steps}
 use Rattle.std.proofs.lemmas.Bool.{eqb-true}
 use Rattle.std.proofs.lemmas.Bool.Decides.{nat_tests}
 use Rattle.std.proofs.lemmas.Option.{slice_get_within}
 use Rattle.wl_wire.specs.declared.kind.Iface.{Iface}
-use Rattle.wl_wire.specs.Argument.{Argument, Shape, Uint, NewNamed}
+use Rattle.wl_wire.specs.Argument.{Uint, NewNamed}
 use Rattle.wl_wire.specs.Spelling.{IsText}
 use Rattle.wl_sigs.specs.declared.signature.Side.TheVariants.{Request}
 use Rattle.wl_sigs.specs.declared.signature.Destroys.{Destroys}
@@ -26,32 +25,29 @@ use Rattle.wl_objects.specs.declared.object.Entry.{Entry}
 use Rattle.wl_objects.specs.declared.object.State.TheVariants as states
 use Rattle.wl_objects.specs.declared.error.SendError.{SendError}
 use Rattle.wl_objects.specs.declared.error.SendError.TheVariants as refusals
-use Rattle.wl_objects.specs.View.{View, Sound, look, next_id, can_open, opened_at, max_ids}
+use Rattle.wl_objects.specs.View.{View, look, next_id, can_open, opened_at}
 use Rattle.wl_objects.specs.Writing.{is_live_as, message_bytes}
-use Rattle.wl_objects.specs.Messages.{Client as client_end, after, live_row, same_iface}
-use Rattle.wl_end.specs.Core.{Core}
-use Rattle.wl_end.specs.Sending.{fits, opening_answer}
+use Rattle.wl_objects.specs.Messages.{live_row, same_iface}
+use Rattle.wl_end.specs.Sending.{opening_answer}
 use Rattle.wl_client.specs.State as client
 use Rattle.wl_client.specs.State.{is_named}
 use Rattle.wl_client.specs.Calls.{version_fits, can_bind, bind_values, iface_or, bound, bind_at, bind_answer, after_bind}
 use Rattle.wl_server.specs.State as server
 use Rattle.wl_server.specs.Requests.{bind_fits, name_fits}
-use Rattle.wl_world.specs.Meant.{Born, Known, Message, Coming, renamed, born_of, birth_of, wire, tokens, spelled, made_in, plain}
-use Rattle.wl_world.specs.World.{World, Row, Open, Each, request_written}
-use Rattle.wl_world.specs.Pair.{PairState, ClientBind, with_client, with_client_core, Writes, accepted, refused, no_memory}
+use Rattle.wl_world.specs.Meant.{Known, Message, Coming, renamed, born_of, made_in, plain}
+use Rattle.wl_world.specs.World.{World, Open, Each, request_written}
+use Rattle.wl_world.specs.Pair.{PairState, ClientBind, with_client, Writes, accepted, refused, no_memory}
 use Rattle.wl_world.specs.Answers.{WritesThat, birth_at, before}
 use Rattle.wl_world.specs.Answers as answers
 use Rattle.wl_world.specs.Flight.{client_rows, row, as_row}
-use Rattle.wl_world.specs.Stands.{Stands, stands, StandsBy, Fits, WasGiven, IsGlobal}
+use Rattle.wl_world.specs.Stands.{Stands, stands, StandsBy, WasGiven, IsGlobal}
 use Rattle.wl_world.specs.Runs.{Keeps}
-use Rattle.wl_world.proofs.Wholes.{OpenRow}
 use Rattle.wl_world.proofs.Bridges.{next_fresh}
 use Rattle.wl_world.proofs.Afters.{only_opens}
-use Rattle.wl_world.proofs.Readings.{made_of}
 use Rattle.wl_world.proofs.Registries.{registry_plain}
 use Rattle.wl_world.proofs.ServerReads.{test_of}
-use Rattle.wl_world.proofs.Calls.{LiveAs, live_as, row_low}
-use Rattle.wl_world.proofs.Written.{Opens, opens}
+use Rattle.wl_world.proofs.Calls.{live_as, row_low}
+use Rattle.wl_world.proofs.Written.{opens}
 use Rattle.wl_world.proofs.Places.{place_there, name_text, bytes_same, bytes_self}
 use Rattle.wl_world.proofs.Announces.{each_get}
 use Rattle.wl_world.proofs.ClientSends.{CanAsk, asked_core, ask_stands}
@@ -174,7 +170,7 @@ bind_can p w asked told s target name iface version new b n can =
     let fits_name : name_fits iface (interface_at tables given.global.iface.0) ≡ true = ap (λ (i : Iface). name_fits iface (interface_at tables i.0)) given.iface_is ∙ ap (name_fits iface) n.place ∙ ap (λ (l : List ℕ). bytes_eq l iface) n.named ∙ self iface in
     let low = row_low v target.id b.entry s.client_sound b.there in
     let bind_there : signature_at tables b.entry.iface.0 Request 0 ≡ Some (fixed.message (codes "bind") 1 (fixed.uint ∷ fixed.new None ∷ []) Nothing) =
-        ap (λ (i : Iface). signature_at tables i.0 Request 0) reg ∙ registry_bind tables s.valid in
+    ap (λ (i : Iface). signature_at tables i.0 Request 0) reg ∙ registry_bind tables s.valid in
     record {
       fitly = record {
         fits = record {
@@ -204,8 +200,10 @@ bind_can p w asked told s target name iface version new b n can =
   where
     self : (xs : List ℕ) → bytes_eq xs xs ≡ true
     self xs = bytes_self xs
+
     registry_bind : (tables : List Interface) → Valid tables → signature_at tables 1 Request 0 ≡ Some (fixed.message (codes "bind") 1 (fixed.uint ∷ fixed.new None ∷ []) Nothing)
     registry_bind tables v = rw v.fixed_three.registry refl
+
     bind_is : (tables : List Interface) (iface : List ℕ) (version : ℕ) (o : Option server.Global) (g : server.Global) → o ≡ Some g → name_fits iface (interface_at tables g.iface.0) ≡ true → 1 ≤ version → version ≤ g.version
         → bind_fits tables iface version o ≡ true
     bind_is tables iface version o g e a b c = ap (bind_fits tables iface version) e ∙ rw a (let x : (nat_le 1 version && nat_le version g.version) ≡ true = grind (arith, nat_tests, b, c) in x)
@@ -213,14 +211,18 @@ bind_can p w asked told s target name iface version new b n can =
 left_by : (st : client.State) (entry : Entry) (target : Object) (name : ℕ) (iface : List ℕ) (version : ℕ) (g : client.Global) (what : Destroys) → client.global_of st.globals name ≡ Some g → destroys_target what ≡ false
     → after_bind st target name iface version ≡ client.with_core st (asked_core st.core (bind_message st.core.view entry target name iface version g.iface) what)
 left_by st entry target name iface version g what e d =
-    (λ i. record st { core = record st.core {
-      view = opened_at st.core.view (next_id st.core.view) (iface_or (e i)) version;
-      outbox = record st.core.outbox { messages = st.core.outbox.messages ++ message (message_bytes target.id 0 (bind_values name iface version (next_id st.core.view))) [] ∷ [] };
-    } })
-    ∙ (λ i. record st { core = record st.core {
-      view = sym (only_opens st.core.view (made_in (bind_message st.core.view entry target name iface version g.iface).args) what target.id d) i;
-      outbox = record st.core.outbox { messages = st.core.outbox.messages ++ message (message_bytes target.id 0 (bind_values name iface version (next_id st.core.view))) [] ∷ [] };
-    } })
+    (λ i. record st {
+      core = record st.core {
+        view = opened_at st.core.view (next_id st.core.view) (iface_or (e i)) version;
+        outbox = record st.core.outbox { messages = st.core.outbox.messages ++ message (message_bytes target.id 0 (bind_values name iface version (next_id st.core.view))) [] ∷ [] };
+      };
+    })
+    ∙ (λ i. record st {
+      core = record st.core {
+        view = sym (only_opens st.core.view (made_in (bind_message st.core.view entry target name iface version g.iface).args) what target.id d) i;
+        outbox = record st.core.outbox { messages = st.core.outbox.messages ++ message (message_bytes target.id 0 (bind_values name iface version (next_id st.core.view))) [] ∷ [] };
+      };
+    })
 
 pub client_bind_keeps : (p : PairState) (w : World) (asked : List (Message Known)) (told : List (Coming Known)) → StandsBy p w asked told → w.ended ≡ false → (target : Object) (name : ℕ) (iface : List ℕ) (version : ℕ)
     → (reply : Result (Option Object) SendError) (p' : PairState)

@@ -1,52 +1,45 @@
 -- The client reads.
 use Rattle.std.proofs.Common.{◌≡◌, ◌≢◌, ℕ, ◌+◌, ◌<◌, ◌≤◌, Bool, true, false, cond, List, [], ◌∷◌, ◌++◌, map, length, take, drop, refl, sym, ap, subst, ◌∙◌, arith, min}
-use Rattle.std.specs.Prelude.{option_map, codes, is_some, nat_eq, nat_lt, not, ◌&&◌, if◌then◌else◌}
+use Rattle.std.specs.Prelude.{option_map, codes, is_some, nat_eq, not, ◌&&◌}
 use Rattle.std.specs.declared.option.Option.{Option}
 use Rattle.std.specs.declared.option.Option.TheVariants.{None, Some}
-use Rattle.std.specs.declared.result.Result.{Result}
-use Rattle.std.specs.declared.result.Result.TheVariants.{Ok, Err}
+use Rattle.std.specs.declared.result.Result.TheVariants.{Ok}
 use Rattle.std.proofs.lemmas.Bool.{ne_eqb}
-use Rattle.std.proofs.lemmas.List.{append_assoc, append-nil, map-append, take_at}
-use Rattle.wl_wire.specs.Argument.{Shape, Int, Uint, Fixed, Str, Obj, New, NewNamed, Array, Fd}
-use Rattle.wl_sigs.specs.declared.signature.Side.TheVariants.{Request as request_side, Event as event_side}
+use Rattle.wl_wire.specs.Argument.{Uint}
+use Rattle.wl_sigs.specs.declared.signature.Side.TheVariants.{Event as event_side}
 use Rattle.wl_sigs.specs.declared.signature.Destroys.{Destroys}
 use Rattle.wl_sigs.specs.declared.signature.Destroys.TheVariants.{Nothing, Target}
 use Rattle.wl_sigs.specs.Tables.{Interface, destroys_target, signature_at, message_of}
 use Rattle.wl_sigs.specs.Tables as sigs
 use Rattle.wl_sigs.specs.Fixed.{display, registry, wl_display}
 use Rattle.wl_sigs.specs.Fixed as fixed
-use Rattle.wl_message.specs.Cut.{usual_limit, front, Front, More, Bad, Whole, HasMessage, IsMessage}
+use Rattle.wl_message.specs.Cut.{usual_limit, front, Whole}
 use Rattle.wl_message.specs.Outgoing as boxes
 use Rattle.wl_objects.specs.declared.object.Entry.{Entry}
 use Rattle.wl_objects.specs.declared.object.State.{State}
 use Rattle.wl_objects.specs.declared.object.State.TheVariants as states
-use Rattle.wl_objects.specs.declared.error.Fault.{Fault}
-use Rattle.wl_objects.specs.declared.error.NextError.{NextError}
-use Rattle.wl_objects.specs.declared.error.NextError.TheVariants as errors
-use Rattle.wl_objects.specs.View.{View, Sound, look, is_held, closed, zombied, opened_at}
+use Rattle.wl_objects.specs.View.{View, look, is_held, closed}
 use Rattle.wl_objects.specs.Views.{look-closed, look-zombied}
 use Rattle.wl_objects.specs.Sounds.{Sound-closed}
 use Rattle.wl_objects.specs.Writing.{is_live}
 use Rattle.wl_objects.specs.Reading.{descriptors}
-use Rattle.wl_objects.specs.Messages.{is_error, is_delete_id, same_iface, Client as client_end, after, after_delete_id, destroyed}
+use Rattle.wl_objects.specs.Messages.{is_error, is_delete_id, same_iface, Client as client_end, after, after_delete_id}
 use Rattle.wl_end.specs.Core.{Core}
-use Rattle.wl_end.specs.Receiving.{Found, found, takes, reported}
+use Rattle.wl_end.specs.Receiving.{found}
 use Rattle.wl_client.specs.State as client
 use Rattle.wl_client.specs.Reports.{Report, state_past, core_after, view_after, globals_after, globals_told, report}
 use Rattle.wl_client.specs.Reports as reports
-use Rattle.wl_world.specs.Meant.{Born, Known, Message, Coming, Event, Delete, Arg, renamed, recoming, rearg, born_of, birth_of, wire, tokens, spelled, spelled_coming, new_in, made_in, objects, plain, live_entry}
-use Rattle.wl_world.specs.World.{World, display_born, Row, Open, Ending, Each, IfThere, event_read, delete_read, ending, put, is_open, is_registry, learned, nameless}
+use Rattle.wl_world.specs.Meant.{Born, Known, Message, Coming, Event, Delete, renamed, recoming, rearg, born_of, birth_of, wire, tokens, spelled, spelled_coming, objects, plain, live_entry}
+use Rattle.wl_world.specs.World.{World, display_born, Row, Each, event_read, delete_read, ending, put, is_open, is_registry, learned, nameless}
 use Rattle.wl_world.specs.Pair.{PairState, with_client, is_none}
-use Rattle.wl_world.specs.Answers.{ReportsComing, ReportsArgs}
-use Rattle.wl_world.specs.Flight.{Rows, at, Held, Reads, Tied, Meets, all_asks, all_tells, client_rows, server_rows, row, as_row}
-use Rattle.wl_world.specs.Stands.{StandsBy, Fits, AreOf, ComesFitly, TellsFitly, TellsGiven, InFlight, Shows, birth_in, bare, by_event}
-use Rattle.wl_world.proofs.Deeds.{put_tells}
+use Rattle.wl_world.specs.Flight.{Rows, Held, Reads, all_tells, client_rows, row, as_row}
+use Rattle.wl_world.specs.Stands.{StandsBy, Fits, TellsFitly, TellsGiven, InFlight, Shows, birth_in}
 use Rattle.wl_world.proofs.Wholes.{client_ends, TellsAt, tells_at, DeletesAt, deletes_at}
-use Rattle.wl_world.proofs.Sets.{client_ended, client_deleted, births_ends}
-use Rattle.wl_world.proofs.Channels.{Pops, pops}
+use Rattle.wl_world.proofs.Sets.{client_ended, client_deleted}
+use Rattle.wl_world.proofs.Channels.{pops}
 use Rattle.wl_world.proofs.Bridges.{client_closed}
-use Rattle.wl_world.proofs.Afters.{HeldRow, held_row, client_after, client_sound, client_aged, closed_aged, tokens_map}
-use Rattle.wl_world.proofs.Readings.{HeldAt, AllMet, reports_right, tokens_taken}
+use Rattle.wl_world.proofs.Afters.{HeldRow, held_row, client_after, client_sound, client_aged, closed_aged}
+use Rattle.wl_world.proofs.Readings.{HeldAt, AllMet, tokens_taken}
 use Rattle.wl_world.proofs.Findings.{the_found, the_message, finds, all_met, news_none}
 use Rattle.wl_world.proofs.Learning.{Gave, told_same, told_keeps}
 use Rattle.wl_world.proofs.ServerReads.{test_of}
@@ -97,7 +90,7 @@ in_event p w m cs asked s n e =
     let r = seen_at p.client.core.view w.client s.client_sets m.target t.target in
     let f = s.told_fit.0.fits in
     let met = all_met p.server.core.tables m.target.born.version p.client.core.view w.client (Held (client_rows p.client.core.view)) (held_at_client p.client.core.view w.client s.client_sets)
-        f.signature.kinds m.args f.args t.args (news_none p.client.core.view m.args m.args s.told_fit.0.makes_none f.new_is) in
+    f.signature.kinds m.args f.args t.args (news_none p.client.core.view m.args m.args s.told_fit.0.makes_none f.new_is) in
     let bytes : take n p.client.core.inbox.bytes ≡ (spelled m).bytes = q.bytes ∙ ap (λ (x : boxes.Message). x.bytes) first in
     let own : q.first.tokens ≡ tokens m.args = ap (λ (x : boxes.Message). x.tokens) first in
     let enough : length (tokens m.args) ≤ length p.client.core.inbox.tokens = let k = ap length own in omega (arith, q.enough, k) in
@@ -175,7 +168,7 @@ learned_is : (p : PairState) (w : World) (m : Message Known) (asked : List (Mess
 learned_is p w m asked told s t =
     let live : is_open (w.client m.target.born.birth) ≡ is_live t.entry.state = ap is_open t.shown ∙ open_is t.entry.state (plain t.entry) in
     let same : globals_told p.client.core.tables p.client.globals m.opcode (map nameless (map (rearg born_of) m.args)) ≡ globals_told p.client.core.tables p.client.globals m.opcode (map wire m.args) =
-        sym (told_same p.client.core.tables p.client.globals m.opcode m.args) in
+    sym (told_same p.client.core.tables p.client.globals m.opcode m.args) in
     (λ i. cond (is_registry m.target.born && live i) (globals_told p.client.core.tables (s.remembered i) m.opcode (map nameless (map (rearg born_of) m.args))) (s.remembered i))
     ∙ ap (λ (l : List client.Global). cond (teaches m t.entry) l p.client.globals) same
 
@@ -188,8 +181,8 @@ learns : (p : PairState) (w : World) (m : Message Known) (asked : List (Message 
 learns p w m asked told s f false h = s.remembers
 learns p w m asked told s f true h =
     told_keeps p.client.core.tables p.server.globals p.client.globals m.opcode m.args
-      (λ e. subst (λ (t : List Interface). TellsGiven t p.server.globals m.args) (sym s.same_tables) (f.tells (h refl) e))
-      s.remembers (nat_eq m.opcode 0) (nat_eq m.opcode 1) refl
+    (λ e. subst (λ (t : List Interface). TellsGiven t p.server.globals m.args) (sym s.same_tables) (f.tells (h refl) e))
+    s.remembers (nat_eq m.opcode 0) (nat_eq m.opcode 1) refl
 
 pub event_stands : (p : PairState) (w : World) (m : Message Known) (cs : List (Coming Known)) (asked : List (Message Known)) (s : StandsBy p w asked (Event m ∷ cs)) (n : ℕ) (i : InEvent p w m cs asked s n)
     → (m.destroys ≡ true → m.target.id ≢ 1)
@@ -202,7 +195,7 @@ event_stands p w m cs asked s n i y =
     let t = i.tells_it in
     let r : HeldRow v m.target = held_row v m.target t.target in
     let rows : client_rows (after client_end v None what m.target.id) ≡ client_ends m.destroys m.target (client_rows v) =
-        client_after v m.target None what tt r ∙ ap (λ (b : Bool). client_ends b m.target (client_rows v)) d in
+    client_after v m.target None what tt r ∙ ap (λ (b : Bool). client_ends b m.target (client_rows v)) d in
     let sets = client_ended (client_rows v) w.client m.destroys m.target s.client_sets t.target in
     record {
       same_tables = s.same_tables;
@@ -214,7 +207,8 @@ event_stands p w m cs asked s n i y =
       versions = client_aged v m.target.id None what tt s.versions;
       server_sound = s.server_sound;
       client_display = display_kept v m.target.id what s.client_display (λ e. y (sym d ∙ e));
-      server_display = s.server_display; server_live = s.server_live;
+      server_display = s.server_display;
+      server_live = s.server_live;
       requests = s.requests;
       events = refl;
       to_server = s.to_server;
@@ -359,7 +353,8 @@ delete_stands p w x cs asked s n i =
       versions = closed_aged v x.id s.versions;
       server_sound = s.server_sound;
       client_display = look-closed v x.id 1 ∙ rw b s.client_display;
-      server_display = s.server_display; server_live = s.server_live;
+      server_display = s.server_display;
+      server_live = s.server_live;
       requests = s.requests;
       events = refl;
       to_server = s.to_server;

@@ -1,46 +1,39 @@
 -- A move of the client's writing.
-use Rattle.std.proofs.Common.{◌≡◌, ◌≢◌, ℕ, ◌+◌, ◌<◌, ◌≤◌, Bool, true, false, cond, List, [], ◌∷◌, ◌++◌, map, length, ◌⊎◌, inl, inr, refl, sym, ap, subst, ◌∙◌, arith}
+use Rattle.std.proofs.Common.{◌≡◌, ◌≢◌, ℕ, true, false, List, [], ◌∷◌, ◌++◌, map, ◌⊎◌, inl, inr, refl, sym, ap, subst, ◌∙◌}
 use Rattle.std.specs.Prelude.{option_map}
 use Rattle.std.specs.declared.option.Option.{Option}
 use Rattle.std.specs.declared.option.Option.TheVariants.{None, Some}
 use Rattle.std.specs.declared.result.Result.{Result}
-use Rattle.std.specs.declared.result.Result.TheVariants.{Ok, Err}
-use Rattle.wl_wire.specs.declared.kind.Iface.{Iface}
-use Rattle.wl_wire.specs.Argument.{Argument}
+use Rattle.std.specs.declared.result.Result.TheVariants.{Ok}
 use Rattle.wl_sigs.specs.declared.signature.Side.{Side}
-use Rattle.wl_sigs.specs.declared.signature.Side.TheVariants.{Request, Event}
-use Rattle.wl_sigs.specs.declared.signature.Destroys.{Destroys}
+use Rattle.wl_sigs.specs.declared.signature.Side.TheVariants.{Request}
 use Rattle.wl_sigs.specs.Tables.{Interface, destroys_target, signature_at}
 use Rattle.wl_sigs.specs.Tables as sigs
 use Rattle.wl_sigs.specs.Valid.{Valid}
-use Rattle.wl_sigs.specs.Fixed.{display}
 use Rattle.wl_message.specs.Outgoing.{message}
 use Rattle.wl_objects.specs.declared.object.Object.{Object}
 use Rattle.wl_objects.specs.declared.object.Entry.{Entry}
-use Rattle.wl_objects.specs.declared.object.State.{State}
-use Rattle.wl_objects.specs.declared.object.State.TheVariants as states
 use Rattle.wl_objects.specs.declared.error.SendError.{SendError}
 use Rattle.wl_objects.specs.View.{View, Sound, look, next_id, can_open}
-use Rattle.wl_objects.specs.Writing.{Given, wired, tokens_of, message_bytes}
+use Rattle.wl_objects.specs.Writing.{Given, wired, message_bytes}
 use Rattle.wl_objects.specs.Messages.{Made, made, Client as client_end, after, checked}
 use Rattle.wl_end.specs.Core.{Core}
-use Rattle.wl_end.specs.Sending.{send_answer, after_send, after_checked, sent, made_at, version_at, opens_object}
-use Rattle.wl_world.specs.Meant.{Born, Known, Message, Coming, Arg, renamed, rearg, born_of, birth_of, wire, tokens, made_in, objects, plain, live_entry}
-use Rattle.wl_world.specs.World.{World, display_born, Row, Open, Ending, Each, IfThere, IsOpen, request_written, Steps, writes_request, WriteRequest}
+use Rattle.wl_end.specs.Sending.{send_answer, after_send, after_checked, made_at, version_at, opens_object}
+use Rattle.wl_world.specs.Meant.{Born, Known, Message, Coming, renamed, born_of, birth_of, made_in, objects, plain, live_entry}
+use Rattle.wl_world.specs.World.{World, display_born, Open, Each, IfThere, IsOpen, request_written, Steps, writes_request, WriteRequest}
 use Rattle.wl_world.specs.Pair.{PairState, ClientSend, with_client_core, Writes, accepted, refused, no_memory}
-use Rattle.wl_world.specs.Answers.{WritesThat, IsMessageOf, handed, birth_at, before}
-use Rattle.wl_world.specs.Flight.{Rows, Fresh, client_rows, row, as_row}
-use Rattle.wl_world.specs.Stands.{Stands, stands, StandsBy, Fits, AreOf, AsksFitly, Shows, birth_in}
+use Rattle.wl_world.specs.Answers.{WritesThat, handed, birth_at, before}
+use Rattle.wl_world.specs.Flight.{Fresh, client_rows, row, as_row}
+use Rattle.wl_world.specs.Stands.{Stands, stands, StandsBy, Fits, AreOf}
 use Rattle.wl_world.specs.Runs.{Keeps, IsGiven}
 use Rattle.wl_world.proofs.Wholes.{OpenRow, each_by}
 use Rattle.wl_world.proofs.Bridges.{next_fresh}
 use Rattle.wl_world.proofs.Afters.{made_map, objects_map, each_map}
 use Rattle.wl_world.proofs.Readings.{made_of}
-use Rattle.wl_world.proofs.ServerReads.{test_of}
 use Rattle.wl_world.proofs.Calls.{Checked, is_checked, LiveAt, handed_all, tokens_all}
 use Rattle.wl_world.proofs.Rules.{target_plain, objects_plain, display_lasts}
-use Rattle.wl_world.proofs.Written.{the_made, the_new, the_args, the_call, new_id, new_birth, CallIs, call_is, Accepted, accepted_call, Opens, opens}
-use Rattle.wl_world.proofs.ClientSends.{CanAsk, asked_core, asked_pair, ask_stands}
+use Rattle.wl_world.proofs.Written.{the_made, the_new, the_call, new_id, new_birth, CallIs, call_is, accepted_call, Opens, opens}
+use Rattle.wl_world.proofs.ClientSends.{CanAsk, asked_core, ask_stands}
 
 -- the same by other tables
 abbrev pub moved : (t u : List Interface) (side : Side) (m : Message Known) → t ≡ u → Fits t side m → Fits u side m
@@ -153,8 +146,8 @@ asks_world p w asked told s m c =
     let v = p.client.core.view in
     let births = fresh_births v (made_in m.args) c.new in
     writes_request (renamed born_of m) (s.client_sets.shown m.target.id (Open m.target.born) c.target)
-      (rw (objects_map born_of m.args) (each_map born_of (IsOpen w.client) (objects m.args) (each_by (OpenRow (client_rows v)) (λ (x : Known). IsOpen w.client x.born) (λ x h. s.client_sets.shown x.id (Open x.born) h) (objects m.args) c.args)))
-      (rw (made_map born_of m.args, s.births) (if_born v.births (made_in m.args) births))
+    (rw (objects_map born_of m.args) (each_map born_of (IsOpen w.client) (objects m.args) (each_by (OpenRow (client_rows v)) (λ (x : Known). IsOpen w.client x.born) (λ x h. s.client_sets.shown x.id (Open x.born) h) (objects m.args) c.args)))
+    (rw (made_map born_of m.args, s.births) (if_born v.births (made_in m.args) births))
 
 pub sends_that : (p : PairState) (w : World) (asked : List (Message Known)) (told : List (Coming Known)) (s : StandsBy p w asked told) (target : Object) (opcode : ℕ) (given : List Given) (signature : sigs.Message) (new : Option Object)
     → (c : Checked p.client.core.tables Request p.client.core.view target opcode given signature) (k : CallIs p.client.core Request target opcode given signature c.entry)
@@ -179,7 +172,7 @@ sends_that p w asked told s target opcode given signature new c k o can =
 pub client_send_keeps : (p : PairState) (w : World) (asked : List (Message Known)) (told : List (Coming Known)) → StandsBy p w asked told → w.ended ≡ false → (target : Object) (opcode : ℕ) (given : List Given) → Each IsGiven given
     → (reply : Result (Option Object) SendError) (p' : PairState)
     → Writes (send_answer p.client.core Request target opcode given) (opens_object (checked p.client.core.tables Request p.client.core.view target opcode given)) p
-      (with_client_core p (after_send p.client.core Request target opcode given)) reply p'
+    (with_client_core p (after_send p.client.core Request target opcode given)) reply p'
     → Keeps p w (ClientSend target opcode given) (ClientSend reply) p'
 client_send_keeps p w asked told s z target opcode given g reply p' (accepted {new = new} h) =
     let core = p.client.core in

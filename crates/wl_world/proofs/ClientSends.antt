@@ -1,52 +1,31 @@
 -- The client writes a request.
-use Rattle.std.proofs.Common.{◌≡◌, ◌≢◌, ℕ, ◌+◌, ◌<◌, ◌≤◌, Bool, true, false, cond, List, [], ◌∷◌, ◌++◌, map, length, ◌⊎◌, inl, inr, refl, sym, ap, subst, ◌∙◌, arith}
-use Rattle.std.specs.Prelude.{option_map, nat_eq, not, ◌&&◌, ◌||◌}
+use Rattle.std.proofs.Common.{◌≡◌, ◌≢◌, ℕ, Bool, true, false, List, [], ◌∷◌, ◌++◌, map, inl, refl, sym, ap, subst, ◌∙◌}
+use Rattle.std.specs.Prelude.{option_map, nat_eq}
 use Rattle.std.specs.declared.option.Option.{Option}
 use Rattle.std.specs.declared.option.Option.TheVariants.{None, Some}
-use Rattle.std.specs.declared.result.Result.{Result}
-use Rattle.std.specs.declared.result.Result.TheVariants.{Ok, Err}
 use Rattle.std.proofs.lemmas.Bool.{ne_eqb}
-use Rattle.std.proofs.lemmas.List.{append_assoc, append-nil, map-append}
-use Rattle.wl_wire.specs.Argument.{Argument}
-use Rattle.wl_sigs.specs.declared.signature.Side.TheVariants.{Request, Event}
+use Rattle.std.proofs.lemmas.List.{map-append}
 use Rattle.wl_sigs.specs.declared.signature.Destroys.{Destroys}
 use Rattle.wl_sigs.specs.declared.signature.Destroys.TheVariants.{Nothing, Target}
-use Rattle.wl_sigs.specs.Tables.{Interface, destroys_target, signature_at}
-use Rattle.wl_sigs.specs.Tables as sigs
-use Rattle.wl_sigs.specs.Valid.{Valid}
-use Rattle.wl_sigs.specs.Fixed.{display}
-use Rattle.wl_message.specs.Cut.{usual_limit, IsMessage}
+use Rattle.wl_sigs.specs.Tables.{destroys_target}
 use Rattle.wl_message.specs.Outgoing as boxes
-use Rattle.wl_objects.specs.declared.object.Object.{Object}
 use Rattle.wl_objects.specs.declared.object.Entry.{Entry}
-use Rattle.wl_objects.specs.declared.object.State.{State}
-use Rattle.wl_objects.specs.declared.object.State.TheVariants as states
-use Rattle.wl_objects.specs.declared.error.SendError.{SendError}
 use Rattle.wl_objects.specs.View.{View, Sound, look, next_id, can_open, opened_at}
 use Rattle.wl_objects.specs.Views.{look-opened_at, look-zombied}
 use Rattle.wl_objects.specs.Sounds.{Sound-opened}
-use Rattle.wl_objects.specs.Writing.{Given, wired, tokens_of, message_bytes}
-use Rattle.wl_objects.specs.Messages.{Made, Client as client_end, after, opens as opens_view, checked, is_bind}
-use Rattle.wl_end.specs.Core.{Core, with_view}
-use Rattle.wl_end.specs.Sending.{send_answer, after_send, after_checked, sent, with_sent, made_at, version_at, opens_object}
-use Rattle.wl_client.specs.State as client
-use Rattle.wl_world.specs.Meant.{Born, Known, Message, Coming, Arg, renamed, recoming, rearg, born_of, birth_of, wire, tokens, spelled, spelled_coming, new_in, made_in, objects, plain, live_entry}
-use Rattle.wl_world.specs.World.{World, display_born, Row, Open, Ending, Each, IfThere, IsOpen, request_written, born_into, ending, counted, Steps, writes_request, WriteRequest}
-use Rattle.wl_world.specs.Pair.{PairState, ClientSend, with_client, with_client_core, Writes, accepted, refused, no_memory}
-use Rattle.wl_world.specs.Answers.{WritesThat, IsMessageOf, handed, birth_at, before}
-use Rattle.wl_world.specs.Flight.{Rows, at, Fresh, Held, Reads, Tied, Meets, asks, all_asks, all_tells, client_rows, server_rows, row, as_row}
-use Rattle.wl_world.specs.Stands.{Stands, stands, StandsBy, Fits, AsksFitly, ComesFitly, InFlight, Shows, birth_in, by_event}
-use Rattle.wl_world.specs.Runs.{Keeps, IsGiven}
-use Rattle.wl_world.proofs.Wholes.{OpenRow, client_makes, client_ends, ask_meets, all_asks_more, each_more, each_by, live_made}
-use Rattle.wl_world.proofs.Sets.{client_made, client_ended, births_ends, births_makes}
+use Rattle.wl_objects.specs.Messages.{Client as client_end, after, opens as opens_view}
+use Rattle.wl_end.specs.Core.{Core}
+use Rattle.wl_world.specs.Meant.{Born, Known, Message, Coming, renamed, rearg, born_of, wire, spelled, made_in, objects, live_entry}
+use Rattle.wl_world.specs.World.{World, display_born, Row, Open, Each, IfThere, request_written, born_into, ending, counted}
+use Rattle.wl_world.specs.Pair.{PairState, with_client_core}
+use Rattle.wl_world.specs.Flight.{Rows, Fresh, Meets, asks, all_asks, all_tells, client_rows, server_rows, row}
+use Rattle.wl_world.specs.Stands.{StandsBy, AsksFitly, InFlight, Shows, birth_in}
+use Rattle.wl_world.proofs.Wholes.{OpenRow, client_makes, client_ends, ask_meets, all_asks_more, each_more, live_made}
+use Rattle.wl_world.proofs.Sets.{client_made, client_ended}
 use Rattle.wl_world.proofs.Channels.{pushed}
-use Rattle.wl_world.proofs.Bridges.{next_fresh}
-use Rattle.wl_world.proofs.Afters.{HeldRow, held_row, client_after, client_sound, client_aged, made_map, objects_map, each_map}
+use Rattle.wl_world.proofs.Afters.{held_row, client_after, client_sound, client_aged, made_map}
 use Rattle.wl_world.proofs.Readings.{made_of, bytes_whole}
 use Rattle.wl_world.proofs.ServerReads.{test_of}
-use Rattle.wl_world.proofs.Calls.{Checked, is_checked, LiveAt, handed_all, tokens_all}
-use Rattle.wl_world.proofs.Rules.{target_plain, objects_plain, display_lasts}
-use Rattle.wl_world.proofs.Written.{the_made, the_new, the_args, the_call, new_id, new_birth, CallIs, call_is, Accepted, accepted_call, Opens, opens}
 
 -- ---- any request that fits and whose objects are open
 
@@ -108,7 +87,7 @@ ask_stands p w asked told s m c =
     let new = made_in m.args in
     let e = held_row v m.target (inl c.target) in
     let rows : client_rows (after client_end v (option_map made_of new) what m.target.id) ≡ client_ends m.destroys m.target (client_makes (client_rows v) new) =
-        client_after v m.target new what c.new e ∙ ap (λ (b : Bool). client_ends b m.target (client_makes (client_rows v) new)) d in
+    client_after v m.target new what c.new e ∙ ap (λ (b : Bool). client_ends b m.target (client_makes (client_rows v) new)) d in
     let world_new : made_in (map (rearg born_of) m.args) ≡ option_map born_of new = made_map born_of m.args in
     let sets = client_ended _ _ m.destroys m.target (client_made (client_rows v) w.client new s.client_sets c.new) (inl (live_made (client_rows v) new m.target c.new c.target)) in
     record {
@@ -121,7 +100,8 @@ ask_stands p w asked told s m c =
       server_sound = s.server_sound;
       versions = client_aged v m.target.id new what f.new_version s.versions;
       client_display = display_after v new m.target.id what (live_entry display_born) c.new s.client_display (λ h. c.mortal (sym d ∙ h));
-      server_display = s.server_display; server_live = s.server_live;
+      server_display = s.server_display;
+      server_live = s.server_live;
       requests = ap (λ (l : List (Message Born)). l ++ renamed born_of m ∷ []) s.requests ∙ sym (map-append (renamed born_of) asked (m ∷ []));
       events = s.events;
       to_server = subst (λ (l : List boxes.Message). InFlight (asked_core p.client.core m what).outbox p.server.core.inbox l) (sym (map-append spelled asked (m ∷ [])))

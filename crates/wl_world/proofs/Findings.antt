@@ -1,33 +1,28 @@
 -- What an end finds in front of its waiting bytes, where a message that fits was written.
-use Rattle.std.proofs.Common.{◌≡◌, ◌≢◌, ℕ, ◌+◌, ◌<◌, ◌≤◌, ◌^◌, Bool, true, false, List, [], ◌∷◌, ◌++◌, map, length, take, drop, refl, sym, ap, subst, ◌∙◌, arith}
-use Rattle.std.specs.Prelude.{option_map}
+use Rattle.std.proofs.Common.{◌≡◌, ℕ, ◌<◌, ◌≤◌, List, [], ◌∷◌, ◌++◌, map, length, take, drop, sym, ap, subst, ◌∙◌, arith}
 use Rattle.std.specs.declared.option.Option.{Option}
 use Rattle.std.specs.declared.option.Option.TheVariants.{None, Some}
-use Rattle.std.specs.declared.result.Result.{Result}
-use Rattle.std.specs.declared.result.Result.TheVariants.{Ok, Err}
+use Rattle.std.specs.declared.result.Result.TheVariants.{Ok}
 use Rattle.std.proofs.lemmas.List.{take-append-drop}
-use Rattle.wl_wire.specs.declared.header.Header.{Header}
 use Rattle.wl_wire.specs.declared.kind.Kind.{Kind}
-use Rattle.wl_wire.specs.Word.{header_at}
-use Rattle.wl_wire.specs.Argument.{Shape, Int, Uint, Fixed, Str, Obj, New, NewNamed, Array, Fd}
+use Rattle.wl_wire.specs.Argument.{Int, Uint, Fixed, Str, Obj, New, NewNamed, Array, Fd}
 use Rattle.wl_sigs.specs.declared.signature.Side.{Side}
 use Rattle.wl_sigs.specs.Tables.{Interface}
 use Rattle.wl_sigs.specs.Tables as sigs
 use Rattle.wl_message.specs.Cut.{usual_limit, front, Whole}
 use Rattle.wl_objects.specs.declared.object.Entry.{Entry}
-use Rattle.wl_objects.specs.declared.error.Fault.{Fault}
-use Rattle.wl_objects.specs.View.{View, Sound, look, max_ids}
-use Rattle.wl_objects.specs.Writing.{spelled as spelled_values, message_len, message_bytes}
+use Rattle.wl_objects.specs.View.{View, Sound, look}
+use Rattle.wl_objects.specs.Writing.{spelled as spelled_values, message_bytes}
 use Rattle.wl_objects.specs.Messages.{reader_of, Received, received}
 use Rattle.wl_end.specs.Core.{Core}
 use Rattle.wl_end.specs.Receiving.{Found, found, found_at, found_in, header_of}
-use Rattle.wl_world.specs.Meant.{Born, Known, Message, Arg, wire, tokens, spelled, new_in, made_in, objects, plain}
+use Rattle.wl_world.specs.Meant.{Known, Message, Arg, wire, tokens, spelled, new_in, made_in, objects, plain}
 use Rattle.wl_world.specs.World.{Row, Each, IfThere}
-use Rattle.wl_world.specs.Flight.{Rows, Fresh, server_rows}
-use Rattle.wl_world.specs.Stands.{Fits, AreOf, NamesRightly}
+use Rattle.wl_world.specs.Flight.{Fresh, server_rows}
+use Rattle.wl_world.specs.Stands.{Fits, AreOf}
 use Rattle.wl_world.proofs.Bridges.{fresh_free, fresh_room}
 use Rattle.wl_world.proofs.Wholes.{each_by}
-use Rattle.wl_world.proofs.Readings.{HeldAt, FreeAt, Met, AllMet, received_right, parted}
+use Rattle.wl_world.proofs.Readings.{HeldAt, FreeAt, AllMet, received_right, parted}
 
 -- the message that is found
 abbrev pub the_message : Message Known → Entry → sigs.Message → Received
@@ -78,12 +73,12 @@ pub news_free : (view : View) (args all : List (Arg Known)) → Sound view → I
     → Each (λ a. IfThere (FreeAt view) (new_in a)) args
 news_free view args all s g h =
     each_by (λ (a : Arg Known). IfThere (λ x. made_in all ≡ Some x) (new_in a)) (λ (a : Arg Known). IfThere (FreeAt view) (new_in a))
-      (λ a k. if_by (λ (x : Known). made_in all ≡ Some x) (FreeAt view) (new_in a)
-        (λ x e. let f : Fresh (server_rows view) x = subst (IfThere (Fresh (server_rows view))) e g in record { free = fresh_free view x s f; room = fresh_room view x f; birth = f.birth }) k) args h
+    (λ a k. if_by (λ (x : Known). made_in all ≡ Some x) (FreeAt view) (new_in a)
+    (λ x e. let f : Fresh (server_rows view) x = subst (IfThere (Fresh (server_rows view))) e g in record { free = fresh_free view x s f; room = fresh_room view x f; birth = f.birth }) k) args h
 
 -- none is new
 pub news_none : (view : View) (args all : List (Arg Known)) → made_in all ≡ None → Each (λ a. IfThere (λ x. made_in all ≡ Some x) (new_in a)) args
     → Each (λ a. IfThere (FreeAt view) (new_in a)) args
 news_none view args all g h =
     each_by (λ (a : Arg Known). IfThere (λ x. made_in all ≡ Some x) (new_in a)) (λ (a : Arg Known). IfThere (FreeAt view) (new_in a))
-      (λ a k. if_by (λ (x : Known). made_in all ≡ Some x) (FreeAt view) (new_in a) (λ x e. absurd (cc (g, e))) k) args h
+    (λ a k. if_by (λ (x : Known). made_in all ≡ Some x) (FreeAt view) (new_in a) (λ x e. absurd (cc (g, e))) k) args h

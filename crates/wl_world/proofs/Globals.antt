@@ -1,23 +1,22 @@
 -- Globals are added and withdrawn; what was given stays given.
-use Rattle.std.proofs.Common.{◌≡◌, ◌≢◌, ℕ, zero, suc, ◌+◌, ◌-◌, ◌<◌, ◌≤◌, ◌^◌, Bool, true, false, cond, List, [], ◌∷◌, ◌++◌, map, length, set, refl, sym, ap, subst, ◌∙◌, arith, length-append}
-use Rattle.std.specs.Prelude.{option_map, nat_lt, not, slice_get, slice_set}
+use Rattle.std.proofs.Common.{◌≡◌, ℕ, zero, suc, ◌+◌, ◌-◌, ◌<◌, ◌≤◌, ◌^◌, Bool, true, false, cond, List, [], ◌∷◌, ◌++◌, length, refl, sym, ap, subst, ◌∙◌, arith, length-append}
+use Rattle.std.specs.Prelude.{nat_lt, not, slice_get, slice_set}
 use Rattle.std.specs.declared.option.Option.{Option}
 use Rattle.std.specs.declared.option.Option.TheVariants.{None, Some}
 use Rattle.std.specs.declared.result.Result.{Result}
-use Rattle.std.specs.declared.result.Result.TheVariants.{Ok, Err}
 use Rattle.std.proofs.lemmas.Bool.{ltb-true}
 use Rattle.wl_wire.specs.declared.kind.Iface.{Iface}
 use Rattle.wl_sigs.specs.Tables.{Interface}
 use Rattle.wl_server.specs.State as server
 use Rattle.wl_server.specs.State.{Global, global_of, max_globals}
 use Rattle.wl_server.specs.Requests.{bind_fits}
-use Rattle.wl_server.specs.Calls.{can_be_global, with_global, next_name, is_present, withdrawn, without_at, after_withdraw}
+use Rattle.wl_server.specs.Calls.{can_be_global, with_global, next_name, withdrawn, without_at, after_withdraw}
 use Rattle.wl_client.specs.State as client
 use Rattle.wl_world.specs.Meant.{Known, Message, Coming, Event, Delete}
 use Rattle.wl_world.specs.World.{World, Each}
 use Rattle.wl_world.specs.Pair.{PairState, AddGlobal, Withdraw, with_server, GlobalRefusal, Failed, BadGlobal, TooMany, Adds, added, refused, no_memory, add_refusal, Calls, done, withdraw_refusal}
 use Rattle.wl_world.specs.Answers.{before}
-use Rattle.wl_world.specs.Stands.{Stands, stands, StandsBy, WasGiven, TellsGiven, BindsGiven, AsksFitly, TellsFitly, ComesFitly, IsGlobal}
+use Rattle.wl_world.specs.Stands.{stands, StandsBy, WasGiven, AsksFitly, ComesFitly, IsGlobal}
 use Rattle.wl_world.specs.Runs.{Keeps}
 use Rattle.wl_world.proofs.Wholes.{each_by, each_more}
 
@@ -57,7 +56,9 @@ module _ (given more : List Global) (grows : Grows given more) where
 
   comes_still : (tables : List Interface) (c : Coming Known) → ComesFitly tables given c → ComesFitly tables more c
   comes_still tables (Event m) h = record {
-    fits = h.fits; makes_none = h.makes_none; no_delete_id = h.no_delete_id;
+    fits = h.fits;
+    makes_none = h.makes_none;
+    no_delete_id = h.no_delete_id;
     tells = λ e f. let t = h.tells e f in record { name = t.name; iface = t.iface; version = t.version; args_are = t.args_are; was_given = was_given t.name t.iface t.version t.was_given; known = t.known };
   }
   comes_still tables (Delete x) h = h
@@ -66,16 +67,34 @@ pub given_stands : (p : PairState) (w : World) (asked : List (Message Known)) (t
     → Each (IsGlobal p.server.core.tables) more → length more ≤ max_globals
     → StandsBy (with_server p (record p.server { globals = more })) (record w { given = more }) asked told
 given_stands p w asked told s more g e l = record {
-  same_tables = s.same_tables; valid = s.valid; client_sets = s.client_sets; server_sets = s.server_sets; births = s.births;
-  client_sound = s.client_sound; versions = s.versions; server_sound = s.server_sound; client_display = s.client_display; server_display = s.server_display; server_live = s.server_live;
-  requests = s.requests; events = s.events; to_server = s.to_server; to_client = s.to_client;
+  same_tables = s.same_tables;
+  valid = s.valid;
+  client_sets = s.client_sets;
+  server_sets = s.server_sets;
+  births = s.births;
+  client_sound = s.client_sound;
+  versions = s.versions;
+  server_sound = s.server_sound;
+  client_display = s.client_display;
+  server_display = s.server_display;
+  server_live = s.server_live;
+  requests = s.requests;
+  events = s.events;
+  to_server = s.to_server;
+  to_client = s.to_client;
   asked_fit = each_by (AsksFitly p.server.core.tables p.server.globals) (AsksFitly p.server.core.tables more) (asks_still p.server.globals more g p.server.core.tables) asked s.asked_fit;
   told_fit = each_by (ComesFitly p.server.core.tables p.server.globals) (ComesFitly p.server.core.tables more) (comes_still p.server.globals more g p.server.core.tables) told s.told_fit;
-  meet = s.meet; client_lives = s.client_lives; server_lives = s.server_lives;
-  remembered = s.remembered; given = refl; registries = s.registries;
+  meet = s.meet;
+  client_lives = s.client_lives;
+  server_lives = s.server_lives;
+  remembered = s.remembered;
+  given = refl;
+  registries = s.registries;
   remembers = each_by (λ (x : client.Global). WasGiven p.server.globals x.name x.iface x.version) (λ (x : client.Global). WasGiven more x.name x.iface x.version)
       (λ x h. was_given p.server.globals more g x.name x.iface x.version h) p.client.globals s.remembers;
-  globals = e; few_globals = l; open_registries = s.open_registries;
+  globals = e;
+  few_globals = l;
+  open_registries = s.open_registries;
 }
 
 -- ---- one more
@@ -107,8 +126,8 @@ add_global_keeps p w asked told s z iface version v reply p' (added h) =
     let c = can_add p.server iface version p.server.core.failed _ _ s.server_lives refl refl h in
     let g : Global = record { iface = iface; version = version; present = true } in
     let t = given_stands p w asked told s (p.server.globals ++ g ∷ []) (grows_more p.server.globals (g ∷ []))
-        (each_more (IsGlobal p.server.core.tables) p.server.globals (g ∷ []) s.globals (record { can_be = c.can; word = v }, tt))
-        (omega (arith, c.few, length-append p.server.globals (g ∷ []))) in
+    (each_more (IsGlobal p.server.core.tables) p.server.globals (g ∷ []) s.globals (record { can_be = c.can; word = v }, tt))
+    (omega (arith, c.few, length-append p.server.globals (g ∷ []))) in
     record {
       world = record w { given = p.server.globals ++ g ∷ [] };
       answers = before z (added h) (ap (λ (l : List Global). length l + 1) (sym s.given), ap (λ (l : List Global). record w { given = l ++ g ∷ [] }) (sym s.given));
@@ -158,8 +177,8 @@ withdraw_stands : (p : PairState) (w : World) (asked : List (Message Known)) (to
 withdraw_stands p w asked told s name None e = given_stands p w asked told s p.server.globals (λ n g h. record { global = g; there = h; same = record { iface = refl; version = refl } }) s.globals s.few_globals
 withdraw_stands p w asked told s name (Some x) e =
     given_stands p w asked told s (slice_set p.server.globals (name - 1) (withdrawn x)) (grows_without p.server.globals name x e)
-      (each_without (IsGlobal p.server.core.tables) (λ g h. record { can_be = h.can_be; word = h.word }) p.server.globals name x e s.globals)
-      (let l = length_set p.server.globals (name - 1) (withdrawn x) in omega (arith, l, s.few_globals))
+    (each_without (IsGlobal p.server.core.tables) (λ g h. record { can_be = h.can_be; word = h.word }) p.server.globals name x e s.globals)
+    (let l = length_set p.server.globals (name - 1) (withdrawn x) in omega (arith, l, s.few_globals))
 
 pub withdraw_keeps : (p : PairState) (w : World) (asked : List (Message Known)) (told : List (Coming Known)) → StandsBy p w asked told → w.ended ≡ false → (name : ℕ) (reply : Result (Unit {0}) GlobalRefusal) (p' : PairState)
     → Calls (withdraw_refusal p.server name) p (with_server p (after_withdraw p.server name)) reply p' → Keeps p w (Withdraw name) (Withdraw reply) p'

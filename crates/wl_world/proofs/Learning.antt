@@ -1,17 +1,16 @@
 -- What the client learns of globals.
-use Rattle.std.proofs.Common.{◌≡◌, ◌≢◌, ℕ, ◌+◌, ◌<◌, ◌≤◌, Bool, true, false, cond, eqb, List, [], ◌∷◌, ◌++◌, map, length, refl, sym, ap, subst, ◌∙◌, arith}
-use Rattle.std.specs.Prelude.{option_map, nat_eq, nat_lt, not, ◌&&◌, if◌then◌else◌, filter, unwrap_or, slice_get, is_some}
+use Rattle.std.proofs.Common.{◌≡◌, ℕ, Bool, true, false, cond, List, [], ◌∷◌, ◌++◌, map, length, refl, sym, ap, ◌∙◌}
+use Rattle.std.specs.Prelude.{option_map, nat_eq, nat_lt, not, if◌then◌else◌, filter, unwrap_or, slice_get, is_some}
 use Rattle.std.specs.declared.option.Option.{Option}
 use Rattle.std.specs.declared.option.Option.TheVariants.{None, Some}
 use Rattle.std.proofs.lemmas.Option.{slice_get-map}
 use Rattle.std.proofs.lemmas.Bool.{eqb-true}
-use Rattle.wl_wire.specs.declared.kind.Iface.{Iface}
-use Rattle.wl_wire.specs.Argument.{Argument, Shape, Int, Uint, Fixed, Str, Obj, New, NewNamed, Array, Fd}
+use Rattle.wl_wire.specs.Argument.{Argument, Int, Uint, Fixed, Str, Obj, New, NewNamed, Array, Fd}
 use Rattle.wl_sigs.specs.Tables.{Interface, place_of}
 use Rattle.wl_client.specs.State.{Global, is_named, global_of, max_globals}
 use Rattle.wl_client.specs.Reports.{argument, number_in, text_in, forgotten, replaced, remembered, remembered_as, globals_told}
 use Rattle.wl_server.specs.State as server
-use Rattle.wl_world.specs.Meant.{Born, Known, Arg, rearg, born_of, wire}
+use Rattle.wl_world.specs.Meant.{Known, Arg, rearg, born_of, wire}
 use Rattle.wl_world.specs.World.{Each, nameless}
 use Rattle.wl_world.specs.Stands.{WasGiven, TellsGiven}
 
@@ -88,7 +87,7 @@ module _ (P : Global → Type 0) where
   pub each_remembered : (g : Global) (gs : List Global) → P g → Each P gs → Each P (remembered g gs)
   each_remembered g gs p h =
       lists_of (is_some (global_of gs g.name)) (replaced g gs) (cond (nat_lt (length gs) max_globals) (gs ++ g ∷ []) gs) (each_replaced g gs p h)
-        (lists_of (nat_lt (length gs) max_globals) (gs ++ g ∷ []) gs (each_end gs g h p) h)
+      (lists_of (nat_lt (length gs) max_globals) (gs ++ g ∷ []) gs (each_end gs g h p) h)
 
 abbrev pub Gave : List server.Global → Global → Type 0
 Gave given g = WasGiven given g.name g.iface g.version
@@ -100,8 +99,8 @@ told_given tables given globals args t h =
 
 pub told_keeps : (tables : List Interface) (given : List server.Global) (globals : List Global) (opcode : ℕ) (args : List (Arg Known)) → (opcode ≡ 0 → TellsGiven tables given args) → Each (Gave given) globals
     → (b c : Bool) → nat_eq opcode 0 ≡ b → Each (Gave given)
-      (cond b (remembered_as (number_in (argument (map wire args) 0)) (number_in (argument (map wire args) 2)) (place_of tables (text_in (argument (map wire args) 1))) globals)
-      (cond c (forgotten (number_in (argument (map wire args) 0)) globals) globals))
+    (cond b (remembered_as (number_in (argument (map wire args) 0)) (number_in (argument (map wire args) 2)) (place_of tables (text_in (argument (map wire args) 1))) globals)
+    (cond c (forgotten (number_in (argument (map wire args) 0)) globals) globals))
 told_keeps tables given globals opcode args t h true c e = told_given tables given globals args (t (eqb-true opcode 0 e)) h
 told_keeps tables given globals opcode args t h false true e = each_filter (Gave given) (λ g. not (is_named (number_in (argument (map wire args) 0)) g)) globals h
 told_keeps tables given globals opcode args t h false false e = h

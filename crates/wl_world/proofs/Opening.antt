@@ -1,37 +1,32 @@
 -- The pair as it begins, drained ends, and runs.
-use Rattle.std.proofs.Common.{◌≡◌, ◌≢◌, ℕ, ◌+◌, ◌<◌, ◌≤◌, Bool, true, false, cond, List, [], ◌∷◌, ◌++◌, map, length, ◌⊎◌, inl, inr, refl, sym, ap, subst, ◌∙◌, arith, lit≤}
+use Rattle.std.proofs.Common.{◌≡◌, ℕ, ◌≤◌, Bool, true, false, cond, List, [], ◌∷◌, ◌++◌, map, refl, sym, ap, subst, ◌∙◌, arith, lit≤}
 use Rattle.std.specs.Prelude.{option_map, nat_eq, ◌&&◌}
 use Rattle.std.specs.declared.option.Option.{Option}
 use Rattle.std.specs.declared.option.Option.TheVariants.{None, Some}
-use Rattle.std.proofs.lemmas.Grind.{common_steps}
 use Rattle.wl_sigs.specs.Tables.{Interface}
 use Rattle.wl_sigs.specs.Valid.{Valid}
 use Rattle.wl_sigs.specs.Fixed.{display}
 use Rattle.wl_message.specs.declared.amounts.Sizes.{Sizes}
 use Rattle.wl_message.specs.Outgoing.{Outgoing, waiting_bytes, waiting_tokens}
-use Rattle.wl_message.specs.Outgoing as boxes
 use Rattle.wl_message.specs.Arrived.{Arrived}
 use Rattle.wl_objects.specs.declared.object.Entry.{Entry}
 use Rattle.wl_objects.specs.declared.object.State.{State}
 use Rattle.wl_objects.specs.declared.object.State.TheVariants as states
-use Rattle.wl_objects.specs.View.{View, Sound, look, opening as opening_view}
+use Rattle.wl_objects.specs.View.{look, opening as opening_view}
 use Rattle.wl_objects.specs.Views.{look-opening}
 use Rattle.wl_objects.specs.Sounds.{Sound-opening}
 use Rattle.wl_objects.specs.Messages.{is_empty}
 use Rattle.wl_end.specs.Core.{Core, is_drained}
-use Rattle.wl_world.specs.Meant.{Born, Known, Message, Coming, birth_of, spelled, spelled_coming, plain, live_entry}
-use Rattle.wl_world.specs.World.{World, Row, Open, Ending, put, nothing, display_born, opening}
+use Rattle.wl_world.specs.Meant.{Known, Message, Coming, birth_of, spelled, spelled_coming, plain, live_entry}
+use Rattle.wl_world.specs.World.{World, Open, put, nothing, display_born, opening}
 use Rattle.wl_world.specs.Pair.{PairState, Move, Reply, new_pair, drained}
 use Rattle.wl_world.specs.Answers.{Answers}
-use Rattle.wl_world.specs.Flight.{Rows, client_rows, server_rows, row, as_row, at_client, Reads, done, Tied, drained as nothing_left, all_asks, all_tells}
+use Rattle.wl_world.specs.Flight.{client_rows, server_rows, row, as_row, at_client, Reads, done, Tied, drained as nothing_left, all_asks, all_tells}
 use Rattle.wl_world.specs.Stands.{Stands, stands, ended, StandsBy, InFlight, Shows, birth_in, by_event}
 use Rattle.wl_world.specs.Runs.{Runs, Agree, Keeps}
-use Rattle.wl_world.proofs.Deeds.{put_tells}
 use Rattle.wl_world.proofs.Wholes.{same_rows}
 use Rattle.wl_world.proofs.Sets.{shows_make, no_object}
 use Rattle.wl_world.proofs.Channels.{none_in_flight}
-use Rattle.wl_world.proofs.Bridges.{map_put}
-use Rattle.wl_world.proofs.Afters.{map_some}
 
 is_nothing : {X : Type 0} (i : ℕ) → nothing {X = X} i ≡ None
 unfolding nothing
@@ -51,7 +46,7 @@ shows_opening birth f e =
     let k = shows_make birth nothing 0 nothing 1 (f (live_entry display_born)) (no_object birth) (is_nothing 1) e in
     let rows : (λ (q : ℕ). option_map f (look (opening_view display) q)) ≡ put nothing 1 (Some (f (live_entry display_born))) = λ i q. opening_rows f q i in
     subst (λ (g : ℕ → Option _). Shows birth g 1 (put nothing 0 (Some (f (live_entry display_born))))) (sym rows)
-      (subst (λ (b : ℕ). Shows birth (put nothing 1 (Some (f (live_entry display_born)))) 1 (put nothing b (Some (f (live_entry display_born))))) e k)
+    (subst (λ (b : ℕ). Shows birth (put nothing 1 (Some (f (live_entry display_born)))) 1 (put nothing b (Some (f (live_entry display_born))))) e k)
 
 opening_live : (b : Bool) (e : Entry) → cond b (Some (live_entry display_born)) None ≡ Some e → e.state ≡ states.Live
 opening_live true e h = let q : live_entry display_born ≡ e = cc h in ap (λ (x : Entry). x.state) (sym q)
@@ -98,6 +93,7 @@ new_stands tables client_sizes server_sizes v = stands [] [] refl (record {
     live_row : (e : Entry) (s : State) → s ≡ states.Live → as_row s (plain e) ≡ Open (plain e)
     live_row e states.Live h = refl
     live_row e states.Zombie h = absurd (cc h)
+
     both : (o : Option Entry) → ((e : Entry) → o ≡ Some e → e.state ≡ states.Live) → option_map row o ≡ at_client (option_map plain o)
     both None h = refl
     both (Some e) h = ap Some (live_row e e.state (h e refl))
@@ -147,7 +143,7 @@ agree_by p w asked told s d =
     let a = none_of spelled asked (none_in_flight p.client.core.outbox p.server.core.inbox (map spelled asked) s.to_server v.inbox c.outbox) in
     let t = none_of spelled_coming told (none_in_flight p.server.core.outbox p.client.core.inbox (map spelled_coming told) s.to_client c.inbox v.outbox) in
     let rows = same_rows (subst (λ (l : List (Coming Known)). Reads (by_event p.server.core.tables) (all_tells l) (client_rows p.client.core.view) s.meet.middle) t s.meet.reads)
-        (subst (λ (l : List (Message Known)). Tied (by_event p.server.core.tables) (all_asks l) (server_rows p.server.core.view) s.meet.middle) a s.meet.tied) in
+    (subst (λ (l : List (Message Known)). Tied (by_event p.server.core.tables) (all_asks l) (server_rows p.server.core.view) s.meet.middle) a s.meet.tied) in
     let same : (id : ℕ) → look p.client.core.view id ≡ look p.server.core.view id = λ id. rows_same (look p.client.core.view id) (look p.server.core.view id) (s.server_live id) (rows id) in
     record { same = same; live = λ id e h. s.server_live id e (sym (same id) ∙ h) }
 

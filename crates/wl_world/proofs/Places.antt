@@ -1,9 +1,8 @@
 -- The place of an interface by its name.
-use Rattle.std.proofs.Common.{◌≡◌, ◌≢◌, ℕ, zero, suc, ◌+◌, ◌<◌, ◌≤◌, Bool, true, false, cond, List, [], ◌∷◌, length, get_or, refl, sym, ap, subst, ◌∙◌, arith}
-use Rattle.std.specs.Prelude.{option_map, nat_lt, not, slice_get, bytes_eq}
-use Rattle.std.specs.List.{position, position_or_len, prefix_len, All}
-use Rattle.std.specs.declared.option.Option.{Option}
-use Rattle.std.specs.declared.option.Option.TheVariants.{None, Some}
+use Rattle.std.proofs.Common.{◌≡◌, ◌≢◌, ℕ, zero, suc, ◌+◌, ◌<◌, Bool, true, false, cond, List, [], ◌∷◌, length, get_or, refl, ap, ◌∙◌, arith}
+use Rattle.std.specs.Prelude.{option_map, not, slice_get, bytes_eq}
+use Rattle.std.specs.List.{position, position_or_len}
+use Rattle.std.specs.declared.option.Option.TheVariants.{Some}
 use Rattle.std.proofs.lemmas.Bool.{lt-ltb}
 use Rattle.std.proofs.lemmas.Slice.Eq.{bytes_eq-Decides}
 use Rattle.std.proofs.lemmas.Option.{slice_get_within}
@@ -44,8 +43,8 @@ bytes_self xs = (bytes_eq-Decides xs xs).1 refl
 pub place_there : (tables : List Interface) → Valid tables → (iface : Iface) (i : Interface) → interface_at tables iface.0 ≡ Some i → place_of tables i.name ≡ Some iface
 place_there tables v iface i h =
     ap (option_map (λ (place : ℕ). record { 0 = place }))
-      (position_at (λ (j : Interface). bytes_eq j.name i.name) tables iface.0 i h (bytes_self i.name)
-        (λ j y g t. v.names_distinct.interfaces_distinct j iface.0 y i g h (bytes_same y.name i.name t)))
+    (position_at (λ (j : Interface). bytes_eq j.name i.name) tables iface.0 i h (bytes_self i.name)
+    (λ j y g t. v.names_distinct.interfaces_distinct j iface.0 y i g h (bytes_same y.name i.name t)))
 
 -- ---- names
 

@@ -1,11 +1,10 @@
 -- What a standing pair's messages in flight say in plain words.
-use Rattle.std.proofs.Common.{◌≡◌, ℕ, ◌+◌, ◌<◌, ◌≤◌, Bool, true, false, List, [], ◌∷◌, ◌⊎◌, inl, inr, refl, sym, ◌∙◌, ap, subst, arith, ◌≢◌}
-use Rattle.std.proofs.lemmas.Grind.{common_steps}
+use Rattle.std.proofs.Common.{◌≡◌, ℕ, Bool, List, ◌⊎◌, inl, inr, sym, ◌∙◌, ap, arith, ◌≢◌}
 use Rattle.std.specs.declared.option.Option.{Option}
 use Rattle.std.specs.declared.option.Option.TheVariants.{None, Some}
 use Rattle.wl_world.specs.Meant.{Born, Known}
-use Rattle.wl_world.specs.World.{Row, Open, Ending, put, Each}
-use Rattle.wl_world.specs.Flight.{Rows, at, made, Ask, Use, Make, Destroy, Tell, Name, End, Delete, at_client, Held, Fresh, Reads, done, name, end, delete, Tied, drained, use_, make, destroy, Meets}
+use Rattle.wl_world.specs.World.{Row, Open, Ending, Each}
+use Rattle.wl_world.specs.Flight.{Rows, Ask, Make, Tell, Delete, at_client, Held, Reads, done, name, end, delete, Tied, drained, use_, make, destroy, Meets}
 use Rattle.wl_world.specs.Plain.{tell_id, ask_id, In}
 use Rattle.wl_world.proofs.Deeds.{put_tells, put_same, held_at_client, held_other, held_some}
 
@@ -39,13 +38,13 @@ module _ {test : Born → Bool} where
   deleted_or n (name a r) h = elim (deleted_or n r h) [ inl p ↦ inl (inr p) | inr p ↦ inr p ]
   deleted_or n (end {v = v} {x = x} b a r) h =
       elim (deleted_or n r (elim (put_tells v.rows x.id (Some (Ending x.born)) n.id) [ inl p ↦ grind arith | inr p ↦ held_other v n x.id _ h p.0 ]))
-        [ inl p ↦ inl (inr p) | inr p ↦ inr p ]
+      [ inl p ↦ inl (inr p) | inr p ↦ inr p ]
   deleted_or n (delete {v = v} {x = x} z a b r) h = elim (put_tells v.rows x.id None n.id) [
-      inl p ↦ let e : n.born ≡ x.born = grind arith in
-          let q : ◌≡◌ {A = Known} n x = λ i. record { id = p.0 i; born = e i } in
-          inl (inl (ap Delete q))
+    | inl p ↦ let e : n.born ≡ x.born = grind arith in
+        let q : ◌≡◌ {A = Known} n x = λ i. record { id = p.0 i; born = e i } in
+        inl (inl (ap Delete q))
     | inr p ↦ elim (deleted_or n r (held_other v n x.id _ h p.0)) [ inl q ↦ inl (inr q) | inr q ↦ inr q ]
-    ]
+  ]
 
   pub held_where : {es : List Tell} {qs : List Ask} {v : Rows Row} {s : Rows Born} (n : Known) → Meets test es qs v s → Held v n → In (Delete n) es ⊎ (s.rows n.id ≡ Some n.born) ⊎ In (Make n) qs
   held_where n m h = elim (deleted_or n m.reads h) [ inl p ↦ inl p | inr p ↦ inr (open_or_made n m.tied p) ]
@@ -53,22 +52,23 @@ module _ {test : Born → Bool} where
       at_some : (o : Option Born) (e : Born) → (at_client o ≡ Some (Open e)) ⊎ (at_client o ≡ Some (Ending e)) → o ≡ Some e
       at_some None e h = elim h [ inl p ↦ absurd (cc p) | inr p ↦ absurd (cc p) ]
       at_some (Some x) e h = elim h [ inl p ↦ cc | inr p ↦ absurd (cc p) ]
+
       open_or_made : {qs : List Ask} {s : Rows Born} {m : Rows Row} (n : Known) → Tied test qs s m → Held m n → (s.rows n.id ≡ Some n.born) ⊎ In (Make n) qs
       open_or_made n (drained {s = s} rows u b) h = inl (at_some (s.rows n.id) n.born (elim h [ inl p ↦ inl (sym (rows n.id) ∙ p) | inr p ↦ inr (sym (rows n.id) ∙ p) ]))
       open_or_made n (use_ a b t) h = elim (open_or_made n t h) [ inl p ↦ inl p | inr p ↦ inr (inr p) ]
       open_or_made n (make {s = s} {x = x} a t) h = elim (open_or_made n t h) [
-          inl p ↦ elim (put_tells s.rows x.id (Some x.born) n.id) [
-              inl q ↦ let e : n.born ≡ x.born = cc in
-                  let k : ◌≡◌ {A = Known} n x = λ i. record { id = q.0 i; born = e i } in
-                  inr (inl (ap Make k))
-            | inr q ↦ inl (sym q.1 ∙ p)
-            ]
+        | inl p ↦ elim (put_tells s.rows x.id (Some x.born) n.id) [
+          | inl q ↦ let e : n.born ≡ x.born = cc in
+              let k : ◌≡◌ {A = Known} n x = λ i. record { id = q.0 i; born = e i } in
+              inr (inl (ap Make k))
+          | inr q ↦ inl (sym q.1 ∙ p)
+        ]
         | inr p ↦ inr (inr p)
-        ]
+      ]
       open_or_made n (destroy {s = s} {m = m} {x = x} z a b c t) h = elim (put_tells m.rows x.id None n.id) [
-          inl q ↦ let e : n.born ≡ x.born = grind arith in inl (ap s.rows q.0 ∙ a ∙ ap Some (sym e))
+        | inl q ↦ let e : n.born ≡ x.born = grind arith in inl (ap s.rows q.0 ∙ a ∙ ap Some (sym e))
         | inr q ↦ elim (open_or_made n t (held_other m n x.id _ h q.0)) [
-              inl p ↦ inl (grind (arith, put_tells))
-            | inr p ↦ inr (inr p)
-            ]
+          | inl p ↦ inl (grind (arith, put_tells))
+          | inr p ↦ inr (inr p)
         ]
+      ]

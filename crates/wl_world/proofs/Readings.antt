@@ -1,44 +1,36 @@
 -- A message in its canonical spelling is read as it was meant.
-use Rattle.std.proofs.Common.{◌≡◌, ◌≢◌, ℕ, zero, suc, ◌+◌, ◌-◌, ◌*◌, ◌/◌, ◌%◌, ◌<◌, ◌≤◌, ◌^◌, Bool, true, false, cond, eqb, ltb, List, [], ◌∷◌, ◌++◌, length, length-append, take, drop, map, refl, sym, ap, subst, ◌∙◌, arith}
-use Rattle.std.specs.Prelude.{nat_eq, nat_lt, option_map, if◌then◌else◌, not}
+use Rattle.std.proofs.Common.{◌≡◌, ℕ, suc, ◌+◌, ◌%◌, ◌<◌, ◌≤◌, ◌^◌, true, false, cond, List, [], ◌∷◌, ◌++◌, length, length-append, drop, map, refl, sym, ap, ◌∙◌, arith}
+use Rattle.std.specs.Prelude.{nat_eq, nat_lt, option_map, if◌then◌else◌}
 use Rattle.std.specs.declared.option.Option.{Option}
 use Rattle.std.specs.declared.option.Option.TheVariants.{None, Some}
-use Rattle.std.specs.declared.result.Result.{Result}
-use Rattle.std.specs.declared.result.Result.TheVariants.{Ok, Err}
-use Rattle.std.proofs.lemmas.Grind.{common_steps}
+use Rattle.std.specs.declared.result.Result.TheVariants.{Ok}
 use Rattle.std.proofs.lemmas.Bool.{ne_eqb, le-ltb}
-use Rattle.std.proofs.lemmas.Bool.Decides.{nat_tests}
-use Rattle.std.proofs.lemmas.List.{append_assoc, append-nil, take_at, drop_at}
+use Rattle.std.proofs.lemmas.List.{append_assoc, drop_at}
 use Rattle.std.proofs.lemmas.List.Sums.{sum_by-cons}
 use Rattle.wl_wire.specs.declared.kind.Kind.{Kind}
 use Rattle.wl_wire.specs.declared.kind.Kind.TheVariants as kinds
 use Rattle.wl_wire.specs.declared.kind.Iface.{Iface}
-use Rattle.wl_wire.specs.declared.kind.ArgFault.{ArgFault}
 use Rattle.wl_wire.specs.declared.header.Header.{Header}
-use Rattle.wl_wire.specs.Word.{header_bytes, header_at, word}
-use Rattle.wl_wire.specs.Argument.{Argument, Shape, reshaped, Int, Uint, Fixed, Str, Obj, New, NewNamed, Array, Fd}
-use Rattle.wl_wire.specs.Spelling.{Suits, canonical, spelled_len, padded}
+use Rattle.wl_wire.specs.Word.{header_bytes, header_at}
+use Rattle.wl_wire.specs.Argument.{Argument, reshaped, Int, Uint, Fixed, Str, Obj, New, NewNamed, Array, Fd}
+use Rattle.wl_wire.specs.Spelling.{Suits, canonical, spelled_len}
 use Rattle.wl_wire.specs.Reading.{reading}
 use Rattle.wl_wire.proofs.Canonicals.{reading-canonical, canonical-len, header_at-bytes}
 use Rattle.wl_sigs.specs.declared.signature.Side.{Side}
 use Rattle.wl_sigs.specs.Tables.{Interface, signature_at}
-use Rattle.wl_sigs.specs.Tables as sigs
-use Rattle.wl_message.specs.Cut.{usual_limit, IsMessage, told_size}
+use Rattle.wl_message.specs.Cut.{usual_limit, IsMessage}
 use Rattle.wl_objects.specs.declared.object.Object.{Object}
 use Rattle.wl_objects.specs.declared.object.Entry.{Entry}
 use Rattle.wl_objects.specs.declared.object.State.{State}
 use Rattle.wl_objects.specs.declared.object.State.TheVariants as states
-use Rattle.wl_objects.specs.declared.argument.Named.{Named}
-use Rattle.wl_objects.specs.declared.argument.Named.TheVariants as named_as
-use Rattle.wl_objects.specs.declared.error.Fault.{Fault}
-use Rattle.wl_objects.specs.View.{View, look, free_or_next, has_room, max_ids}
-use Rattle.wl_objects.specs.Reading.{Reader, Free, Wrong, TooMany, value_fault, iface_of, is_of, object_fault, arguments_at, judged, and_those, before, descriptors, is_descriptor_kind, Reported, in_state, named, named_at, report_of, reports_of, first_or, tokens_after}
+use Rattle.wl_objects.specs.View.{View, look, free_or_next, has_room}
+use Rattle.wl_objects.specs.Reading.{value_fault, iface_of, is_of, arguments_at, judged, descriptors, is_descriptor_kind, in_state, report_of, reports_of, first_or, tokens_after}
 use Rattle.wl_objects.specs.Writing.{spelled as spelled_values, message_len, message_bytes}
-use Rattle.wl_objects.specs.Messages.{reader_of, Received, received, is_error, Made, made_by, made, or_else as made_or_else}
+use Rattle.wl_objects.specs.Messages.{reader_of, received, is_error, Made, made_by, made, or_else as made_or_else}
 use Rattle.wl_world.specs.Meant.{Born, Known, Message, Arg, rearg, born_of, birth_of, wire, tokens, token_in, new_in, made_in, or_else, plain, live_entry}
-use Rattle.wl_world.specs.World.{Row, Open, Ending}
+use Rattle.wl_world.specs.World.{Row}
 use Rattle.wl_world.specs.Flight.{row, as_row}
-use Rattle.wl_world.specs.Answers.{Seen, Null, Live, Dead, seen, seen_by, by_row, birth_at}
+use Rattle.wl_world.specs.Answers.{Seen, Live, Dead, seen, seen_by, by_row, birth_at}
 use Rattle.wl_world.specs.Stands.{Fits, AreOf, NamesRightly}
 
 -- the object of an argument is held where its reader stands, and the rows of the world show it
@@ -106,7 +98,7 @@ values_read tables version place view rows (kind ∷ ks) [] f m = absurd f
 values_read tables version place view rows [] (a ∷ args) f m = absurd f
 values_read tables version place view rows (kind ∷ ks) (a ∷ args) f m =
     read_one view place kind ks (wire a) (spelled_values (map wire args)) (map wire args) f.0.0 (right tables version place view rows kind a f.0.1 m.0)
-      (values_read tables version (suc place) view rows ks args f.1 m.1)
+    (values_read tables version (suc place) view rows ks args f.1 m.1)
 
 -- ---- tokens
 
@@ -138,7 +130,7 @@ tokens_taken tables version (kind ∷ ks) (a ∷ args) f =
 pub received_right : (tables : List Interface) (side : Side) (view : View) (rows : ℕ → Option Row) (m : Message Known) (header : Header) (waiting : ℕ) (entry : Entry) (f : Fits tables side m)
     → header.object ≡ m.target.id → header.opcode ≡ m.opcode → look view m.target.id ≡ Some entry → plain entry ≡ m.target.born → AllMet view rows m.args → length (tokens m.args) ≤ waiting
     → received tables side (reader_of view) header (spelled_values (map wire m.args)) waiting
-      ≡ Ok (record { target = record { id = m.target.id; birth = entry.birth }; entry = entry; signature = f.signature; values = map wire m.args })
+    ≡ Ok (record { target = record { id = m.target.id; birth = entry.birth }; entry = entry; signature = f.signature; values = map wire m.args })
 received_right tables side view rows m header waiting entry f ho hp l s k w =
     let iface : entry.iface ≡ m.target.born.iface = ap (λ (b : Born). b.iface) s in
     let version : entry.version ≡ m.target.born.version = ap (λ (b : Born). b.version) s in

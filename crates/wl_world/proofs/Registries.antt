@@ -1,24 +1,21 @@
 -- The open registries, by ids and by births.
-use Rattle.std.proofs.Common.{◌≡◌, ◌≢◌, ℕ, ◌+◌, ◌<◌, ◌≤◌, Bool, true, false, cond, eqb, List, [], ◌∷◌, ◌++◌, map, ◌⊎◌, inl, inr, refl, sym, ap, subst, ◌∙◌, arith}
-use Rattle.std.specs.Prelude.{option_map, nat_eq, if◌then◌else◌}
+use Rattle.std.proofs.Common.{◌≡◌, ◌≢◌, ℕ, ◌≤◌, Bool, true, false, cond, List, [], ◌∷◌, ◌++◌, map, refl, sym, ap, ◌∙◌, arith}
+use Rattle.std.specs.Prelude.{option_map, nat_eq}
 use Rattle.std.specs.declared.option.Option.{Option}
 use Rattle.std.specs.declared.option.Option.TheVariants.{None, Some}
-use Rattle.std.proofs.lemmas.Grind.{common_steps}
 use Rattle.std.proofs.lemmas.Bool.{eqb-true, eqb-false}
-use Rattle.std.proofs.lemmas.Bool.Decides.{nat_tests}
 use Rattle.wl_wire.specs.declared.kind.Iface.{Iface}
 use Rattle.wl_sigs.specs.Tables.{Interface, interface_at}
-use Rattle.wl_sigs.specs.Fixed.{registry, wl_registry}
+use Rattle.wl_sigs.specs.Fixed.{registry}
 use Rattle.wl_sigs.specs.Valid.{Valid}
 use Rattle.wl_objects.specs.Messages.{same_iface}
-use Rattle.wl_objects.specs.View.{View}
 use Rattle.wl_end.specs.Core.{Core}
 use Rattle.wl_server.specs.State as server
 use Rattle.wl_server.specs.State.{untold}
 use Rattle.wl_server.specs.Requests.{registries_after, without_registry}
 use Rattle.wl_server.specs.Calls.{ends_by_event}
 use Rattle.wl_world.specs.Meant.{Born, Known, born_of}
-use Rattle.wl_world.specs.World.{Row, Marks, put, Each, IfThere, with_registry, without_registry as without_marks}
+use Rattle.wl_world.specs.World.{Marks, put, Each, IfThere, with_registry, without_registry as without_marks}
 use Rattle.wl_world.specs.Flight.{Rows, at, made, server_rows, Fresh}
 use Rattle.wl_world.specs.Stands.{IsRegistry, marks_of, by_event}
 use Rattle.wl_world.proofs.Deeds.{put_tells}
@@ -42,7 +39,7 @@ marks_with c rs (Some x) h =
     let r : server.Registry = untold (record { id = x.id; birth = c.view.births }) in
     marks_cond (same_iface x.born.iface registry) (rs ++ r ∷ []) rs
     ∙ ap (λ (l : List Marks). cond (same_iface x.born.iface registry) l (map marks_of rs))
-      (map_more marks_of rs r ∙ ap (λ (b : ℕ). map marks_of rs ++ record { birth = b; told = r.told; removed = r.removed } ∷ []) (sym h))
+    (map_more marks_of rs r ∙ ap (λ (b : ℕ). map marks_of rs ++ record { birth = b; told = r.told; removed = r.removed } ∷ []) (sym h))
 
 pub marks_without : (b : Bool) (birth : ℕ) (rs : List server.Registry) → map marks_of (without_registry b birth rs) ≡ without_marks b birth (map marks_of rs)
 marks_without false birth rs = refl
@@ -90,7 +87,7 @@ registries_made c rs (Some x) f v h =
     let s = server_rows c.view in
     let k = each_made s (Some x) rs f h in
     registries_cond (made s x.id x.born) (same_iface x.born.iface registry) (rs ++ untold (record { id = x.id; birth = c.view.births }) ∷ []) rs
-      (λ i. each_last (IsRegistry (made s x.id x.born)) rs (untold (record { id = x.id; birth = c.view.births })) k (new_registry s x c.view.births v f.birth i)) k
+    (λ i. each_last (IsRegistry (made s x.id x.born)) rs (untold (record { id = x.id; birth = c.view.births })) k (new_registry s x c.view.births v f.birth i)) k
 
 birth_in : Born → ℕ
 birth_in x = x.birth
@@ -118,10 +115,10 @@ registry_plain tables v = rw v.fixed_three.registry refl
 registry_not : (tables : List Interface) → Valid tables → (s : Rows Born) (x : Known) (r : server.Registry) → ThereRow s x → by_event tables x.born ≡ true → IsRegistry s r → IsRegistry (at s x.id None) r
 registry_not tables v s x r t e h =
     let other : r.object.id ≢ x.id = λ q. (
-      let b : ◌≡◌ {A = Option Born} (Some (record { birth = r.object.birth; iface = registry; version = h.version })) (Some x.born) = sym h.there ∙ ap s.rows q ∙ t in
-      let c : record { birth = r.object.birth; iface = registry; version = h.version } ≡ x.born = cc b in
-      let d : false ≡ true = sym (registry_plain tables v) ∙ ap (by_event tables) c ∙ e in
-      cc d) in
+    let b : ◌≡◌ {A = Option Born} (Some (record { birth = r.object.birth; iface = registry; version = h.version })) (Some x.born) = sym h.there ∙ ap s.rows q ∙ t in
+    let c : record { birth = r.object.birth; iface = registry; version = h.version } ≡ x.born = cc b in
+    let d : false ≡ true = sym (registry_plain tables v) ∙ ap (by_event tables) c ∙ e in
+    cc d) in
     record { version = h.version; some = h.some; there = grind (arith, put_tells, h.there) }
 
 pub registries_not : (tables : List Interface) → Valid tables → (s : Rows Born) (b : Bool) (x : Known) (rs : List server.Registry) → ThereRow s x → (b ≡ true → by_event tables x.born ≡ true) → Each (IsRegistry s) rs

@@ -1,6 +1,6 @@
 -- What the rules of valid tables give a writer.
-use Rattle.std.proofs.Common.{◌≡◌, ◌≢◌, ℕ, zero, suc, ◌+◌, ◌<◌, ◌≤◌, Bool, true, false, cond, List, [], ◌∷◌, ◌++◌, map, length, ◌⊎◌, inl, inr, refl, sym, ap, subst, ◌∙◌, arith}
-use Rattle.std.specs.Prelude.{option_map, nat_eq, not, ◌&&◌, ◌||◌, slice_get}
+use Rattle.std.proofs.Common.{◌≡◌, ◌≢◌, ℕ, zero, suc, ◌<◌, ◌≤◌, Bool, true, false, List, [], ◌∷◌, map, length, inl, inr, refl, sym, ap, subst, ◌∙◌, arith}
+use Rattle.std.specs.Prelude.{nat_eq, ◌&&◌, slice_get}
 use Rattle.std.specs.Option.{option_and_then}
 use Rattle.std.specs.List.{All}
 use Rattle.std.specs.declared.option.Option.{Option}
@@ -12,22 +12,22 @@ use Rattle.std.proofs.lemmas.List.Folds.{list_any_at}
 use Rattle.wl_wire.specs.declared.kind.Kind.{Kind}
 use Rattle.wl_wire.specs.declared.kind.Kind.TheVariants as kinds
 use Rattle.wl_wire.specs.declared.kind.Iface.{Iface}
-use Rattle.wl_wire.specs.Argument.{Shape, Int, Uint, Fixed, Str, Obj, New, NewNamed, Array, Fd}
+use Rattle.wl_wire.specs.Argument.{Int, Uint, Fixed, Str, Obj, New, NewNamed, Array, Fd}
 use Rattle.wl_sigs.specs.declared.signature.Side.{Side}
 use Rattle.wl_sigs.specs.declared.signature.Side.TheVariants.{Request, Event}
 use Rattle.wl_sigs.specs.Tables.{Message, Interface, interface_at, signature_at, messages_of, message_of, new_objects, has_destroying_event, destroys_target}
-use Rattle.wl_sigs.specs.Fixed.{display, registry, wl_display}
-use Rattle.wl_sigs.specs.Valid.{Valid, IsBind}
+use Rattle.wl_sigs.specs.Fixed.{wl_display}
+use Rattle.wl_sigs.specs.Valid.{Valid}
 use Rattle.wl_objects.specs.declared.object.Object.{Object}
 use Rattle.wl_objects.specs.View.{View, look}
-use Rattle.wl_objects.specs.Reading.{is_of, iface_of}
-use Rattle.wl_objects.specs.Writing.{Given, suits, can_name, is_live_as, row_is_of}
-use Rattle.wl_objects.specs.Messages.{is_hidden, same_iface}
+use Rattle.wl_objects.specs.Reading.{iface_of}
+use Rattle.wl_objects.specs.Writing.{Given, suits, is_live_as, row_is_of}
+use Rattle.wl_objects.specs.Messages.{is_hidden}
 use Rattle.wl_server.specs.Calls.{ends_by_event}
-use Rattle.wl_world.specs.Meant.{Born, Known, Arg, objects, plain}
+use Rattle.wl_world.specs.Meant.{Born, Known, objects}
 use Rattle.wl_world.specs.World.{Each}
 use Rattle.wl_world.specs.Stands.{by_event}
-use Rattle.wl_world.proofs.Calls.{AllRight, Right, meant, born_at, live_as}
+use Rattle.wl_world.proofs.Calls.{AllRight, meant, born_at, live_as}
 
 -- the interface of a message
 pub record Of (tables : List Interface) (place : ℕ) (side : Side) (opcode : ℕ) (m : Message) : Type 0 where
@@ -108,10 +108,11 @@ objects_plain tables view new (k ∷ ks) (Fixed z ∷ given) r n p = objects_pla
 objects_plain tables view new (k ∷ ks) (Str z ∷ given) r n p = objects_plain tables view new ks given r.1 (All-tail NamedKind k ks n) (All-tail (PlainKind tables) k ks p)
 objects_plain tables view new (k ∷ ks) (Obj None ∷ given) r n p = objects_plain tables view new ks given r.1 (All-tail NamedKind k ks n) (All-tail (PlainKind tables) k ks p)
 objects_plain tables view new (k ∷ ks) (Obj (Some x) ∷ given) r n p =
-    let o = object_kind k x r.0.suit in
-    (named_plain tables view k x.id x.birth o.1 o.0 o.2 (n 0 kinds.Int (omega arith)) (p 0 kinds.Int (omega arith))
-      (subst (λ (y : Kind). (is_live_as x.birth (look view x.id) && row_is_of (iface_of y) (look view x.id)) ≡ true) o.2 r.0.named),
-     objects_plain tables view new ks given r.1 (All-tail NamedKind k ks n) (All-tail (PlainKind tables) k ks p))
+    let o = object_kind k x r.0.suit in (
+      named_plain tables view k x.id x.birth o.1 o.0 o.2 (n 0 kinds.Int (omega arith)) (p 0 kinds.Int (omega arith))
+          (subst (λ (y : Kind). (is_live_as x.birth (look view x.id) && row_is_of (iface_of y) (look view x.id)) ≡ true) o.2 r.0.named),
+      objects_plain tables view new ks given r.1 (All-tail NamedKind k ks n) (All-tail (PlainKind tables) k ks p),
+    )
 objects_plain tables view new (k ∷ ks) (New x ∷ given) r n p = objects_plain tables view new ks given r.1 (All-tail NamedKind k ks n) (All-tail (PlainKind tables) k ks p)
 objects_plain tables view new (k ∷ ks) (NewNamed name own x ∷ given) r n p = objects_plain tables view new ks given r.1 (All-tail NamedKind k ks n) (All-tail (PlainKind tables) k ks p)
 objects_plain tables view new (k ∷ ks) (Array z ∷ given) r n p = objects_plain tables view new ks given r.1 (All-tail NamedKind k ks n) (All-tail (PlainKind tables) k ks p)
@@ -121,13 +122,13 @@ objects_plain tables view new (k ∷ ks) (Fd z ∷ given) r n p = objects_plain 
 pub unnamed_none : (tables : List Interface) → Valid tables → (iface : Iface) (side : Side) (opcode : ℕ) (m : Message) → signature_at tables iface.0 side opcode ≡ Some m → is_hidden side iface opcode ≡ false
     → All (λ k. k ≢ kinds.New None) m.kinds
 unnamed_none tables v iface Request opcode m h hid = elim (v.unnamed_new_in_bind_alone iface.0 Request opcode m h) [
-    inl b ↦ (let t : (nat_eq iface.0 1 && nat_eq opcode 0) ≡ true = rw (eq-eqb iface.0 1 b.registry, eq-eqb opcode 0 b.bind) refl in absurd (cc (t, hid)))
+  | inl b ↦ (let t : (nat_eq iface.0 1 && nat_eq opcode 0) ≡ true = rw (eq-eqb iface.0 1 b.registry, eq-eqb opcode 0 b.bind) refl in absurd (cc (t, hid)))
   | inr a ↦ a
-  ]
+]
 unnamed_none tables v iface Event opcode m h hid = elim (v.unnamed_new_in_bind_alone iface.0 Event opcode m h) [
-    inl b ↦ absurd (cc b.request)
+  | inl b ↦ absurd (cc b.request)
   | inr a ↦ a
-  ]
+]
 
 pub few_new : (tables : List Interface) → Valid tables → (place : ℕ) (side : Side) (opcode : ℕ) (m : Message) → signature_at tables place side opcode ≡ Some m → length (new_objects m.kinds) ≤ 1
 few_new tables v place Request opcode m h = v.few_objects_made.requests place opcode m h

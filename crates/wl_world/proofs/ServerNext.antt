@@ -1,30 +1,29 @@
 -- A move of the server's reading.
-use Rattle.std.proofs.Common.{◌≡◌, ◌≢◌, ℕ, ◌+◌, ◌<◌, ◌≤◌, Bool, true, false, cond, List, [], ◌∷◌, ◌++◌, map, length, take, drop, refl, sym, ap, subst, ◌∙◌, arith}
-use Rattle.std.specs.Prelude.{option_map, nat_lt, not, ◌&&◌, if◌then◌else◌}
+use Rattle.std.proofs.Common.{◌≡◌, ◌≢◌, ℕ, ◌<◌, Bool, true, false, cond, List, [], ◌∷◌, map, refl, sym, ap, subst, ◌∙◌, arith}
+use Rattle.std.specs.Prelude.{not, ◌&&◌}
 use Rattle.std.specs.declared.option.Option.{Option}
 use Rattle.std.specs.declared.option.Option.TheVariants.{None, Some}
 use Rattle.std.specs.declared.result.Result.{Result}
 use Rattle.std.specs.declared.result.Result.TheVariants.{Ok, Err}
 use Rattle.std.proofs.lemmas.Bool.{ltb-true, ltb-false}
 use Rattle.wl_wire.specs.declared.kind.Kind.{Kind}
-use Rattle.wl_sigs.specs.declared.signature.Side.TheVariants.{Request as request_side, Event as event_side}
-use Rattle.wl_sigs.specs.Tables.{Interface, destroys_target}
+use Rattle.wl_sigs.specs.declared.signature.Side.TheVariants.{Request as request_side}
+use Rattle.wl_sigs.specs.Tables.{Interface}
 use Rattle.wl_message.specs.Cut.{usual_limit, front, Front, More, Bad, Whole, HasMessage}
 use Rattle.wl_message.specs.Outgoing.{room_of}
 use Rattle.wl_objects.specs.declared.error.Fault.{Fault}
 use Rattle.wl_objects.specs.declared.error.NextError.{NextError}
 use Rattle.wl_objects.specs.declared.error.NextError.TheVariants as errors
-use Rattle.wl_end.specs.Receiving.{Found, found, found_at}
+use Rattle.wl_end.specs.Receiving.{Found, found_at}
 use Rattle.wl_end.specs.Sending.{delete_id_len}
-use Rattle.wl_server.specs.State as server
-use Rattle.wl_server.specs.Requests.{Report, judged, request, report, is_out_full, answer_found, next_answer, state_found, after_next, state_past}
-use Rattle.wl_world.specs.Meant.{Born, Known, Message, Coming, Arg, renamed, rearg, born_of, birth_of, tokens, spelled}
-use Rattle.wl_world.specs.World.{World, request_read, Steps, reads_request, ReadRequest}
-use Rattle.wl_world.specs.Pair.{PairState, Move, Reply, ServerNext, with_server, Nexts, answered, no_memory, has_arguments, is_none}
-use Rattle.wl_world.specs.Answers.{Answers, before, ReportsRequest, rows_of_server, HasNone, HasOne, IsOutFull, ReadsRequest, KeepsRequest, ReadsAtServer}
-use Rattle.wl_world.specs.Stands.{Stands, stands, StandsBy, AreOf}
+use Rattle.wl_server.specs.Requests.{Report, judged, request, report, is_out_full, next_answer, after_next, state_past}
+use Rattle.wl_world.specs.Meant.{Known, Message, Coming, Arg, renamed, rearg, born_of, birth_of}
+use Rattle.wl_world.specs.World.{World, request_read, reads_request}
+use Rattle.wl_world.specs.Pair.{PairState, ServerNext, with_server, Nexts, answered, no_memory, is_none}
+use Rattle.wl_world.specs.Answers.{before, ReportsRequest, rows_of_server, IsOutFull}
+use Rattle.wl_world.specs.Stands.{stands, StandsBy, AreOf}
 use Rattle.wl_world.specs.Runs.{Keeps}
-use Rattle.wl_world.proofs.Channels.{pops, never_bad, Pops}
+use Rattle.wl_world.proofs.Channels.{pops, never_bad}
 use Rattle.wl_world.proofs.Readings.{reports_right}
 use Rattle.wl_world.proofs.Findings.{the_found}
 use Rattle.wl_world.proofs.ServerReads.{InRequest, in_request, left_state, left_is, server_read_stands}
@@ -84,7 +83,7 @@ keeps_read : (p : PairState) (w : World) (m : Message Known) (ms : List (Message
     → (Nexts (next_answer p.server) (request p.server) p (with_server p (after_next p.server)) reply p')
     → (IsOutFull p (renamed born_of m) → ⊥)
     → Nexts (Ok (Some (report p.server.core (the_found n m i.entry s.asked_fit.0.fits.signature)))) (Ok (Some (the_found n m i.entry s.asked_fit.0.fits.signature))) p
-        (with_server p (left_state p.server m n s.asked_fit.0.fits.signature.destroys)) reply p'
+    (with_server p (left_state p.server m n s.asked_fit.0.fits.signature.destroys)) reply p'
     → Keeps p w ServerNext (ServerNext reply) p'
 keeps_read p w m ms told s n z e i reply p' d room answered = record {
   world = request_read w (renamed born_of m) (map (renamed born_of) ms);
@@ -105,16 +104,16 @@ at_request p w m ms told s n z e i reply p' d true h =
     let a = answer_is p m (the_found n m i.entry s.asked_fit.0.fits.signature) true s.server_lives i.finds_it h in
     let k = and_both _ _ h in
     keeps_out_full p w m ms told s n z e i reply p' (request p.server) d (s.asked_fit.0.fits.destroys ∙ k.0, ltb-true _ _ k.1)
-      (subst (λ st. Nexts (Err errors.OutFull) (request p.server) p (with_server p st) reply p') a.leaves
-        (subst (λ x. Nexts x (request p.server) p (with_server p (after_next p.server)) reply p') a.answer d))
+    (subst (λ st. Nexts (Err errors.OutFull) (request p.server) p (with_server p st) reply p') a.leaves
+    (subst (λ x. Nexts x (request p.server) p (with_server p (after_next p.server)) reply p') a.answer d))
 at_request p w m ms told s n z e i reply p' d false h =
     let f = the_found n m i.entry s.asked_fit.0.fits.signature in
     let a = answer_is p m f false s.server_lives i.finds_it h in
     keeps_read p w m ms told s n z e i reply p' d
-      (λ full. (let no = ltb-false _ _ (and_not _ _ h (sym s.asked_fit.0.fits.destroys ∙ full.0)) in absurd (omega (arith, no, full.1))))
-      (subst (λ st. Nexts (Ok (Some (report p.server.core f))) (Ok (Some f)) p (with_server p st) reply p') (a.leaves ∙ left_is p.server m n i.entry s.asked_fit.0.fits i.same_target)
-        (subst (λ y. Nexts (Ok (Some (report p.server.core f))) y p (with_server p (after_next p.server)) reply p') i.finds_it
-          (subst (λ x. Nexts x (request p.server) p (with_server p (after_next p.server)) reply p') a.answer d)))
+    (λ full. (let no = ltb-false _ _ (and_not _ _ h (sym s.asked_fit.0.fits.destroys ∙ full.0)) in absurd (omega (arith, no, full.1))))
+    (subst (λ st. Nexts (Ok (Some (report p.server.core f))) (Ok (Some f)) p (with_server p st) reply p') (a.leaves ∙ left_is p.server m n i.entry s.asked_fit.0.fits i.same_target)
+    (subst (λ y. Nexts (Ok (Some (report p.server.core f))) y p (with_server p (after_next p.server)) reply p') i.finds_it
+    (subst (λ x. Nexts x (request p.server) p (with_server p (after_next p.server)) reply p') a.answer d)))
 
 at_whole : (p : PairState) (w : World) (asked : List (Message Known)) (told : List (Coming Known)) (s : StandsBy p w asked told) (n : ℕ) → w.ended ≡ false
     → front usual_limit p.server.core.inbox.bytes ≡ Whole n → (reply : Result (Option Report) NextError) (p' : PairState)
@@ -136,8 +135,8 @@ at_front : (p : PairState) (w : World) (asked : List (Message Known)) (told : Li
 at_front p w asked told s z reply p' d More e =
     let i = idle p w asked told s e in
     keeps_idle p w asked told s z e reply p' (request p.server) d
-      (subst (λ st. Nexts (Ok None) (request p.server) p (with_server p st) reply p') i.2
-        (subst (λ x. Nexts x (request p.server) p (with_server p (after_next p.server)) reply p') i.1 d))
+    (subst (λ st. Nexts (Ok None) (request p.server) p (with_server p st) reply p') i.2
+    (subst (λ x. Nexts x (request p.server) p (with_server p (after_next p.server)) reply p') i.1 d))
 at_front p w asked told s z reply p' d (Bad n) e = absurd (never_bad p.client.core.outbox p.server.core.inbox _ n s.to_server e)
 at_front p w asked told s z reply p' d (Whole n) e = at_whole p w asked told s n z e reply p' d
 

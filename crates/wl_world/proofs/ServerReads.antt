@@ -1,51 +1,43 @@
 -- The server reads.
-use Rattle.std.proofs.Common.{◌≡◌, ◌≢◌, ℕ, ◌+◌, ◌<◌, ◌≤◌, Bool, true, false, cond, List, [], ◌∷◌, ◌++◌, map, length, take, drop, refl, sym, ap, subst, ◌∙◌, arith, min}
+use Rattle.std.proofs.Common.{◌≡◌, ◌≢◌, ℕ, ◌+◌, ◌<◌, ◌≤◌, Bool, true, false, List, [], ◌∷◌, ◌++◌, map, length, take, drop, refl, sym, ap, subst, ◌∙◌, arith, min}
 use Rattle.std.proofs.lemmas.Bool.{ne_eqb}
-use Rattle.std.specs.Prelude.{option_map, nat_eq, nat_lt, not, ◌&&◌, if◌then◌else◌}
+use Rattle.std.specs.Prelude.{option_map, nat_eq, not, ◌&&◌}
 use Rattle.std.specs.declared.option.Option.{Option}
 use Rattle.std.specs.declared.option.Option.TheVariants.{None, Some}
-use Rattle.std.specs.declared.result.Result.{Result}
-use Rattle.std.specs.declared.result.Result.TheVariants.{Ok, Err}
-use Rattle.std.proofs.lemmas.Grind.{common_steps}
-use Rattle.std.proofs.lemmas.Bool.Decides.{nat_tests}
-use Rattle.std.proofs.lemmas.List.{append_assoc, append-nil, map-append}
-use Rattle.wl_sigs.specs.declared.signature.Side.TheVariants.{Request as request_side, Event as event_side}
+use Rattle.std.specs.declared.result.Result.TheVariants.{Ok}
+use Rattle.std.proofs.lemmas.List.{append-nil, map-append}
+use Rattle.wl_sigs.specs.declared.signature.Side.TheVariants.{Request as request_side}
 use Rattle.wl_sigs.specs.declared.signature.Destroys.{Destroys}
 use Rattle.wl_sigs.specs.declared.signature.Destroys.TheVariants.{Nothing, Target}
-use Rattle.wl_sigs.specs.Tables.{Interface, destroys_target}
-use Rattle.wl_message.specs.Cut.{usual_limit, front, Front, More, Bad, Whole, HasMessage, IsMessage}
+use Rattle.wl_sigs.specs.Tables.{destroys_target}
+use Rattle.wl_message.specs.Cut.{usual_limit, front, Whole, IsMessage}
 use Rattle.wl_message.specs.Outgoing.{Outgoing, room_of, message}
 use Rattle.wl_message.specs.Outgoing as boxes
-use Rattle.wl_wire.specs.Argument.{Shape, Int, Uint, Fixed, Str, Obj, New, NewNamed, Array, Fd}
+use Rattle.wl_wire.specs.Argument.{Uint}
 use Rattle.wl_objects.specs.declared.object.Entry.{Entry}
-use Rattle.wl_objects.specs.declared.object.State.TheVariants as states
-use Rattle.wl_objects.specs.declared.error.Fault.{Fault}
-use Rattle.wl_objects.specs.declared.error.NextError.{NextError}
-use Rattle.wl_objects.specs.declared.error.NextError.TheVariants as errors
-use Rattle.wl_objects.specs.View.{View, Sound, look}
+use Rattle.wl_objects.specs.View.{View, look}
 use Rattle.wl_objects.specs.Views.{look-opened_at, look-closed}
-use Rattle.wl_objects.specs.Messages.{Received, opens, made as made_message, is_bind, Server as server_end, after}
-use Rattle.wl_objects.specs.Writing.{message_bytes}
+use Rattle.wl_objects.specs.Messages.{opens, made as made_message, is_bind, Server as server_end, after}
 use Rattle.wl_objects.specs.Reading.{descriptors}
 use Rattle.wl_end.specs.Core.{Core, past, with_view}
-use Rattle.wl_end.specs.Receiving.{Found, found, takes, reported}
-use Rattle.wl_end.specs.Sending.{with_following, with_delete_id, delete_id_len}
+use Rattle.wl_end.specs.Receiving.{Found, found}
+use Rattle.wl_end.specs.Sending.{with_following}
 use Rattle.wl_server.specs.State as server
 use Rattle.wl_server.specs.State.{global_of}
-use Rattle.wl_server.specs.Requests.{Report, judged, request, is_good_bind, bind_fits, made_in as made_by_message, destroys_it, core_after, state_past, registries_after, without_registry, report, is_out_full, answer_found, next_answer, state_found, after_next}
-use Rattle.wl_world.specs.Meant.{Born, Known, Message, Coming, Event, Delete, Arg, renamed, recoming, rearg, born_of, birth_of, wire, tokens, spelled, spelled_coming, new_in, made_in, objects, plain, live_entry}
-use Rattle.wl_world.specs.World.{World, display_born, Row, Open, Ending, Each, IfThere, delete, request_read, gone, born_into, same, with_registry, without_registry as without_marks, Steps, reads_request, ReadRequest}
-use Rattle.wl_world.specs.Pair.{PairState, with_server, Nexts, answered, no_memory, has_arguments, is_none}
-use Rattle.wl_world.specs.Answers.{ReportsRequest, rows_of_server, HasNone, HasOne, IsOutFull, ReadsRequest, KeepsRequest, ReadsAtServer}
-use Rattle.wl_world.specs.Flight.{Rows, at, Fresh, Reads, Tied, Meets, asks, tells, all_asks, all_tells, client_rows, server_rows, row, as_row}
-use Rattle.wl_world.specs.Stands.{StandsBy, Fits, AreOf, AsksFitly, ComesFitly, InFlight, IsRegistry, marks_of, by_event, Shows}
+use Rattle.wl_server.specs.Requests.{judged, request, is_good_bind, made_in as made_by_message, state_past, registries_after, without_registry}
+use Rattle.wl_world.specs.Meant.{Born, Known, Message, Coming, Arg, renamed, recoming, rearg, born_of, birth_of, wire, tokens, spelled, spelled_coming, made_in, objects, plain, live_entry}
+use Rattle.wl_world.specs.World.{World, display_born, Open, Each, IfThere, delete, request_read, gone, born_into, same, with_registry, without_registry as without_marks}
+use Rattle.wl_world.specs.Pair.{PairState, with_server}
+use Rattle.wl_world.specs.Answers.{rows_of_server}
+use Rattle.wl_world.specs.Flight.{Rows, Fresh, Tied, all_asks, server_rows, as_row}
+use Rattle.wl_world.specs.Stands.{StandsBy, Fits, ComesFitly, InFlight, IsRegistry, by_event, Shows}
 use Rattle.wl_world.proofs.Deeds.{reads_more}
-use Rattle.wl_world.proofs.Wholes.{ThereRow, server_makes, server_ends, asks_at, AsksAt, Past, all_tells_more, each_more}
+use Rattle.wl_world.proofs.Wholes.{ThereRow, server_makes, server_ends, asks_at, AsksAt, all_tells_more, each_more}
 use Rattle.wl_world.proofs.Sets.{server_made, server_ended, there_kept}
-use Rattle.wl_world.proofs.Channels.{Pops, pops, never_bad, pushed}
-use Rattle.wl_world.proofs.Afters.{HeldRow, there_row, server_after, server_sound, server_live, made_map}
+use Rattle.wl_world.proofs.Channels.{pops, pushed}
+use Rattle.wl_world.proofs.Afters.{there_row, server_after, server_sound, server_live, made_map}
 use Rattle.wl_world.proofs.Registries.{marks_with, marks_without, registries_made, registries_ended}
-use Rattle.wl_world.proofs.Readings.{HeldAt, AllMet, made_of, made_read, reports_right, tokens_taken, bytes_whole}
+use Rattle.wl_world.proofs.Readings.{HeldAt, AllMet, made_of, made_read, tokens_taken, bytes_whole}
 use Rattle.wl_world.proofs.Findings.{the_found, the_message, finds, all_met, news_free}
 
 -- ---- what is found
@@ -132,7 +124,7 @@ pub left_is : (st : server.State) (m : Message Known) (n : ℕ) (entry : Entry) 
     → state_past st (the_found n m entry f.signature) ≡ left_state st m n f.signature.destroys
 left_is st m n entry f s =
     let made : made_by_message st.core (the_message m entry f.signature) ≡ option_map made_of (made_in m.args) =
-        ap (λ (b : Born). made_message st.core.tables b.version f.signature.kinds (map wire m.args)) s ∙ made_read st.core.tables m.target.born.version f.signature.kinds m.args f.args in
+    ap (λ (b : Born). made_message st.core.tables b.version f.signature.kinds (map wire m.args)) s ∙ made_read st.core.tables m.target.born.version f.signature.kinds m.args f.args in
     let count : descriptors f.signature.kinds ≡ length (tokens m.args) = tokens_taken st.core.tables m.target.born.version f.signature.kinds m.args f.args in
     let birth : entry.birth ≡ m.target.born.birth = ap birth_of s in
     let d : destroys_target f.signature.destroys ≡ m.destroys = sym f.destroys in
@@ -141,7 +133,7 @@ left_is st m n entry f s =
       registries = without_registry (d i) (birth i) (registries_after st.core st.registries (made i));
     })
     ∙ ap (λ (c : Core). record st { core = c; registries = without_registry m.destroys m.target.born.birth (registries_after st.core st.registries (option_map made_of (made_in m.args))) })
-      (followed m.destroys m.target (with_view (past st.core n (length (tokens m.args))) (after server_end st.core.view (option_map made_of (made_in m.args)) f.signature.destroys m.target.id)))
+    (followed m.destroys m.target (with_view (past st.core n (length (tokens m.args))) (after server_end st.core.view (option_map made_of (made_in m.args)) f.signature.destroys m.target.id)))
 
 -- ---- the pair stands again
 
@@ -183,7 +175,8 @@ server_read_stands p w m ms told s n a up =
       client_sets = s.client_sets;
       server_sets = rw world_new (subst (λ (r : Rows Born). Shows birth_of r.rows r.births (gone m.destroys m.target.born (born_into same (option_map born_of new) w.server))) (sym rows) sets);
       births = s.births;
-      client_sound = s.client_sound; versions = s.versions;
+      client_sound = s.client_sound;
+      versions = s.versions;
       server_sound = server_sound v m.target new what s.server_sound a.new a.target (λ e. a.mortal (sym d ∙ e));
       client_display = s.client_display;
       server_display = display_after v new m.target.id what (live_entry display_born) a.new s.server_display (λ e. a.mortal (sym d ∙ e));
@@ -213,7 +206,7 @@ server_read_stands p w m ms told s n a up =
       few_globals = s.few_globals;
       open_registries = subst (λ (r : Rows Born). Each (IsRegistry r) (left_state p.server m n what).registries) (sym rows)
           (registries_ended (server_makes (server_rows v) new) m.destroys m.target (registries_after p.server.core p.server.registries (option_map made_of new)) (there_kept (server_rows v) new m.target a.new a.target)
-            (registries_made p.server.core p.server.registries new a.new f.new_version s.open_registries));
+          (registries_made p.server.core p.server.registries new a.new f.new_version s.open_registries));
     }
 
 -- ---- what is answered
@@ -245,8 +238,8 @@ in_request p w m ms told s n e =
     let enough : length (tokens m.args) ≤ length p.server.core.inbox.tokens = let k = ap length own in omega (arith, q.enough, k) in
     let there = finds p.server.core request_side m n (rows_of_server w) i.entry f e bytes i.there i.same_target i.met enough in
     let binds : is_bind request_side i.entry.iface m.opcode ≡ true → is_good_bind p.server (map wire m.args) ≡ true = λ h. (
-      let b = s.asked_fit.0.binds (sym (ap (λ (x : Born). is_bind request_side x.iface m.opcode) i.same_target) ∙ h) in
-      ap (λ (l : List (Arg Known)). is_good_bind p.server (map wire l)) b.args_are ∙ b.was_given) in
+    let b = s.asked_fit.0.binds (sym (ap (λ (x : Born). is_bind request_side x.iface m.opcode) i.same_target) ∙ h) in
+    ap (λ (l : List (Arg Known)). is_good_bind p.server (map wire l)) b.args_are ∙ b.was_given) in
     record {
       entry = i.entry;
       same_target = i.same_target;

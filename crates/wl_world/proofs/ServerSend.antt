@@ -1,44 +1,41 @@
 -- Moves of the server's writing.
-use Rattle.std.proofs.Common.{◌≡◌, ◌≢◌, ℕ, ◌+◌, ◌<◌, ◌≤◌, Bool, true, false, cond, List, [], ◌∷◌, ◌++◌, map, length, ◌⊎◌, inl, inr, refl, sym, ap, subst, ◌∙◌, arith}
+use Rattle.std.proofs.Common.{◌≡◌, ℕ, Bool, true, false, cond, List, [], ◌∷◌, ◌++◌, refl, sym, ap, subst, ◌∙◌}
 use Rattle.std.specs.Prelude.{option_map, not, ◌||◌}
 use Rattle.std.specs.declared.option.Option.{Option}
 use Rattle.std.specs.declared.option.Option.TheVariants.{None, Some}
 use Rattle.std.specs.declared.result.Result.{Result}
-use Rattle.std.specs.declared.result.Result.TheVariants.{Ok, Err}
-use Rattle.wl_wire.specs.declared.kind.Iface.{Iface}
-use Rattle.wl_sigs.specs.declared.signature.Side.TheVariants.{Request, Event}
-use Rattle.wl_sigs.specs.declared.signature.Destroys.{Destroys}
+use Rattle.std.specs.declared.result.Result.TheVariants.{Ok}
+use Rattle.wl_sigs.specs.declared.signature.Side.TheVariants.{Event}
 use Rattle.wl_sigs.specs.Tables.{Interface, interface_at, destroys_target}
 use Rattle.wl_sigs.specs.Tables as sigs
 use Rattle.wl_sigs.specs.Fixed.{display, registry}
 use Rattle.wl_message.specs.Outgoing.{message}
 use Rattle.wl_objects.specs.declared.object.Object.{Object}
 use Rattle.wl_objects.specs.declared.object.Entry.{Entry}
-use Rattle.wl_objects.specs.declared.object.State.TheVariants as states
 use Rattle.wl_objects.specs.declared.error.SendError.{SendError}
 use Rattle.wl_objects.specs.declared.error.SendError.TheVariants as refusals
-use Rattle.wl_objects.specs.View.{View, Sound, look, next_id}
-use Rattle.wl_objects.specs.Writing.{Given, wired, tokens_of, message_bytes, is_live_as}
+use Rattle.wl_objects.specs.View.{View, look, next_id}
+use Rattle.wl_objects.specs.Writing.{Given, message_bytes, is_live_as}
 use Rattle.wl_objects.specs.Messages.{Made, Server as server_end, after, checked, live_row, same_iface}
-use Rattle.wl_end.specs.Core.{Core, with_view}
-use Rattle.wl_end.specs.Sending.{send_answer, after_send, after_checked, sent, made_at, opens_object, fits, with_following, with_delete_id, delete_id_len}
+use Rattle.wl_end.specs.Core.{Core}
+use Rattle.wl_end.specs.Sending.{send_answer, after_send, after_checked, made_at, opens_object, with_following}
 use Rattle.wl_server.specs.Calls.{drop_refusal, drop_at, ends_by_event, after_drop, error_refusal, after_error}
-use Rattle.wl_world.specs.Meant.{Born, Known, Message, Coming, Event as event_of, Delete, Arg, renamed, rearg, born_of, birth_of, wire, tokens, spelled, spelled_coming, made_in, objects, plain}
-use Rattle.wl_world.specs.World.{World, Row, Each, IfThere, IsThere, delete, event_written, dropped, Steps, writes_event, drops, WriteEvent, Drop}
+use Rattle.wl_world.specs.Meant.{Known, Message, Coming, Event as event_of, Delete, renamed, born_of, birth_of, spelled, made_in, objects, plain}
+use Rattle.wl_world.specs.World.{World, Each, IsThere, delete, event_written, dropped, Steps, writes_event, drops, WriteEvent}
 use Rattle.wl_world.specs.Pair.{PairState, ServerSend, ServerDrop, PostError, with_server_core, Writes, accepted, refused, no_memory, Calls, done}
-use Rattle.wl_world.specs.Answers.{WritesThat, IsMessageOf, handed, birth_at, before}
-use Rattle.wl_world.specs.Flight.{Rows, server_rows}
-use Rattle.wl_world.specs.Stands.{Stands, stands, ended, StandsBy, Fits, TellsFitly, by_event, TellsGiven}
+use Rattle.wl_world.specs.Answers.{birth_at, before}
+use Rattle.wl_world.specs.Flight.{server_rows}
+use Rattle.wl_world.specs.Stands.{Stands, stands, ended, StandsBy}
 use Rattle.wl_world.specs.Runs.{Keeps, IsGiven}
 use Rattle.wl_world.proofs.Wholes.{ThereRow, each_by}
 use Rattle.wl_world.proofs.Afters.{made_map, objects_map, each_map}
 use Rattle.wl_world.proofs.Readings.{made_of}
-use Rattle.wl_world.proofs.ServerReads.{test_of, followed}
-use Rattle.wl_world.proofs.Calls.{Checked, is_checked, LiveAt, live_as, LiveAs, handed_none, no_made, tokens_all, row_low}
+use Rattle.wl_world.proofs.ServerReads.{followed}
+use Rattle.wl_world.proofs.Calls.{Checked, is_checked, LiveAt, live_as, handed_none, no_made, tokens_all, row_low}
 use Rattle.wl_world.proofs.Rules.{ends_so, no_event_new}
-use Rattle.wl_world.proofs.Written.{the_made, the_new, the_args, the_call, CallIs, call_is, Accepted, accepted_call, Opens, opens, no_delete}
+use Rattle.wl_world.proofs.Written.{the_new, the_args, the_call, CallIs, call_is, accepted_call, opens, no_delete}
 use Rattle.wl_world.proofs.ClientSend.{made_same}
-use Rattle.wl_world.proofs.ServerTells.{CanTell, told_core, tell_stands, dropped_core, drop_stands}
+use Rattle.wl_world.proofs.ServerTells.{CanTell, told_core, tell_stands, drop_stands}
 
 there_live : (v : View) (x : Known) → LiveAt v x → ThereRow (server_rows v) x
 there_live v x l = ap (option_map plain) l.there ∙ ap Some l.same
@@ -88,12 +85,12 @@ pub tells_world : (p : PairState) (w : World) (asked : List (Message Known)) (to
 tells_world p w asked told s m c =
     let v = p.server.core.view in
     writes_event (renamed born_of m) (s.server_sets.shown m.target.id m.target.born c.target)
-      (rw (objects_map born_of m.args) (each_map born_of (IsThere w.server) (objects m.args) (each_by (ThereRow (server_rows v)) (λ (x : Known). IsThere w.server x.born) (λ x h. s.server_sets.shown x.id x.born h) (objects m.args) c.args)))
+    (rw (objects_map born_of m.args) (each_map born_of (IsThere w.server) (objects m.args) (each_by (ThereRow (server_rows v)) (λ (x : Known). IsThere w.server x.born) (λ x h. s.server_sets.shown x.id x.born h) (objects m.args) c.args)))
 
 pub server_send_keeps : (p : PairState) (w : World) (asked : List (Message Known)) (told : List (Coming Known)) → StandsBy p w asked told → w.ended ≡ false → (target : Object) (opcode : ℕ) (given : List Given) → Each IsGiven given
     → (reply : Result (Option Object) SendError) (p' : PairState)
     → Writes (send_answer p.server.core Event target opcode given) (opens_object (checked p.server.core.tables Event p.server.core.view target opcode given)) p
-      (with_server_core p (after_send p.server.core Event target opcode given)) reply p'
+    (with_server_core p (after_send p.server.core Event target opcode given)) reply p'
     → Keeps p w (ServerSend target opcode given) (ServerSend reply) p'
 server_send_keeps p w asked told s z target opcode given g reply p' (accepted {new = new} h) =
     let core = p.server.core in

@@ -1,33 +1,27 @@
 -- The server writes an event, or ends an object without one.
-use Rattle.std.proofs.Common.{◌≡◌, ◌≢◌, ℕ, ◌+◌, ◌<◌, ◌≤◌, Bool, true, false, cond, List, [], ◌∷◌, ◌++◌, map, length, ◌⊎◌, inl, inr, refl, sym, ap, subst, ◌∙◌, arith}
-use Rattle.std.specs.Prelude.{option_map, nat_eq}
-use Rattle.std.specs.declared.option.Option.{Option}
+use Rattle.std.proofs.Common.{◌≡◌, ◌≢◌, ◌≤◌, Bool, true, false, List, [], ◌∷◌, ◌++◌, map, refl, sym, ap, subst, ◌∙◌}
+use Rattle.std.specs.Prelude.{nat_eq}
 use Rattle.std.specs.declared.option.Option.TheVariants.{None, Some}
 use Rattle.std.proofs.lemmas.Bool.{ne_eqb}
-use Rattle.std.proofs.lemmas.List.{append_assoc, append-nil, map-append}
+use Rattle.std.proofs.lemmas.List.{append_assoc, map-append}
 use Rattle.wl_sigs.specs.declared.signature.Destroys.{Destroys}
-use Rattle.wl_sigs.specs.declared.signature.Destroys.TheVariants.{Nothing, Target}
-use Rattle.wl_sigs.specs.Tables.{Interface, destroys_target}
-use Rattle.wl_message.specs.Cut.{usual_limit, IsMessage}
+use Rattle.wl_sigs.specs.declared.signature.Destroys.TheVariants.{Target}
+use Rattle.wl_sigs.specs.Tables.{destroys_target}
 use Rattle.wl_message.specs.Outgoing as boxes
-use Rattle.wl_wire.specs.Argument.{Uint}
-use Rattle.wl_objects.specs.declared.object.Entry.{Entry}
-use Rattle.wl_objects.specs.View.{View, Sound, look, closed}
+use Rattle.wl_objects.specs.View.{look, closed}
 use Rattle.wl_objects.specs.Views.{look-closed}
-use Rattle.wl_objects.specs.Sounds.{Sound-closed}
 use Rattle.wl_objects.specs.Messages.{Server as server_end, after}
-use Rattle.wl_objects.specs.Writing.{message_bytes}
 use Rattle.wl_end.specs.Core.{Core}
-use Rattle.wl_world.specs.Meant.{Born, Known, Message, Coming, Event, Delete, renamed, recoming, rearg, born_of, birth_of, wire, tokens, spelled, spelled_coming, made_in, objects, plain, live_entry}
-use Rattle.wl_world.specs.World.{World, display_born, Row, Each, IfThere, delete, event_written, dropped, gone, put}
+use Rattle.wl_world.specs.Meant.{Born, Known, Message, Coming, Event, Delete, renamed, recoming, born_of, birth_of, wire, spelled, spelled_coming, objects, plain, live_entry}
+use Rattle.wl_world.specs.World.{World, display_born, Each, delete, event_written, dropped, gone, put}
 use Rattle.wl_world.specs.Pair.{PairState, with_server_core}
-use Rattle.wl_world.specs.Flight.{Rows, at, Reads, Tied, Meets, tells, all_asks, all_tells, client_rows, server_rows}
-use Rattle.wl_world.specs.Stands.{StandsBy, Fits, TellsFitly, ComesFitly, InFlight, IsRegistry, Shows, by_event}
+use Rattle.wl_world.specs.Flight.{Rows, Meets, tells, all_asks, all_tells, client_rows, server_rows}
+use Rattle.wl_world.specs.Stands.{StandsBy, TellsFitly, ComesFitly, InFlight, IsRegistry, Shows}
 use Rattle.wl_world.proofs.Wholes.{ThereRow, server_ends, tell_meets, drop_meets, all_tells_more, each_more}
 use Rattle.wl_world.proofs.Sets.{server_ended}
 use Rattle.wl_world.proofs.Channels.{pushed}
 use Rattle.wl_world.proofs.Bridges.{server_closed}
-use Rattle.wl_world.proofs.Afters.{HeldRow, there_row, server_after, server_sound, server_live, closed_live}
+use Rattle.wl_world.proofs.Afters.{there_row, server_after, server_sound, server_live, closed_live}
 use Rattle.wl_world.proofs.Registries.{registries_not}
 use Rattle.wl_world.proofs.Readings.{bytes_whole}
 use Rattle.wl_world.proofs.Rules.{display_plain}
@@ -65,7 +59,7 @@ tell_stands p w asked told s m c =
     let v = p.server.core.view in
     let mortal : m.destroys ≡ true → m.target.id ≢ 1 = λ h. there_mortal p w asked told s m.target c.target (c.ends h) in
     let rows : server_rows (after server_end v None what m.target.id) ≡ server_ends m.destroys m.target (server_rows v) =
-        server_after v m.target None what tt ∙ ap (λ (b : Bool). server_ends b m.target (server_rows v)) d in
+    server_after v m.target None what tt ∙ ap (λ (b : Bool). server_ends b m.target (server_rows v)) d in
     let sets = server_ended (server_rows v) w.server m.destroys m.target s.server_sets c.target in
     let news = Event m ∷ delete m.destroys m.target in
     record {
@@ -74,7 +68,8 @@ tell_stands p w asked told s m c =
       client_sets = s.client_sets;
       server_sets = subst (λ (r : Rows Born). Shows birth_of r.rows r.births (gone m.destroys m.target.born w.server)) (sym rows) sets;
       births = s.births;
-      client_sound = s.client_sound; versions = s.versions;
+      client_sound = s.client_sound;
+      versions = s.versions;
       server_sound = server_sound v m.target None what s.server_sound tt c.target (λ e. mortal (sym d ∙ e));
       client_display = s.client_display;
       server_display = display_after v None m.target.id what (live_entry display_born) tt s.server_display (λ e. mortal (sym d ∙ e));
@@ -86,8 +81,8 @@ tell_stands p w asked told s m c =
       to_server = s.to_server;
       to_client = subst (λ (l : List boxes.Message). InFlight (told_core p.server.core m what).outbox p.client.core.inbox l) (sym (map-append spelled_coming told news))
           (pushed p.server.core.outbox (told_core p.server.core m what).outbox p.client.core.inbox (map spelled_coming told) (spelled m ∷ map spelled_coming (delete m.destroys m.target)) s.to_client refl
-            (append_assoc p.server.core.outbox.messages (spelled m ∷ []) (map spelled_coming (delete m.destroys m.target)))
-            (bytes_whole m.target.id m.opcode (map wire m.args) f.opcode f.len, delete_whole m.destroys m.target));
+          (append_assoc p.server.core.outbox.messages (spelled m ∷ []) (map spelled_coming (delete m.destroys m.target)))
+          (bytes_whole m.target.id m.opcode (map wire m.args) f.opcode f.len, delete_whole m.destroys m.target));
       asked_fit = s.asked_fit;
       told_fit = each_more (ComesFitly p.server.core.tables p.server.globals) told news s.told_fit (c.fitly, delete_fits p m.destroys m.target f.low);
       meet = rw (all_tells_more told news) (subst (λ (r : Rows Born). Meets (test_of p) (all_tells told ++ (tells (Event m) ++ all_tells (delete m.destroys m.target))) (all_asks asked) (client_rows p.client.core.view) r) (sym rows)
@@ -126,7 +121,8 @@ drop_stands p w asked told s x h e low =
       client_sets = s.client_sets;
       server_sets = subst (λ (r : Rows Born). Shows birth_of r.rows r.births (put w.server x.born.birth None)) (sym rows) sets;
       births = s.births;
-      client_sound = s.client_sound; versions = s.versions;
+      client_sound = s.client_sound;
+      versions = s.versions;
       server_sound = server_sound v x None Target s.server_sound tt h (λ k. mortal);
       client_display = s.client_display;
       server_display = look-closed v x.id 1 ∙ rw one s.server_display;

@@ -1,15 +1,14 @@
 -- The rows of an end and the set of births that they are.
-use Rattle.std.proofs.Common.{◌≡◌, ℕ, ◌+◌, ◌<◌, ◌≤◌, Bool, true, false, cond, ltb, eqb, List, [], ◌∷◌, ◌++◌, ◌⊎◌, inl, inr, refl, sym, ◌∙◌, ap, subst, arith, ◌≢◌}
-use Rattle.std.proofs.lemmas.Grind.{common_steps}
+use Rattle.std.proofs.Common.{◌≡◌, ℕ, ◌+◌, Bool, true, false, inl, inr, refl, sym, ◌∙◌, arith}
 use Rattle.std.specs.declared.option.Option.{Option}
 use Rattle.std.specs.declared.option.Option.TheVariants.{None, Some}
 use Rattle.std.specs.Prelude.{option_map}
-use Rattle.wl_world.specs.Meant.{Born, Known, Message, birth_of}
+use Rattle.wl_world.specs.Meant.{Born, Known, birth_of}
 use Rattle.wl_world.specs.World.{Row, Open, Ending, put, nothing, born_into, same, ending, gone, counted, IfThere}
-use Rattle.wl_world.specs.Flight.{Rows, at, made, Held, Fresh}
+use Rattle.wl_world.specs.Flight.{Rows, at, Held, Fresh}
 use Rattle.wl_world.specs.Stands.{Shows, birth_in}
 use Rattle.wl_world.proofs.Deeds.{put_tells}
-use Rattle.wl_world.proofs.Wholes.{OpenRow, ThereRow, client_makes, client_ends, server_makes, server_ends}
+use Rattle.wl_world.proofs.Wholes.{ThereRow, client_makes, client_ends, server_makes, server_ends}
 
 module _ {X : Type 0} (birth : X → ℕ) where
   pub shows_put : (rows : ℕ → Option X) (n : ℕ) (w : ℕ → Option X) (i : ℕ) (x y : X) → Shows birth rows n w → rows i ≡ Some x → birth y ≡ birth x
@@ -19,10 +18,11 @@ module _ {X : Type 0} (birth : X → ℕ) where
     one = λ j k a b p q r. grind (arith, put_tells, s.one j k a b, s.one i k x b, s.one j i a x);
     shown = λ j z k. grind (arith, put_tells, s.shown j z, s.one i j x z);
     only = λ b z k. elim (put_tells w (birth y) (Some y) b) [
-        inl p ↦ (grind arith, (i, grind (arith, put_tells)))
+      | inl p ↦ (grind arith, (i, grind (arith, put_tells)))
       | inr p ↦ let o = s.only b z (sym p.1 ∙ k) in (o.0, (o.1.0, grind (arith, put_tells, o.1.1)))
-      ];
+    ];
   }
+
   pub shows_drop : (rows : ℕ → Option X) (n : ℕ) (w : ℕ → Option X) (i : ℕ) (x : X) → Shows birth rows n w → rows i ≡ Some x
       → Shows birth (put rows i None) n (put w (birth x) None)
   shows_drop rows n w i x s h = record {
@@ -30,10 +30,11 @@ module _ {X : Type 0} (birth : X → ℕ) where
     one = λ j k a b p q r. grind (arith, put_tells, s.one j k a b);
     shown = λ j z k. grind (arith, put_tells, s.shown j z, s.one i j x z);
     only = λ b z k. elim (put_tells w (birth x) None b) [
-        inl p ↦ grind arith
+      | inl p ↦ grind arith
       | inr p ↦ let o = s.only b z (sym p.1 ∙ k) in (o.0, (o.1.0, grind (arith, put_tells, o.1.1)))
-      ];
+    ];
   }
+
   pub shows_make : (rows : ℕ → Option X) (n : ℕ) (w : ℕ → Option X) (i : ℕ) (y : X) → Shows birth rows n w → rows i ≡ None → birth y ≡ n
       → Shows birth (put rows i (Some y)) (n + 1) (put w (birth y) (Some y))
   shows_make rows n w i y s h e = record {
@@ -41,9 +42,9 @@ module _ {X : Type 0} (birth : X → ℕ) where
     one = λ j k a b p q r. grind (arith, put_tells, s.one j k a b, s.below j a, s.below k b);
     shown = λ j z k. grind (arith, put_tells, s.shown j z, s.below j z);
     only = λ b z k. elim (put_tells w (birth y) (Some y) b) [
-        inl p ↦ (grind arith, (i, grind (arith, put_tells)))
+      | inl p ↦ (grind arith, (i, grind (arith, put_tells)))
       | inr p ↦ let o = s.only b z (sym p.1 ∙ k) in (o.0, (o.1.0, grind (arith, put_tells, o.1.1)))
-      ];
+    ];
   }
 
 -- ---- the client's
@@ -65,16 +66,16 @@ pub client_ended : (v : Rows Row) (w : ℕ → Option Row) (b : Bool) (x : Known
     → Shows birth_in (client_ends b x v).rows (client_ends b x v).births (ending b x.born w)
 client_ended v w false x s h = s
 client_ended v w true x s h = elim h [
-    inl p ↦ shows_put birth_in v.rows v.births w x.id (Open x.born) (Ending x.born) s p refl
+  | inl p ↦ shows_put birth_in v.rows v.births w x.id (Open x.born) (Ending x.born) s p refl
   | inr p ↦ shows_put birth_in v.rows v.births w x.id (Ending x.born) (Ending x.born) s p refl
-  ]
+]
 
 pub client_deleted : (v : Rows Row) (w : ℕ → Option Row) (x : Known) → Shows birth_in v.rows v.births w → Held v x
     → Shows birth_in (at v x.id None).rows v.births (put w x.born.birth None)
 client_deleted v w x s h = elim h [
-    inl p ↦ shows_drop birth_in v.rows v.births w x.id (Open x.born) s p
+  | inl p ↦ shows_drop birth_in v.rows v.births w x.id (Open x.born) s p
   | inr p ↦ shows_drop birth_in v.rows v.births w x.id (Ending x.born) s p
-  ]
+]
 
 -- ---- the server's
 

@@ -1,14 +1,12 @@
 -- What a whole message at an end's edge does to what is in flight.
-use Rattle.std.proofs.Common.{◌≡◌, ℕ, ◌+◌, ◌<◌, ◌≤◌, Bool, true, false, cond, ltb, leb, eqb, List, [], ◌∷◌, ◌++◌, map, ◌⊎◌, inl, inr, refl, sym, ◌∙◌, ap, subst, arith, ◌≢◌}
-use Rattle.std.proofs.lemmas.Grind.{common_steps}
-use Rattle.std.proofs.lemmas.Bool.Decides.{nat_tests}
+use Rattle.std.proofs.Common.{◌≡◌, ℕ, Bool, true, false, List, [], ◌∷◌, ◌++◌, map, inl, inr, refl, sym, ◌∙◌, subst, arith, ◌≢◌}
 use Rattle.std.proofs.lemmas.List.{append_assoc, append-nil}
 use Rattle.std.specs.declared.option.Option.{Option}
 use Rattle.std.specs.declared.option.Option.TheVariants.{None, Some}
-use Rattle.wl_world.specs.Meant.{Born, Known, Message, Coming, Event, Delete as delete_of, objects, made_in}
+use Rattle.wl_world.specs.Meant.{Born, Known, Message, Coming}
 use Rattle.wl_world.specs.World.{Row, Open, Ending, put, Each, IfThere, delete as following}
-use Rattle.wl_world.specs.Flight.{Rows, at, most, made, Ask, Use, Make, Destroy, Tell, Name, End, Delete, makes, destroys, ends, asks, tells, all_asks, all_tells, at_client, Held, Fresh, Reads, done, name, end, delete, Tied, drained, use_, make, destroy, Meets}
-use Rattle.wl_world.proofs.Deeds.{put_tells, put_over, tied_client, reads_rows, live_after, free_after, counts_after, make_before, destroy_before, reads_more, held_at_client, end_before, use_more, make_more, destroy_more}
+use Rattle.wl_world.specs.Flight.{Rows, at, made, Ask, Use, Tell, Name, Delete, makes, destroys, ends, asks, tells, all_asks, all_tells, at_client, Held, Fresh, Reads, done, name, end, delete, Tied, drained, use_, make, destroy, Meets}
+use Rattle.wl_world.proofs.Deeds.{put_tells, put_over, live_after, free_after, counts_after, make_before, destroy_before, reads_more, held_at_client, end_before, use_more, make_more, destroy_more}
 
 abbrev pub OpenRow : Rows Row → Known → Type 0
 OpenRow v x = v.rows x.id ≡ Some (Open x.born)
@@ -62,7 +60,6 @@ pub record DeletesAt (test : Born → Bool) (es : List Tell) (v w : Rows Row) (x
   pub mortal : x.id ≢ 1
   pub held : Held v x
   pub rest : Reads test es (at v x.id None) w
-
 
 module _ {test : Born → Bool} where
   -- ---- the client writes a request

@@ -1,12 +1,11 @@
 -- The message of a call that nothing stands against.
-use Rattle.std.proofs.Common.{◌≡◌, ◌≢◌, ℕ, ◌+◌, ◌<◌, ◌≤◌, ◌^◌, Bool, true, false, cond, List, [], ◌∷◌, ◌++◌, map, length, ◌⊎◌, inl, inr, refl, sym, ap, subst, ◌∙◌, arith}
-use Rattle.std.specs.Prelude.{option_map, nat_eq, nat_lt, not, ◌&&◌, ◌||◌, if◌then◌else◌}
+use Rattle.std.proofs.Common.{◌≡◌, ℕ, ◌<◌, ◌≤◌, ◌^◌, Bool, true, false, cond, List, map, ◌⊎◌, inl, inr, refl, sym, ap, subst, ◌∙◌, arith}
+use Rattle.std.specs.Prelude.{option_map, nat_eq, ◌&&◌, ◌||◌, if◌then◌else◌}
 use Rattle.std.specs.declared.option.Option.{Option}
 use Rattle.std.specs.declared.option.Option.TheVariants.{None, Some}
 use Rattle.std.specs.declared.result.Result.{Result}
 use Rattle.std.specs.declared.result.Result.TheVariants.{Ok, Err}
 use Rattle.wl_wire.specs.declared.kind.Iface.{Iface}
-use Rattle.wl_wire.specs.Argument.{Argument}
 use Rattle.wl_sigs.specs.declared.signature.Side.{Side}
 use Rattle.wl_sigs.specs.declared.signature.Side.TheVariants.{Request, Event}
 use Rattle.wl_sigs.specs.Tables.{Interface, destroys_target}
@@ -17,18 +16,18 @@ use Rattle.wl_objects.specs.declared.object.Entry.{Entry}
 use Rattle.wl_objects.specs.declared.error.SendError.{SendError}
 use Rattle.wl_objects.specs.declared.error.SendError.TheVariants as refusals
 use Rattle.wl_sigs.specs.Fixed.{display, registry}
-use Rattle.wl_objects.specs.View.{View, Sound, look, max_ids, next_id, can_open}
+use Rattle.wl_objects.specs.View.{View, Sound, next_id, can_open}
 use Rattle.wl_objects.specs.Views.{free_is, free_or_next-next_id}
 use Rattle.wl_objects.specs.Writing.{Given, wired, message_len}
 use Rattle.wl_objects.specs.Messages.{Made, made, checked, is_hidden, is_error, is_delete_id, same_iface}
 use Rattle.wl_end.specs.Core.{Core}
-use Rattle.wl_end.specs.Sending.{fits, opening_answer, answer_of, send_answer, made_at, version_at, following_len, after_send, after_checked, sent}
-use Rattle.wl_world.specs.Meant.{Born, Known, Message, Arg, wire, tokens, new_in, made_in, objects, plain}
+use Rattle.wl_end.specs.Sending.{opening_answer, answer_of, send_answer, made_at}
+use Rattle.wl_world.specs.Meant.{Known, Message, Arg, wire, made_in, objects, plain}
 use Rattle.wl_world.specs.World.{Each, IfThere}
-use Rattle.wl_world.specs.Stands.{Fits, AreOf}
+use Rattle.wl_world.specs.Stands.{Fits}
 use Rattle.wl_world.specs.Runs.{IsGiven}
 use Rattle.wl_world.proofs.Readings.{made_of, made_read}
-use Rattle.wl_world.proofs.Calls.{Checked, AllRight, all_right, meant, new_known, wire_all, len_all, tokens_all, LiveAt, all_live, matches, Matches, fit_all, row_low, new_all, one_new, made_new, version_of}
+use Rattle.wl_world.proofs.Calls.{Checked, AllRight, all_right, meant, new_known, wire_all, len_all, LiveAt, all_live, matches, fit_all, row_low, new_all, one_new, made_new, version_of}
 use Rattle.wl_world.proofs.Rules.{opcode_low, few_new, unnamed_none}
 
 abbrev pub the_made : Core → Entry → List Given → sigs.Message → Option Made
@@ -141,7 +140,7 @@ pub accepted_call : (core : Core) (side : Side) (target : Object) (opcode : ℕ)
     → Accepted core side target opcode given new
 accepted_call core side target opcode given new l h =
     accepted_by core side target opcode given new (checked core.tables side core.view target opcode given) refl
-      (sym (ap (λ (b : Bool). if b then Err refusals.Failed else answer_of core side target given (checked core.tables side core.view target opcode given)) l) ∙ h)
+    (sym (ap (λ (b : Bool). if b then Err refusals.Failed else answer_of core side target given (checked core.tables side core.view target opcode given)) l) ∙ h)
 
 -- an opening: it can be opened, and is the next
 pub record Opens (core : Core) (o : Option Made) (new : Option Object) : Type 0 where

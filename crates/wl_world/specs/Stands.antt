@@ -16,11 +16,10 @@ use Rattle.wl_message.specs.Outgoing as boxes
 use Rattle.wl_message.specs.Outgoing.{Outgoing, all_bytes, all_tokens}
 use Rattle.wl_objects.specs.declared.object.Entry.{Entry}
 use Rattle.wl_objects.specs.declared.object.State.TheVariants as states
-use Rattle.wl_objects.specs.View.{View, Sound, look, max_ids}
+use Rattle.wl_objects.specs.View.{Sound, look, max_ids}
 use Rattle.wl_objects.specs.Reading.{iface_of, is_of}
 use Rattle.wl_objects.specs.Writing.{message_len}
 use Rattle.wl_objects.specs.Messages.{made_by, is_error, is_delete_id, is_bind, same_iface}
-use Rattle.wl_client.specs.State as client
 use Rattle.wl_server.specs.State as server
 use Rattle.wl_server.specs.State.{global_of, max_globals}
 use Rattle.wl_server.specs.Requests.{bind_fits}
