@@ -16,8 +16,10 @@ mod messages;
 mod object;
 mod reading;
 mod reporting;
-mod samples;
+pub mod samples;
 mod table;
+#[cfg(test)]
+mod tests;
 mod values;
 mod writing;
 

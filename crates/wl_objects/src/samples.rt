@@ -9,7 +9,7 @@ ghost use Rattle.wl_objects.specs.Samples.{request, fresh, with_registry, with_c
 /// wl_display.get_registry of id 2 and wl_display.sync of id 3, in front of a server that has read
 /// nothing; then of id 2, which is in use, in front of one that has a registry there.
 #[tactic(auto, unfolding(wl_sigs::specs::Core::core_tables))]
-fn new_objects()
+pub fn new_objects()
     ensures registry { request fresh 1 1 (2 ∷ 0 ∷ 0 ∷ 0 ∷ []) ≡ Ok (New 2 ∷ []) }
     ensures past { request fresh 1 0 (3 ∷ 0 ∷ 0 ∷ 0 ∷ []) ≡ Err (BadNewId 0) }
     ensures sync { request with_registry 1 0 (3 ∷ 0 ∷ 0 ∷ 0 ∷ []) ≡ Ok (New 3 ∷ []) }
@@ -19,7 +19,7 @@ fn new_objects()
 /// wl_registry.bind of a compositor of version 6 at id 4; the same with a length that is one too
 /// small, so that the last byte counted is no NUL.
 #[tactic(auto, unfolding(wl_sigs::specs::Core::core_tables))]
-fn bind()
+pub fn bind()
     ensures bound { request with_callback 2 0 (bind_body 14) ≡ Ok (Uint 1 ∷ NewNamed (codes "wl_compositor") 6 4 ∷ []) }
     ensures no_nul { request with_callback 2 0 (bind_body 13) ≡ Err (BadArgument 1 NoEndingNul) }
 {}
@@ -27,7 +27,7 @@ fn bind()
 /// An unknown object, an unknown opcode, bytes left over, and a wl_shm.create_pool without its
 /// descriptor.
 #[tactic(auto, unfolding(wl_sigs::specs::Core::core_tables))]
-fn faults()
+pub fn faults()
     ensures object { request fresh 9 0 [] ≡ Err UnknownObject }
     ensures message { request fresh 1 2 [] ≡ Err UnknownMessage }
     ensures bytes { request fresh 1 0 (2 ∷ 0 ∷ 0 ∷ 0 ∷ 0 ∷ 0 ∷ 0 ∷ 0 ∷ []) ≡ Err TrailingBytes }
