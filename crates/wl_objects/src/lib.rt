@@ -18,8 +18,6 @@ mod reading;
 mod reporting;
 pub mod samples;
 mod table;
-#[cfg(test)]
-mod tests;
 mod values;
 mod writing;
 
