@@ -2,7 +2,6 @@
 use Rattle.std.proofs.Common.{◌≡◌, ℕ, false, List, map, take, min, refl, sym, subst}
 use Rattle.std.proofs.Common.{drop, length, length-append, arith, ◌-◌, ◌≤◌, ◌++◌, ◌∙◌, ap, Bool, true}
 use Rattle.std.specs.Prelude.{nat_le}
-use Rattle.std.proofs.lemmas.Grind.{common_steps}
 use Rattle.std.proofs.lemmas.Bool.Decides.{nat_tests}
 use Rattle.std.proofs.lemmas.List.{take-append-drop, length-take}
 use Rattle.wl_message.specs.declared.amounts.Fed.{Fed}
@@ -151,4 +150,4 @@ pub carry_whole : (from to : Core) (most : ℕ) → feeds to (carried_bytes from
 carry_whole from to most =
     let f = carry_fits from to most in
     taken_whole to to.failed (carried_bytes from (carries from to most)) (carried_tokens from (carries from to most)) (carries from to most).bytes (carries from to most).tokens refl f.bytes_there f.tokens_there
-      (let b = f.bytes in omega (arith, b)) f.tokens
+    (let b = f.bytes in omega (arith, b)) f.tokens

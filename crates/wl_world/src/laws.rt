@@ -14,6 +14,7 @@ ghost use Rattle.wl_world.specs.Pair.{PairState, Move, Reply, Does, new_pair, dr
 ghost use Rattle.wl_world.specs.Flight.{Rows, Tell, Ask, Make, Delete, Held, Meets};
 ghost use Rattle.wl_world.specs.Stands.{Stands};
 ghost use Rattle.wl_world.specs.Runs.{Runs, DoesAll, IsMove, Agree, Keeps};
+ghost use Rattle.wl_world.specs.Samples.{CallbackLives, DeadArgument};
 ghost use Rattle.wl_world.specs.Plain.{tell_id, ask_id, In};
 
 /// A new pair stands for the opening world.
@@ -85,4 +86,15 @@ pub fn held_where()
 pub fn carry_is_whole()
     ensures { (from to : Core) (most : ℕ)
         → feeds to (carried_bytes from (carries from to most)) (carried_tokens from (carries from to most)) ≡ all_of (carries from to most) }
+{}
+
+/// A history that there is: a callback is made, done with, and forgotten.
+pub fn callback_lives()
+    ensures { (tables : List Interface) → CallbackLives tables }
+{}
+
+/// A history that there is: an event names an object that its reader has destroyed, and is reported
+/// with the object dead.
+pub fn dead_argument()
+    ensures { (tables : List Interface) → DeadArgument tables }
 {}
