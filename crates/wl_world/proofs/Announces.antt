@@ -298,6 +298,7 @@ marked_stands : (p : PairState) (w : World) (asked : List (Message Known)) (told
 marked_stands p w asked told s d = record {
   same_tables = s.same_tables;
   valid = s.valid;
+  deletes_follow = s.deletes_follow;
   client_sets = s.client_sets;
   server_sets = s.server_sets;
   births = s.births;

@@ -28,6 +28,7 @@ to_server_stands : (p : PairState) (w : World) (asked : List (Message Known)) (t
 to_server_stands p w asked told most s = record {
   same_tables = s.same_tables;
   valid = s.valid;
+  deletes_follow = s.deletes_follow;
   client_sets = s.client_sets;
   server_sets = s.server_sets;
   births = s.births;
@@ -60,6 +61,7 @@ to_client_stands : (p : PairState) (w : World) (asked : List (Message Known)) (t
 to_client_stands p w asked told most s = record {
   same_tables = s.same_tables;
   valid = s.valid;
+  deletes_follow = s.deletes_follow;
   client_sets = s.client_sets;
   server_sets = s.server_sets;
   births = s.births;

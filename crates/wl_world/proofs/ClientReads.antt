@@ -200,6 +200,7 @@ event_stands p w m cs asked s n i y =
     record {
       same_tables = s.same_tables;
       valid = s.valid;
+      deletes_follow = s.deletes_follow.1;
       client_sets = subst (λ (x : Rows Row). Shows birth_in x.rows x.births (ending m.destroys m.target.born w.client)) (sym rows) sets;
       server_sets = s.server_sets;
       births = s.births ∙ sym (no_births v m.target.id what);
@@ -346,6 +347,7 @@ delete_stands p w x cs asked s n i =
     record {
       same_tables = s.same_tables;
       valid = s.valid;
+      deletes_follow = s.deletes_follow;
       client_sets = subst (λ (y : Rows Row). Shows birth_in y.rows y.births (put w.client x.born.birth None)) (sym rows) (client_deleted (client_rows v) w.client x s.client_sets t.held);
       server_sets = s.server_sets;
       births = s.births;

@@ -93,6 +93,7 @@ ask_stands p w asked told s m c =
     record {
       same_tables = s.same_tables;
       valid = s.valid;
+      deletes_follow = s.deletes_follow;
       client_sets = rw world_new (subst (λ (x : Rows Row). Shows birth_in x.rows x.births (ending m.destroys m.target.born (born_into Open (option_map born_of new) w.client))) (sym rows) sets);
       server_sets = s.server_sets;
       births = ap (λ o. counted o w.births) world_new ∙ counted_map born_of new w.births ∙ ap (counted new) s.births ∙ sym (births_after v new m.target.id what);

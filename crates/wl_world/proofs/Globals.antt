@@ -69,6 +69,7 @@ pub given_stands : (p : PairState) (w : World) (asked : List (Message Known)) (t
 given_stands p w asked told s more g e l = record {
   same_tables = s.same_tables;
   valid = s.valid;
+  deletes_follow = s.deletes_follow;
   client_sets = s.client_sets;
   server_sets = s.server_sets;
   births = s.births;

@@ -63,6 +63,7 @@ pub new_stands : (tables : List Interface) (client_sizes server_sizes : Sizes) â
 new_stands tables client_sizes server_sizes v = stands [] [] refl (record {
   same_tables = refl;
   valid = v;
+  deletes_follow = tt;
   client_sets = shows_opening birth_in row refl;
   server_sets = shows_opening birth_of plain refl;
   births = refl;

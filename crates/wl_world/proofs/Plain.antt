@@ -1,5 +1,5 @@
 -- What a standing pair's messages in flight say in plain words.
-use Rattle.std.proofs.Common.{◌≡◌, ℕ, Bool, List, ◌⊎◌, inl, inr, sym, ◌∙◌, ap, arith, ◌≢◌}
+use Rattle.std.proofs.Common.{◌++◌, ◌∷◌, [], ◌≡◌, ℕ, Bool, List, ◌⊎◌, inl, inr, sym, ◌∙◌, ap, arith, ◌≢◌}
 use Rattle.std.specs.declared.option.Option.{Option}
 use Rattle.std.specs.declared.option.Option.TheVariants.{None, Some}
 use Rattle.wl_world.specs.Meant.{Born, Known}
@@ -72,3 +72,10 @@ module _ {test : Born → Bool} where
           | inr p ↦ inr (inr p)
         ]
       ]
+
+  -- nothing after a delete in flight names its object's id
+  pub deleted_last : (before after : List Tell) (x : Known) {v w : Rows Row} → Reads test (before ++ (Delete x ∷ after)) v w → Each (λ t. tell_id t ≢ x.id) after
+  deleted_last [] after x (delete {v = v} z a b r) = free_tells x.id r (grind (arith, put_tells))
+  deleted_last (b ∷ bs) after x (name h r) = deleted_last bs after x r
+  deleted_last (b ∷ bs) after x (end t h r) = deleted_last bs after x r
+  deleted_last (b ∷ bs) after x (delete z h c r) = deleted_last bs after x r

@@ -25,12 +25,12 @@ use Rattle.wl_end.specs.Sending.{with_following}
 use Rattle.wl_server.specs.State as server
 use Rattle.wl_server.specs.State.{global_of}
 use Rattle.wl_server.specs.Requests.{judged, request, is_good_bind, made_in as made_by_message, state_past, registries_after, without_registry}
-use Rattle.wl_world.specs.Meant.{Born, Known, Message, Coming, Arg, renamed, recoming, rearg, born_of, birth_of, wire, tokens, spelled, spelled_coming, made_in, objects, plain, live_entry}
+use Rattle.wl_world.specs.Meant.{Event, Delete, Born, Known, Message, Coming, Arg, renamed, recoming, rearg, born_of, birth_of, wire, tokens, spelled, spelled_coming, made_in, objects, plain, live_entry}
 use Rattle.wl_world.specs.World.{World, display_born, Open, Each, IfThere, delete, request_read, gone, born_into, same, with_registry, without_registry as without_marks}
 use Rattle.wl_world.specs.Pair.{PairState, with_server}
 use Rattle.wl_world.specs.Answers.{rows_of_server}
 use Rattle.wl_world.specs.Flight.{Rows, Fresh, Tied, all_asks, server_rows, as_row}
-use Rattle.wl_world.specs.Stands.{StandsBy, Fits, ComesFitly, InFlight, IsRegistry, by_event, Shows}
+use Rattle.wl_world.specs.Stands.{DeletesFollow, BeginsWithDelete, StandsBy, Fits, ComesFitly, InFlight, IsRegistry, by_event, Shows}
 use Rattle.wl_world.proofs.Deeds.{reads_more}
 use Rattle.wl_world.proofs.Wholes.{ThereRow, server_makes, server_ends, asks_at, AsksAt, all_tells_more, each_more}
 use Rattle.wl_world.proofs.Sets.{server_made, server_ended, there_kept}
@@ -135,6 +135,26 @@ left_is st m n entry f s =
     ∙ ap (λ (c : Core). record st { core = c; registries = without_registry m.destroys m.target.born.birth (registries_after st.core st.registries (option_map made_of (made_in m.args))) })
     (followed m.destroys m.target (with_view (past st.core n (length (tokens m.args))) (after server_end st.core.view (option_map made_of (made_in m.args)) f.signature.destroys m.target.id)))
 
+-- ---- deletes follow
+
+begins_more : (x : Known) (cs ds : List (Coming Known)) → BeginsWithDelete x cs → BeginsWithDelete x (cs ++ ds)
+begins_more x [] ds h = absurd h
+begins_more x (Event m ∷ cs) ds h = absurd h
+begins_more x (Delete y ∷ cs) ds h = h
+
+pub follow_more : (cs ds : List (Coming Known)) → DeletesFollow cs → DeletesFollow ds → DeletesFollow (cs ++ ds)
+follow_more [] ds h k = k
+follow_more (Event m ∷ cs) ds h k = (λ e. begins_more m.target cs ds (h.0 e), follow_more cs ds h.1 k)
+follow_more (Delete x ∷ cs) ds h k = follow_more cs ds h k
+
+pub follow_delete : (b : Bool) (x : Known) → DeletesFollow (delete b x)
+follow_delete false x = tt
+follow_delete true x = tt
+
+pub begins_delete : (b : Bool) (x : Known) → b ≡ true → BeginsWithDelete x (delete b x)
+begins_delete false x e = absurd (cc e)
+begins_delete true x e = refl
+
 -- ---- the pair stands again
 
 display_opens : (v : View) (n : Option Known) (e : Entry) → IfThere (Fresh (server_rows v)) n → look v 1 ≡ Some e → look (opens v (option_map made_of n)) 1 ≡ Some e
@@ -172,6 +192,7 @@ server_read_stands p w m ms told s n a up =
     record {
       same_tables = s.same_tables;
       valid = s.valid;
+      deletes_follow = follow_more told (delete m.destroys m.target) s.deletes_follow (follow_delete m.destroys m.target);
       client_sets = s.client_sets;
       server_sets = rw world_new (subst (λ (r : Rows Born). Shows birth_of r.rows r.births (gone m.destroys m.target.born (born_into same (option_map born_of new) w.server))) (sym rows) sets);
       births = s.births;

@@ -25,7 +25,7 @@ use Rattle.wl_world.proofs.Afters.{there_row, server_after, server_sound, server
 use Rattle.wl_world.proofs.Registries.{registries_not}
 use Rattle.wl_world.proofs.Readings.{bytes_whole}
 use Rattle.wl_world.proofs.Rules.{display_plain}
-use Rattle.wl_world.proofs.ServerReads.{test_of, delete_whole, map_delete, delete_fits, display_after}
+use Rattle.wl_world.proofs.ServerReads.{follow_more, follow_delete, begins_delete, test_of, delete_whole, map_delete, delete_fits, display_after}
 
 pub record CanTell (p : PairState) (m : Message Known) : Type 0 where
   pub fitly : TellsFitly p.server.core.tables p.server.globals m
@@ -65,6 +65,7 @@ tell_stands p w asked told s m c =
     record {
       same_tables = s.same_tables;
       valid = s.valid;
+      deletes_follow = follow_more told news s.deletes_follow (begins_delete m.destroys m.target, follow_delete m.destroys m.target);
       client_sets = s.client_sets;
       server_sets = subst (λ (r : Rows Born). Shows birth_of r.rows r.births (gone m.destroys m.target.born w.server)) (sym rows) sets;
       births = s.births;
@@ -118,6 +119,7 @@ drop_stands p w asked told s x h e low =
     record {
       same_tables = s.same_tables;
       valid = s.valid;
+      deletes_follow = follow_more told (Delete x ∷ []) s.deletes_follow tt;
       client_sets = s.client_sets;
       server_sets = subst (λ (r : Rows Born). Shows birth_of r.rows r.births (put w.server x.born.birth None)) (sym rows) sets;
       births = s.births;

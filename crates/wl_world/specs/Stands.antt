@@ -86,6 +86,18 @@ pub record Fits (tables : List Interface) (side : Side) (m : Message Known) : Ty
   pub new_is : Each (λ a. IfThere (λ x. made_in m.args ≡ Some x) (new_in a)) m.args
   pub no_error : is_error side m.target.born.iface m.opcode ≡ false
 
+-- these begin with the delete of an object
+abbrev pub BeginsWithDelete : Known → List (Coming Known) → Type 0
+BeginsWithDelete x [] = ⊥
+BeginsWithDelete x (Event m ∷ coming) = ⊥
+BeginsWithDelete x (Delete y ∷ coming) = y ≡ x
+
+-- each destroying event is directly followed by its target's delete
+abbrev pub DeletesFollow : List (Coming Known) → Type 0
+DeletesFollow [] = Unit {0}
+DeletesFollow (Event m ∷ coming) = (m.destroys ≡ true → BeginsWithDelete m.target coming) × DeletesFollow coming
+DeletesFollow (Delete x ∷ coming) = DeletesFollow coming
+
 -- ---- globals
 
 -- the server gave this name, with this interface and version
@@ -170,6 +182,8 @@ pub record StandsBy (p : PairState) (w : World) (asked : List (Message Known)) (
   -- each fits a signature; each bind and each global told is of a global that was given
   pub asked_fit : Each (AsksFitly p.server.core.tables p.server.globals) asked
   pub told_fit : Each (ComesFitly p.server.core.tables p.server.globals) told
+  -- a destroying event is directly followed by its target's delete
+  pub deletes_follow : DeletesFollow told
   -- when its turn comes, each can be read, and when all is read both ends have the same objects
   pub meet : Meets (by_event p.server.core.tables) (all_tells told) (all_asks asked) (client_rows p.client.core.view) (server_rows p.server.core.view)
   -- neither end has failed; the ends' globals are the world's, and the client's were given by the server

@@ -88,6 +88,12 @@ pub fn carry_is_whole()
         → feeds to (carried_bytes from (carries from to most)) (carried_tokens from (carries from to most)) ≡ all_of (carries from to most) }
 {}
 
+/// Nothing behind a delete in flight names the id of its object.
+pub fn deleted_last()
+    ensures { (test : Born → Bool) (before after : List Tell) (requests : List Ask) (client : Rows Row) (server : Rows Born) (object : Known)
+        → Meets test (before ++ Delete object ∷ after) requests client server → Each (λ t. (tell_id t ≡ object.id) → ⊥) after }
+{}
+
 /// A history that there is: a callback is made, done with, and forgotten.
 pub fn callback_lives()
     ensures { (tables : List Interface) → CallbackLives tables }
