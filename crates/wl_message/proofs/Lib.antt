@@ -2,3 +2,5 @@ pub mod Fronts
 pub mod Goings
 pub mod Keeps
 pub mod Cuts
+pub mod Passing
+pub mod Steps

@@ -10,9 +10,16 @@ mod amounts;
 mod front;
 mod header;
 mod inbox;
+mod laws;
 mod marks;
 mod outbox;
+#[cfg(test)]
+mod tests;
 
 pub use amounts::{Fed, Full, Piece, Sizes, Taken};
 pub use inbox::{BadSize, Frame, Inbox};
+pub use laws::{
+    any_cut, front_stays, headed_message, joined_messages, next_message, one_amount, one_cut,
+    pieces_in_step, reading_in_step, take_keeps_step,
+};
 pub use outbox::Outbox;

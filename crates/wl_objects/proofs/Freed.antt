@@ -1,20 +1,31 @@
 -- The freed ids as a vector keeps them, the latest last.
-use Rattle.std.proofs.Common.{◌≡◌, ℕ, ◌+◌, List, [], ◌∷◌, ◌++◌, refl, sym, ◌∙◌, ap, cond, Bool, true, false, length, drop, reverse, arith}
+use Rattle.std.proofs.Common.{◌≡◌, ℕ, ◌+◌, ◌<◌, ◌≤◌, List, [], ◌∷◌, ◌++◌, refl, sym, ◌∙◌, ap, cond, Bool, true, false, reverse, arith}
 use Rattle.std.proofs.lemmas.List.{reverse-append}
 use Rattle.std.proofs.lemmas.List.Elements.{filter-append}
 use Rattle.std.specs.List.{filter}
-use Rattle.std.specs.Option.{MatchOption, option_to_list}
-use Rattle.std.specs.declared.option.Option.{Option}
-use Rattle.std.specs.declared.option.Option.TheVariants.{None, Some}
+use Rattle.std.proofs.lemmas.Grind.{common_steps}
+use Rattle.std.proofs.lemmas.Bool.Decides.{nat_tests}
+use Rattle.wl_objects.specs.View.{times, without}
 
-nil_of : (xs : List ℕ) → length xs ≡ 0 → xs ≡ []
-nil_of [] e = refl
-nil_of (x ∷ xs) e = absurd (omega arith)
+times-append : (id : ℕ) (xs ys : List ℕ) → times id (xs ++ ys) ≡ times id xs + times id ys
+times-append id [] ys = omega arith
+times-append id (x ∷ xs) ys = let h = times-append id xs ys in omega arith
 
--- taking the last takes the latest
-pub reverse-popped : (xs ys : List ℕ) (o : Option ℕ) (m n : ℕ) → xs ≡ ys ++ option_to_list o → MatchOption o ((m ≡ 0) × (n ≡ 0)) (λ _. n + 1 ≡ m) → length xs ≡ m → length ys ≡ n → reverse ys ≡ drop 1 (reverse xs)
-reverse-popped xs ys None m n e h f g = ap reverse (nil_of ys (g ∙ h.1)) ∙ sym (ap (λ zs. drop 1 (reverse zs)) (nil_of xs (f ∙ h.0)))
-reverse-popped xs ys (Some x) m n e h f g = sym (ap (drop 1) (ap reverse e ∙ reverse-append ys (x ∷ [])))
+-- how often an id stands does not change with the order
+pub times-reverse : (id : ℕ) (xs : List ℕ) → times id (reverse xs) ≡ times id xs
+times-reverse id [] = refl
+times-reverse id (x ∷ xs) =
+    let h = times-reverse id xs in
+    ap (times id) (reverse-append (x ∷ []) xs) ∙ times-append id (reverse xs) (x ∷ []) ∙ omega arith
+
+times-last : (id : ℕ) (ys : List ℕ) → 0 < times id (ys ++ id ∷ [])
+times-last id [] = grind (arith, common_steps, nat_tests)
+times-last id (y ∷ ys) = let h = times-last id ys in omega arith
+
+-- a list without the last, which stands there once
+pub without-last : (id : ℕ) (ys : List ℕ) → times id (ys ++ id ∷ []) ≤ 1 → without id (ys ++ id ∷ []) ≡ ys
+without-last id [] h = grind (arith, common_steps, nat_tests)
+without-last id (y ∷ ys) h = let w = without-last id ys in let t = times-last id ys in grind (arith, common_steps, nat_tests, w, t, h)
 
 one : (p : ℕ → Bool) (x : ℕ) → reverse (filter p (x ∷ [])) ≡ filter p (x ∷ [])
 one p x = elim (p x) as (λ b. reverse (cond b (x ∷ []) []) ≡ cond b (x ∷ []) []) [ true ↦ refl | false ↦ refl ]

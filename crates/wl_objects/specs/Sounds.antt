@@ -36,7 +36,7 @@ used_of_freed view id s h = elim (Views.place_of view s id) [
 fresh : (x : ℕ) (xs : List ℕ) → times x (x ∷ xs) ≤ 1 → times x xs ≡ 0
 fresh x xs h = grind (arith, common_steps, nat_tests, h)
 
-at_most_once : (view : View) (id : ℕ) → Sound view → times id view.freed ≤ 1
+pub at_most_once : (view : View) (id : ℕ) → Sound view → times id view.freed ≤ 1
 at_most_once view id s = elim (Views.place_of view s id) [
   | in_row e l t a b ↦ omega arith
   | in_list l t a b ↦ omega arith

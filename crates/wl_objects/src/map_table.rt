@@ -1,8 +1,8 @@
 //! A table of objects in an ordered map.
-ghost use Rattle.std.specs.Prelude.{◌≡◌, ◌≤◌, OnOk, OnErr, IfErr, vec_capacity};
+ghost use Rattle.std.specs.Prelude.{◌≡◌, ◌≤◌, OnOk, OnErr, IfOk, IfErr, IsTrue, vec_capacity};
 ghost use Rattle.std.specs.Ordering.{nat_cmp};
 ghost use Rattle.std.specs.FinMap.{from_entries, insert as with_row};
-ghost use Rattle.wl_objects.specs.View.{View, next_id, without};
+ghost use Rattle.wl_objects.specs.View.{View, free_or_next, has_room, next_id, opened_at, times, without};
 
 use super::{Entry, Object, State, Table, TableError};
 use std::alloc::{AllocError, Allocator, Global};
@@ -63,10 +63,17 @@ fn insert_row<A: Allocator + Clone>(
 
 /// Takes an id out of the freed ids, wherever it stands.
 fn take_out<A: Allocator>(freed: &mut Vec<u32, A>, id: u32)
+    requires { times id freed.old.items ≤ 1 }
     ensures items { freed.new.items ≡ without id freed.old.items }
     ensures capacity { vec_capacity freed.new ≡ vec_capacity freed.old }
 {
-    freed.retain(|freed_id| *freed_id != id);
+    // The id that was freed last goes without a walk.
+    if let Some(last) = freed.pop() {
+        if last != id {
+            freed.push_reserved(last);
+            freed.retain(|freed_id| *freed_id != id);
+        }
+    }
 }
 
 impl<A: Allocator> MapTable<A> {
@@ -78,6 +85,32 @@ impl<A: Allocator> MapTable<A> {
             Some(id) => *id,
             None => self.used + 1,
         }
+    }
+}
+
+impl<A: Allocator + Clone> MapTable<A> {
+    /// Opens an object at an id that is freed or the next new one, and for which the limits leave
+    /// room. The only refusal is O4.
+    fn open(&mut self, id: u32, iface: Iface, version: u32) -> Result<Object, TableError>
+        requires free { IsTrue (free_or_next self.old id) }
+        requires room { IsTrue (has_room self.old id) }
+        ensures ok { OnOk result (self.new ≡ opened_at self.old id iface version) }
+        ensures object { IfOk result (λ object. object ≡ record { id = id; birth = self.old.births }) }
+        ensures err { OnErr result (self.new ≡ self.old) }
+        ensures memory { IfErr result (λ e. e ≡ TableError.Memory) }
+    {
+        let birth = self.births;
+        let entry = Entry {
+            birth,
+            iface,
+            version,
+            state: State::Live,
+        };
+        insert_row(&mut self.rows, &mut self.freed, id, entry)?;
+        take_out(&mut self.freed, id);
+        self.used = self.used.max(id);
+        self.births += 1;
+        Ok(Object { id, birth })
     }
 }
 
@@ -140,18 +173,7 @@ impl<A: Allocator + Clone + Drop> Table for MapTable<A> {
         if !self.has_room(id) {
             return Err(TableError::NoIds);
         }
-        let birth = self.births;
-        let entry = Entry {
-            birth,
-            iface,
-            version,
-            state: State::Live,
-        };
-        insert_row(&mut self.rows, &mut self.freed, id, entry)?;
-        let _ = self.freed.pop();
-        self.used = self.used.max(id);
-        self.births += 1;
-        Ok(Object { id, birth })
+        self.open(id, iface, version)
     }
 
     fn open_at(&mut self, id: u32, iface: Iface, version: u32) -> Result<Object, TableError> {
@@ -164,18 +186,7 @@ impl<A: Allocator + Clone + Drop> Table for MapTable<A> {
         if !self.has_room(id) {
             return Err(TableError::NoIds);
         }
-        let birth = self.births;
-        let entry = Entry {
-            birth,
-            iface,
-            version,
-            state: State::Live,
-        };
-        insert_row(&mut self.rows, &mut self.freed, id, entry)?;
-        take_out(&mut self.freed, id);
-        self.used = self.used.max(id);
-        self.births += 1;
-        Ok(Object { id, birth })
+        self.open(id, iface, version)
     }
 
     fn make_zombie(&mut self, id: u32) {

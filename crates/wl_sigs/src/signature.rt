@@ -19,7 +19,9 @@ pub enum Destroys {
 /// Who writes a message: a client writes requests, a server events.
 #[derive(Clone, Copy, Debug, PartialEq, Eq)]
 pub enum Side {
+    /// From the client to the server.
     Request,
+    /// From the server to the client.
     Event,
 }
 
@@ -62,6 +64,7 @@ impl<A: Allocator> Signature<A> {
         self.kinds.as_slice()
     }
 
+    /// What the message destroys.
     pub fn destroys(&self) -> Destroys
         ensures { result ≡ self.now.destroys }
     {

@@ -37,7 +37,7 @@ impl<A: Allocator> Model for Tables<A> {
 }
 
 impl<A: Allocator> Tables<A> {
-    /// The place of the interface with this name.
+    /// The place of the interface with this name. None where the tables have no such interface.
     pub fn interface(&self, name: &[u8]) -> Option<Iface>
         ensures answer { result ≡ place_of self.now name.now }
         ensures valid { Valid self.now }
@@ -83,7 +83,8 @@ impl<A: Allocator> Tables<A> {
 }
 
 impl<A: Allocator + Clone + Drop> Tables<A> {
-    /// The core interfaces of wayland.xml, without data transfer, wl_display at place 0.
+    /// The core interfaces of wayland.xml, without data transfer, wl_display at place 0. Its only
+    /// error is want of memory.
     #[tactic(auto, unfolding(crate::specs::Core::core_tables))]
     pub fn core(alloc: A) -> Result<Self, AllocError>
         ensures holds { IfOk result (λ tables. tables ≡ core_tables) }

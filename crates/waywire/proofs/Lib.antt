@@ -1,0 +1,4 @@
+pub mod Cutting
+pub mod Telling
+pub mod Asking
+pub mod OneAnswer

@@ -1,0 +1,93 @@
+//! What the words of a command line ask for.
+ghost use Rattle.std.specs.Prelude.{◌≡◌, ◌⊎◌, [], IfErr, string_bytes};
+ghost use Rattle.waywire.specs.Stopping.{IsStop};
+
+use clap::error::ErrorKind;
+use clap::{Arg, Command, Error};
+use std::alloc::{AllocError, Global};
+
+/// One run of the program.
+#[derive(Debug, Drop)]
+pub enum Job {
+    /// Print each message of the recording in the file of this name.
+    Trace { file: String },
+}
+
+/// Why there is no job.
+#[derive(Debug, Drop)]
+pub struct Stop {
+    /// The exit status: 0 where help was asked for, 2 for a command line that is none of this
+    /// program's, 4 for want of memory.
+    pub status: u8,
+    /// What to print: help to standard output, a fault to standard error. It is empty for want of
+    /// memory.
+    pub text: String,
+}
+
+fn command<'a>(alloc: Global) -> Result<Command<'a>, AllocError> {
+    let file = Arg::new(alloc, "FILE")
+        .required(true)
+        .help("The recording: one piece a line, `> HEX` or `< HEX`");
+    let trace = Command::new(alloc, "trace")
+        .about("Prints each message of a recording, one a line")
+        .arg(file)?;
+    Command::new(alloc, "waywire")
+        .about("Recorded sessions of Wayland clients, as text")
+        .subcommand_required(true)
+        .subcommand(trace)
+}
+
+/// The job that the words ask for, or none where they were parsed and name no job.
+fn parsed(alloc: Global, words: &[String]) -> Result<Option<Job>, Error> {
+    let matches = command(alloc)?.try_get_matches_from(words)?;
+    let Some(("trace", trace)) = matches.subcommand() else {
+        return Ok(None);
+    };
+    match trace.get_str("FILE") {
+        Some(file) => Ok(Some(Job::Trace {
+            file: String::from_str(alloc, file)?,
+        })),
+        None => Ok(None),
+    }
+}
+
+fn no_memory(alloc: Global) -> Stop
+    ensures { IsStop result }
+{
+    Stop {
+        status: 4,
+        text: String::new(alloc),
+    }
+}
+
+fn stop_of(alloc: Global, error: &Error) -> Stop
+    ensures { IsStop result }
+{
+    if matches!(error.kind(), ErrorKind::OutOfMemory) {
+        return no_memory(alloc);
+    }
+    let status = if error.use_stderr() { 2 } else { 0 };
+    match error.to_string(alloc) {
+        Ok(text) => Stop { status, text },
+        Err(_) => no_memory(alloc),
+    }
+}
+
+/// The job that a command line asks for. The first word is the program's name.
+///
+/// A command that is not known, a word too many and a word too few are faults of usage.
+pub fn job_of(alloc: Global, words: &[String]) -> Result<Job, Stop>
+    ensures { IfErr result IsStop }
+{
+    match parsed(alloc, words) {
+        Ok(Some(job)) => Ok(job),
+        Ok(None) => Err(Stop {
+            status: 2,
+            text: String::new(alloc),
+        }),
+        Err(error) => Err(stop_of(alloc, &error)),
+    }
+}
+
+#[cfg(test)]
+mod tests;

@@ -1,0 +1,70 @@
+//! Recorded sessions of Wayland clients, as text.
+#![tactic(auto)]
+
+mod act;
+mod failure;
+mod first;
+mod job;
+
+use failure::Failure;
+use job::{Job, Stop};
+use std::fs::File;
+use std::io::{ErrorKind, Write};
+use std::process::ExitCode;
+use std::{env, io};
+
+/// The words of the command line, the program's name first.
+fn words(rt: &HostRuntime) -> io::Result<Vec<String>> {
+    Ok(env::args(rt)?.collect(rt.alloc())?)
+}
+
+/// Prints why there is no job, and answers the status.
+fn stopped(rt: &HostRuntime, stop: &Stop) -> u8 {
+    let text = stop.text.as_str();
+    match stop.status {
+        0 => match io::writer(rt).write_all(text.as_bytes()) {
+            Ok(()) => 0,
+            Err(_) => Failure::CannotWrite.tell(&mut rt.stderr()),
+        },
+        4 => Failure::Memory.tell(&mut rt.stderr()),
+        status => {
+            let _ = rt.stderr().write_all(text.as_bytes());
+            status
+        }
+    }
+}
+
+/// Opens what the job reads, and does it.
+fn done(rt: &HostRuntime, job: &Job) -> u8 {
+    let Job::Trace { file: name } = job;
+    match File::open(rt, name.as_str()) {
+        Ok(mut file) => act::act(
+            rt.alloc(),
+            job,
+            &mut file,
+            &mut io::writer(rt),
+            &mut rt.stderr(),
+        ),
+        Err(_) => Failure::CannotRead(name.as_str()).tell(&mut rt.stderr()),
+    }
+}
+
+fn main(rt: HostRuntime) -> ExitCode {
+    let status = match words(&rt) {
+        Ok(words) => match job::job_of(rt.alloc(), words.as_slice()) {
+            Ok(job) => done(&rt, &job),
+            Err(stop) => stopped(&rt, &stop),
+        },
+        Err(error) => match error.kind() {
+            ErrorKind::OutOfMemory => Failure::Memory.tell(&mut rt.stderr()),
+            _ => {
+                let _ = writeln!(
+                    rt.stderr(),
+                    "error: a word of the command line is not UTF-8"
+                );
+                2
+            }
+        },
+    };
+    ExitCode::from(status)
+}
