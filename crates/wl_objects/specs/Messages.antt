@@ -20,8 +20,9 @@ use Rattle.wl_objects.specs.declared.error.Fault.TheVariants as faults
 use Rattle.wl_objects.specs.declared.error.SendError.{SendError}
 use Rattle.wl_objects.specs.declared.error.SendError.TheVariants as refusals
 use Rattle.wl_objects.specs.View.{View, look, free_or_next, has_room, opened_at, closed, zombied, is_held}
-use Rattle.wl_objects.specs.Reading.{NewId, Free, Wrong, TooMany, Reader, arguments_at, descriptors}
+use Rattle.wl_objects.specs.Reading.{NewId, Free, Wrong, TooMany, Reader, forgiving, arguments_at, descriptors}
 use Rattle.wl_objects.specs.Writing.{Given, wrong_place, lost_place, is_live_as, wired, message_len}
+use Rattle.wl_objects.specs.declared.made.Made.{Made as NewObject}
 
 -- ---- reading
 
@@ -79,7 +80,7 @@ received_as side reader header body waiting entry None = Err faults.UnknownMessa
 received_as side reader header body waiting entry (Some signature) =
     if nat_lt entry.version signature.since then Err faults.UnknownMessage
     else received_whole header entry signature waiting
-    (arguments_at (record reader { forgives = is_error side entry.iface header.opcode }) 0 signature.kinds body)
+    (arguments_at (forgiving (is_error side entry.iface header.opcode) reader) 0 signature.kinds body)
 
 abbrev pub received_by : List Interface → Side → Reader → Header → List ℕ → ℕ → Option Entry → Result Received Fault
 received_by tables side reader header body waiting None = Err faults.UnknownObject
@@ -94,10 +95,8 @@ received tables side reader header body waiting = received_by tables side reader
 -- ---- what a message does to the objects
 
 -- a new object: its id, its interface, its version
-pub record Made : Type 0 where
-  pub id : ℕ
-  pub iface : Iface
-  pub version : ℕ
+abbrev pub Made : Type 0
+Made = NewObject
 
 -- the new object of one argument: of the signature's interface and its maker's version, or of those that it names
 abbrev pub made_by : List Interface → ℕ → Kind → Argument → Option Made

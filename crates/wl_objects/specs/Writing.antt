@@ -1,12 +1,14 @@
 -- What a call's arguments must be, and the message that they become.
-use Rattle.std.specs.Prelude.{ℕ, suc, ◌+◌, Bool, true, false, ◌&&◌, not, List, [], ◌∷◌, ◌++◌, nat_eq, if◌then◌else◌, Option, Some, None}
+use Rattle.std.specs.Prelude.{◌≡◌, ℕ, suc, ◌+◌, Bool, true, false, ◌&&◌, not, List, [], ◌∷◌, ◌++◌, map, nat_eq, nat_lt, if◌then◌else◌, Option, Some, None}
 use Rattle.std.specs.List.{list_any}
 use Rattle.wl_wire.specs.declared.kind.Kind.{Kind}
 use Rattle.wl_wire.specs.declared.kind.Kind.TheVariants as kinds
 use Rattle.wl_wire.specs.declared.kind.Iface.{Iface}
-use Rattle.wl_wire.specs.Argument.{Argument, Shape, reshaped, Int, Uint, Fixed, Str, Obj, New, NewNamed, Array, Fd}
+use Rattle.wl_wire.specs.Argument.{Argument, Shape, reshaped, units, Int, Uint, Fixed, Str, Obj, New, NewNamed, Array, Fd}
 use Rattle.wl_wire.specs.Word.{header_bytes}
-use Rattle.wl_wire.specs.Spelling.{canonical, spelled_len}
+use Rattle.wl_wire.specs.Spelling.{canonical, spelled_len, Fits}
+use Rattle.wl_objects.specs.declared.argument.Arg.{Arg}
+use Rattle.wl_objects.specs.declared.argument.Arg.TheVariants as args
 use Rattle.wl_objects.specs.declared.object.Object.{Object}
 use Rattle.wl_objects.specs.declared.object.Entry.{Entry}
 use Rattle.wl_objects.specs.declared.object.State.{State}
@@ -62,9 +64,13 @@ abbrev pub row_is_of : Option Iface → Option Entry → Bool
 row_is_of iface None = false
 row_is_of iface (Some entry) = is_of iface entry
 
--- whether an object can be named: it is live, and of the interface that the kind asks for
+-- whether an object with this row can be named: it is live, and of the interface that is asked for
+abbrev pub names_one : Option Iface → Object → Option Entry → Bool
+names_one iface object row = is_live_as object.birth row && row_is_of iface row
+
+-- whether an argument names no object, or one that can be named
 abbrev pub can_name : (ℕ → Option Entry) → Kind → Given → Bool
-can_name rows kind (Obj (Some object)) = is_live_as object.birth (rows object.id) && row_is_of (iface_of kind) (rows object.id)
+can_name rows kind (Obj (Some object)) = names_one (iface_of kind) object (rows object.id)
 can_name rows kind _ = true
 
 -- The place of the first object that is not live or of another interface.
@@ -95,8 +101,47 @@ message_len (value ∷ values) = spelled_len value + message_len values
 abbrev pub message_bytes : ℕ → ℕ → List Argument → List ℕ
 message_bytes object opcode values = header_bytes (record { object = object; size = message_len values; opcode = opcode }) ++ spelled values
 
+-- each value has a spelling
+abbrev pub EachFits : List Argument → Type 0
+EachFits [] = Unit {0}
+EachFits (value ∷ values) = Fits value × EachFits values
+
+-- the arguments of wl_registry.bind
+abbrev pub bind_values : ℕ → List ℕ → ℕ → ℕ → List Argument
+bind_values name iface version id = Uint name ∷ NewNamed iface version id ∷ []
+
 -- the tokens of a call, in order
 abbrev pub tokens_of : List Given → List ℕ
 tokens_of [] = []
 tokens_of (Fd token ∷ given) = token ∷ tokens_of given
 tokens_of (_ ∷ given) = tokens_of given
+
+-- ---- a call's arguments, without where they lie in memory
+
+abbrev pub given_of : Arg → Given
+given_of (args.Int z) = Int z
+given_of (args.Uint n) = Uint n
+given_of (args.Fixed z) = Fixed (units z)
+given_of (args.Str None) = Str None
+given_of (args.Str (Some text)) = Str (Some text.now)
+given_of (args.Obj object) = Obj object
+given_of args.New = New tt
+given_of (args.Array bytes) = Array bytes.now
+given_of (args.Fd token) = Fd token
+
+abbrev pub given : List Arg → List Given
+given list = map given_of list
+
+-- the arguments of a call as they stand on the wire, where the new object gets this id
+abbrev pub on_wire : ℕ → List Arg → List Argument
+on_wire id list = map (wired id) (given list)
+
+-- how many bytes a message with these arguments has, or none where it is too long
+abbrev pub len_in_limit : List Argument → Option ℕ
+len_in_limit values = if nat_lt 4096 (message_len values) then None else Some (message_len values)
+
+-- the interface of the object that a call makes: that of the signature's new object
+abbrev pub call_makes : List Kind → Option Iface
+call_makes [] = None
+call_makes (kinds.New (Some iface) ∷ ks) = Some iface
+call_makes (_ ∷ ks) = call_makes ks

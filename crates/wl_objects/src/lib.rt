@@ -7,13 +7,28 @@
 #![tactic(auto)]
 
 mod argument;
+mod calling;
 mod error;
+pub mod laws;
+mod made;
 mod map_table;
+mod messages;
 mod object;
+mod reading;
+mod reporting;
 mod table;
+mod values;
+mod writing;
 
 pub use argument::{Arg, Got, GotRef, Named};
+pub use calling::check_call;
 pub use error::{Fault, NextError, SendError};
+pub use made::{Made, call_makes, made_by_message};
 pub use map_table::MapTable;
+pub use messages::{DISPLAY, REGISTRY, is_bind, is_delete_id, is_error, is_hidden};
 pub use object::{Entry, Object, State, TableError};
+pub use reading::{Received, descriptors, receive};
+pub use reporting::{Gots, named, report_arguments};
 pub use table::Table;
+pub use values::Values;
+pub use writing::{encode_bind, encode_call, tokens_of};

@@ -1,0 +1,11 @@
+use Rattle.std.proofs.Common.{◌≡◌, ◌≤◌, length, sym, arith}
+use Rattle.wl_objects.proofs.Fitting.{checked-fits, few}
+use Rattle.wl_objects.proofs.calling.check_call.Goals as goal
+
+pub returns-clause-fits : goal.returns-clause-fits
+returns-clause-fits g c = checked-fits _ c.args.args.now _ c.in_default.ensures c.message_len.ensures c.if-is_none.ensures
+
+pub returns-clause-few : goal.returns-clause-few
+returns-clause-few g c =
+    let kinds : length c.in-Some-message.signature.now.kinds ≤ 20 = c.in-Some-message.ensures.valid.small.arguments _ _ _ _ (sym c.in-Some-message.ensures.answer) in
+    few _ c.args.args.now (rw c.kinds.ensures kinds) c.in_default.ensures

@@ -1,0 +1,7 @@
+use Rattle.std.proofs.Common.{◌≡◌, drop}
+use Rattle.wl_objects.specs.Messages.{made}
+use Rattle.wl_objects.proofs.made.made_by_message.Given as goal
+
+-- the arguments before make nothing
+abbrev pub invariant-kinds : goal.invariant-kinds
+invariant-kinds l = made l.tables l.version (drop l.kind-index l.kinds) l.left ≡ made l.tables l.version l.kinds l.values

@@ -1,0 +1,15 @@
+use Rattle.std.proofs.Common.{◌≡◌, ◌≤◌, ◌+◌, drop, arith, pos, get_or}
+use Rattle.wl_wire.specs.Spelling.{spelled_len}
+use Rattle.wl_objects.specs.declared.argument.Arg.TheVariants.{Int}
+use Rattle.wl_objects.specs.Writing.{given_of, wired, on_wire, message_len, given}
+use Rattle.wl_objects.proofs.Calls.{len-at, len-least, len-any}
+use Rattle.wl_objects.proofs.writing.encode_call.Goals as goal
+
+pub len_of_call-len-requires : goal.len_of_call-len-requires
+len_of_call-len-requires g c = omega (arith, len-any c.args.new_id (given c.args.args.now), c.requires.len)
+
+pub append-requires-clause-room : goal.append-requires-clause-room
+append-requires-clause-room g c =
+    let at = len-at c.args.new_id c.arguments.arg-index c.args.args.now (Int (pos 0)) c.arguments-test.true in
+    let least : 8 ≤ message_len (on_wire c.args.new_id (drop (c.arguments.arg-index + 1) c.args.args.now)) = len-least _ in
+    rw c.wired.ensures (omega (arith, at, least, c.start.ensures.capacity))

@@ -1,0 +1,16 @@
+use Rattle.std.proofs.Common.{◌≡◌, ◌<◌, ◌+◌, sym, arith, pos, get_or}
+use Rattle.wl_wire.specs.Spelling.{spelled_len}
+use Rattle.wl_objects.specs.declared.argument.Arg.TheVariants.{Int}
+use Rattle.wl_objects.specs.Writing.{wired, given_of}
+use Rattle.wl_objects.proofs.Calls.{too_long_there}
+use Rattle.wl_objects.proofs.writing.message_len.Goals as goal
+
+pub returns-in_default : goal.returns-in_default
+returns-in_default c =
+    let over : 4096 < c.arguments.len + spelled_len (wired 0 (given_of (get_or c.args.args.now c.arguments.arg-index (Int (pos 0))))) = omega (arith, c.in-Some.ensures.0) in
+    sym (too_long_there _ c.arguments.len _ (Int (pos 0)) c.arguments-test.true c.arguments.invariant.1 over)
+
+pub returns-in_default-2 : goal.returns-in_default-2
+returns-in_default-2 c =
+    let over : 4096 < c.arguments.len + spelled_len (wired 0 (given_of (get_or c.args.args.now c.arguments.arg-index (Int (pos 0))))) = omega (arith, c.in_default.ensures) in
+    sym (too_long_there _ c.arguments.len _ (Int (pos 0)) c.arguments-test.true c.arguments.invariant.1 over)

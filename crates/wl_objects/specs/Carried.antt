@@ -1,0 +1,87 @@
+-- What an argument that one end writes is to the end that reads it.
+use Rattle.std.specs.Prelude.{◌≡◌, ◌≢◌, ℕ, ◌+◌, ◌<◌, ◌≤◌, ◌^◌, Bool, false, List, ◌++◌, length, map, Option, Some, None, FitsSigned}
+use Rattle.std.specs.List.{All}
+use Rattle.std.specs.Int.{w32}
+use Rattle.std.specs.declared.result.Result.{Result}
+use Rattle.std.specs.declared.result.Result.TheVariants.{Ok, Err}
+use Rattle.wl_wire.specs.declared.kind.Kind.{Kind}
+use Rattle.wl_wire.specs.declared.header.Header.{Header}
+use Rattle.wl_wire.specs.Argument.{Argument, Shape, reshaped, Int, Uint, Fixed, Str, Obj, New, NewNamed, Array, Fd}
+use Rattle.wl_sigs.specs.declared.signature.Side.{Side}
+use Rattle.wl_sigs.specs.Tables.{Message, Interface, signature_at}
+use Rattle.wl_objects.specs.declared.object.Object.{Object}
+use Rattle.wl_objects.specs.declared.object.Entry.{Entry}
+use Rattle.wl_objects.specs.declared.argument.Named.{Named}
+use Rattle.wl_objects.specs.declared.argument.Named.TheVariants as named_as
+use Rattle.wl_objects.specs.declared.error.Fault.{Fault}
+use Rattle.wl_objects.specs.Reading.{Reader, Free, Reported, in_state, arguments_at, reports_of, descriptors}
+use Rattle.wl_objects.specs.Writing.{Given, wired, spelled, message_len, tokens_of, wrong_place, lost_place, is_live_as}
+use Rattle.wl_objects.specs.Messages.{Received, received, is_error}
+
+-- The numbers of an argument are those of the code's types.
+abbrev pub InRange : Given → Type 0
+InRange (Int z) = FitsSigned w32 z
+InRange (Uint n) = n < 2 ^ 32
+InRange (Fixed z) = FitsSigned w32 z
+InRange (Str None) = Unit {0}
+InRange (Str (Some text)) = length text + 1 < 2 ^ 32
+InRange (Obj None) = Unit {0}
+InRange (Obj (Some object)) = object.id < 2 ^ 32
+InRange (New x) = Unit {0}
+InRange (NewNamed iface version x) = (length iface + 1 < 2 ^ 32) × (version < 2 ^ 32)
+InRange (Array bytes) = length bytes < 2 ^ 32
+InRange (Fd token) = Unit {0}
+
+-- The reader holds a writer's object: under the same id, with the same birth and of the same interface, live or a zombie.
+pub record IsHeld (writer : ℕ → Option Entry) (reader : Reader) (object : Object) : Type 0 where
+  pub row : Entry
+  pub held : reader.object object.id ≡ Some row
+  pub birth : row.birth ≡ object.birth
+  pub iface : (entry : Entry) → writer object.id ≡ Some entry → row.iface ≡ entry.iface
+  pub not_null : object.id ≢ 0
+
+-- The reader expects an argument, where a new object gets the id n: it holds an object that is named, and the new id is free.
+abbrev pub IsExpected : (ℕ → Option Entry) → Reader → ℕ → Given → Type 0
+IsExpected writer reader n (Obj (Some object)) = IsHeld writer reader object
+IsExpected writer reader n (New x) = reader.new_id n ≡ Free
+IsExpected writer reader n (NewNamed iface version x) = reader.new_id n ≡ Free
+IsExpected writer reader n _ = Unit {0}
+
+-- an object as the writer meant it, live or dead as the reader's row is
+abbrev pub as_row : Object → Option Entry → Named
+as_row object None = named_as.Null
+as_row object (Some row) = in_state row.state object
+
+abbrev pub arrived_object : Reader → Option Object → Named
+arrived_object reader None = named_as.Null
+arrived_object reader (Some object) = as_row object (reader.object object.id)
+
+-- What an argument arrives as: the same value, the object that the writer meant, the new object with the reader's next birth, the
+-- same token.
+abbrev pub arrived : Reader → ℕ → Given → Reported
+arrived reader n x = reshaped (arrived_object reader) (λ _. record { id = n; birth = reader.birth }) (λ token. token) x
+
+-- The arguments arrive: whatever stands behind them, they are read as they were written, they are reported as the writer meant
+-- them, whatever tokens wait behind theirs, and as many tokens are taken as were given.
+pub record Arrive (reader : Reader) (ks : List Kind) (n : ℕ) (list : List Given) : Type 0 where
+  pub read : (rest : List ℕ) → arguments_at reader 0 ks (spelled (map (wired n) list) ++ rest) ≡ Ok (map (wired n) list, rest)
+  pub reported : (more : List ℕ) → reports_of reader (tokens_of list ++ more) (map (wired n) list) ≡ map (arrived reader n) list
+  pub taken : descriptors ks ≡ length (tokens_of list)
+
+-- The arguments of a call that suit the message's kinds and name live objects of the writer.
+pub record AreWritten (writer : ℕ → Option Entry) (ks : List Kind) (list : List Given) : Type 0 where
+  pub suit : wrong_place 0 ks list ≡ None
+  pub live : lost_place writer 0 ks list ≡ None
+  pub in_range : All InRange list
+
+-- The reader holds the target, as the writer had it.
+pub record IsTarget (entry : Entry) (reader : Reader) (object : Object) : Type 0 where
+  pub row : Entry
+  pub held : reader.object object.id ≡ Some row
+  pub birth : row.birth ≡ object.birth
+  pub iface : row.iface ≡ entry.iface
+  pub version : row.version ≡ entry.version
+
+-- a message as its reader has it, where the target has this row
+abbrev pub received_by : Object → Entry → Message → List Argument → Received
+received_by target row signature values = record { target = target; entry = row; signature = signature; values = values }

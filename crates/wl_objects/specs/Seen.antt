@@ -1,0 +1,45 @@
+-- What the code's own types stand for, without where they lie in memory.
+use Rattle.std.specs.Prelude.{ℕ, List, map, Option, Some, None}
+use Rattle.std.specs.Borrow.{Bor}
+use Rattle.std.specs.declared.result.Result.{Result}
+use Rattle.std.specs.declared.result.Result.TheVariants.{Ok, Err}
+use Rattle.wl_wire.specs.Argument.{Argument, Shape, units, Int, Uint, Fixed, Str, Obj, New, NewNamed, Array, Fd}
+use Rattle.wl_sigs.specs.Tables.{Message}
+use Rattle.wl_objects.specs.declared.argument.Got.{Got}
+use Rattle.wl_objects.specs.declared.argument.Got.TheVariants as values
+use Rattle.wl_objects.specs.declared.object.Entry.{Entry}
+use Rattle.wl_objects.specs.declared.error.Fault.{Fault}
+use Rattle.wl_objects.specs.declared.error.SendError.{SendError}
+use Rattle.wl_objects.specs.declared.reading.Received.{Received as Read}
+use Rattle.wl_objects.specs.Reading.{Reported}
+use Rattle.wl_objects.specs.Messages.{Received}
+
+-- what an owned argument of a report is
+abbrev pub got : {A : Type 0} → Got A → Reported
+got (values.Int z) = Int z
+got (values.Uint n) = Uint n
+got (values.Fixed z) = Fixed (units z)
+got (values.Str text) = Str text
+got (values.Obj object) = Obj object
+got (values.New object) = New object
+got (values.Bound iface version object) = NewNamed iface version object
+got (values.Array bytes) = Array bytes
+got (values.Fd token) = Fd token
+
+abbrev pub gots : {A : Type 0} → List (Got A) → List Reported
+gots list = map got list
+
+-- a message that was read
+abbrev pub received_in : Result Read Fault → Result Received Fault
+received_in (Err fault) = Err fault
+received_in (Ok read) = Ok (record { target = read.target; entry = read.entry; signature = read.signature.now; values = read.values })
+
+-- these values, and the bytes that were found behind them
+abbrev pub with_rest : List Argument → Result (Bor (List ℕ)) Fault → Result (List Argument × List ℕ) Fault
+with_rest values (Err fault) = Err fault
+with_rest values (Ok rest) = Ok (values, rest.now)
+
+-- a signature that was found
+abbrev pub signature_in : Result (Entry × Bor Message) SendError → Result Message SendError
+signature_in (Err refusal) = Err refusal
+signature_in (Ok found) = Ok found.1.now

@@ -1,0 +1,65 @@
+//! The object that a message makes.
+ghost use Rattle.std.specs.Prelude.{◌≡◌};
+ghost use Rattle.wl_wire.specs.Argument.{lent};
+ghost use Rattle.wl_objects.specs.Messages.{made, made_by};
+ghost use Rattle.wl_objects.specs.Writing.{call_makes};
+
+use crate::values::Values;
+use wl_sigs::Tables;
+use wl_wire::{Iface, Kind, ValueRef};
+
+/// A new object: its id, its interface and its version.
+#[derive(Clone, Copy, Debug, PartialEq, Eq)]
+pub struct Made {
+    pub id: u32,
+    pub iface: Iface,
+    pub version: u32,
+}
+
+/// The object that a message makes, if it makes one, where its target has this version: of the
+/// signature's interface and the target's version, or of those that a bind names.
+pub fn made_by_message(
+    tables: &Tables,
+    version: u32,
+    kinds: &[Kind],
+    values: &Values<'_>,
+) -> Option<Made>
+    ensures { result ≡ made tables.now version kinds.now values.now }
+{
+    let mut left = values.again();
+    'kinds: for kind in kinds {
+        let value = match left.next() {
+            Some(value) => value,
+            None => return None,
+        };
+        if let Some(made) = made_by(tables, version, *kind, value) {
+            return Some(made);
+        }
+    }
+    None
+}
+
+fn made_by(tables: &Tables, version: u32, kind: Kind, value: ValueRef<'_>) -> Option<Made>
+    ensures { result ≡ made_by tables.now version kind (lent value.entry) }
+{
+    match (kind, value) {
+        (Kind::New(Some(iface)), ValueRef::New(id)) => Some(Made { id, iface, version }),
+        (Kind::New(None), ValueRef::NewNamed { iface, version, id }) => {
+            let iface = tables.interface(iface)?;
+            Some(Made { id, iface, version })
+        }
+        _ => None,
+    }
+}
+
+/// The interface of the object that a call with this signature makes, if it makes one.
+pub fn call_makes(kinds: &[Kind]) -> Option<Iface>
+    ensures { result ≡ call_makes kinds.now }
+{
+    'kinds: for kind in kinds {
+        if let Kind::New(Some(iface)) = kind {
+            return Some(*iface);
+        }
+    }
+    None
+}

@@ -1,0 +1,44 @@
+//! The messages that have a meaning of their own.
+ghost use Rattle.std.specs.Prelude.{◌≡◌};
+ghost use Rattle.wl_objects.specs.Messages.{is_error, is_delete_id, is_bind, is_hidden};
+
+use wl_sigs::Side;
+use wl_wire::Iface;
+
+/// The place of wl_display in all tables.
+pub const DISPLAY: Iface = Iface(0);
+
+/// The place of wl_registry in all tables.
+pub const REGISTRY: Iface = Iface(1);
+
+/// Whether this is wl_display.error, whose object may be null or unknown to the reader.
+pub fn is_error(side: Side, iface: Iface, opcode: u16) -> bool
+    ensures { result ≡ is_error side iface opcode }
+{
+    side == Side::Event && iface == DISPLAY && opcode == 0
+}
+
+/// Whether this is wl_display.delete_id.
+pub fn is_delete_id(side: Side, iface: Iface, opcode: u16) -> bool
+    ensures { result ≡ is_delete_id side iface opcode }
+{
+    side == Side::Event && iface == DISPLAY && opcode == 1
+}
+
+/// Whether this is wl_registry.bind.
+pub fn is_bind(side: Side, iface: Iface, opcode: u16) -> bool
+    ensures { result ≡ is_bind side iface opcode }
+{
+    side == Side::Request && iface == REGISTRY && opcode == 0
+}
+
+/// Whether an end writes this message by calls of its own: bind, and the events of wl_display and
+/// wl_registry.
+pub fn is_hidden(side: Side, iface: Iface, opcode: u16) -> bool
+    ensures { result ≡ is_hidden side iface opcode }
+{
+    match side {
+        Side::Request => iface == REGISTRY && opcode == 0,
+        Side::Event => iface == DISPLAY || iface == REGISTRY,
+    }
+}

@@ -1,0 +1,164 @@
+//! Messages made of a call's arguments.
+ghost use Rattle.std.specs.Prelude.{◌≡◌, ◌<◌, ◌≤◌, ◌+◌, ◌++◌, ℕ, MatchOption, length, take, vec_len, vec_capacity};
+ghost use Rattle.wl_wire.specs.Argument.{lent};
+ghost use Rattle.wl_wire.specs.Spelling.{canonical, spelled_len, padded, Fits};
+ghost use Rattle.wl_wire.specs.Word.{header_bytes};
+ghost use Rattle.wl_objects.specs.Writing.{given, given_of, wired, on_wire, message_len, len_in_limit, tokens_of, message_bytes, bind_values, EachFits};
+
+use crate::argument::Arg;
+use std::alloc::Allocator;
+use wl_wire::{ValueRef, encode_value};
+
+/// The most bytes that a message has.
+const LIMIT: usize = 4096;
+
+/// The argument as it stands on the wire, where the new object gets this id.
+pub(crate) fn wired<'a>(arg: &Arg<'a>, new_id: u32) -> ValueRef<'a>
+    ensures { lent result ≡ wired new_id (given_of arg.now) }
+{
+    match arg {
+        Arg::Int(number) => ValueRef::Int(*number),
+        Arg::Uint(number) => ValueRef::Uint(*number),
+        Arg::Fixed(number) => ValueRef::Fixed(*number),
+        Arg::Str(text) => ValueRef::Str(*text),
+        Arg::Obj(None) => ValueRef::Obj(0),
+        Arg::Obj(Some(object)) => ValueRef::Obj(object.id),
+        Arg::New => ValueRef::New(new_id),
+        Arg::Array(bytes) => ValueRef::Array(*bytes),
+        Arg::Fd(_) => ValueRef::Fd,
+    }
+}
+
+/// How many bytes spell the argument; none where these are more than a message has.
+fn len_of(arg: &Arg<'_>) -> Option<usize>
+    ensures { MatchOption result (LIMIT < spelled_len (wired 0 (given_of arg.now))) (λ n. (n ≡ spelled_len (wired 0 (given_of arg.now))) × (n ≤ 8192)) }
+{
+    match arg {
+        Arg::Str(Some(text)) => counted_len(text.len(), 1),
+        Arg::Array(bytes) => counted_len(bytes.len(), 0),
+        Arg::Fd(_) => Some(0),
+        _ => Some(4),
+    }
+}
+
+/// How many bytes are a length, so many bytes and so many more, and their padding; none where the
+/// bytes alone are more than a message has.
+fn counted_len(len: usize, more: usize) -> Option<usize>
+    requires { more ≤ 1 }
+    ensures { MatchOption result (LIMIT < len) (λ n. (n ≡ 4 + padded (len + more)) × (n ≤ 8192)) }
+{
+    if len > LIMIT {
+        return None;
+    }
+    Some(4 + (len + more + 3) / 4 * 4)
+}
+
+/// How many bytes a message with these arguments has; none where it would be longer than 4096.
+pub(crate) fn message_len(args: &[Arg<'_>]) -> Option<usize>
+    ensures { result ≡ len_in_limit (on_wire 0 args.now) }
+{
+    let mut len = 8;
+    'arguments: for arg in args {
+        match len_of(arg) {
+            Some(more) if len + more <= LIMIT => len += more,
+            _ => return None,
+        }
+    }
+    Some(len)
+}
+
+/// Writes the tokens of a call's arguments, in order, and answers how many there are.
+pub fn tokens_of(args: &[Arg<'_>], tokens: &mut [u32; 20]) -> usize
+    requires { length args.now ≤ 20 }
+    ensures tokens { take result tokens.new ≡ tokens_of (given args.now) }
+    ensures few { result ≤ length args.now }
+{
+    let mut count = 0;
+    'arguments: for arg in args {
+        if let Arg::Fd(token) = arg {
+            tokens[count] = *token;
+            count += 1;
+        }
+    }
+    count
+}
+
+/// Writes the message that a call becomes, where the new object gets this id. It is the whole
+/// contents of the store afterwards. Takes no memory.
+pub fn encode_call<A: Allocator>(
+    store: &mut Vec<u8, A>,
+    object: u32,
+    opcode: u16,
+    args: &[Arg<'_>],
+    new_id: u32,
+)
+    requires fits { EachFits (on_wire new_id args.now) }
+    requires len { message_len (on_wire new_id args.now) ≤ 4096 }
+    requires room { 4096 ≤ vec_capacity store.old }
+    ensures message { store.new.items ≡ message_bytes object opcode (on_wire new_id args.now) }
+    ensures capacity { vec_capacity store.old ≤ vec_capacity store.new }
+{
+    let len = len_of_call(args);
+    start(store, object, len, opcode);
+    'arguments: for arg in args {
+        append(store, wired(arg, new_id));
+    }
+}
+
+/// Writes wl_registry.bind, as `encode_call` does any other message.
+pub fn encode_bind<A: Allocator>(
+    store: &mut Vec<u8, A>,
+    registry: u32,
+    name: u32,
+    iface: &[u8],
+    version: u32,
+    id: u32,
+)
+    requires fits { EachFits (bind_values name iface.now version id) }
+    requires len { message_len (bind_values name iface.now version id) ≤ 4096 }
+    requires room { 4096 ≤ vec_capacity store.old }
+    ensures message { store.new.items ≡ message_bytes registry 0 (bind_values name iface.now version id) }
+    ensures capacity { vec_capacity store.old ≤ vec_capacity store.new }
+{
+    let named = ValueRef::NewNamed { iface, version, id };
+    let len = 12 + named.spelled_len();
+    start(store, registry, len, 0);
+    append(store, ValueRef::Uint(name));
+    append(store, named);
+}
+
+/// How many bytes a call's message has, which is not too long. Its length is the same whatever
+/// the new object's id.
+fn len_of_call(args: &[Arg<'_>]) -> usize
+    requires { message_len (on_wire 0 args.now) ≤ 4096 }
+    ensures { (id : ℕ) → result ≡ message_len (on_wire id args.now) }
+{
+    message_len(args).unwrap_or(0)
+}
+
+/// Empties the store and writes a header there.
+fn start<A: Allocator>(store: &mut Vec<u8, A>, object: u32, size: usize, opcode: u16)
+    requires size { size ≤ 4096 }
+    requires room { 4096 ≤ vec_capacity store.old }
+    ensures header { store.new.items ≡ header_bytes (record { object = object; size = size; opcode = opcode }) }
+    ensures len { vec_len store.new ≡ 8 }
+    ensures capacity { vec_capacity store.old ≤ vec_capacity store.new }
+{
+    store.clear();
+    append(store, ValueRef::Uint(object));
+    append(
+        store,
+        ValueRef::Uint(size as u32 * 65536 + u32::from(opcode)),
+    );
+}
+
+/// Appends a value's spelling, for which there is room.
+fn append<A: Allocator>(store: &mut Vec<u8, A>, value: ValueRef<'_>)
+    requires fits { Fits (lent value) }
+    requires room { vec_len store.old + spelled_len (lent value) ≤ vec_capacity store.old }
+    ensures items { store.new.items ≡ store.old.items ++ canonical (lent value.entry) }
+    ensures len { vec_len store.new ≡ vec_len store.old + spelled_len (lent value.entry) }
+    ensures capacity { vec_capacity store.old ≤ vec_capacity store.new }
+{
+    let _ = encode_value(value, store);
+}
