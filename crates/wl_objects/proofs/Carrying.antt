@@ -82,13 +82,13 @@ value-right writer r n place kind (NewNamed iface version x) f c h = rw h refl
 value-right writer r n place kind (Array bytes) f c h = refl
 value-right writer r n place kind (Fd token) f c h = refl
 
-not_null : (writer : ℕ → Option Entry) (r : Reader) (n : ℕ) (x : Given) → IsExpected writer r n x → (object : Object) → x ≡ Obj (Some object) → object.id ≢ 0
+pub not_null : (writer : ℕ → Option Entry) (r : Reader) (n : ℕ) (x : Given) → IsExpected writer r n x → (object : Object) → x ≡ Obj (Some object) → object.id ≢ 0
 not_null writer r n x h object e = let held : IsHeld writer r object = subst (λ (y : Given). IsExpected writer r n y) e h in held.not_null
 
 kind-same : (r : Reader) (kind : Kind) → r.forgives ≡ false → kind_at r.forgives kind ≡ kind
 kind-same r kind f = rw f refl
 
-All-first : {X : Type 0} (P : X → Type 0) (x : X) (xs : List X) → All P (x ∷ xs) → P x
+pub All-first : {X : Type 0} (P : X → Type 0) (x : X) (xs : List X) → All P (x ∷ xs) → P x
 All-first P x xs h = h 0 x (omega arith)
 
 -- the arguments are read as they were written

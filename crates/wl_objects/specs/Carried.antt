@@ -1,5 +1,5 @@
 -- What an argument that one end writes is to the end that reads it.
-use Rattle.std.specs.Prelude.{◌≡◌, ◌≢◌, ℕ, ◌+◌, ◌<◌, ◌≤◌, ◌^◌, Bool, false, List, ◌++◌, length, map, Option, Some, None, FitsSigned}
+use Rattle.std.specs.Prelude.{◌≡◌, ◌≢◌, ℕ, ◌+◌, ◌<◌, ◌≤◌, ◌^◌, Bool, true, false, List, ◌++◌, length, map, Option, Some, None, FitsSigned}
 use Rattle.std.specs.List.{All}
 use Rattle.std.specs.Int.{w32}
 use Rattle.std.specs.declared.result.Result.{Result}
@@ -15,10 +15,20 @@ use Rattle.wl_objects.specs.declared.argument.Named.{Named}
 use Rattle.wl_objects.specs.declared.argument.Named.TheVariants as named_as
 use Rattle.wl_objects.specs.declared.error.Fault.{Fault}
 use Rattle.wl_objects.specs.Reading.{Reader, Free, Reported, in_state, arguments_at, reports_of, descriptors}
-use Rattle.wl_objects.specs.Writing.{Given, wired, spelled, message_len, tokens_of, wrong_place, lost_place, is_live_as}
-use Rattle.wl_objects.specs.Messages.{Received, received, is_error}
+use Rattle.wl_objects.specs.View.{View, look}
+use Rattle.wl_objects.specs.Writing.{Given, wired, spelled, message_len, tokens_of, wrong_place, lost_place, is_live}
+use Rattle.wl_objects.specs.Messages.{Received, is_hidden}
 
--- The numbers of an argument are those of the code's types.
+-- The numbers of an argument are those of the code's types, whatever its lengths.
+abbrev pub IsTyped : Given → Type 0
+IsTyped (Int z) = FitsSigned w32 z
+IsTyped (Uint n) = n < 2 ^ 32
+IsTyped (Fixed z) = FitsSigned w32 z
+IsTyped (Obj (Some object)) = object.id < 2 ^ 32
+IsTyped (NewNamed iface version x) = version < 2 ^ 32
+IsTyped _ = Unit {0}
+
+-- The numbers of an argument, and its lengths, are in the range of a word.
 abbrev pub InRange : Given → Type 0
 InRange (Int z) = FitsSigned w32 z
 InRange (Uint n) = n < 2 ^ 32
@@ -85,3 +95,17 @@ pub record IsTarget (entry : Entry) (reader : Reader) (object : Object) : Type 0
 -- a message as its reader has it, where the target has this row
 abbrev pub received_by : Object → Entry → Message → List Argument → Received
 received_by target row signature values = record { target = target; entry = row; signature = signature; values = values }
+
+-- Nothing stands against a call: its target is live with this birth, the message is one that `send` writes and exists at the
+-- target's version, its arguments suit and name live objects of the right interfaces, and it is not too long.
+pub record Passes (tables : List Interface) (side : Side) (view : View) (target : Object) (opcode : ℕ) (list : List Given) (signature : Message) : Type 0 where
+  pub entry : Entry
+  pub row : look view target.id ≡ Some entry
+  pub birth : entry.birth ≡ target.birth
+  pub live : is_live entry.state ≡ true
+  pub shown : is_hidden side entry.iface opcode ≡ false
+  pub exists : signature_at tables entry.iface.0 side opcode ≡ Some signature
+  pub since : signature.since ≤ entry.version
+  pub suit : wrong_place 0 signature.kinds list ≡ None
+  pub can_name : lost_place (look view) 0 signature.kinds list ≡ None
+  pub len : message_len (map (wired 0) list) ≤ 4096

@@ -1,9 +1,8 @@
--- The arguments of a whole message on the wire, as relations.
+-- The arguments of a message on the wire, as relations.
 use Rattle.std.specs.Prelude.{◌≡◌, ℕ, suc, ◌≤◌, List, [], ◌∷◌, ◌++◌, length, Some, None}
 use Rattle.wl_wire.specs.declared.kind.Kind.{Kind}
 use Rattle.wl_wire.specs.declared.kind.ArgFault.{ArgFault}
 use Rattle.wl_wire.specs.Argument.{Argument}
-use Rattle.wl_wire.specs.Word.{header_bytes}
 use Rattle.wl_wire.specs.Spelling.{Spells}
 use Rattle.wl_wire.specs.Faults.{IsFirstFault}
 use Rattle.wl_objects.specs.declared.error.Fault.{Fault}
@@ -15,13 +14,6 @@ pub data SpellsAll : List Kind → List Argument → List ℕ → Type 0 where
   none : {bytes : List ℕ} → bytes ≡ [] → SpellsAll [] [] bytes
   more : {kind : Kind} {ks : List Kind} {value : Argument} {values : List Argument} {front rest bytes : List ℕ}
       → Spells kind value front → SpellsAll ks values rest → bytes ≡ front ++ rest → SpellsAll (kind ∷ ks) (value ∷ values) bytes
-
--- The bytes are a message of these kinds: a header with their number, and a joining of spellings.
-pub record MessageSpells (ks : List Kind) (object opcode : ℕ) (values : List Argument) (bytes : List ℕ) : Type 0 where
-  pub rest : List ℕ
-  pub whole : bytes ≡ header_bytes (record { object = object; size = length bytes; opcode = opcode }) ++ rest
-  pub spelled : SpellsAll ks values rest
-  pub in_limit : length bytes ≤ 4096
 
 -- The bytes begin with arguments of these kinds, and nothing is wrong with any of them; the rest lies behind them.
 pub data Meets (r : Reader) : ℕ → List Kind → List ℕ → List Argument → List ℕ → Type 0 where

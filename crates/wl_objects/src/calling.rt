@@ -1,8 +1,10 @@
 //! The arguments of a call, checked before a message is made of them.
 ghost use Rattle.std.specs.Prelude.{◌≡◌, ◌≤◌, ℕ, suc, ◌<◌, ◌≤◌, ◌+◌, IfOk, IfSome, length, Some};
+ghost use Rattle.std.specs.List.{All};
 ghost use Rattle.wl_objects.specs.View.{look};
 ghost use Rattle.wl_objects.specs.Reading.{is_of, iface_of};
 ghost use Rattle.wl_objects.specs.Messages.{checked, live_row};
+ghost use Rattle.wl_objects.specs.Carried.{InRange, IsTyped};
 ghost use Rattle.wl_objects.specs.Seen.{signature_in};
 ghost use Rattle.wl_objects.specs.Writing.{EachFits, can_name, given, given_of, has_no_nul, lost_place, message_len, names_one, on_wire, suits, wrong_place};
 
@@ -29,6 +31,7 @@ pub fn check_call<'t, T: Table>(
     ensures entry { IfOk result (λ found. look (T.view table.now) target.id ≡ Some found.0) }
     // So the message can be written, whatever the id of its new object.
     ensures fits { IfOk result (λ _. (id : ℕ) → EachFits (on_wire id args.now) × (message_len (on_wire id args.now) ≤ 4096)) }
+    ensures in_range { IfOk result (λ _. All InRange (given args.now)) }
     ensures few { IfOk result (λ _. length args.now ≤ 20) }
 {
     let entry = match live_row(table, target) {
@@ -54,6 +57,7 @@ pub fn check_call<'t, T: Table>(
     if message_len(args).is_none() {
         return Err(SendError::TooLong);
     }
+    each_typed(args);
     Ok((entry, signature))
 }
 
@@ -148,4 +152,41 @@ fn lost_place<T: Table>(table: &T, kinds: &[Kind], args: &[Arg<'_>]) -> Option<u
         }
     }
     None
+}
+
+/// The numbers of arguments are those of their types. Nothing is done: that they can be read
+/// shows it.
+fn each_typed(args: &[Arg<'_>])
+    ensures { All IsTyped (given args.now) }
+{
+    'arguments: for arg in args {
+        typed(arg);
+    }
+}
+
+/// The numbers of an argument are those of its type. Nothing is done: that they are read shows it.
+fn typed(arg: &Arg<'_>)
+    ensures { IsTyped (given_of arg.now) }
+{
+    match arg {
+        Arg::Int(number) => {
+            let _number = *number;
+        }
+        Arg::Uint(number) => {
+            let _number = *number;
+        }
+        Arg::Fixed(number) => {
+            let _number = number.raw();
+        }
+        Arg::Obj(Some(object)) => {
+            let _id = id_of(object);
+        }
+        _ => {}
+    }
+}
+
+fn id_of(object: &Object) -> u32
+    ensures { result ≡ object.now.id }
+{
+    object.id
 }

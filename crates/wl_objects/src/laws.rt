@@ -1,17 +1,20 @@
 //! Laws of arguments and messages. Each is the contract of a function that does nothing.
-ghost use Rattle.std.specs.Prelude.{◌≡◌, ◌↔◌, ◌^◌, ◌<◌, ℕ, List, Option, None, Ok, Err, false, option_map};
+ghost use Rattle.std.specs.Prelude.{◌≡◌, ◌≢◌, ◌↔◌, ◌^◌, ◌<◌, ◌≤◌, ◌%◌, ℕ, List, [], Option, Some, None, Ok, Err, false, length, map, option_map};
 ghost use Rattle.std.specs.List.{All};
 ghost use Rattle.wl_wire.specs.declared.kind.Kind.{Kind as SpecKind};
-ghost use Rattle.wl_wire.specs.Argument.{Argument};
-ghost use Rattle.wl_sigs.specs.Tables.{Interface};
+ghost use Rattle.wl_wire.specs.Argument.{Argument, Obj};
+ghost use Rattle.wl_sigs.specs.declared.signature.Side.{Side as SpecSide};
+ghost use Rattle.wl_sigs.specs.Tables.{Interface, Message};
 ghost use Rattle.wl_objects.specs.declared.argument.Arg.{Arg as SpecArg};
 ghost use Rattle.wl_objects.specs.declared.error.Fault.{Fault as SpecFault};
 ghost use Rattle.wl_objects.specs.declared.object.Entry.{Entry as SpecEntry};
-ghost use Rattle.wl_objects.specs.Reading.{Reader, arguments_at};
-ghost use Rattle.wl_objects.specs.Spelling.{Meets, FirstFault};
-ghost use Rattle.wl_objects.specs.Writing.{Given, given, on_wire, wrong_place, call_makes};
-ghost use Rattle.wl_objects.specs.Messages.{made};
-ghost use Rattle.wl_objects.specs.Carried.{AreWritten, Arrive, IsExpected};
+ghost use Rattle.wl_objects.specs.declared.object.Object.{Object as SpecObject};
+ghost use Rattle.wl_objects.specs.View.{View, look};
+ghost use Rattle.wl_objects.specs.Reading.{Reader, arguments_at, kind_at};
+ghost use Rattle.wl_objects.specs.Spelling.{Meets, FirstFault, SpellsAll};
+ghost use Rattle.wl_objects.specs.Writing.{Given, call_makes, given, message_bytes, message_len, on_wire, spelled, tokens_of, wired, wrong_place};
+ghost use Rattle.wl_objects.specs.Messages.{checked, made, received};
+ghost use Rattle.wl_objects.specs.Carried.{AreWritten, Arrive, InRange, IsExpected, IsTarget, Passes, received_by};
 
 /// What one end writes arrives at the other: arguments that suit the message and name live objects
 /// of the writer, spelled with the new id n, are read by any reader that holds each named object
@@ -42,4 +45,41 @@ pub fn call_makes_its_object()
         → wrong_place 0 kinds (given list) ≡ None
         → made tables version kinds (on_wire id list)
         ≡ option_map (λ iface. record { id = id; iface = iface; version = version }) (call_makes kinds) }
+{}
+
+/// A call passes its checks exactly where nothing stands against it.
+pub fn a_call_passes()
+    ensures { (tables : List Interface) (side : SpecSide) (view : View) (target : SpecObject) (opcode : ℕ) (list : List Given) (signature : Message)
+        → (checked tables side view target opcode list ≡ Ok signature) ↔ Passes tables side view target opcode list signature }
+{}
+
+/// A whole message arrives: what passed its checks at one end is received at the other, where the
+/// reader holds the target and each named object, live or a zombie, and the new id is free.
+pub fn a_message_arrives()
+    ensures { (tables : List Interface) (side : SpecSide) (view : View) (reader : Reader) (target : SpecObject) (opcode size n waiting : ℕ) (list : List Given) (signature : Message)
+        → (passes : Passes tables side view target opcode list signature) → (held : IsTarget passes.entry reader target)
+        → reader.forgives ≡ false → n < 2 ^ 32 → All InRange list → All (IsExpected (look view) reader n) list → length (tokens_of list) ≤ waiting
+        → received tables side reader (record { object = target.id; size = size; opcode = opcode }) (spelled (map (wired n) list)) waiting
+        ≡ Ok (received_by target held.row signature (map (wired n) list)) }
+{}
+
+/// A message is a row of whole words, as many bytes as its header tells.
+pub fn a_message_has_its_size()
+    ensures len { (object opcode : ℕ) (values : List Argument) → length (message_bytes object opcode values) ≡ message_len values }
+    ensures words { (values : List Argument) → message_len values % 4 ≡ 0 }
+    ensures header { (values : List Argument) → 8 ≤ message_len values }
+{}
+
+/// What a reader took whole is spelled by the values that it read, where the object of
+/// wl_display.error may be null.
+pub fn what_is_read_is_spelled()
+    ensures { (reader : Reader) (kinds : List SpecKind) (bytes : List ℕ) (values : List Argument) → All (λ b. b < 256) bytes
+        → arguments_at reader 0 kinds bytes ≡ Ok (values, []) → SpellsAll (map (kind_at reader.forgives) kinds) values bytes }
+{}
+
+/// What is written spells its values, where no object has the id 0.
+pub fn what_is_written_is_spelled()
+    ensures { (kinds : List SpecKind) (n : ℕ) (list : List Given) → n < 2 ^ 32 → wrong_place 0 kinds list ≡ None → All InRange list
+        → ((object : SpecObject) → All (λ x. x ≡ Obj (Some object) → object.id ≢ 0) list)
+        → SpellsAll kinds (map (wired n) list) (spelled (map (wired n) list)) }
 {}

@@ -16,6 +16,7 @@ mod messages;
 mod object;
 mod reading;
 mod reporting;
+pub mod samples;
 mod table;
 mod values;
 mod writing;

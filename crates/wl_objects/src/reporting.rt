@@ -35,7 +35,7 @@ impl<A: Allocator> Gots<A> {
     pub fn from_vec(items: Vec<Got<A>, A>) -> Self
         ensures { result ≡ gots items.items }
     {
-        Gots { items }
+        Self { items }
     }
 
     /// Gives the vector back, without taking memory.

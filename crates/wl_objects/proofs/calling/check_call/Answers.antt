@@ -1,5 +1,6 @@
 use Rattle.std.proofs.Common.{◌≡◌, ◌≤◌, length, sym, arith}
-use Rattle.wl_objects.proofs.Fitting.{checked-fits, few}
+use Rattle.wl_objects.proofs.Fitting.{checked-fits, few, within}
+use Rattle.wl_objects.proofs.Ranges.{ranged}
 use Rattle.wl_objects.proofs.calling.check_call.Goals as goal
 
 pub returns-clause-fits : goal.returns-clause-fits
@@ -9,3 +10,6 @@ pub returns-clause-few : goal.returns-clause-few
 returns-clause-few g c =
     let kinds : length c.in-Some-message.signature.now.kinds ≤ 20 = c.in-Some-message.ensures.valid.small.arguments _ _ _ _ (sym c.in-Some-message.ensures.answer) in
     few _ c.args.args.now (rw c.kinds.ensures kinds) c.in_default.ensures
+
+pub returns-clause-in_range : goal.returns-clause-in_range
+returns-clause-in_range g c = ranged 0 _ c.each_typed.ensures (omega (arith, within _ _ c.message_len.ensures c.if-is_none.ensures))

@@ -1,0 +1,35 @@
+//! What some messages mean, worked out by hand. Each is the contract of a function that does
+//! nothing.
+ghost use Rattle.std.specs.Prelude.{◌≡◌, [], ◌∷◌, codes, Ok, Err};
+ghost use Rattle.wl_wire.specs.declared.kind.ArgFault.TheVariants.{NoEndingNul};
+ghost use Rattle.wl_wire.specs.Argument.{Uint, New, NewNamed};
+ghost use Rattle.wl_objects.specs.declared.error.Fault.TheVariants.{UnknownObject, UnknownMessage, BadArgument, BadNewId, TrailingBytes, MissingDescriptor};
+ghost use Rattle.wl_objects.specs.Samples.{request, fresh, with_registry, with_callback, with_shm, bind_body};
+
+/// wl_display.get_registry of id 2 and wl_display.sync of id 3, in front of a server that has read
+/// nothing; then of id 2, which is in use, in front of one that has a registry there.
+#[tactic(auto, unfolding(wl_sigs::specs::Core::core_tables))]
+pub fn new_objects()
+    ensures registry { request fresh 1 1 (2 ∷ 0 ∷ 0 ∷ 0 ∷ []) ≡ Ok (New 2 ∷ []) }
+    ensures past { request fresh 1 0 (3 ∷ 0 ∷ 0 ∷ 0 ∷ []) ≡ Err (BadNewId 0) }
+    ensures sync { request with_registry 1 0 (3 ∷ 0 ∷ 0 ∷ 0 ∷ []) ≡ Ok (New 3 ∷ []) }
+    ensures in_use { request with_registry 1 0 (2 ∷ 0 ∷ 0 ∷ 0 ∷ []) ≡ Err (BadNewId 0) }
+{}
+
+/// wl_registry.bind of a compositor of version 6 at id 4; the same with a length that is one too
+/// small, so that the last byte counted is no NUL.
+#[tactic(auto, unfolding(wl_sigs::specs::Core::core_tables))]
+pub fn bind()
+    ensures bound { request with_callback 2 0 (bind_body 14) ≡ Ok (Uint 1 ∷ NewNamed (codes "wl_compositor") 6 4 ∷ []) }
+    ensures no_nul { request with_callback 2 0 (bind_body 13) ≡ Err (BadArgument 1 NoEndingNul) }
+{}
+
+/// An unknown object, an unknown opcode, bytes left over, and a wl_shm.create_pool without its
+/// descriptor.
+#[tactic(auto, unfolding(wl_sigs::specs::Core::core_tables))]
+pub fn faults()
+    ensures object { request fresh 9 0 [] ≡ Err UnknownObject }
+    ensures message { request fresh 1 2 [] ≡ Err UnknownMessage }
+    ensures bytes { request fresh 1 0 (2 ∷ 0 ∷ 0 ∷ 0 ∷ 0 ∷ 0 ∷ 0 ∷ 0 ∷ []) ≡ Err TrailingBytes }
+    ensures descriptor { request with_shm 3 0 (4 ∷ 0 ∷ 0 ∷ 0 ∷ 16 ∷ 0 ∷ 0 ∷ 0 ∷ []) ≡ Err MissingDescriptor }
+{}
