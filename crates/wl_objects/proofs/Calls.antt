@@ -1,15 +1,15 @@
 -- What is left of a call's arguments, from a place on.
-use Rattle.std.proofs.Common.{◌≡◌, ℕ, suc, ◌+◌, ◌<◌, ◌≤◌, Bool, true, false, List, [], ◌∷◌, length, get_or, drop, Some, None, refl, sym, ap, ◌∙◌, arith, add-one, drop-cons}
-use Rattle.std.specs.Prelude.{Option, if◌then◌else◌, map, unwrap_or}
+use Rattle.std.proofs.Common.{◌≡◌, ℕ, ◌+◌, ◌<◌, ◌≤◌, true, false, List, [], ◌∷◌, length, get_or, drop, Some, None, refl, arith, add-one, drop-cons}
+use Rattle.std.specs.Prelude.{Option, map, unwrap_or}
 use Rattle.std.proofs.lemmas.List.{drop_all}
 use Rattle.std.proofs.lemmas.Bool.{lt-ltb, le-ltb}
 use Rattle.wl_wire.specs.declared.kind.Kind.{Kind}
 use Rattle.wl_objects.specs.declared.argument.Arg.{Arg}
 use Rattle.wl_objects.specs.declared.argument.Arg.TheVariants as args
 use Rattle.wl_objects.specs.declared.object.Entry.{Entry}
-use Rattle.wl_wire.specs.Argument.{Argument, Shape, Int, Uint, Fixed, Str, Obj, New, NewNamed, Array, Fd}
+use Rattle.wl_wire.specs.Argument.{Argument, Int, Uint, Fixed, Str, Obj, New, NewNamed, Array, Fd}
 use Rattle.wl_wire.specs.Spelling.{spelled_len}
-use Rattle.wl_objects.specs.Writing.{Given, wired, on_wire, message_len, len_in_limit, given, given_of, suits, can_name, wrong_place, lost_place}
+use Rattle.wl_objects.specs.Writing.{Given, wired, on_wire, message_len, len_in_limit, given, given_of, can_name, wrong_place, lost_place}
 
 pub wrong-missing : (i : ℕ) (ks : List Kind) (list : List Arg) (k : Kind) → i < length ks → length list ≤ i
     → wrong_place i (drop i ks) (given (drop i list)) ≡ Some i

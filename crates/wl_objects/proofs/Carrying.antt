@@ -1,10 +1,9 @@
 -- What is written arrives.
-use Rattle.std.proofs.Common.{◌≡◌, ◌≢◌, ℕ, zero, suc, ◌+◌, ◌<◌, ◌≤◌, ◌^◌, Bool, true, false, List, [], ◌∷◌, ◌++◌, length, get_or, drop, map, Some, None, refl, sym, ap, subst, ◌∙◌, arith, append_assoc, length-append}
-use Rattle.std.specs.Prelude.{Option, if◌then◌else◌, not, ◌&&◌, nat_eq, ◌==◌}
+use Rattle.std.proofs.Common.{◌≡◌, ◌≢◌, ℕ, suc, ◌+◌, ◌<◌, ◌^◌, Bool, true, false, List, [], ◌∷◌, ◌++◌, length, drop, map, Some, None, refl, sym, subst, arith, append_assoc}
+use Rattle.std.specs.Prelude.{Option, if◌then◌else◌, not, nat_eq}
 use Rattle.std.specs.List.{All, list_any}
-use Rattle.std.specs.declared.result.Result.{Result}
-use Rattle.std.specs.declared.result.Result.TheVariants.{Ok, Err}
-use Rattle.std.proofs.lemmas.Bool.{both_ways, and_parts, eqb-true, eqb-false, eq-eqb, ne_eqb}
+use Rattle.std.specs.declared.result.Result.TheVariants.{Ok}
+use Rattle.std.proofs.lemmas.Bool.{both_ways, and_parts, eq-eqb, ne_eqb}
 use Rattle.std.proofs.lemmas.List.{drop_at}
 use Rattle.std.proofs.lemmas.List.Folds.{list_any_at}
 use Rattle.std.proofs.lemmas.List.Sums.{sum_by-cons}
@@ -12,14 +11,13 @@ use Rattle.std.proofs.lemmas.List.Elements.{All-tail}
 use Rattle.wl_wire.specs.declared.kind.Kind.{Kind}
 use Rattle.wl_wire.specs.declared.kind.Kind.TheVariants as kinds
 use Rattle.wl_wire.specs.declared.kind.Iface.{Iface}
-use Rattle.wl_wire.specs.Argument.{Argument, Shape, Int, Uint, Fixed, Str, Obj, New, NewNamed, Array, Fd}
+use Rattle.wl_wire.specs.Argument.{Int, Uint, Fixed, Str, Obj, New, NewNamed, Array, Fd}
 use Rattle.wl_wire.specs.Spelling.{Suits, canonical, spelled_len, IsText}
 use Rattle.wl_wire.proofs.Canonicals.{canonical-spells, spelled-len, reading-canonical}
 use Rattle.wl_objects.specs.declared.object.Object.{Object}
 use Rattle.wl_objects.specs.declared.object.Entry.{Entry}
-use Rattle.wl_objects.specs.declared.error.Fault.{Fault}
 use Rattle.wl_objects.specs.Reading.{Reader, kind_at, is_of, iface_of, value_fault, arguments_at, report_of, reports_of, first_or, tokens_after, descriptors, is_descriptor_kind}
-use Rattle.wl_objects.specs.Writing.{Given, wired, spelled, suits, text_suits, has_no_nul, can_name, names_one, is_live_as, row_is_of, wrong_place, lost_place, tokens_of}
+use Rattle.wl_objects.specs.Writing.{Given, wired, spelled, suits, has_no_nul, can_name, names_one, wrong_place, lost_place, tokens_of}
 use Rattle.wl_objects.specs.Carried.{InRange, IsHeld, IsExpected, arrived, Arrive}
 
 no_nul : (text : List ℕ) → has_no_nul text ≡ true → All (λ b. b ≢ 0) text

@@ -1,17 +1,15 @@
 -- What a call that passed its checks gives the writer of its message.
-use Rattle.std.proofs.Common.{◌≡◌, ◌≢◌, ℕ, suc, ◌+◌, ◌*◌, ◌/◌, ◌<◌, ◌≤◌, ◌^◌, Bool, true, false, List, [], ◌∷◌, length, map, Some, None, refl, sym, subst, ◌∙◌, arith}
+use Rattle.std.proofs.Common.{◌≡◌, ℕ, suc, ◌≤◌, Bool, true, false, List, [], ◌∷◌, length, map, Some, None, refl, sym, subst, arith}
 use Rattle.std.specs.Prelude.{Option, option_map, nat_lt, is_some, if◌then◌else◌}
 use Rattle.std.proofs.lemmas.Bool.{ltb-false}
 use Rattle.std.proofs.lemmas.List.{length-map}
 use Rattle.wl_wire.specs.declared.kind.Kind.{Kind}
 use Rattle.wl_wire.specs.declared.kind.Kind.TheVariants as kinds
-use Rattle.wl_wire.specs.declared.kind.Iface.{Iface}
-use Rattle.wl_wire.specs.Argument.{Argument, Shape, Int, Uint, Fixed, Str, Obj, New, NewNamed, Array, Fd}
-use Rattle.wl_wire.specs.Spelling.{Fits, IsText, spelled_len, padded}
+use Rattle.wl_wire.specs.Argument.{Argument, Int, Uint, Fixed, Str, Obj, New, NewNamed, Array, Fd}
+use Rattle.wl_wire.specs.Spelling.{Fits, spelled_len}
 use Rattle.wl_sigs.specs.Tables.{Interface}
 use Rattle.wl_objects.specs.declared.argument.Arg.{Arg}
 use Rattle.wl_objects.specs.declared.argument.Arg.TheVariants as args
-use Rattle.wl_objects.specs.declared.made.Made.{Made}
 use Rattle.wl_objects.specs.Writing.{Given, given, given_of, wired, on_wire, suits, wrong_place, message_len, len_in_limit, EachFits, call_makes}
 use Rattle.wl_objects.specs.Messages.{made}
 use Rattle.wl_objects.proofs.Calls.{len-least, len-any}

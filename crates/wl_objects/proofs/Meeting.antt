@@ -1,6 +1,6 @@
 -- What is read of a message's arguments is what meets the reader, and the fault is the first that stands.
-use Rattle.std.proofs.Common.{◌≡◌, ◌≢◌, ℕ, zero, suc, ◌+◌, ◌<◌, ◌≤◌, ◌^◌, Bool, true, false, List, [], ◌∷◌, ◌++◌, length, drop, take, map, Some, None, refl, sym, ap, subst, ◌∙◌, arith, append_assoc, length-append}
-use Rattle.std.specs.Prelude.{Option, MatchResult}
+use Rattle.std.proofs.Common.{◌≡◌, ℕ, suc, ◌<◌, List, [], ◌∷◌, ◌++◌, length, drop, take, Some, None, refl, sym, ap, subst, ◌∙◌}
+use Rattle.std.specs.Prelude.{Option}
 use Rattle.std.specs.List.{All}
 use Rattle.std.specs.declared.result.Result.{Result}
 use Rattle.std.specs.declared.result.Result.TheVariants.{Ok, Err}
@@ -10,13 +10,11 @@ use Rattle.wl_wire.specs.declared.kind.Kind.{Kind}
 use Rattle.wl_wire.specs.declared.kind.ArgFault.{ArgFault}
 use Rattle.wl_wire.specs.Argument.{Argument}
 use Rattle.wl_wire.specs.Spelling.{Spells}
-use Rattle.wl_wire.specs.Faults.{IsFirstFault}
 use Rattle.wl_wire.specs.Reading.{reading}
 use Rattle.wl_wire.proofs.Fronts.{reading-spelled}
 use Rattle.wl_wire.proofs.Taken.{reading-found}
 use Rattle.wl_wire.proofs.Refused.{fault-reading, reading-fault}
 use Rattle.wl_objects.specs.declared.error.Fault.{Fault}
-use Rattle.wl_objects.specs.declared.error.Fault.TheVariants.{BadArgument}
 use Rattle.wl_objects.specs.Reading.{Reader, kind_at, value_fault, unless, judged, before, and_those, arguments_at}
 use Rattle.wl_objects.specs.Spelling as spelling
 use Rattle.wl_objects.specs.Spelling.{Meets, FirstFault}

@@ -1,7 +1,6 @@
 -- What is left of a message's arguments to read, from a place on.
-use Rattle.std.proofs.Common.{◌≡◌, ℕ, suc, ◌+◌, ◌<◌, ◌≤◌, Bool, true, false, List, [], ◌∷◌, length, get_or, drop, Some, None, refl, sym, ap, ◌∙◌, arith, add-one, drop-cons}
-use Rattle.std.specs.Prelude.{Option, if◌then◌else◌}
-use Rattle.std.specs.Borrow.{Bor}
+use Rattle.std.proofs.Common.{◌≡◌, ℕ, suc, ◌+◌, ◌<◌, ◌≤◌, Bool, List, [], ◌∷◌, length, get_or, drop, Some, None, refl, sym, ◌∙◌, add-one, drop-cons}
+use Rattle.std.specs.Prelude.{Option}
 use Rattle.std.specs.declared.result.Result.{Result}
 use Rattle.std.specs.declared.result.Result.TheVariants.{Ok, Err}
 use Rattle.std.proofs.lemmas.List.{drop_all}
@@ -11,8 +10,7 @@ use Rattle.wl_wire.specs.Argument.{Argument}
 use Rattle.wl_wire.specs.Reading.{reading}
 use Rattle.wl_objects.specs.declared.error.Fault.{Fault}
 use Rattle.wl_objects.specs.declared.error.Fault.TheVariants.{BadArgument}
-use Rattle.wl_objects.specs.Reading.{Reader, kind_at, value_fault, unless, judged, before, and_those, arguments_at, values_of, values_at}
-use Rattle.wl_objects.specs.Seen.{with_rest}
+use Rattle.wl_objects.specs.Reading.{Reader, kind_at, value_fault, unless, judged, before, and_those, arguments_at, values_at}
 
 -- the bytes behind arguments
 abbrev pub behind : Result (List Argument × List ℕ) Fault → Result (List ℕ) Fault

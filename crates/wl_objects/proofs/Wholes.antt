@@ -1,19 +1,16 @@
 -- Whole messages: their lengths, what spells them, what stands against a call, and how one end's message is read by the other.
-use Rattle.std.proofs.Common.{◌≡◌, ◌≢◌, ℕ, zero, suc, ◌+◌, ◌*◌, ◌/◌, ◌%◌, ◌<◌, ◌≤◌, ◌^◌, Bool, true, false, List, [], ◌∷◌, ◌++◌, length, drop, map, Some, None, refl, sym, ap, subst, ◌∙◌, arith, append_assoc, length-append}
-use Rattle.std.specs.Prelude.{Option, if◌then◌else◌, nat_eq, nat_lt, not, ◌&&◌, ◌||◌}
+use Rattle.std.proofs.Common.{◌≡◌, ◌≢◌, ℕ, suc, ◌+◌, ◌%◌, ◌<◌, ◌≤◌, ◌^◌, Bool, true, false, List, [], ◌∷◌, ◌++◌, length, map, Some, None, refl, sym, ap, subst, ◌∙◌, arith, length-append}
+use Rattle.std.specs.Prelude.{Option, if◌then◌else◌, nat_eq, nat_lt, ◌&&◌, ◌||◌}
 use Rattle.std.specs.List.{All}
-use Rattle.std.specs.declared.result.Result.{Result}
 use Rattle.std.specs.declared.result.Result.TheVariants.{Ok, Err}
 use Rattle.std.proofs.lemmas.Bool.{and_parts, eqb-true, eq-eqb, ltb-false, le-ltb}
 use Rattle.std.proofs.lemmas.List.{append-nil}
 use Rattle.std.proofs.lemmas.List.Elements.{All-tail}
 use Rattle.wl_wire.specs.declared.kind.Kind.{Kind}
-use Rattle.wl_wire.specs.declared.kind.Kind.TheVariants as kinds
 use Rattle.wl_wire.specs.declared.kind.Iface.{Iface}
-use Rattle.wl_wire.specs.declared.header.Header.{Header}
-use Rattle.wl_wire.specs.Argument.{Argument, Shape, Int, Uint, Fixed, Str, Obj, New, NewNamed, Array, Fd}
+use Rattle.wl_wire.specs.Argument.{Argument, Int, Uint, Fixed, Str, Obj, New, NewNamed, Array, Fd}
 use Rattle.wl_wire.specs.Word.{header_bytes}
-use Rattle.wl_wire.specs.Spelling.{Spells, Suits, canonical, spelled_len, padded}
+use Rattle.wl_wire.specs.Spelling.{Suits, canonical, spelled_len, padded}
 use Rattle.wl_wire.proofs.Canonicals.{canonical-spells, canonical-len}
 use Rattle.wl_sigs.specs.declared.signature.Side.{Side}
 use Rattle.wl_sigs.specs.declared.signature.Side.TheVariants.{Request, Event}
@@ -21,21 +18,15 @@ use Rattle.wl_sigs.specs.Fixed.{display, registry}
 use Rattle.wl_sigs.specs.Tables.{Message, Interface, signature_at}
 use Rattle.wl_objects.specs.declared.object.Object.{Object}
 use Rattle.wl_objects.specs.declared.object.Entry.{Entry}
-use Rattle.wl_objects.specs.declared.object.State.{State}
-use Rattle.wl_objects.specs.declared.object.State.TheVariants as states
-use Rattle.wl_objects.specs.declared.error.Fault.{Fault}
-use Rattle.wl_objects.specs.declared.error.SendError.{SendError}
 use Rattle.wl_objects.specs.declared.error.SendError.TheVariants as refusals
 use Rattle.wl_objects.specs.View.{View, look}
 use Rattle.wl_objects.specs.Reading.{Reader, kind_at, forgiving, arguments_at, descriptors}
 use Rattle.wl_objects.specs.Spelling.{SpellsAll, Meets}
 use Rattle.wl_objects.specs.Spelling as spelling
-use Rattle.wl_objects.specs.Writing.{Given, wired, spelled, suits, can_name, wrong_place, lost_place, is_live, is_live_as, message_len, message_bytes, tokens_of}
-use Rattle.wl_objects.specs.Messages.{Received, received, received_as, received_whole, is_error, is_hidden, same_iface, checked, checked_as, checked_by, live_row, unless_hidden, unless_wrong, unless_lost, of_length}
-use Rattle.wl_objects.specs.Carried.{InRange, IsExpected, IsTarget, AreWritten, Passes, received_by}
-use Rattle.wl_objects.proofs.Calls.{len-any}
-use Rattle.wl_objects.proofs.Carrying.{if-none, suits-wired, not_null, All-first, arrive-read, arrive-taken}
-use Rattle.wl_objects.proofs.Meeting.{met}
+use Rattle.wl_objects.specs.Writing.{Given, wired, spelled, suits, wrong_place, lost_place, is_live, is_live_as, message_len, message_bytes, tokens_of}
+use Rattle.wl_objects.specs.Messages.{received, is_error, is_hidden, same_iface, checked, checked_as, checked_by, live_row, unless_hidden, unless_wrong, of_length}
+use Rattle.wl_objects.specs.Carried.{InRange, IsExpected, IsTarget, Passes, received_by}
+use Rattle.wl_objects.proofs.Carrying.{if-none, suits-wired, All-first, arrive-read, arrive-taken}
 
 -- ---- lengths
 

@@ -1,4 +1,4 @@
-use Rattle.std.proofs.Common.{◌≡◌, ◌≤◌, length, sym, arith}
+use Rattle.std.proofs.Common.{◌≤◌, length, sym, arith}
 use Rattle.wl_objects.proofs.Fitting.{checked-fits, few, within}
 use Rattle.wl_objects.proofs.Ranges.{ranged}
 use Rattle.wl_objects.proofs.calling.check_call.Goals as goal

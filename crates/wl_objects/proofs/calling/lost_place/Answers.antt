@@ -1,4 +1,4 @@
-use Rattle.std.proofs.Common.{◌≡◌, ℕ, ◌≤◌, length, sym, ◌∙◌, arith}
+use Rattle.std.proofs.Common.{◌≤◌, length, sym, ◌∙◌, arith}
 use Rattle.wl_wire.specs.declared.kind.Kind.TheVariants.{Int}
 use Rattle.wl_objects.proofs.Calls.{lost-next, lost-here, lost-missing}
 use Rattle.wl_objects.proofs.calling.lost_place.Goals as goal

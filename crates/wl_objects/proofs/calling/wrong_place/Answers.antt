@@ -1,4 +1,4 @@
-use Rattle.std.proofs.Common.{◌≡◌, ℕ, ◌<◌, ◌≤◌, length, Some, None, drop, ◌∙◌, sym, arith, get_or}
+use Rattle.std.proofs.Common.{◌≡◌, ◌≤◌, length, Some, drop, ◌∙◌, sym, arith}
 use Rattle.wl_wire.specs.declared.kind.Kind.TheVariants.{Int}
 use Rattle.wl_objects.specs.Writing.{given, wrong_place}
 use Rattle.wl_objects.proofs.Calls.{wrong-missing, wrong-more}

@@ -1,4 +1,4 @@
-use Rattle.std.proofs.Common.{◌≡◌, ◌∙◌, sym}
+use Rattle.std.proofs.Common.{◌∙◌, sym}
 use Rattle.wl_wire.specs.declared.kind.Kind.TheVariants.{Int}
 use Rattle.wl_objects.proofs.Passing.{made-next, made-here, made-none, made-end}
 use Rattle.wl_objects.proofs.made.made_by_message.Goals as goal

@@ -1,7 +1,6 @@
-use Rattle.std.proofs.Common.{◌≡◌, ◌≤◌, ◌+◌, drop, arith, pos, get_or}
-use Rattle.wl_wire.specs.Spelling.{spelled_len}
+use Rattle.std.proofs.Common.{◌≤◌, ◌+◌, drop, arith, pos}
 use Rattle.wl_objects.specs.declared.argument.Arg.TheVariants.{Int}
-use Rattle.wl_objects.specs.Writing.{given_of, wired, on_wire, message_len, given}
+use Rattle.wl_objects.specs.Writing.{on_wire, message_len, given}
 use Rattle.wl_objects.proofs.Calls.{len-at, len-least, len-any}
 use Rattle.wl_objects.proofs.writing.encode_call.Goals as goal
 

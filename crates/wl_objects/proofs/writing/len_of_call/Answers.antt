@@ -1,4 +1,4 @@
-use Rattle.std.proofs.Common.{◌≡◌, ◌∙◌}
+use Rattle.std.proofs.Common.{◌∙◌}
 use Rattle.wl_objects.specs.Writing.{given}
 use Rattle.wl_objects.proofs.Calls.{len-known}
 use Rattle.wl_objects.proofs.writing.len_of_call.Goals as goal

@@ -1,4 +1,4 @@
-use Rattle.std.proofs.Common.{◌≡◌, ◌<◌, ◌+◌, sym, arith, pos, get_or}
+use Rattle.std.proofs.Common.{◌<◌, ◌+◌, sym, arith, pos, get_or}
 use Rattle.wl_wire.specs.Spelling.{spelled_len}
 use Rattle.wl_objects.specs.declared.argument.Arg.TheVariants.{Int}
 use Rattle.wl_objects.specs.Writing.{wired, given_of}
