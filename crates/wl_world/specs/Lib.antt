@@ -5,3 +5,4 @@ pub mod Answers
 pub mod Flight
 pub mod Stands
 pub mod Runs
+pub mod Plain

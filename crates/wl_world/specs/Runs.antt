@@ -7,7 +7,7 @@ use Rattle.wl_objects.specs.declared.object.State.TheVariants as states
 use Rattle.wl_objects.specs.View.{View, look}
 use Rattle.wl_objects.specs.Writing.{Given}
 use Rattle.wl_world.specs.World.{World, Each}
-use Rattle.wl_world.specs.Pair.{PairState, Move, Reply, ClientSend, ServerSend, AddGlobal}
+use Rattle.wl_world.specs.Pair.{PairState, Move, Reply, ClientSend, ServerSend, AddGlobal, Does}
 use Rattle.wl_world.specs.Answers.{Answers}
 use Rattle.wl_world.specs.Stands.{Stands}
 
@@ -17,6 +17,12 @@ Runs pair world [] [] last = pair ≡ last
 Runs pair world (move ∷ moves) (reply ∷ replies) last =
     (next : PairState) × (world' : World) × Answers pair world move reply next world' × Stands next world' × Runs next world' moves replies last
 Runs pair world _ _ last = ⊥
+
+-- What both ends do at these moves, one after another.
+abbrev pub DoesAll : PairState → List Move → List Reply → PairState → Type 0
+DoesAll pair [] [] last = pair ≡ last
+DoesAll pair (move ∷ moves) (reply ∷ replies) last = (next : PairState) × Does pair move reply next × DoesAll next moves replies last
+DoesAll pair _ _ last = ⊥
 
 -- numbers are those of 32 bits
 abbrev pub IsGiven : Given → Type 0

@@ -6,7 +6,7 @@ use Rattle.wl_wire.specs.Argument.{Uint, Str, Obj, New, NewNamed}
 use Rattle.wl_wire.specs.Spelling.{Suits}
 use Rattle.wl_sigs.specs.declared.signature.Side.{Side}
 use Rattle.wl_sigs.specs.declared.signature.Side.TheVariants.{Request as request_side, Event as event_side}
-use Rattle.wl_sigs.specs.Tables.{Interface, signature_at, interface_at, destroys_target}
+use Rattle.wl_sigs.specs.Tables.{Interface, signature_at, interface_at, place_of, destroys_target}
 use Rattle.wl_sigs.specs.Tables as sigs
 use Rattle.wl_sigs.specs.Fixed.{registry}
 use Rattle.wl_sigs.specs.Valid.{Valid}
@@ -16,20 +16,19 @@ use Rattle.wl_message.specs.Outgoing as boxes
 use Rattle.wl_message.specs.Outgoing.{Outgoing, all_bytes, all_tokens}
 use Rattle.wl_objects.specs.declared.object.Entry.{Entry}
 use Rattle.wl_objects.specs.declared.object.State.TheVariants as states
-use Rattle.wl_objects.specs.View.{View, Sound, look, max_ids}
+use Rattle.wl_objects.specs.View.{Sound, look, max_ids}
 use Rattle.wl_objects.specs.Reading.{iface_of, is_of}
 use Rattle.wl_objects.specs.Writing.{message_len}
 use Rattle.wl_objects.specs.Messages.{made_by, is_error, is_delete_id, is_bind, same_iface}
-use Rattle.wl_client.specs.State as client
 use Rattle.wl_server.specs.State as server
 use Rattle.wl_server.specs.State.{global_of, max_globals}
 use Rattle.wl_server.specs.Requests.{bind_fits}
 use Rattle.wl_server.specs.Calls.{ends_by_event, can_be_global}
 use Rattle.wl_server.specs.Announcing.{name_at}
-use Rattle.wl_world.specs.Meant.{Born, Known, Message, Coming, Event, Delete, Arg, renamed, recoming, born_of, birth_of, made_in, wire, spelled, spelled_coming, live_entry}
-use Rattle.wl_world.specs.World.{World, Row, Open, Ending, Marks, Each, IfThere}
+use Rattle.wl_world.specs.Meant.{Born, Known, Message, Coming, Event, Delete, Arg, renamed, recoming, born_of, birth_of, made_in, new_in, wire, spelled, spelled_coming, live_entry}
+use Rattle.wl_world.specs.World.{World, display_born, Row, Open, Ending, Marks, Each, IfThere}
 use Rattle.wl_world.specs.Pair.{PairState}
-use Rattle.wl_world.specs.Flight.{client_rows, server_rows, all_asks, all_tells, Meets}
+use Rattle.wl_world.specs.Flight.{Rows, client_rows, server_rows, all_asks, all_tells, Meets}
 
 -- ---- objects by id and by birth
 
@@ -72,7 +71,7 @@ AreOf tables version [] [] = Unit {0}
 AreOf tables version (kind ∷ kinds) (a ∷ args) = (Suits kind (wire a) × NamesRightly tables version kind a) × AreOf tables version kinds args
 AreOf tables version _ _ = ⊥
 
--- A message in flight fits a signature of its target's interface and version; it is no wl_display.error and no delete_id.
+-- A message in flight fits a signature of its target's interface and version, and is no wl_display.error.
 pub record Fits (tables : List Interface) (side : Side) (m : Message Known) : Type 0 where
   pub signature : sigs.Message
   pub there : signature_at tables m.target.born.iface.0 side m.opcode ≡ Some signature
@@ -83,8 +82,9 @@ pub record Fits (tables : List Interface) (side : Side) (m : Message Known) : Ty
   pub low : m.target.id ≤ max_ids
   pub opcode : m.opcode < 65536
   pub new_version : IfThere (λ x. 1 ≤ x.born.version) (made_in m.args)
+  -- it makes at most one object
+  pub new_is : Each (λ a. IfThere (λ x. made_in m.args ≡ Some x) (new_in a)) m.args
   pub no_error : is_error side m.target.born.iface m.opcode ≡ false
-  pub no_delete_id : is_delete_id side m.target.born.iface m.opcode ≡ false
 
 -- ---- globals
 
@@ -102,7 +102,7 @@ pub record TellsGiven (tables : List Interface) (given : List server.Global) (ar
   pub version : ℕ
   pub args_are : args ≡ Uint name ∷ Str (Some (name_at tables iface)) ∷ Uint version ∷ []
   pub was_given : WasGiven given name iface version
-  pub there : iface.0 < length tables
+  pub known : place_of tables (name_at tables iface) ≡ Some iface
 
 -- the arguments of wl_registry.bind, of a global that was given, at a version from 1 to the given one
 pub record BindsGiven (tables : List Interface) (given : List server.Global) (args : List (Arg Known)) : Type 0 where
@@ -120,6 +120,7 @@ pub record AsksFitly (tables : List Interface) (given : List server.Global) (m :
 pub record TellsFitly (tables : List Interface) (given : List server.Global) (m : Message Known) : Type 0 where
   pub fits : Fits tables event_side m
   pub makes_none : made_in m.args ≡ None
+  pub no_delete_id : is_delete_id event_side m.target.born.iface m.opcode ≡ false
   pub tells : same_iface m.target.born.iface registry ≡ true → m.opcode ≡ 0 → TellsGiven tables given m.args
 
 abbrev pub ComesFitly : List Interface → List server.Global → Coming Known → Type 0
@@ -132,10 +133,10 @@ pub record IsGlobal (tables : List Interface) (global : server.Global) : Type 0 
   pub word : global.version < 2 ^ 32
 
 -- an open registry is an object of the server
-pub record IsRegistry (view : View) (r : server.Registry) : Type 0 where
+pub record IsRegistry (s : Rows Born) (r : server.Registry) : Type 0 where
   pub version : ℕ
   pub some : 1 ≤ version
-  pub there : (server_rows view).rows r.object.id ≡ Some (record { birth = r.object.birth; iface = registry; version = version })
+  pub there : s.rows r.object.id ≡ Some (record { birth = r.object.birth; iface = registry; version = version })
 
 abbrev pub marks_of : server.Registry → Marks
 marks_of r = record { birth = r.object.birth; told = r.told; removed = r.removed }
@@ -157,6 +158,9 @@ pub record StandsBy (p : PairState) (w : World) (asked : List (Message Known)) (
   pub births : w.births ≡ p.client.core.view.births
   pub client_sound : Sound p.client.core.view
   pub server_sound : Sound p.server.core.view
+  pub client_display : look p.client.core.view 1 ≡ Some (live_entry display_born)
+  pub server_display : look p.server.core.view 1 ≡ Some (live_entry display_born)
+  pub versions : (id : ℕ) (e : Entry) → look p.client.core.view id ≡ Some e → 1 ≤ e.version
   pub server_live : (id : ℕ) (e : Entry) → look p.server.core.view id ≡ Some e → e.state ≡ states.Live
   -- what the world has in flight are their births, what the boxes have in flight are their canonical spellings with ids
   pub requests : w.requests ≡ map (renamed born_of) asked
@@ -177,7 +181,7 @@ pub record StandsBy (p : PairState) (w : World) (asked : List (Message Known)) (
   pub remembers : Each (λ g. WasGiven p.server.globals g.name g.iface g.version) p.client.globals
   pub globals : Each (IsGlobal p.server.core.tables) p.server.globals
   pub few_globals : length p.server.globals ≤ max_globals
-  pub open_registries : Each (IsRegistry p.server.core.view) p.server.registries
+  pub open_registries : Each (IsRegistry (server_rows p.server.core.view)) p.server.registries
 
 -- The pair stands for the world: an ended world stands with every pair.
 pub data Stands (p : PairState) (w : World) : Type 0 where

@@ -1,13 +1,7 @@
-//! The two ends of a Wayland connection as definitions: what they owe each other, and that they keep it.
+//! The two ends of a Wayland connection together, as definitions alone: the world of births that
+//! they stand for, what each of their calls may answer in it, and the laws that they keep it.
+//!
+//! The laws are functions that do nothing. Each one's contract is the law.
 #![tactic(auto)]
 
-ghost use Rattle.std.specs.Prelude.{◌≡◌, true};
-ghost use Rattle.wl_world.specs.World.{World};
-ghost use Rattle.wl_world.specs.Pair.{PairState};
-ghost use Rattle.wl_world.specs.Stands.{Stands};
-ghost use Rattle.wl_world.specs.Runs.{Runs, IsMove, Agree, Keeps};
-
-/// An ended world stands with every pair.
-pub fn ended_stands()
-    ensures { (p : PairState) (w : World) → w.ended ≡ true → Stands p w }
-{}
+pub mod laws;

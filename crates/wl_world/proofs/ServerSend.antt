@@ -1,0 +1,178 @@
+-- Moves of the server's writing.
+use Rattle.std.proofs.Common.{◌≡◌, ℕ, Bool, true, false, cond, List, [], ◌∷◌, ◌++◌, refl, sym, ap, subst, ◌∙◌}
+use Rattle.std.specs.Prelude.{option_map, not, ◌||◌}
+use Rattle.std.specs.declared.option.Option.{Option}
+use Rattle.std.specs.declared.option.Option.TheVariants.{None, Some}
+use Rattle.std.specs.declared.result.Result.{Result}
+use Rattle.std.specs.declared.result.Result.TheVariants.{Ok}
+use Rattle.wl_sigs.specs.declared.signature.Side.TheVariants.{Event}
+use Rattle.wl_sigs.specs.Tables.{Interface, interface_at, destroys_target}
+use Rattle.wl_sigs.specs.Tables as sigs
+use Rattle.wl_sigs.specs.Fixed.{display, registry}
+use Rattle.wl_message.specs.Outgoing.{message}
+use Rattle.wl_objects.specs.declared.object.Object.{Object}
+use Rattle.wl_objects.specs.declared.object.Entry.{Entry}
+use Rattle.wl_objects.specs.declared.error.SendError.{SendError}
+use Rattle.wl_objects.specs.declared.error.SendError.TheVariants as refusals
+use Rattle.wl_objects.specs.View.{View, look, next_id}
+use Rattle.wl_objects.specs.Writing.{Given, message_bytes, is_live_as}
+use Rattle.wl_objects.specs.Messages.{Made, Server as server_end, after, checked, live_row, same_iface}
+use Rattle.wl_end.specs.Core.{Core}
+use Rattle.wl_end.specs.Sending.{send_answer, after_send, after_checked, made_at, opens_object, with_following}
+use Rattle.wl_server.specs.Calls.{drop_refusal, drop_at, ends_by_event, after_drop, error_refusal, after_error}
+use Rattle.wl_world.specs.Meant.{Known, Message, Coming, Event as event_of, Delete, renamed, born_of, birth_of, spelled, made_in, objects, plain}
+use Rattle.wl_world.specs.World.{World, Each, IsThere, delete, event_written, dropped, Steps, writes_event, drops, WriteEvent}
+use Rattle.wl_world.specs.Pair.{PairState, ServerSend, ServerDrop, PostError, with_server_core, Writes, accepted, refused, no_memory, Calls, done}
+use Rattle.wl_world.specs.Answers.{birth_at, before}
+use Rattle.wl_world.specs.Flight.{server_rows}
+use Rattle.wl_world.specs.Stands.{Stands, stands, ended, StandsBy}
+use Rattle.wl_world.specs.Runs.{Keeps, IsGiven}
+use Rattle.wl_world.proofs.Wholes.{ThereRow, each_by}
+use Rattle.wl_world.proofs.Afters.{made_map, objects_map, each_map}
+use Rattle.wl_world.proofs.Readings.{made_of}
+use Rattle.wl_world.proofs.ServerReads.{followed}
+use Rattle.wl_world.proofs.Calls.{Checked, is_checked, LiveAt, live_as, handed_none, no_made, tokens_all, row_low}
+use Rattle.wl_world.proofs.Rules.{ends_so, no_event_new}
+use Rattle.wl_world.proofs.Written.{the_new, the_args, the_call, CallIs, call_is, accepted_call, opens, no_delete}
+use Rattle.wl_world.proofs.ClientSend.{made_same}
+use Rattle.wl_world.proofs.ServerTells.{CanTell, told_core, tell_stands, drop_stands}
+
+there_live : (v : View) (x : Known) → LiveAt v x → ThereRow (server_rows v) x
+there_live v x l = ap (option_map plain) l.there ∙ ap Some l.same
+
+no_registry : (a b : Bool) → (a || b) ≡ false → b ≡ false
+no_registry true b h = absurd (cc h)
+no_registry false b h = h
+
+pub server_can : (p : PairState) (w : World) (asked : List (Message Known)) (told : List (Coming Known)) (s : StandsBy p w asked told) (target : Object) (opcode : ℕ) (given : List Given) (signature : sigs.Message)
+    → (c : Checked p.server.core.tables Event p.server.core.view target opcode given signature) (k : CallIs p.server.core Event target opcode given signature c.entry)
+    → (made_in (the_args p.server.core c.entry given signature) ≡ None) → CanTell p (the_call p.server.core c.entry target opcode given signature)
+server_can p w asked told s target opcode given signature c k n =
+    let v = p.server.core.view in
+    let m = the_call p.server.core c.entry target opcode given signature in
+    record {
+      fitly = record {
+        fits = k.fits_it;
+        makes_none = n;
+        no_delete_id = no_delete Event c.entry.iface opcode c.hidden;
+        tells = λ h. absurd (let no = no_registry (same_iface c.entry.iface display) (same_iface c.entry.iface registry) c.hidden in cc (h, no));
+      };
+      target = there_live v m.target (record { entry = c.entry; there = c.there; same = refl; live = c.live });
+      args = each_by (LiveAt v) (ThereRow (server_rows v)) (there_live v) (objects m.args) k.live;
+      ends = ends_so p.server.core.tables (plain c.entry) opcode signature c.signed;
+    }
+
+left_by : (core : Core) (target : Object) (opcode : ℕ) (given : List Given) (signature : sigs.Message) (entry : Entry) → checked core.tables Event core.view target opcode given ≡ Ok signature → look core.view target.id ≡ Some entry
+    → CallIs core Event target opcode given signature entry → made_in (the_args core entry given signature) ≡ None
+    → after_send core Event target opcode given ≡ told_core core (the_call core entry target opcode given signature) signature.destroys
+left_by core target opcode given signature entry e l k n =
+    let mk : made_at core target signature given ≡ None = made_same core target given signature entry l ∙ k.made_is ∙ ap (option_map made_of) n in
+    let t = sym (tokens_all core.view (the_new core entry given signature) given) in
+    let x : Known = record { id = target.id; born = plain entry } in
+    ap (after_checked core Event target opcode given) e
+    ∙ (λ i. with_following (destroys_target signature.destroys) target.id (record core {
+      view = after server_end core.view (mk i) signature.destroys target.id;
+      outbox = record core.outbox { messages = core.outbox.messages ++ message (message_bytes target.id opcode (k.wire_is i)) (t i) ∷ [] };
+    }))
+    ∙ followed (destroys_target signature.destroys) x (record core {
+      view = after server_end core.view None signature.destroys target.id;
+      outbox = record core.outbox { messages = core.outbox.messages ++ spelled (the_call core entry target opcode given signature) ∷ [] };
+    })
+
+-- in the world it is a step
+pub tells_world : (p : PairState) (w : World) (asked : List (Message Known)) (told : List (Coming Known)) (s : StandsBy p w asked told) (m : Message Known) → CanTell p m
+    → Steps p.server.core.tables w (WriteEvent (renamed born_of m)) (event_written w (renamed born_of m))
+tells_world p w asked told s m c =
+    let v = p.server.core.view in
+    writes_event (renamed born_of m) (s.server_sets.shown m.target.id m.target.born c.target)
+    (rw (objects_map born_of m.args) (each_map born_of (IsThere w.server) (objects m.args) (each_by (ThereRow (server_rows v)) (λ (x : Known). IsThere w.server x.born) (λ x h. s.server_sets.shown x.id x.born h) (objects m.args) c.args)))
+
+pub server_send_keeps : (p : PairState) (w : World) (asked : List (Message Known)) (told : List (Coming Known)) → StandsBy p w asked told → w.ended ≡ false → (target : Object) (opcode : ℕ) (given : List Given) → Each IsGiven given
+    → (reply : Result (Option Object) SendError) (p' : PairState)
+    → Writes (send_answer p.server.core Event target opcode given) (opens_object (checked p.server.core.tables Event p.server.core.view target opcode given)) p
+    (with_server_core p (after_send p.server.core Event target opcode given)) reply p'
+    → Keeps p w (ServerSend target opcode given) (ServerSend reply) p'
+server_send_keeps p w asked told s z target opcode given g reply p' (accepted {new = new} h) =
+    let core = p.server.core in
+    let a = accepted_call core Event target opcode given new s.server_lives h in
+    let c = is_checked core.tables Event core.view target opcode given a.signature a.checks in
+    let k = call_is core Event target opcode given a.signature s.valid s.server_sound g c in
+    let o = opens core (made_at core target a.signature given) new a.opens_it in
+    let args = the_args core c.entry given a.signature in
+    let n : made_in args ≡ None = no_made core.view (the_new core c.entry given a.signature) a.signature.kinds given k.right (no_event_new core.tables s.valid c.entry.iface.0 opcode a.signature c.signed) in
+    let can = server_can p w asked told s target opcode given a.signature c k n in
+    let m = the_call core c.entry target opcode given a.signature in
+    let e : can.fitly.fits.signature ≡ a.signature = cc (can.fitly.fits.there, c.signed) in
+    let none : new ≡ None = o.is ∙ ap (option_map (λ (y : Made). record { id = next_id core.view; birth = core.view.births })) (made_same core target given a.signature c.entry c.there ∙ k.made_is ∙ ap (option_map made_of) n) in
+    record {
+      world = event_written w (renamed born_of m);
+      answers = before z (accepted h) (record {
+        message = renamed born_of m;
+        is = record { signature = a.signature; there = c.signed; destroys = refl };
+        target_is = c.birth;
+        opcode_is = refl;
+        args_are = handed_none core.view (the_new core c.entry given a.signature) w.births a.signature.kinds given n k.right;
+        new_is = ap (option_map birth_of) (made_map born_of args ∙ ap (option_map born_of) n) ∙ ap (option_map birth_at) (sym none);
+        steps = tells_world p w asked told s m can;
+      });
+      stands = subst (λ (x : Core). Stands (with_server_core p x) (event_written w (renamed born_of m)))
+          (sym (left_by core target opcode given a.signature c.entry a.checks c.there k n ∙ ap (λ (x : sigs.Message). told_core core m x.destroys) (sym e)))
+          (stands asked (told ++ (event_of m ∷ delete m.destroys m.target)) z (tell_stands p w asked told s m can));
+    }
+server_send_keeps p w asked told s z target opcode given g reply p' (refused h) = record { world = w; answers = before z (refused h) refl; stands = stands asked told z s }
+server_send_keeps p w asked told s z target opcode given g reply p' (no_memory h o) = record { world = w; answers = before z (no_memory h o) refl; stands = stands asked told z s }
+
+-- ---- dropping
+
+record Droppable (core : Core) (object : Object) : Type 0 where
+  entry : Entry
+  there : look core.view object.id ≡ Some entry
+  birth : entry.birth ≡ object.birth
+  by : ends_by_event (interface_at core.tables entry.iface.0) ≡ true
+
+not_false : (b : Bool) → not b ≡ false → b ≡ true
+not_false true h = refl
+not_false false h = absurd (cc h)
+
+by_row : (core : Core) (entry : Entry) (b : Bool) (why : SendError) (rest : Option SendError) → not (ends_by_event (interface_at core.tables entry.iface.0)) ≡ b → cond b (Some why) rest ≡ None
+    → ends_by_event (interface_at core.tables entry.iface.0) ≡ true
+by_row core entry true why rest e h = absurd (cc h)
+by_row core entry false why rest e h = not_false _ e
+
+live_found : (birth : ℕ) (o : Option Entry) (b : Bool) (e : Entry) → is_live_as birth o ≡ b → cond b o None ≡ Some e → (o ≡ Some e) × (e.birth ≡ birth)
+live_found birth o true e h k =
+    let l = live_as birth o h in
+    let same : l.entry ≡ e = cc (l.there, k) in
+    (k, ap (λ (x : Entry). x.birth) (sym same) ∙ l.birth_is)
+live_found birth o false e h k = absurd (cc k)
+
+droppable_at : (core : Core) (object : Object) (o : Option Entry) → live_row core.view object ≡ o → drop_at core o ≡ None → Droppable core object
+droppable_at core object None e h = absurd (cc h)
+droppable_at core object (Some entry) e h =
+    let l = live_found object.birth (look core.view object.id) _ entry refl e in
+    record { entry = entry; there = l.0; birth = l.1; by = by_row core entry _ _ _ refl h }
+
+droppable : (core : Core) (object : Object) → core.failed ≡ false → drop_refusal core object ≡ None → Droppable core object
+droppable core object l h =
+    droppable_at core object (live_row core.view object) refl (sym (ap (λ (b : Bool). cond b (Some refusals.Failed) (drop_at core (live_row core.view object))) l) ∙ h)
+
+pub server_drop_keeps : (p : PairState) (w : World) (asked : List (Message Known)) (told : List (Coming Known)) → StandsBy p w asked told → w.ended ≡ false → (object : Object) (reply : Result (Unit {0}) SendError) (p' : PairState)
+    → Calls (drop_refusal p.server.core object) p (with_server_core p (after_drop p.server.core object)) reply p' → Keeps p w (ServerDrop object) (ServerDrop reply) p'
+server_drop_keeps p w asked told s z object reply p' (done h) =
+    let d = droppable p.server.core object s.server_lives h in
+    let x : Known = record { id = object.id; born = plain d.entry } in
+    let there : ThereRow (server_rows p.server.core.view) x = ap (option_map plain) d.there in
+    let low = (row_low p.server.core.view object.id d.entry s.server_sound d.there).1 in
+    record {
+      world = dropped w x.born;
+      answers = before z (done h) (record { object = x.born; is = d.birth; steps = drops x.born (s.server_sets.shown x.id x.born there) d.by });
+      stands = stands asked (told ++ Delete x ∷ []) z (drop_stands p w asked told s x there d.by low);
+    }
+server_drop_keeps p w asked told s z object reply p' (refused h) = record { world = w; answers = before z (refused h) refl; stands = stands asked told z s }
+
+-- ---- an error
+
+pub post_error_keeps : (p : PairState) (w : World) (asked : List (Message Known)) (told : List (Coming Known)) → StandsBy p w asked told → w.ended ≡ false → (object : Object) (code : ℕ) (text : List ℕ) (reply : Result (Unit {0}) SendError) (p' : PairState)
+    → Calls (error_refusal p.server.core object text) p (with_server_core p (after_error p.server.core object code text)) reply p' → Keeps p w (PostError object code text) (PostError reply) p'
+post_error_keeps p w asked told s z object code text reply p' (done h) = record { world = record w { ended = true }; answers = before z (done h) refl; stands = ended refl }
+post_error_keeps p w asked told s z object code text reply p' (refused h) = record { world = w; answers = before z (refused h) refl; stands = stands asked told z s }

@@ -1,0 +1,149 @@
+-- The server writes an event, or ends an object without one.
+use Rattle.std.proofs.Common.{◌≡◌, ◌≢◌, ◌≤◌, Bool, true, false, List, [], ◌∷◌, ◌++◌, map, refl, sym, ap, subst, ◌∙◌}
+use Rattle.std.specs.Prelude.{nat_eq}
+use Rattle.std.specs.declared.option.Option.TheVariants.{None, Some}
+use Rattle.std.proofs.lemmas.Bool.{ne_eqb}
+use Rattle.std.proofs.lemmas.List.{append_assoc, map-append}
+use Rattle.wl_sigs.specs.declared.signature.Destroys.{Destroys}
+use Rattle.wl_sigs.specs.declared.signature.Destroys.TheVariants.{Target}
+use Rattle.wl_sigs.specs.Tables.{destroys_target}
+use Rattle.wl_message.specs.Outgoing as boxes
+use Rattle.wl_objects.specs.View.{look, closed}
+use Rattle.wl_objects.specs.Views.{look-closed}
+use Rattle.wl_objects.specs.Messages.{Server as server_end, after}
+use Rattle.wl_end.specs.Core.{Core}
+use Rattle.wl_world.specs.Meant.{Born, Known, Message, Coming, Event, Delete, renamed, recoming, born_of, birth_of, wire, spelled, spelled_coming, objects, plain, live_entry}
+use Rattle.wl_world.specs.World.{World, display_born, Each, delete, event_written, dropped, gone, put}
+use Rattle.wl_world.specs.Pair.{PairState, with_server_core}
+use Rattle.wl_world.specs.Flight.{Rows, Meets, tells, all_asks, all_tells, client_rows, server_rows}
+use Rattle.wl_world.specs.Stands.{StandsBy, TellsFitly, ComesFitly, InFlight, IsRegistry, Shows}
+use Rattle.wl_world.proofs.Wholes.{ThereRow, server_ends, tell_meets, drop_meets, all_tells_more, each_more}
+use Rattle.wl_world.proofs.Sets.{server_ended}
+use Rattle.wl_world.proofs.Channels.{pushed}
+use Rattle.wl_world.proofs.Bridges.{server_closed}
+use Rattle.wl_world.proofs.Afters.{there_row, server_after, server_sound, server_live, closed_live}
+use Rattle.wl_world.proofs.Registries.{registries_not}
+use Rattle.wl_world.proofs.Readings.{bytes_whole}
+use Rattle.wl_world.proofs.Rules.{display_plain}
+use Rattle.wl_world.proofs.ServerReads.{test_of, delete_whole, map_delete, delete_fits, display_after}
+
+pub record CanTell (p : PairState) (m : Message Known) : Type 0 where
+  pub fitly : TellsFitly p.server.core.tables p.server.globals m
+  pub target : ThereRow (server_rows p.server.core.view) m.target
+  pub args : Each (ThereRow (server_rows p.server.core.view)) (objects m.args)
+  pub ends : m.destroys ≡ true → test_of p m.target.born ≡ true
+
+-- what ends by an event is not wl_display
+pub there_mortal : (p : PairState) (w : World) (asked : List (Message Known)) (told : List (Coming Known)) → StandsBy p w asked told → (x : Known) → ThereRow (server_rows p.server.core.view) x → test_of p x.born ≡ true → x.id ≢ 1
+there_mortal p w asked told s x h e one =
+    let r = there_row p.server.core.view x h in
+    let q : Some r.entry ≡ Some (live_entry display_born) = sym r.there ∙ ap (look p.server.core.view) one ∙ s.server_display in
+    let same : r.entry ≡ live_entry display_born = cc q in
+    let born : x.born ≡ display_born = sym r.same ∙ ap plain same in
+    let no : true ≡ false = sym e ∙ ap (test_of p) born ∙ display_plain p.server.core.tables s.valid in
+    cc no
+
+-- the server's core with it
+abbrev pub told_core : Core → Message Known → Destroys → Core
+told_core c m what = record c {
+  view = after server_end c.view None what m.target.id;
+  outbox = record c.outbox { messages = (c.outbox.messages ++ spelled m ∷ []) ++ map spelled_coming (delete m.destroys m.target) };
+}
+
+pub tell_stands : (p : PairState) (w : World) (asked : List (Message Known)) (told : List (Coming Known)) (s : StandsBy p w asked told) (m : Message Known) (c : CanTell p m)
+    → StandsBy (with_server_core p (told_core p.server.core m c.fitly.fits.signature.destroys)) (event_written w (renamed born_of m)) asked (told ++ (Event m ∷ delete m.destroys m.target))
+tell_stands p w asked told s m c =
+    let f = c.fitly.fits in
+    let what = f.signature.destroys in
+    let d : destroys_target what ≡ m.destroys = sym f.destroys in
+    let v = p.server.core.view in
+    let mortal : m.destroys ≡ true → m.target.id ≢ 1 = λ h. there_mortal p w asked told s m.target c.target (c.ends h) in
+    let rows : server_rows (after server_end v None what m.target.id) ≡ server_ends m.destroys m.target (server_rows v) =
+    server_after v m.target None what tt ∙ ap (λ (b : Bool). server_ends b m.target (server_rows v)) d in
+    let sets = server_ended (server_rows v) w.server m.destroys m.target s.server_sets c.target in
+    let news = Event m ∷ delete m.destroys m.target in
+    record {
+      same_tables = s.same_tables;
+      valid = s.valid;
+      client_sets = s.client_sets;
+      server_sets = subst (λ (r : Rows Born). Shows birth_of r.rows r.births (gone m.destroys m.target.born w.server)) (sym rows) sets;
+      births = s.births;
+      client_sound = s.client_sound;
+      versions = s.versions;
+      server_sound = server_sound v m.target None what s.server_sound tt c.target (λ e. mortal (sym d ∙ e));
+      client_display = s.client_display;
+      server_display = display_after v None m.target.id what (live_entry display_born) tt s.server_display (λ e. mortal (sym d ∙ e));
+      server_live = server_live v m.target.id None what s.server_live;
+      requests = s.requests;
+      events = ap (λ (l : List (Coming Born)). l ++ (Event (renamed born_of m) ∷ delete m.destroys m.target.born)) s.events
+          ∙ ap (λ (l : List (Coming Born)). map (recoming born_of) told ++ (Event (renamed born_of m) ∷ l)) (sym (map_delete m.destroys m.target))
+          ∙ sym (map-append (recoming born_of) told news);
+      to_server = s.to_server;
+      to_client = subst (λ (l : List boxes.Message). InFlight (told_core p.server.core m what).outbox p.client.core.inbox l) (sym (map-append spelled_coming told news))
+          (pushed p.server.core.outbox (told_core p.server.core m what).outbox p.client.core.inbox (map spelled_coming told) (spelled m ∷ map spelled_coming (delete m.destroys m.target)) s.to_client refl
+          (append_assoc p.server.core.outbox.messages (spelled m ∷ []) (map spelled_coming (delete m.destroys m.target)))
+          (bytes_whole m.target.id m.opcode (map wire m.args) f.opcode f.len, delete_whole m.destroys m.target));
+      asked_fit = s.asked_fit;
+      told_fit = each_more (ComesFitly p.server.core.tables p.server.globals) told news s.told_fit (c.fitly, delete_fits p m.destroys m.target f.low);
+      meet = rw (all_tells_more told news) (subst (λ (r : Rows Born). Meets (test_of p) (all_tells told ++ (tells (Event m) ++ all_tells (delete m.destroys m.target))) (all_asks asked) (client_rows p.client.core.view) r) (sym rows)
+          (tell_meets m.target (objects m.args) m.destroys s.meet c.target c.args c.ends mortal));
+      client_lives = s.client_lives;
+      server_lives = s.server_lives;
+      remembered = s.remembered;
+      given = s.given;
+      registries = s.registries;
+      remembers = s.remembers;
+      globals = s.globals;
+      few_globals = s.few_globals;
+      open_registries = subst (λ (r : Rows Born). Each (IsRegistry r) p.server.registries) (sym rows)
+          (registries_not p.server.core.tables s.valid (server_rows v) m.destroys m.target p.server.registries c.target c.ends s.open_registries);
+    }
+
+-- ---- an object is dropped
+
+abbrev pub dropped_core : Core → Known → Core
+dropped_core c x = record c {
+  view = closed c.view x.id;
+  outbox = record c.outbox { messages = c.outbox.messages ++ spelled_coming (Delete x) ∷ [] };
+}
+
+pub drop_stands : (p : PairState) (w : World) (asked : List (Message Known)) (told : List (Coming Known)) (s : StandsBy p w asked told) (x : Known) → ThereRow (server_rows p.server.core.view) x → test_of p x.born ≡ true → x.id ≤ 1048576
+    → StandsBy (with_server_core p (dropped_core p.server.core x)) (dropped w x.born) asked (told ++ Delete x ∷ [])
+drop_stands p w asked told s x h e low =
+    let v = p.server.core.view in
+    let mortal = there_mortal p w asked told s x h e in
+    let rows = server_closed v x.id in
+    let sets = server_ended (server_rows v) w.server true x s.server_sets h in
+    let one : nat_eq 1 x.id ≡ false = ne_eqb 1 x.id (λ k. mortal (sym k)) in
+    record {
+      same_tables = s.same_tables;
+      valid = s.valid;
+      client_sets = s.client_sets;
+      server_sets = subst (λ (r : Rows Born). Shows birth_of r.rows r.births (put w.server x.born.birth None)) (sym rows) sets;
+      births = s.births;
+      client_sound = s.client_sound;
+      versions = s.versions;
+      server_sound = server_sound v x None Target s.server_sound tt h (λ k. mortal);
+      client_display = s.client_display;
+      server_display = look-closed v x.id 1 ∙ rw one s.server_display;
+      server_live = closed_live v x.id s.server_live;
+      requests = s.requests;
+      events = ap (λ (l : List (Coming Born)). l ++ Delete x.born ∷ []) s.events ∙ sym (map-append (recoming born_of) told (Delete x ∷ []));
+      to_server = s.to_server;
+      to_client = subst (λ (l : List boxes.Message). InFlight (dropped_core p.server.core x).outbox p.client.core.inbox l) (sym (map-append spelled_coming told (Delete x ∷ [])))
+          (pushed p.server.core.outbox (dropped_core p.server.core x).outbox p.client.core.inbox (map spelled_coming told) (spelled_coming (Delete x) ∷ []) s.to_client refl refl (delete_whole true x));
+      asked_fit = s.asked_fit;
+      told_fit = each_more (ComesFitly p.server.core.tables p.server.globals) told (Delete x ∷ []) s.told_fit (low, tt);
+      meet = rw (all_tells_more told (Delete x ∷ [])) (subst (λ (r : Rows Born). Meets (test_of p) (all_tells told ++ all_tells (Delete x ∷ [])) (all_asks asked) (client_rows p.client.core.view) r) (sym rows)
+          (drop_meets x s.meet mortal h e));
+      client_lives = s.client_lives;
+      server_lives = s.server_lives;
+      remembered = s.remembered;
+      given = s.given;
+      registries = s.registries;
+      remembers = s.remembers;
+      globals = s.globals;
+      few_globals = s.few_globals;
+      open_registries = subst (λ (r : Rows Born). Each (IsRegistry r) p.server.registries) (sym rows)
+          (registries_not p.server.core.tables s.valid (server_rows v) true x p.server.registries h (λ k. e) s.open_registries);
+    }
