@@ -33,3 +33,6 @@ pub use reporting::{Gots, named, report_arguments};
 pub use table::Table;
 pub use values::Values;
 pub use writing::{encode_bind, encode_call, tokens_of};
+
+#[cfg(test)]
+mod tests;
