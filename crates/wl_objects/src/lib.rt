@@ -18,6 +18,8 @@ mod reading;
 mod reporting;
 pub mod samples;
 mod table;
+#[cfg(test)]
+mod tests;
 mod values;
 mod writing;
 
@@ -33,6 +35,3 @@ pub use reporting::{Gots, named, report_arguments};
 pub use table::Table;
 pub use values::Values;
 pub use writing::{encode_bind, encode_call, tokens_of};
-
-#[cfg(test)]
-mod tests;

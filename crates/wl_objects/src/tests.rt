@@ -1,4 +1,3 @@
-//! Messages read against a plain table.
 use crate::{
     DISPLAY, Got, MapTable, Named, Object, REGISTRY, State, Table, receive, report_arguments,
 };

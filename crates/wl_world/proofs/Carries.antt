@@ -1,16 +1,21 @@
 -- Carrying from one end to the other.
 use Rattle.std.proofs.Common.{◌≡◌, ℕ, false, List, map, take, min, refl, sym, subst}
+use Rattle.std.proofs.Common.{drop, length, length-append, arith, ◌-◌, ◌≤◌, ◌++◌, ◌∙◌, ap, Bool, true}
+use Rattle.std.specs.Prelude.{nat_le}
+use Rattle.std.proofs.lemmas.Bool.Decides.{nat_tests}
+use Rattle.std.proofs.lemmas.List.{take-append-drop, length-take}
 use Rattle.wl_message.specs.declared.amounts.Fed.{Fed}
-use Rattle.wl_message.specs.Outgoing.{Message as Sent, Outgoing, goes, after_taking, waiting_bytes, waiting_tokens}
-use Rattle.wl_message.specs.Arrived.{Arrived, with_more}
-use Rattle.wl_end.specs.Core.{in_room}
+use Rattle.wl_message.specs.Outgoing.{Message as Sent, Outgoing, goes, after_taking, waiting_bytes, waiting_tokens, newly_begun, all_tokens}
+use Rattle.wl_message.specs.Arrived.{Arrived, with_more, free_bytes, free_tokens}
+use Rattle.wl_message.proofs.Goings.{begun_front, goes_goes}
+use Rattle.wl_end.specs.Core.{Core, in_room, no_room, feeds}
 use Rattle.wl_world.specs.Meant.{Known, Message, Coming, spelled, spelled_coming}
 use Rattle.wl_world.specs.World.{World}
-use Rattle.wl_world.specs.Pair.{PairState, CarryToServer, CarryToClient, carries, all_of, after_carry_to_server, after_carry_to_client}
+use Rattle.wl_world.specs.Pair.{PairState, CarryToServer, CarryToClient, carries, carried_bytes, carried_tokens, all_of, after_carry_to_server, after_carry_to_client}
 use Rattle.wl_world.specs.Answers.{before}
 use Rattle.wl_world.specs.Stands.{Stands, stands, StandsBy, InFlight}
 use Rattle.wl_world.specs.Runs.{Keeps}
-use Rattle.wl_world.proofs.Channels.{carried, goes_there, goes_tokens}
+use Rattle.wl_world.proofs.Channels.{carried, goes_there, goes_tokens, all_tokens_more}
 
 flies : (o : Outgoing) (i : Arrived) (ms : List Sent) (b t : ℕ) → InFlight o i ms
     → InFlight (after_taking o (goes o b t).bytes) (with_more i (take (goes o b t).bytes (waiting_bytes o)) (take (goes o b t).tokens (waiting_tokens o))) ms
@@ -97,3 +102,52 @@ carry_to_client_keeps p w asked told s z most fed p' d = record {
   answers = before z d refl;
   stands = subst (λ (q : PairState). Stands q w) (sym d.1) (stands asked told z (to_client_stands p w asked told most s));
 }
+
+-- ---- all that goes is taken in
+
+pub record Fitting (from to : Core) (most : ℕ) : Type 0 where
+  pub bytes : (carries from to most).bytes ≤ min most (in_room to).bytes
+  pub tokens : (carries from to most).tokens ≤ (in_room to).tokens
+  pub bytes_there : length (carried_bytes from (carries from to most)) ≡ (carries from to most).bytes
+  pub tokens_there : length (carried_tokens from (carries from to most)) ≡ (carries from to most).tokens
+
+begun_few : (o : Outgoing) (n : ℕ) → length (all_tokens (newly_begun o n)) ≤ length (waiting_tokens o)
+begun_few o n =
+    let m = begun_front (n - length o.left) o.messages in
+    let e : o.messages ≡ newly_begun o n ++ drop (length (newly_begun o n)) o.messages = sym (take-append-drop (length (newly_begun o n)) o.messages) ∙ ap (λ (x : List Sent). x ++ drop (length (newly_begun o n)) o.messages) (sym m) in
+    let k : all_tokens o.messages ≡ all_tokens (newly_begun o n) ++ all_tokens (drop (length (newly_begun o n)) o.messages) = ap all_tokens e ∙ all_tokens_more (newly_begun o n) (drop (length (newly_begun o n)) o.messages) in
+    let l = ap length k in omega (arith, l, length-append (all_tokens (newly_begun o n)) (all_tokens (drop (length (newly_begun o n)) o.messages)))
+
+pub carry_fits : (from to : Core) (most : ℕ) → Fitting from to most
+carry_fits from to most =
+    let g = goes_goes from.outbox (min most (in_room to).bytes) (in_room to).tokens in
+    let t = carries from to most in
+    let few = begun_few from.outbox t.bytes in
+    record {
+      bytes = g.may.within;
+      tokens = let e = g.with_tokens in let k = g.may.tokens_within in omega (arith, e, k);
+      bytes_there = let h = g.may.there in omega (arith, h, length-take t.bytes (waiting_bytes from.outbox));
+      tokens_there = let e = g.with_tokens in omega (arith, e, few, length-take t.tokens (waiting_tokens from.outbox));
+    }
+
+taken_whole : (to : Core) (b : Bool) (bytes tokens : List ℕ) (nb nt : ℕ) → to.failed ≡ b → length bytes ≡ nb → length tokens ≡ nt → nb ≤ (in_room to).bytes → nt ≤ (in_room to).tokens
+    → feeds to bytes tokens ≡ record { bytes = nb; tokens = nt }
+taken_whole to true bytes tokens nb nt e p q h k =
+    let room : in_room to ≡ no_room = rw e refl in
+    let x : nb ≡ 0 = let l = ap (λ (r : Fed). r.bytes) room in omega (arith, h, l) in
+    let y : nt ≡ 0 = let l = ap (λ (r : Fed). r.tokens) room in omega (arith, k, l) in
+    rw (e, x, y) refl
+taken_whole to false bytes tokens nb nt e p q h k =
+    let room : in_room to ≡ record { bytes = free_bytes to.inbox; tokens = free_tokens to.inbox } = rw e refl in
+    let x : nb ≤ free_bytes to.inbox = let l = ap (λ (r : Fed). r.bytes) room in omega (arith, h, l) in
+    let y : nt ≤ free_tokens to.inbox = let l = ap (λ (r : Fed). r.tokens) room in omega (arith, k, l) in
+    let all : nat_le (length tokens) (free_tokens to.inbox) ≡ true = grind (arith, nat_tests, q, y) in
+    let few : min (length bytes) (free_bytes to.inbox) ≡ nb = omega (arith, p, x) in
+    let some : min (length tokens) (free_tokens to.inbox) ≡ nt = omega (arith, q, y) in
+    rw (e, all, few, some) refl
+
+pub carry_whole : (from to : Core) (most : ℕ) → feeds to (carried_bytes from (carries from to most)) (carried_tokens from (carries from to most)) ≡ all_of (carries from to most)
+carry_whole from to most =
+    let f = carry_fits from to most in
+    taken_whole to to.failed (carried_bytes from (carries from to most)) (carried_tokens from (carries from to most)) (carries from to most).bytes (carries from to most).tokens refl f.bytes_there f.tokens_there
+    (let b = f.bytes in omega (arith, b)) f.tokens

@@ -15,7 +15,7 @@ all_bytes_more : (xs ys : List Message) → all_bytes (xs ++ ys) ≡ all_bytes x
 all_bytes_more [] ys = refl
 all_bytes_more (x ∷ xs) ys = rw (all_bytes_more xs ys) (sym (append_assoc x.bytes (all_bytes xs) (all_bytes ys)))
 
-all_tokens_more : (xs ys : List Message) → all_tokens (xs ++ ys) ≡ all_tokens xs ++ all_tokens ys
+pub all_tokens_more : (xs ys : List Message) → all_tokens (xs ++ ys) ≡ all_tokens xs ++ all_tokens ys
 all_tokens_more [] ys = refl
 all_tokens_more (x ∷ xs) ys = rw (all_tokens_more xs ys) (sym (append_assoc x.tokens (all_tokens xs) (all_tokens ys)))
 

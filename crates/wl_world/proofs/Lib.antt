@@ -27,3 +27,4 @@ pub mod Announces
 pub mod ClientBind
 pub mod Steps
 pub mod Plain
+pub mod Samples

@@ -6,3 +6,4 @@ pub mod Flight
 pub mod Stands
 pub mod Runs
 pub mod Plain
+pub mod Samples

@@ -9,10 +9,12 @@ ghost use Rattle.wl_client.specs.Reports as client_reads;
 ghost use Rattle.wl_server.specs.Requests as server_reads;
 ghost use Rattle.wl_world.specs.Meant.{Born, Known};
 ghost use Rattle.wl_world.specs.World.{World, opening, Each, Row};
-ghost use Rattle.wl_world.specs.Pair.{PairState, Move, Reply, Does, new_pair, drained};
+ghost use Rattle.wl_end.specs.Core.{Core, feeds};
+ghost use Rattle.wl_world.specs.Pair.{PairState, Move, Reply, Does, new_pair, drained, carries, carried_bytes, carried_tokens, all_of};
 ghost use Rattle.wl_world.specs.Flight.{Rows, Tell, Ask, Make, Delete, Held, Meets};
 ghost use Rattle.wl_world.specs.Stands.{Stands};
 ghost use Rattle.wl_world.specs.Runs.{Runs, DoesAll, IsMove, Agree, Keeps};
+ghost use Rattle.wl_world.specs.Samples.{CallbackLives, DeadArgument};
 ghost use Rattle.wl_world.specs.Plain.{tell_id, ask_id, In};
 
 /// A new pair stands for the opening world.
@@ -78,4 +80,21 @@ pub fn held_where()
     ensures { (test : Born → Bool) (events : List Tell) (requests : List Ask) (client : Rows Row) (server : Rows Born) (object : Known)
         → Meets test events requests client server → Held client object
         → In (Delete object) events ⊎ (server.rows object.id ≡ Some object.born) ⊎ In (Make object) requests }
+{}
+
+/// What a carry takes out of one end fits into the other, which takes all of it in.
+pub fn carry_is_whole()
+    ensures { (from to : Core) (most : ℕ)
+        → feeds to (carried_bytes from (carries from to most)) (carried_tokens from (carries from to most)) ≡ all_of (carries from to most) }
+{}
+
+/// A history that there is: a callback is made, done with, and forgotten.
+pub fn callback_lives()
+    ensures { (tables : List Interface) → CallbackLives tables }
+{}
+
+/// A history that there is: an event names an object that its reader has destroyed, and is reported
+/// with the object dead.
+pub fn dead_argument()
+    ensures { (tables : List Interface) → DeadArgument tables }
 {}

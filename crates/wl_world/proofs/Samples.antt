@@ -1,0 +1,33 @@
+-- The two histories are histories.
+use Rattle.std.proofs.Common.{List, [], ◌∷◌, refl}
+use Rattle.wl_sigs.specs.Tables.{Interface}
+use Rattle.wl_world.specs.Meant.{Delete}
+use Rattle.wl_world.specs.World.{put, nothing, writes_request, reads_request, writes_event, reads_event, reads_delete}
+use Rattle.wl_world.specs.Samples.{CallbackLives, sync, done, called, DeadArgument, enter, destroy, pointer}
+
+pub callback_lives : (tables : List Interface) → CallbackLives tables
+unfolding put nothing
+callback_lives tables = record {
+  asks = writes_request sync refl tt refl;
+  reads = reads_request sync [] refl;
+  tells = writes_event done refl tt;
+  sees = reads_event done (Delete called ∷ []) refl;
+  forgets = reads_delete called [] refl;
+  ends_here = refl;
+  not_at_client = refl;
+  not_at_server = refl;
+  no_requests = refl;
+  no_events = refl;
+  next = refl;
+}
+
+pub dead_argument : (tables : List Interface) → DeadArgument tables
+unfolding put nothing
+dead_argument tables = record {
+  tells = writes_event enter refl (refl, tt);
+  asks = writes_request destroy refl tt tt;
+  sees = reads_event enter [] refl;
+  reports = ((pointer, refl), refl, refl, refl);
+  reads = reads_request destroy [] refl;
+  deletes = refl;
+}
