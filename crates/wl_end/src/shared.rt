@@ -145,3 +145,6 @@ impl<'t, T: Table> Core<'t, T> {
         self.outbox.take(bytes, tokens)
     }
 }
+
+#[cfg(test)]
+mod tests;

@@ -18,6 +18,8 @@ mod reading;
 mod reporting;
 pub mod samples;
 mod table;
+#[cfg(test)]
+mod tests;
 mod values;
 mod writing;
 
