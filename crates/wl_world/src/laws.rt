@@ -1,5 +1,5 @@
 //! What the two ends keep, whatever is done with them.
-ghost use Rattle.std.specs.Prelude.{◌≡◌, ◌⊎◌, ℕ, Bool, List, ◌++◌, ◌∷◌, [], true, false, None, Some, Err};
+ghost use Rattle.std.specs.Prelude.{◌≡◌, ◌⊎◌, ◌<◌, ℕ, Bool, List, ◌++◌, ◌∷◌, [], true, false, None, Some, Err};
 ghost use Rattle.wl_sigs.specs.Tables.{Interface};
 ghost use Rattle.wl_sigs.specs.Valid.{Valid};
 ghost use Rattle.wl_message.specs.declared.amounts.Sizes.{Sizes};
@@ -86,6 +86,24 @@ pub fn held_where()
 pub fn carry_is_whole()
     ensures { (from to : Core) (most : ℕ)
         → feeds to (carried_bytes from (carries from to most)) (carried_tokens from (carries from to most)) ≡ all_of (carries from to most) }
+{}
+
+/// And back: what has its delete in flight, is open at the server or is made in flight, the client holds.
+pub fn held_back()
+    ensures { (test : Born → Bool) (events : List Tell) (requests : List Ask) (client : Rows Row) (server : Rows Born) (object : Known)
+        → Meets test events requests client server
+        → In (Delete object) events ⊎ (server.rows object.id ≡ Some object.born) ⊎ In (Make object) requests → Held client object }
+{}
+
+/// Only one of these holds of an object: what is open at the server or made in flight has no delete in
+/// flight, and what is made in flight has a birth that the server has not counted.
+pub fn only_one()
+    ensures open_or_deleted { (test : Born → Bool) (events : List Tell) (requests : List Ask) (client : Rows Row) (server : Rows Born) (object : Known)
+        → Meets test events requests client server → server.rows object.id ≡ Some object.born → In (Delete object) events → ⊥ }
+    ensures made_or_deleted { (test : Born → Bool) (events : List Tell) (requests : List Ask) (client : Rows Row) (server : Rows Born) (object : Known)
+        → Meets test events requests client server → In (Make object) requests → In (Delete object) events → ⊥ }
+    ensures made_or_counted { (test : Born → Bool) (events : List Tell) (requests : List Ask) (client : Rows Row) (server : Rows Born) (object : Known)
+        → Meets test events requests client server → In (Make object) requests → object.born.birth < server.births → ⊥ }
 {}
 
 /// Nothing behind a delete in flight names the id of its object.
