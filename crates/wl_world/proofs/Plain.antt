@@ -1,5 +1,5 @@
 -- What a standing pair's messages in flight say in plain words.
-use Rattle.std.proofs.Common.{◌++◌, ◌∷◌, [], ◌≡◌, ℕ, ◌+◌, ◌<◌, ◌≤◌, Bool, List, ◌⊎◌, inl, inr, sym, ◌∙◌, ap, subst, arith, ◌≢◌}
+use Rattle.std.proofs.Common.{◌++◌, ◌∷◌, [], ◌≡◌, ℕ, ◌<◌, ◌≤◌, Bool, List, ◌⊎◌, inl, inr, sym, ◌∙◌, ap, subst, arith, ◌≢◌}
 use Rattle.std.specs.declared.option.Option.{Option}
 use Rattle.std.specs.declared.option.Option.TheVariants.{None, Some}
 use Rattle.wl_world.specs.Meant.{Born, Known}
@@ -7,6 +7,21 @@ use Rattle.wl_world.specs.World.{Row, Open, Ending, Each}
 use Rattle.wl_world.specs.Flight.{Rows, at, Ask, Make, Tell, Delete, at_client, Held, Reads, done, name, end, delete, Tied, drained, use_, make, destroy, Meets}
 use Rattle.wl_world.specs.Plain.{tell_id, ask_id, In}
 use Rattle.wl_world.proofs.Deeds.{put_tells, put_same, held_at_client, held_other, held_some}
+
+kept_end : (v : Rows Row) (x y : Known) → Held v y → Held (at v y.id (Some (Ending y.born))) x → Held v x
+kept_end v x y a h = elim (put_tells v.rows y.id (Some (Ending y.born)) x.id) [
+  | inl p ↦ (let e : x.born ≡ y.born = grind arith in let k : ◌≡◌ {A = Known} y x = λ i. record { id = sym p.0 i; born = sym e i } in subst (Held v) k a)
+  | inr p ↦ elim h [ inl q ↦ inl (sym p.1 ∙ q) | inr q ↦ inr (sym p.1 ∙ q) ]
+]
+
+kept_delete : (v : Rows Row) (x : Known) (i : ℕ) → Held (at v i None) x → Held v x
+kept_delete v x i h = elim (put_tells v.rows i None x.id) [
+  | inl p ↦ elim h [ inl q ↦ absurd (cc (p.1, q)) | inr q ↦ absurd (cc (p.1, q)) ]
+  | inr p ↦ elim h [ inl q ↦ inl (sym p.1 ∙ q) | inr q ↦ inr (sym p.1 ∙ q) ]
+]
+
+held_some_row : (m : Rows Row) (x : Known) → Held m x → m.rows x.id ≡ None → ⊥
+held_some_row m x h n = elim h [ inl p ↦ cc (p, n) | inr p ↦ cc (p, n) ]
 
 module _ {test : Born → Bool} where
   -- a free id at the client occurs in no event in flight
@@ -82,18 +97,6 @@ module _ {test : Born → Bool} where
 
   -- ---- and back, and only one of these
 
-  kept_end : (v : Rows Row) (x y : Known) → Held v y → Held (at v y.id (Some (Ending y.born))) x → Held v x
-  kept_end v x y a h = elim (put_tells v.rows y.id (Some (Ending y.born)) x.id) [
-      inl p ↦ (let e : x.born ≡ y.born = grind arith in let k : ◌≡◌ {A = Known} y x = λ i. record { id = sym p.0 i; born = sym e i } in subst (Held v) k a)
-    | inr p ↦ elim h [ inl q ↦ inl (sym p.1 ∙ q) | inr q ↦ inr (sym p.1 ∙ q) ]
-    ]
-
-  kept_delete : (v : Rows Row) (x : Known) (i : ℕ) → Held (at v i None) x → Held v x
-  kept_delete v x i h = elim (put_tells v.rows i None x.id) [
-      inl p ↦ elim h [ inl q ↦ absurd (cc (p.1, q)) | inr q ↦ absurd (cc (p.1, q)) ]
-    | inr p ↦ elim h [ inl q ↦ inl (sym p.1 ∙ q) | inr q ↦ inr (sym p.1 ∙ q) ]
-    ]
-
   held_before : {es : List Tell} (x : Known) {v w : Rows Row} → Reads test es v w → Held w x → Held v x
   held_before x done h = h
   held_before x (name a r) h = held_before x r h
@@ -105,36 +108,33 @@ module _ {test : Born → Bool} where
   deleted_held x (name a r) i = elim i [ inl p ↦ absurd (cc p) | inr p ↦ deleted_held x r p ]
   deleted_held x (end {v = v} {x = y} b a r) i = elim i [ inl p ↦ absurd (cc p) | inr p ↦ (let k = deleted_held x r p in (kept_end v x y a k.0, k.1)) ]
   deleted_held x (delete {v = v} {w = w} {x = y} z a b r) i = elim i [
-      inl p ↦ (let e : y ≡ x = cc p in (subst (Held v) e a, subst (λ (k : Known). w.rows k.id ≡ None) e (free_mid y.id r (put_same v.rows y.id None))))
+    | inl p ↦ (let e : y ≡ x = cc p in (subst (Held v) e a, subst (λ (k : Known). w.rows k.id ≡ None) e (free_mid y.id r (put_same v.rows y.id None))))
     | inr p ↦ (let k = deleted_held x r p in (kept_delete v x y.id k.0, k.1))
-    ]
+  ]
 
   make_held : {qs : List Ask} (x : Known) {s : Rows Born} {m : Rows Row} → Tied test qs s m → In (Make x) qs → Held m x
   make_held x (drained r u b) i = absurd i
   make_held x (use_ a b t) i = elim i [ inl p ↦ absurd (cc p) | inr p ↦ make_held x t p ]
   make_held x (make {s = s} {m = m} {x = y} a t) i = elim i [
-      inl p ↦ (let e : y ≡ x = cc p in subst (Held m) e (held_at_client y t (put_same s.rows y.id (Some y.born))))
+    | inl p ↦ (let e : y ≡ x = cc p in subst (Held m) e (held_at_client y t (put_same s.rows y.id (Some y.born))))
     | inr p ↦ make_held x t p
-    ]
+  ]
   make_held x (destroy {m = m} {x = y} z a b c t) i = elim i [ inl p ↦ absurd (cc p) | inr p ↦ kept_delete m x y.id (make_held x t p) ]
 
   make_new : {qs : List Ask} (x : Known) {s : Rows Born} {m : Rows Row} → Tied test qs s m → In (Make x) qs → s.births ≤ x.born.birth
   make_new x (drained r u b) i = absurd i
   make_new x (use_ a b t) i = elim i [ inl p ↦ absurd (cc p) | inr p ↦ make_new x t p ]
   make_new x (make {s = s} {x = y} a t) i = elim i [
-      inl p ↦ (let e : x ≡ y = cc p in let k = ap (λ (n : Known). n.born.birth) e in let f = a.birth in omega (arith, k, f))
+    | inl p ↦ (let e : x ≡ y = cc p in let k = ap (λ (n : Known). n.born.birth) e in let f = a.birth in omega (arith, k, f))
     | inr p ↦ (let k = make_new x t p in omega (arith, k))
-    ]
+  ]
   make_new x (destroy z a b c t) i = elim i [ inl p ↦ absurd (cc p) | inr p ↦ make_new x t p ]
-
-  held_some_row : (m : Rows Row) (x : Known) → Held m x → m.rows x.id ≡ None → ⊥
-  held_some_row m x h n = elim h [ inl p ↦ cc (p, n) | inr p ↦ cc (p, n) ]
 
   pub held_back : {es : List Tell} {qs : List Ask} {v : Rows Row} {s : Rows Born} (x : Known) → Meets test es qs v s → In (Delete x) es ⊎ (s.rows x.id ≡ Some x.born) ⊎ In (Make x) qs → Held v x
   held_back x m h = elim h [
-      inl p ↦ (deleted_held x m.reads p).0
+    | inl p ↦ (deleted_held x m.reads p).0
     | inr p ↦ elim p [ inl q ↦ held_before x m.reads (held_at_client x m.tied q) | inr q ↦ held_before x m.reads (make_held x m.tied q) ]
-    ]
+  ]
 
   pub not_open_deleted : {es : List Tell} {qs : List Ask} {v : Rows Row} {s : Rows Born} (x : Known) → Meets test es qs v s → s.rows x.id ≡ Some x.born → In (Delete x) es → ⊥
   not_open_deleted x m h d = held_some_row m.middle x (held_at_client x m.tied h) (deleted_held x m.reads d).1
