@@ -2,3 +2,4 @@ pub mod State
 pub mod Reports
 pub mod Calls
 pub mod Streams
+pub mod Seen

@@ -1,3 +1,4 @@
 pub mod Core
 pub mod Receiving
 pub mod Sending
+pub mod Outcomes

@@ -20,7 +20,9 @@ use Rattle.wl_objects.specs.declared.error.Fault.TheVariants as faults
 use Rattle.wl_objects.specs.declared.error.SendError.{SendError}
 use Rattle.wl_objects.specs.declared.error.SendError.TheVariants as refusals
 use Rattle.wl_objects.specs.View.{View, look, free_or_next, has_room, opened_at, closed, zombied, is_held}
-use Rattle.wl_objects.specs.Reading.{NewId, Free, Wrong, TooMany, Reader, forgiving, arguments_at, descriptors}
+use Rattle.wl_objects.specs.declared.object.NewId.{NewId}
+use Rattle.wl_objects.specs.declared.object.NewId.TheVariants.{Free, Wrong, TooMany}
+use Rattle.wl_objects.specs.Reading.{Reader, forgiving, arguments_at, descriptors}
 use Rattle.wl_objects.specs.Writing.{Given, wrong_place, lost_place, is_live_as, wired, message_len}
 use Rattle.wl_objects.specs.declared.made.Made.{Made as NewObject}
 

@@ -10,21 +10,14 @@ use Rattle.wl_wire.specs.Argument.{Argument, Shape, reshaped, Obj, New, NewNamed
 use Rattle.wl_wire.specs.Reading.{reading}
 use Rattle.wl_objects.specs.declared.object.Object.{Object}
 use Rattle.wl_objects.specs.declared.object.Entry.{Entry}
+use Rattle.wl_objects.specs.declared.object.NewId.{NewId}
+use Rattle.wl_objects.specs.declared.object.NewId.TheVariants.{Free, Wrong, TooMany}
 use Rattle.wl_objects.specs.declared.object.State.{State}
 use Rattle.wl_objects.specs.declared.object.State.TheVariants as states
 use Rattle.wl_objects.specs.declared.argument.Named.{Named}
 use Rattle.wl_objects.specs.declared.argument.Named.TheVariants as named_as
 use Rattle.wl_objects.specs.declared.error.Fault.{Fault}
 use Rattle.wl_objects.specs.declared.error.Fault.TheVariants as faults
-
--- What an id is to a reader that finds it as a new object's.
-pub data NewId : Type 0 where
-  -- a freed id or the next one, and the object can be opened
-  Free : NewId
-  -- 0, in use, or neither freed nor the next
-  Wrong : NewId
-  -- as Free, but the connection has no more room
-  TooMany : NewId
 
 -- What a reader knows when a message comes: the object that each id names, what each id is as a new one, and the birth
 -- that a new object gets. Where it forgives, an object argument may be null, unknown and of any interface.

@@ -34,6 +34,17 @@ pub struct Object {
     pub birth: u64,
 }
 
+/// What an id is to a reader that finds it as a new object's.
+#[derive(Clone, Copy, Debug, PartialEq, Eq)]
+pub enum NewId {
+    /// A freed id or the next one, and the object can be opened.
+    Free,
+    /// 0, in use, or neither freed nor the next.
+    Wrong,
+    /// As `Free`, but the connection has no more room.
+    TooMany,
+}
+
 /// Why no object was opened. The refusals are tested in the order that the call names.
 #[derive(Clone, Copy, Debug, PartialEq, Eq)]
 pub enum TableError {

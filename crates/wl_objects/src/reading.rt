@@ -7,8 +7,9 @@ ghost use Rattle.wl_objects.specs.Messages.{reader_of, received};
 ghost use Rattle.wl_objects.specs.Seen.{received_in, with_rest};
 
 use crate::error::Fault;
+use crate::lookup::{Held, Lookup};
 use crate::messages::is_error;
-use crate::object::{Entry, Object};
+use crate::object::{Entry, NewId, Object};
 use crate::table::Table;
 use crate::values::{Values, kind_at};
 use wl_sigs::{Side, Signature, Tables};
@@ -41,7 +42,21 @@ pub fn receive<'t: 'a, 'a, T: Table>(
 ) -> Result<Received<'t, 'a>, Fault>
     ensures { received_in result ≡ received tables.now side (reader_of (T.view table.now)) header body.now waiting }
 {
-    let entry = match table.look(header.object) {
+    receive_by(tables, side, &Held { table }, header, body, waiting)
+}
+
+/// Reads one whole message as `receive` does, for whatever knows the objects and ids.
+pub fn receive_by<'t: 'a, 'a, L: Lookup>(
+    tables: &'t Tables,
+    side: Side,
+    lookup: &L,
+    header: Header,
+    body: &'a [u8],
+    waiting: usize,
+) -> Result<Received<'t, 'a>, Fault>
+    ensures { received_in result ≡ received tables.now side (L.reader lookup.now) header body.now waiting }
+{
+    let entry = match lookup.object(header.object) {
         Some(entry) => entry,
         None => return Err(Fault::UnknownObject),
     };
@@ -54,7 +69,7 @@ pub fn receive<'t: 'a, 'a, T: Table>(
     }
     let forgives = is_error(side, entry.iface, header.opcode);
     let kinds = signature.kinds();
-    let rest = rest_behind(table, forgives, kinds, body)?;
+    let rest = rest_behind(lookup, forgives, kinds, body)?;
     if !rest.is_empty() {
         return Err(Fault::TrailingBytes);
     }
@@ -80,19 +95,19 @@ pub fn descriptors(kinds: &[Kind]) -> usize
 }
 
 /// What stands behind the arguments at the front of the bytes, or the first fault of these.
-fn rest_behind<'a, T: Table>(
-    table: &T,
+fn rest_behind<'a, L: Lookup>(
+    lookup: &L,
     forgives: bool,
     kinds: &[Kind],
     body: &'a [u8],
 ) -> Result<&'a [u8], Fault>
-    ensures { with_rest (values_at forgives kinds.now body.now) result ≡ arguments_at (forgiving forgives (reader_of (T.view table.now))) 0 kinds.now body.now }
+    ensures { with_rest (values_at forgives kinds.now body.now) result ≡ arguments_at (forgiving forgives (L.reader lookup.now)) 0 kinds.now body.now }
 {
     let mut rest = body;
     'kinds: for (place, kind) in kinds.iter().enumerate() {
         match read_ref(kind_at(forgives, *kind), rest) {
             Ok((value, len)) => {
-                if let Some(fault) = value_fault(table, forgives, place, *kind, value) {
+                if let Some(fault) = value_fault(lookup, forgives, place, *kind, value) {
                     return Err(fault);
                 }
                 rest = &rest[len..];
@@ -104,23 +119,23 @@ fn rest_behind<'a, T: Table>(
 }
 
 /// What is wrong with a value that its bytes spell.
-fn value_fault<T: Table>(
-    table: &T,
+fn value_fault<L: Lookup>(
+    lookup: &L,
     forgives: bool,
     place: usize,
     kind: Kind,
     value: ValueRef<'_>,
 ) -> Option<Fault>
-    ensures { result ≡ value_fault (forgiving forgives (reader_of (T.view table.now))) place kind (lent value.entry) }
+    ensures { result ≡ value_fault (forgiving forgives (L.reader lookup.now)) place kind (lent value.entry) }
 {
     match value {
         ValueRef::Obj(id) => {
             if forgives || id == 0 {
                 return None;
             }
-            object_fault(place, iface_of(kind), table.look(id))
+            object_fault(place, iface_of(kind), lookup.object(id))
         }
-        ValueRef::New(id) | ValueRef::NewNamed { id, .. } => new_fault(table, place, id),
+        ValueRef::New(id) | ValueRef::NewNamed { id, .. } => new_fault(place, lookup.new_id(id)),
         _ => None,
     }
 }
@@ -145,14 +160,12 @@ fn object_fault(place: usize, iface: Option<Iface>, entry: Option<Entry>) -> Opt
     }
 }
 
-fn new_fault<T: Table>(table: &T, place: usize, id: u32) -> Option<Fault>
-    ensures { result ≡ new_fault place ((reader_of (T.view table.now)).new_id id) }
+fn new_fault(place: usize, id: NewId) -> Option<Fault>
+    ensures { result ≡ new_fault place id }
 {
-    if !table.is_free(id) {
-        Some(Fault::BadNewId(place))
-    } else if !table.has_room(id) {
-        Some(Fault::TooManyObjects)
-    } else {
-        None
+    match id {
+        NewId::Free => None,
+        NewId::Wrong => Some(Fault::BadNewId(place)),
+        NewId::TooMany => Some(Fault::TooManyObjects),
     }
 }

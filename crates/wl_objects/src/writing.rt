@@ -54,7 +54,7 @@ fn counted_len(len: usize, more: usize) -> Option<usize>
 }
 
 /// How many bytes a message with these arguments has; none where it would be longer than 4096.
-pub(crate) fn message_len(args: &[Arg<'_>]) -> Option<usize>
+pub fn message_len(args: &[Arg<'_>]) -> Option<usize>
     ensures { result ≡ len_in_limit (on_wire 0 args.now) }
 {
     let mut len = 8;

@@ -14,6 +14,8 @@ use Rattle.wl_objects.specs.View.{closed}
 use Rattle.wl_objects.specs.Messages.{live_row, same_iface}
 use Rattle.wl_end.specs.Core.{Core, with_view}
 use Rattle.wl_end.specs.Sending.{fits, with_delete_id, delete_id_len, with_error_event}
+use Rattle.wl_server.specs.declared.request.GlobalError.{GlobalError}
+use Rattle.wl_server.specs.declared.request.GlobalError.TheVariants as global_errors
 use Rattle.wl_server.specs.State.{State, Global, global_of, max_globals, with_core}
 
 -- ---- ending an object without an event
@@ -90,3 +92,16 @@ without_at globals name (Some global) = slice_set globals (name - 1) (withdrawn 
 -- the server with a name withdrawn
 abbrev pub after_withdraw : State → ℕ → State
 after_withdraw state name = record state { globals = without_at state.globals name (global_of state.globals name) }
+
+-- Why `add_global` is refused, where memory is not wanted: G1, G2, G3.
+abbrev pub add_refusal : State → Iface → ℕ → Option GlobalError
+add_refusal state iface version =
+    if state.core.failed then Some global_errors.Failed
+    else if not (can_be_global state.core.tables iface version) then Some global_errors.BadGlobal
+    else if nat_lt (length state.globals) max_globals then None
+    else Some global_errors.TooMany
+
+-- Why `withdraw` is refused: G1, G5.
+abbrev pub withdraw_refusal : State → ℕ → Option GlobalError
+withdraw_refusal state name =
+    if state.core.failed then Some global_errors.Failed else if is_present (global_of state.globals name) then None else Some global_errors.NoSuchGlobal

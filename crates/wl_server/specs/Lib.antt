@@ -3,3 +3,4 @@ pub mod Requests
 pub mod Calls
 pub mod Announcing
 pub mod Streams
+pub mod Seen

@@ -23,10 +23,12 @@ use Rattle.wl_end.specs.Sending.{send_answer, after_send, opens_object}
 use Rattle.wl_client.specs.State as client
 use Rattle.wl_client.specs.Reports as events
 use Rattle.wl_client.specs.Calls.{bind_answer, after_bind}
+use Rattle.wl_server.specs.declared.request.GlobalError.{GlobalError}
+use Rattle.wl_server.specs.declared.request.GlobalError.TheVariants as global_errors
 use Rattle.wl_server.specs.State as server
 use Rattle.wl_server.specs.State.{max_globals, global_of}
 use Rattle.wl_server.specs.Requests as requests
-use Rattle.wl_server.specs.Calls.{drop_refusal, after_drop, error_refusal, after_error, can_be_global, with_global, next_name, is_present, after_withdraw}
+use Rattle.wl_server.specs.Calls.{drop_refusal, after_drop, error_refusal, after_error, add_refusal, withdraw_refusal, with_global, next_name, after_withdraw}
 use Rattle.wl_server.specs.Announcing.{Fitting, after_announce}
 
 pub record PairState : Type 0 where
@@ -52,14 +54,6 @@ pub data Move : Type 0 where
   ClientNext : Move
   ServerNext : Move
 
--- why a global is not added, or not withdrawn
-pub data GlobalRefusal : Type 0 where
-  Failed : GlobalRefusal
-  BadGlobal : GlobalRefusal
-  TooMany : GlobalRefusal
-  Memory : GlobalRefusal
-  NoSuchGlobal : GlobalRefusal
-
 -- what a move is answered
 pub data Reply : Type 0 where
   ClientSend : Result (Option Object) SendError → Reply
@@ -67,8 +61,8 @@ pub data Reply : Type 0 where
   ServerSend : Result (Option Object) SendError → Reply
   ServerDrop : Result (Unit {0}) SendError → Reply
   PostError : Result (Unit {0}) SendError → Reply
-  AddGlobal : Result ℕ GlobalRefusal → Reply
-  Withdraw : Result (Unit {0}) GlobalRefusal → Reply
+  AddGlobal : Result ℕ GlobalError → Reply
+  Withdraw : Result (Unit {0}) GlobalError → Reply
   Announce : Result ℕ SendError → Reply
   CarryToServer : Fed → Reply
   CarryToClient : Fed → Reply
@@ -130,20 +124,10 @@ pub data Calls {E : Type 0} (refusal : Option E) (before after : PairState) : Re
   done : refusal ≡ None → Calls refusal before after (Ok tt) after
   refused : {why : E} → refusal ≡ Some why → Calls refusal before after (Err why) before
 
-abbrev pub add_refusal : server.State → Iface → ℕ → Option GlobalRefusal
-add_refusal s iface version =
-    if s.core.failed then Some Failed
-    else if not (can_be_global s.core.tables iface version) then Some BadGlobal
-    else if nat_lt (length s.globals) max_globals then None
-    else Some TooMany
-
-abbrev pub withdraw_refusal : server.State → ℕ → Option GlobalRefusal
-withdraw_refusal s name = if s.core.failed then Some Failed else if is_present (global_of s.globals name) then None else Some NoSuchGlobal
-
-pub data Adds (refusal : Option GlobalRefusal) (name : ℕ) (before after : PairState) : Result ℕ GlobalRefusal → PairState → Type 0 where
+pub data Adds (refusal : Option GlobalError) (name : ℕ) (before after : PairState) : Result ℕ GlobalError → PairState → Type 0 where
   added : refusal ≡ None → Adds refusal name before after (Ok name) after
-  refused : {why : GlobalRefusal} → refusal ≡ Some why → Adds refusal name before after (Err why) before
-  no_memory : refusal ≡ None → Adds refusal name before after (Err Memory) before
+  refused : {why : GlobalError} → refusal ≡ Some why → Adds refusal name before after (Err why) before
+  no_memory : refusal ≡ None → Adds refusal name before after (Err global_errors.Memory) before
 
 -- The longest beginning of what is owed is written that fits.
 pub data Announces (p : PairState) : Result ℕ SendError → PairState → Type 0 where

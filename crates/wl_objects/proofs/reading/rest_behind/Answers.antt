@@ -1,10 +1,9 @@
 use Rattle.std.proofs.Common.{◌∙◌, sym}
 use Rattle.wl_objects.specs.Reading.{Reader, forgiving}
-use Rattle.wl_objects.specs.Messages.{reader_of}
 use Rattle.wl_objects.proofs.Receiving.{found_ok, behind-end}
 use Rattle.wl_objects.proofs.reading.rest_behind.Goals as goal
 
 pub returns : goal.returns
 returns g c =
-    let r : Reader = forgiving c.args.forgives (reader_of (g.T.Table.view c.args.table.now)) in
+    let r : Reader = forgiving c.args.forgives (g.L.Lookup.reader c.args.lookup.now) in
     found_ok r c.args.kinds.now c.args.body.now _ (sym c.kinds.invariant ∙ behind-end r c.kinds.place c.args.kinds.now _ c.kinds-test.false)

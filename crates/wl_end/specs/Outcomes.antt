@@ -1,0 +1,15 @@
+-- What a call answers and leaves where memory can be wanted.
+use Rattle.std.specs.Prelude.{◌≡◌, ◌×◌, ◌⊎◌, Bool, true, IsOk}
+use Rattle.std.specs.declared.result.Result.{Result}
+use Rattle.std.specs.declared.result.Result.TheVariants.{Ok, Err}
+use Rattle.wl_objects.specs.declared.error.NextError.{NextError}
+use Rattle.wl_objects.specs.declared.error.NextError.TheVariants as errors
+
+-- A call answers as it should; or, where that is an acceptance and memory can be wanted for it, that there is no memory.
+abbrev pub Gives : {X E : Type 0} → E → Bool → Result X E → Result X E → Type 0
+Gives memory wants answer result = (result ≡ answer) ⊎ ((result ≡ Err memory) × (wants ≡ true) × IsOk answer)
+
+-- what a read leaves: want of memory changes nothing
+abbrev pub left : {S R : Type 0} → S → S → Result R NextError → S
+left before after (Err errors.Memory) = before
+left before after result = after

@@ -1,0 +1,45 @@
+//! What a reader of messages knows of objects and ids.
+ghost use Rattle.std.specs.Prelude.{◌≡◌};
+ghost use Rattle.wl_objects.specs.Reading.{Reader};
+ghost use Rattle.wl_objects.specs.Messages.{reader_of};
+
+use crate::object::{Entry, NewId};
+use crate::table::Table;
+
+/// What the reading of a message asks: the object that an id names, and what an id is as a new
+/// object's.
+pub trait Lookup {
+    ghost reader: { Self → Reader };
+
+    /// The object that an id names.
+    fn object(&self, id: u32) -> Option<Entry>
+        ensures { result ≡ (reader self.now).object id };
+
+    /// What an id is as that of a new object.
+    fn new_id(&self, id: u32) -> NewId
+        ensures { result ≡ (reader self.now).new_id id };
+}
+
+/// An end's table, as the reading of a message asks it.
+#[derive(Debug, Drop)]
+pub struct Held<'a, T: Table> {
+    pub table: &'a T,
+}
+
+impl<'a, T: Table> Lookup for Held<'a, T> {
+    ghost reader = { λ held. reader_of (T.view held.table.now) };
+
+    fn object(&self, id: u32) -> Option<Entry> {
+        self.table.look(id)
+    }
+
+    fn new_id(&self, id: u32) -> NewId {
+        if !self.table.is_free(id) {
+            NewId::Wrong
+        } else if !self.table.has_room(id) {
+            NewId::TooMany
+        } else {
+            NewId::Free
+        }
+    }
+}

@@ -1,0 +1,17 @@
+-- What the code's own reports stand for, without where they lie in memory.
+use Rattle.std.specs.Prelude.{Option, Some, None}
+use Rattle.std.specs.declared.result.Result.{Result}
+use Rattle.std.specs.declared.result.Result.TheVariants.{Ok, Err}
+use Rattle.wl_objects.specs.declared.error.NextError.{NextError}
+use Rattle.wl_server.specs.declared.request.Request.{Request}
+use Rattle.wl_server.specs.Requests.{Report}
+
+-- what an owned report is
+abbrev pub report_of : {A : Type 0} → Request A → Report
+report_of read = record { target = read.target; opcode = read.opcode; args = read.args }
+
+-- what `next` answered
+abbrev pub report_in : {A : Type 0} → Result (Option (Request A)) NextError → Result (Option Report) NextError
+report_in (Err why) = Err why
+report_in (Ok None) = Ok None
+report_in (Ok (Some read)) = Ok (Some (report_of read))
