@@ -1,5 +1,5 @@
 -- What a call answers and leaves where memory can be wanted.
-use Rattle.std.specs.Prelude.{◌≡◌, ◌×◌, ◌⊎◌, Bool, true, IsOk}
+use Rattle.std.specs.Prelude.{◌≡◌, ◌⊎◌, Bool, true, IsOk, Option, Some, None}
 use Rattle.std.specs.declared.result.Result.{Result}
 use Rattle.std.specs.declared.result.Result.TheVariants.{Ok, Err}
 use Rattle.wl_objects.specs.declared.error.NextError.{NextError}
@@ -13,3 +13,8 @@ Gives memory wants answer result = (result ≡ answer) ⊎ ((result ≡ Err memo
 abbrev pub left : {S R : Type 0} → S → S → Result R NextError → S
 left before after (Err errors.Memory) = before
 left before after result = after
+
+-- why a call was refused, if it was
+abbrev pub refusal_in : {X E : Type 0} → Result X E → Option E
+refusal_in (Ok x) = None
+refusal_in (Err why) = Some why

@@ -17,13 +17,13 @@ use Rattle.wl_objects.specs.declared.object.State.TheVariants as states
 use Rattle.wl_objects.specs.declared.error.Fault.{Fault}
 use Rattle.wl_objects.specs.declared.error.NextError.{NextError}
 use Rattle.wl_objects.specs.Reading.{descriptors}
-use Rattle.wl_end.specs.Receiving.{Found, found, found_at, reported}
+use Rattle.wl_end.specs.Receiving.{Found, found, found_at, reported, is_none}
 use Rattle.wl_client.specs.Reports.{Report, report, plain_report, answer_found, next_answer, state_found, after_next, state_past}
 use Rattle.wl_client.specs.Reports as reports
 use Rattle.wl_world.specs.Meant.{Known, Message, Coming, Event, Delete, Arg, renamed, recoming, rearg, born_of, birth_of, tokens, plain, live_entry}
 use Rattle.wl_world.specs.World.{World, Row, Open, Ending, event_read, delete_read, Steps, reads_event, reads_delete, ReadEvent}
 use Rattle.wl_world.specs.World as world
-use Rattle.wl_world.specs.Pair.{PairState, ClientNext, with_client, Nexts, answered, no_memory, is_none}
+use Rattle.wl_world.specs.Pair.{PairState, ClientNext, with_client, Nexts, answered, no_memory}
 use Rattle.wl_world.specs.Answers.{before, ReportsArgs, ReportsComing}
 use Rattle.wl_world.specs.Flight.{as_row}
 use Rattle.wl_world.specs.Stands.{stands, StandsBy, AreOf}

@@ -25,13 +25,13 @@ use Rattle.wl_objects.specs.Writing.{is_live}
 use Rattle.wl_objects.specs.Reading.{descriptors}
 use Rattle.wl_objects.specs.Messages.{is_error, is_delete_id, same_iface, Client as client_end, after, after_delete_id}
 use Rattle.wl_end.specs.Core.{Core}
-use Rattle.wl_end.specs.Receiving.{found}
+use Rattle.wl_end.specs.Receiving.{found, is_none}
 use Rattle.wl_client.specs.State as client
 use Rattle.wl_client.specs.Reports.{Report, state_past, core_after, view_after, globals_after, globals_told, report}
 use Rattle.wl_client.specs.Reports as reports
 use Rattle.wl_world.specs.Meant.{Born, Known, Message, Coming, Event, Delete, renamed, recoming, rearg, born_of, birth_of, wire, tokens, spelled, spelled_coming, objects, plain, live_entry}
 use Rattle.wl_world.specs.World.{World, display_born, Row, Each, event_read, delete_read, ending, put, is_open, is_registry, learned, nameless}
-use Rattle.wl_world.specs.Pair.{PairState, with_client, is_none}
+use Rattle.wl_world.specs.Pair.{PairState, with_client}
 use Rattle.wl_world.specs.Flight.{Rows, Held, Reads, all_tells, client_rows, row, as_row}
 use Rattle.wl_world.specs.Stands.{StandsBy, Fits, TellsFitly, TellsGiven, InFlight, Shows, birth_in}
 use Rattle.wl_world.proofs.Wholes.{client_ends, TellsAt, tells_at, DeletesAt, deletes_at}

@@ -14,12 +14,12 @@ use Rattle.wl_message.specs.Outgoing.{room_of}
 use Rattle.wl_objects.specs.declared.error.Fault.{Fault}
 use Rattle.wl_objects.specs.declared.error.NextError.{NextError}
 use Rattle.wl_objects.specs.declared.error.NextError.TheVariants as errors
-use Rattle.wl_end.specs.Receiving.{Found, found_at}
+use Rattle.wl_end.specs.Receiving.{Found, found_at, is_none}
 use Rattle.wl_end.specs.Sending.{delete_id_len}
 use Rattle.wl_server.specs.Requests.{Report, judged, request, report, is_out_full, next_answer, after_next, state_past}
 use Rattle.wl_world.specs.Meant.{Known, Message, Coming, Arg, renamed, rearg, born_of, birth_of}
 use Rattle.wl_world.specs.World.{World, request_read, reads_request}
-use Rattle.wl_world.specs.Pair.{PairState, ServerNext, with_server, Nexts, answered, no_memory, is_none}
+use Rattle.wl_world.specs.Pair.{PairState, ServerNext, with_server, Nexts, answered, no_memory}
 use Rattle.wl_world.specs.Answers.{before, ReportsRequest, rows_of_server, IsOutFull}
 use Rattle.wl_world.specs.Stands.{stands, StandsBy, AreOf}
 use Rattle.wl_world.specs.Runs.{Keeps}

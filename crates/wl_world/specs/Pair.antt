@@ -18,7 +18,7 @@ use Rattle.wl_objects.specs.declared.error.Fault.{Fault}
 use Rattle.wl_objects.specs.Writing.{Given}
 use Rattle.wl_objects.specs.Messages.{checked}
 use Rattle.wl_end.specs.Core.{Core, in_room, with_arrived, with_gone, is_drained}
-use Rattle.wl_end.specs.Receiving.{Found, found}
+use Rattle.wl_end.specs.Receiving.{Found, found, has_arguments}
 use Rattle.wl_end.specs.Sending.{send_answer, after_send, opens_object}
 use Rattle.wl_client.specs.State as client
 use Rattle.wl_client.specs.Reports as events
@@ -133,15 +133,6 @@ pub data Adds (refusal : Option GlobalError) (name : ℕ) (before after : PairSt
 pub data Announces (p : PairState) : Result ℕ SendError → PairState → Type 0 where
   announced : {count : ℕ} → p.server.core.failed ≡ false → Fitting p.server count → Announces p (Ok count) (with_server p (after_announce p.server count))
   refused : p.server.core.failed ≡ true → Announces p (Err refusals.Failed) p
-
-abbrev pub is_none : {X : Type 0} → List X → Bool
-is_none [] = true
-is_none (x ∷ xs) = false
-
--- whether a message was found that has arguments
-abbrev pub has_arguments : Result (Option Found) Fault → Bool
-has_arguments (Ok (Some f)) = not (is_none f.message.signature.kinds)
-has_arguments _ = false
 
 -- A read answers and leaves as it says, or wants memory, for a message with arguments, and changes nothing.
 pub data Nexts {R : Type 0} (answer : Result (Option R) NextError) (what : Result (Option Found) Fault) (before after : PairState) : Result (Option R) NextError → PairState → Type 0 where
