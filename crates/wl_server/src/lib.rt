@@ -1,6 +1,9 @@
 //! The server's end of a Wayland connection: what a compositor keeps for one client.
 #![tactic(auto)]
 
+mod advertised;
 mod request;
+mod server;
 
 pub use request::{GlobalError, Request};
+pub use server::Server;
