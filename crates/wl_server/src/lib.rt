@@ -2,6 +2,8 @@
 #![tactic(auto)]
 
 mod advertised;
+mod faults;
+mod globals;
 mod request;
 mod server;
 
