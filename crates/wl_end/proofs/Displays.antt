@@ -2,11 +2,16 @@
 use Rattle.std.proofs.Common.{◌≡◌, ◌≢◌, ℕ, Bool, true, false, refl, sym, ◌∙◌, ap, cond, eqb, subst, arith}
 use Rattle.std.proofs.lemmas.Bool.Decides.{nat_tests}
 use Rattle.std.specs.declared.option.Option.TheVariants.{None, Some}
-use Rattle.std.specs.Prelude.{option_map}
+use Rattle.std.specs.declared.result.Result.TheVariants.{Ok, Err}
+use Rattle.std.specs.Prelude.{option_map, Option, Result, ◌↔◌, IsTrue, OnOk, OnErr, is_some}
+use Rattle.wl_objects.specs.declared.object.Entry.{Entry}
 use Rattle.wl_wire.specs.declared.kind.Iface.{Iface}
 use Rattle.wl_sigs.specs.Fixed.{display}
 use Rattle.wl_objects.specs.declared.object.State.TheVariants.{Live}
-use Rattle.wl_objects.specs.View.{View, Sound, look, free_or_next, next_id, opening, opened_at, opened, closed, zombied, zombie}
+use Rattle.wl_objects.specs.declared.object.Object.{Object}
+use Rattle.wl_objects.specs.declared.object.TableError.{TableError}
+use Rattle.wl_objects.specs.declared.object.TableError.TheVariants as refusals
+use Rattle.wl_objects.specs.View.{View, Sound, look, is_held, free_or_next, next_id, opening, opened_at, opened, closed, zombied, zombie}
 use Rattle.wl_objects.specs.Views.{look-opening, look-opened_at, look-closed, look-zombied, free_is, free_or_next-next_id}
 use Rattle.wl_end.specs.Core.{HasDisplay}
 
@@ -37,3 +42,19 @@ HasDisplay-closed view id n d = look-closed view id 1 ∙ (ap (λ b. cond b None
 
 pub HasDisplay-zombied : (view : View) (id : ℕ) → id ≢ 1 → HasDisplay view → HasDisplay (zombied view id)
 HasDisplay-zombied view id n d = look-zombied view id 1 ∙ (ap (λ b. cond b (option_map zombie (look view 1)) (look view 1)) (other id n) ∙ d)
+
+is_held-of : (o : Option Entry) → is_some o ≡ false → o ≡ None
+is_held-of None e = refl
+is_held-of (Some x) e = absurd (cc e)
+
+-- what `open_at` opens had no row, so it is another
+pub HasDisplay-open : (view after : View) (id : ℕ) (iface : Iface) (version : ℕ) (r : Result Object TableError) → OnOk r (after ≡ opened_at view id iface version) → OnErr r (after ≡ view)
+    → ((r ≡ Err refusals.InUse) ↔ IsTrue (is_held view id)) → HasDisplay view → HasDisplay after
+HasDisplay-open view after id iface version (Err why) o e u d = subst HasDisplay (sym e) d
+HasDisplay-open view after id iface version (Ok object) o e u d = by_test (is_held view id) refl
+  where
+    by_test : (b : Bool) → is_held view id ≡ b → HasDisplay after
+    by_test true h = let no : Ok object ≡ Err refusals.InUse = u.1 h in absurd (cc no)
+    by_test false h =
+        subst HasDisplay (sym o) (look-opened_at view id iface version 1
+        ∙ (ap (λ b. cond b (Some (record { birth = view.births; iface = iface; version = version; state = Live })) (look view 1)) (not_display view id d (is_held-of (look view id) h)) ∙ d))
