@@ -2,9 +2,8 @@
 use Rattle.std.proofs.Common.{◌≡◌, ◌≢◌, ℕ, zero, suc, Bool, true, false, List, refl, sym, ◌∙◌, ap, cond, eqb, subst, arith}
 use Rattle.std.proofs.lemmas.Bool.Decides.{nat_tests}
 use Rattle.std.specs.declared.option.Option.TheVariants.{None, Some}
-use Rattle.std.specs.declared.result.Result.{Result}
 use Rattle.std.specs.declared.result.Result.TheVariants.{Ok, Err}
-use Rattle.std.specs.Prelude.{OnErr, OnOk, option_map, slice_get}
+use Rattle.std.specs.Prelude.{Option, Result, OnErr, OnOk, ◌↔◌, IsTrue, is_some, option_map, slice_get}
 use Rattle.wl_wire.specs.declared.kind.Iface.{Iface}
 use Rattle.wl_sigs.specs.declared.signature.Side.{Side}
 use Rattle.wl_sigs.specs.declared.signature.Side.TheVariants.{Request, Event}
@@ -14,7 +13,10 @@ use Rattle.wl_sigs.specs.Fixed.{wl_display, display}
 use Rattle.wl_sigs.specs.Valid.{Valid}
 use Rattle.wl_objects.specs.declared.object.Entry.{Entry}
 use Rattle.wl_objects.specs.declared.object.State.TheVariants.{Live}
-use Rattle.wl_objects.specs.View.{View, Sound, look, free_or_next, next_id, opening, opened_at, opened, closed, zombied, zombie}
+use Rattle.wl_objects.specs.declared.object.Object.{Object}
+use Rattle.wl_objects.specs.declared.object.TableError.{TableError}
+use Rattle.wl_objects.specs.declared.object.TableError.TheVariants as refusals
+use Rattle.wl_objects.specs.View.{View, Sound, look, is_held, free_or_next, next_id, opening, opened_at, opened, closed, zombied, zombie}
 use Rattle.wl_objects.specs.Views.{look-opening, look-opened_at, look-closed, look-zombied, free_is, free_or_next-next_id}
 use Rattle.wl_end.specs.Core.{HasDisplay}
 
@@ -72,3 +74,19 @@ ends-another tables view side id opcode entry m valid d row e t = λ same.
     let found : slice_get (messages_of side wl_display) opcode ≡ Some m = rw valid.fixed_three.display at at in
     let nothing : m.destroys ≡ Nothing = nothing-at side opcode m found in
     let no : Nothing ≡ Target = sym nothing ∙ t in cc
+
+is_held-of : (o : Option Entry) → is_some o ≡ false → o ≡ None
+is_held-of None e = refl
+is_held-of (Some x) e = absurd (cc e)
+
+-- what `open_at` opens had no row, so it is another
+pub HasDisplay-open : (view after : View) (id : ℕ) (iface : Iface) (version : ℕ) (r : Result Object TableError) → OnOk r (after ≡ opened_at view id iface version) → OnErr r (after ≡ view)
+    → ((r ≡ Err refusals.InUse) ↔ IsTrue (is_held view id)) → HasDisplay view → HasDisplay after
+HasDisplay-open view after id iface version (Err why) o e u d = subst HasDisplay (sym e) d
+HasDisplay-open view after id iface version (Ok object) o e u d = by_test (is_held view id) refl
+  where
+    by_test : (b : Bool) → is_held view id ≡ b → HasDisplay after
+    by_test true h = let no : Ok object ≡ Err refusals.InUse = u.1 h in absurd (cc no)
+    by_test false h =
+        subst HasDisplay (sym o) (look-opened_at view id iface version 1
+        ∙ (ap (λ b. cond b (Some (record { birth = view.births; iface = iface; version = version; state = Live })) (look view 1)) (not_display view id d (is_held-of (look view id) h)) ∙ d))
