@@ -1,8 +1,12 @@
 //! The client's end of a Wayland connection.
 #![tactic(auto)]
 
+mod client;
+mod globals;
 mod incoming;
 mod tokens;
 
+pub use client::Client;
+pub use globals::Global;
 pub use incoming::Incoming;
-pub use tokens::Tokens;
+pub use tokens::{MAX_TOKENS, Tokens};

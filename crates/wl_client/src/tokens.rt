@@ -1,45 +1,48 @@
-//! Owned tokens, seen as a list.
-ghost use Rattle.std.specs.Prelude.{◌≡◌};
+//! The tokens of one message, seen as a list.
+ghost use Rattle.std.specs.Prelude.{◌≡◌, ◌≤◌, length, take};
 
-use std::alloc::{Allocator, Global};
+use std::fmt::{self, Debug, Formatter};
 use std::marker::Model;
 
-/// Tokens of a message, in order, in memory of their own.
-///
-/// It is made from a `Vec` and gives it back without taking memory.
-#[derive(Debug, Drop)]
-pub struct Tokens<A: Allocator = Global> {
-    items: Vec<u32, A>,
+/// The most tokens that a message has, one for each argument.
+pub const MAX_TOKENS: usize = 20;
+
+/// Tokens of a message, in order. They take no memory.
+#[derive(Drop)]
+pub struct Tokens {
+    items: [u32; MAX_TOKENS],
+    count: usize,
 }
 
-impl<A: Allocator> Model for Tokens<A> {
-    ghost use Rattle.std.specs.Prelude.{ℕ, List};
+impl Model for Tokens {
+    ghost use Rattle.std.specs.Prelude.{◌≤◌, ℕ, List, take};
 
     ghost Value = { List ℕ };
 
-    ghost view = { λ t. t.items.items };
+    ghost view = { λ t. take t.count t.items };
+
+    ghost invariant = { λ t. t.count ≤ 20 };
 }
 
-impl<A: Allocator> Tokens<A> {
-    /// The tokens of a vector, with its memory.
-    pub fn from_vec(items: Vec<u32, A>) -> Tokens<A>
-        ensures { result ≡ items.items }
+impl Tokens {
+    /// The first tokens of an array, so many of them.
+    pub fn first_of(items: [u32; MAX_TOKENS], count: usize) -> Self
+        requires { count ≤ 20 }
+        ensures { result ≡ take count items }
     {
-        Tokens { items }
-    }
-
-    /// The vector of these tokens, with their memory.
-    pub fn into_vec(self) -> Vec<u32, A>
-        ensures { result.items ≡ self }
-    {
-        let Tokens { items } = self;
-        items
+        Self { items, count }
     }
 
     /// The tokens, lent.
     pub fn as_slice(&self) -> &[u32]
         ensures { result.now ≡ self.now }
     {
-        self.items.as_slice()
+        &self.items[..self.count]
+    }
+}
+
+impl Debug for Tokens {
+    fn fmt<W: fmt::Write>(&self, f: &mut Formatter<W>) -> fmt::Result {
+        self.as_slice().fmt(f)
     }
 }
