@@ -5,6 +5,7 @@
 //! tells which end is meant.
 #![tactic(auto)]
 
+mod sending;
 mod shared;
 
 pub use shared::Core;
