@@ -1,0 +1,4 @@
+pub mod Zombies
+pub mod Parts
+pub mod Firsts
+pub mod Places

@@ -4,9 +4,11 @@
 mod client;
 mod globals;
 mod incoming;
+mod steps;
 mod tokens;
+mod values;
 
 pub use client::Client;
 pub use globals::Global;
 pub use incoming::Incoming;
-pub use tokens::{MAX_TOKENS, Tokens};
+pub use tokens::Tokens;

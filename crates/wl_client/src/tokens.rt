@@ -1,11 +1,13 @@
 //! The tokens of one message, seen as a list.
 ghost use Rattle.std.specs.Prelude.{◌≡◌, ◌≤◌, length, take};
 
+use std::alloc::Allocator;
 use std::fmt::{self, Debug, Formatter};
 use std::marker::Model;
+use wl_message::Inbox;
 
 /// The most tokens that a message has, one for each argument.
-pub const MAX_TOKENS: usize = 20;
+pub(crate) const MAX_TOKENS: usize = 20;
 
 /// Tokens of a message, in order. They take no memory.
 #[derive(Drop)]
@@ -25,12 +27,23 @@ impl Model for Tokens {
 }
 
 impl Tokens {
-    /// The first tokens of an array, so many of them.
-    pub fn first_of(items: [u32; MAX_TOKENS], count: usize) -> Self
-        requires { count ≤ 20 }
-        ensures { result ≡ take count items }
+    /// The tokens that wait first in an inbox, as many as a message can have.
+    pub(crate) fn waiting<A: Allocator>(inbox: &Inbox<A>) -> Self
+        ensures { result ≡ take 20 inbox.now.tokens }
     {
+        let mut items = [0; MAX_TOKENS];
+        let count = copy_waiting(inbox, &mut items);
         Self { items, count }
+    }
+
+    /// The first of these tokens, so many of them if there are so many.
+    pub(crate) fn first(&self, count: usize) -> Self
+        ensures { result ≡ take count self.now }
+    {
+        Self {
+            items: self.items,
+            count: count.min(self.count),
+        }
     }
 
     /// The tokens, lent.
@@ -39,6 +52,20 @@ impl Tokens {
     {
         &self.items[..self.count]
     }
+}
+
+/// Copies the tokens that wait first into the front of a slice, and answers how many there are.
+fn copy_waiting<A: Allocator>(inbox: &Inbox<A>, items: &mut [u32]) -> usize
+    ensures within { result ≤ length items.old }
+    ensures items { take result items.new ≡ take (length items.old) inbox.now.tokens }
+{
+    'places: for place in 0..items.len() {
+        match inbox.token(place) {
+            Some(token) => items[place] = token,
+            None => return place,
+        }
+    }
+    items.len()
 }
 
 impl Debug for Tokens {
