@@ -4,6 +4,7 @@
 mod client;
 mod globals;
 mod incoming;
+mod reading;
 mod steps;
 mod tokens;
 mod values;
