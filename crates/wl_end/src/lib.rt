@@ -7,5 +7,7 @@
 
 mod sending;
 mod shared;
+mod taking;
 
 pub use shared::Core;
+pub use taking::MAX_TOKENS;

@@ -1,6 +1,11 @@
 //! The server's end of a Wayland connection: what a compositor keeps for one client.
 #![tactic(auto)]
 
+mod advertised;
+mod faults;
+mod globals;
 mod request;
+mod server;
 
 pub use request::{GlobalError, Request};
+pub use server::Server;
