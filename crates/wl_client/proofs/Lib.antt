@@ -2,5 +2,4 @@ pub mod Zombies
 pub mod Firsts
 pub mod Places
 pub mod Nexts
-pub mod Changes
 pub mod Fronts

@@ -1,10 +1,12 @@
 //! The client's end of a Wayland connection.
 #![tactic(auto)]
 
+mod binding;
 mod client;
 mod globals;
 mod incoming;
 mod reading;
+mod sending;
 mod steps;
 mod tokens;
 mod values;
