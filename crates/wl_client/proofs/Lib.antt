@@ -3,3 +3,4 @@ pub mod Firsts
 pub mod Places
 pub mod Nexts
 pub mod Fronts
+pub mod Names

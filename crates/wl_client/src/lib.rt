@@ -15,3 +15,6 @@ pub use client::Client;
 pub use globals::Global;
 pub use incoming::Incoming;
 pub use tokens::Tokens;
+
+#[cfg(test)]
+mod tests;
