@@ -78,7 +78,13 @@ fn a_new_client_has_the_display_alone(rt: HostRuntime) -> Result<(), Fail> {
     assert_eq!(rt; client.display(), Object { id: 1, birth: 0 });
     assert_eq!(rt; client.live(REGISTRY), None);
     assert_eq!(rt; client.table().len(), 1);
-    assert_eq!(rt; client.in_room(), Fed { bytes: 4096, tokens: 20 });
+    assert_eq!(rt;
+        client.in_room(),
+        Fed {
+            bytes: 4096,
+            tokens: 20
+        }
+    );
     assert!(rt; client.is_drained());
     Ok(())
 }
@@ -92,11 +98,29 @@ fn a_failed_client_reads_and_writes_nothing_more(rt: HostRuntime) -> Result<(), 
         Err(why) => assert_eq!(rt; why, NextError::Failed),
         Ok(_) => assert!(rt; false),
     }
-    assert_eq!(rt; client.feed(b"more", &[1]), Fed { bytes: 0, tokens: 0 });
-    assert_eq!(rt; client.in_room(), Fed { bytes: 0, tokens: 0 });
-    assert_eq!(rt; client.send(display, 1, &[Arg::New]), Err(SendError::Failed));
+    assert_eq!(rt;
+        client.feed(b"more", &[1]),
+        Fed {
+            bytes: 0,
+            tokens: 0
+        }
+    );
+    assert_eq!(rt;
+        client.in_room(),
+        Fed {
+            bytes: 0,
+            tokens: 0
+        }
+    );
+    assert_eq!(rt;
+        client.send(display, 1, &[Arg::New]),
+        Err(SendError::Failed)
+    );
     // also where the target is stale
     assert_eq!(rt; client.send(SURFACE, 0, &[]), Err(SendError::Failed));
-    assert_eq!(rt; client.bind(REGISTRY, 1, b"wl_compositor", 6), Err(SendError::Failed));
+    assert_eq!(rt;
+        client.bind(REGISTRY, 1, b"wl_compositor", 6),
+        Err(SendError::Failed)
+    );
     Ok(())
 }

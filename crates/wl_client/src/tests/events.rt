@@ -52,9 +52,16 @@ fn the_tokens_of_a_zombie_are_handed_out(rt: HostRuntime) -> Result<(), Fail> {
     let first = Object { id: 6, birth: 5 };
     let second = Object { id: 7, birth: 6 };
     let _ = client.send(first, 0, &[])?;
-    let keymaps = b"\x06\0\0\0\0\0\x10\0\x01\0\0\0\x0a\0\0\0\x07\0\0\0\0\0\x10\0\x01\0\0\0\x0a\0\0\0";
+    let keymaps =
+        b"\x06\0\0\0\0\0\x10\0\x01\0\0\0\x0a\0\0\0\x07\0\0\0\0\0\x10\0\x01\0\0\0\x0a\0\0\0";
     match read(&mut client, keymaps, &[7, 8])? {
-        Some(Incoming::Discarded { target, opcode, tokens }) => {
+        Some(
+            Incoming::Discarded {
+                target,
+                opcode,
+                tokens,
+            },
+        ) => {
             assert_eq!(rt; target, first);
             assert_eq!(rt; opcode, 0);
             assert_eq!(rt; tokens.as_slice(), [7].as_slice());
@@ -62,7 +69,13 @@ fn the_tokens_of_a_zombie_are_handed_out(rt: HostRuntime) -> Result<(), Fail> {
         _ => assert!(rt; false),
     }
     match client.next()? {
-        Some(Incoming::Event { target, opcode, args }) => {
+        Some(
+            Incoming::Event {
+                target,
+                opcode,
+                args,
+            },
+        ) => {
             assert_eq!(rt; target, second);
             assert_eq!(rt; opcode, 0);
             match args.as_slice() {
@@ -76,7 +89,13 @@ fn the_tokens_of_a_zombie_are_handed_out(rt: HostRuntime) -> Result<(), Fail> {
         }
         _ => assert!(rt; false),
     }
-    assert_eq!(rt; client.in_room(), Fed { bytes: 4096, tokens: 20 });
+    assert_eq!(rt;
+        client.in_room(),
+        Fed {
+            bytes: 4096,
+            tokens: 20
+        }
+    );
     Ok(())
 }
 
@@ -89,7 +108,13 @@ fn an_event_can_name_a_zombie(rt: HostRuntime) -> Result<(), Fail> {
     let _ = client.send(SURFACE, 0, &[])?;
     let enter = b"\x06\0\0\0\0\0\x18\0\x01\0\0\0\x04\0\0\0\0\x01\0\0\0\0\0\0";
     match read(&mut client, enter, &[])? {
-        Some(Incoming::Event { target, opcode, args }) => {
+        Some(
+            Incoming::Event {
+                target,
+                opcode,
+                args,
+            },
+        ) => {
             assert_eq!(rt; target, Object { id: 6, birth: 5 });
             assert_eq!(rt; opcode, 0);
             match args.as_slice() {
@@ -113,19 +138,34 @@ fn the_registry_teaches_globals(rt: HostRuntime) -> Result<(), Fail> {
     // an interface that is not in the tables has the name 1 now
     let unknown = b"\x02\0\0\0\0\0\x18\0\x01\0\0\0\x04\0\0\0xyz\0\x06\0\0\0";
     match read(&mut client, unknown, &[])? {
-        Some(Incoming::Event { target, opcode, args }) => {
+        Some(
+            Incoming::Event {
+                target,
+                opcode,
+                args,
+            },
+        ) => {
             assert_eq!(rt; target, REGISTRY);
             assert_eq!(rt; opcode, 0);
             assert_eq!(rt; args.as_slice().len(), 3);
         }
         _ => assert!(rt; false),
     }
-    assert_eq!(rt; client.bind(REGISTRY, 1, b"wl_compositor", 6), Err(SendError::BadBind));
+    assert_eq!(rt;
+        client.bind(REGISTRY, 1, b"wl_compositor", 6),
+        Err(SendError::BadBind)
+    );
     let _ = read(&mut client, GLOBAL_COMPOSITOR, &[])?;
-    assert_eq!(rt; client.bind(REGISTRY, 1, b"wl_compositor", 6), Ok(COMPOSITOR));
+    assert_eq!(rt;
+        client.bind(REGISTRY, 1, b"wl_compositor", 6),
+        Ok(COMPOSITOR)
+    );
     // global_remove of the name 1
     let _ = read(&mut client, b"\x02\0\0\0\x01\0\x0c\0\x01\0\0\0", &[])?;
-    assert_eq!(rt; client.bind(REGISTRY, 1, b"wl_compositor", 6), Err(SendError::BadBind));
+    assert_eq!(rt;
+        client.bind(REGISTRY, 1, b"wl_compositor", 6),
+        Err(SendError::BadBind)
+    );
     Ok(())
 }
 
@@ -136,7 +176,14 @@ fn an_error_may_name_an_unknown_object(rt: HostRuntime) -> Result<(), Fail> {
     let _ = client.send(client.display(), 1, &[Arg::New])?;
     let error = b"\x01\0\0\0\0\0\x18\0\x09\0\0\0\x02\0\0\0\x04\0\0\0bad\0";
     match read(&mut client, error, &[])? {
-        Some(Incoming::Error { id, named, code, text }) => {
+        Some(
+            Incoming::Error {
+                id,
+                named,
+                code,
+                text,
+            },
+        ) => {
             assert_eq!(rt; id, 9);
             assert_eq!(rt; named, Named::Null);
             assert_eq!(rt; code, 2);

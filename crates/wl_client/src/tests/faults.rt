@@ -22,13 +22,25 @@ const BEFORE: u64 = 36 + 28 + 12;
 fn headers_are_judged(rt: HostRuntime) -> Result<(), Fail> {
     let alloc = rt.alloc();
     // F1: 7 bytes, 4100 bytes, and not yet 4096 bytes
-    assert_eq!(rt; fault_of(alloc, b"\x01\0\0\0\0\0\x07\0")?, Some((Fault::BadSize, BEFORE)));
-    assert_eq!(rt; fault_of(alloc, b"\x01\0\0\0\0\0\x04\x10")?, Some((Fault::BadSize, BEFORE)));
+    assert_eq!(rt;
+        fault_of(alloc, b"\x01\0\0\0\0\0\x07\0")?,
+        Some((Fault::BadSize, BEFORE))
+    );
+    assert_eq!(rt;
+        fault_of(alloc, b"\x01\0\0\0\0\0\x04\x10")?,
+        Some((Fault::BadSize, BEFORE))
+    );
     assert_eq!(rt; fault_of(alloc, b"\x01\0\0\0\0\0\0\x10")?, None);
     // F2
-    assert_eq!(rt; fault_of(alloc, b"\x09\0\0\0\0\0\x08\0")?, Some((Fault::UnknownObject, BEFORE)));
+    assert_eq!(rt;
+        fault_of(alloc, b"\x09\0\0\0\0\0\x08\0")?,
+        Some((Fault::UnknownObject, BEFORE))
+    );
     // F3: no such opcode; and preferred_buffer_scale, which came with version 6
-    assert_eq!(rt; fault_of(alloc, b"\x01\0\0\0\x02\0\x08\0")?, Some((Fault::UnknownMessage, BEFORE)));
+    assert_eq!(rt;
+        fault_of(alloc, b"\x01\0\0\0\x02\0\x08\0")?,
+        Some((Fault::UnknownMessage, BEFORE))
+    );
     assert_eq!(rt;
         fault_of(alloc, b"\x04\0\0\0\x02\0\x0c\0\x01\0\0\0")?,
         Some((Fault::UnknownMessage, BEFORE))
@@ -63,7 +75,11 @@ fn a_descriptor_may_be_missing(rt: HostRuntime) -> Result<(), Fail> {
     let tables = Tables::core(rt.alloc())?;
     let mut client = bound(rt.alloc(), &tables, 6)?;
     let _ = client.send(SEAT, 1, &[Arg::New])?;
-    match read(&mut client, b"\x06\0\0\0\0\0\x10\0\x01\0\0\0\x0a\0\0\0", &[]) {
+    match read(
+        &mut client,
+        b"\x06\0\0\0\0\0\x10\0\x01\0\0\0\x0a\0\0\0",
+        &[],
+    ) {
         Err(NextError::Fault { fault, offset }) => {
             assert_eq!(rt; fault, Fault::MissingDescriptor);
             assert_eq!(rt; offset, 64);

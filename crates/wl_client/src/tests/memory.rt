@@ -28,28 +28,60 @@ fn a_client_is_refused_each_of_its_allocations(rt: HostRuntime) -> Result<(), Fa
 }
 
 #[test]
-fn a_call_without_memory_changes_nothing(rt: HostRuntime) -> Result<(), Fail> {
+fn a_bind_without_memory_changes_nothing(rt: HostRuntime) -> Result<(), Fail> {
     let tables = Tables::core(rt.alloc())?;
     let memory = RefusingAllocator::new(rt.alloc())?;
+    let made = Object { id: 5, birth: 4 };
     let mut granted = None;
     for number in 0u64..100 {
         let mut client = Refused::new(memory.clone()?, &tables, SIZES)?;
         told(&mut client)?;
+        let display = client.display();
+        // these use up the room that was made for ids
+        let _ = client.send(display, 0, &[Arg::New])?;
+        let _ = client.send(display, 0, &[Arg::New])?;
         memory.refuse_nth(number);
         let answer = client.bind(REGISTRY, 1, b"wl_compositor", 6);
         let refused = memory.has_refused();
         memory.refuse_none();
-        if answer == Ok(COMPOSITOR) {
+        if answer == Ok(made) {
             assert!(rt; !refused);
             granted = Some(number);
             break;
         }
         assert!(rt; refused);
         assert_eq!(rt; answer, Err(SendError::Memory));
-        assert_eq!(rt; client.goes(64, 0).bytes, 12);
-        assert_eq!(rt; client.live(COMPOSITOR), None);
+        assert_eq!(rt; client.goes(100, 0).bytes, 36);
+        assert_eq!(rt; client.live(made), None);
+        assert_eq!(rt; client.bind(REGISTRY, 1, b"wl_compositor", 6), Ok(made));
+    }
+    assert!(rt; granted.is_some());
+    assert_ne!(rt; granted, Some(0));
+    Ok(())
+}
+
+#[test]
+fn a_request_without_memory_changes_nothing(rt: HostRuntime) -> Result<(), Fail> {
+    let tables = Tables::core(rt.alloc())?;
+    let memory = RefusingAllocator::new(rt.alloc())?;
+    let mut granted = None;
+    for number in 0u64..100 {
+        let mut client = Refused::new(memory.clone()?, &tables, SIZES)?;
         let display = client.display();
-        assert_eq!(rt; client.send(display, 0, &[Arg::New]), Ok(Some(COMPOSITOR)));
+        memory.refuse_nth(number);
+        let answer = client.send(display, 1, &[Arg::New]);
+        let refused = memory.has_refused();
+        memory.refuse_none();
+        if answer == Ok(Some(REGISTRY)) {
+            assert!(rt; !refused);
+            granted = Some(number);
+            break;
+        }
+        assert!(rt; refused);
+        assert_eq!(rt; answer, Err(SendError::Memory));
+        assert!(rt; client.is_drained());
+        assert_eq!(rt; client.live(REGISTRY), None);
+        assert_eq!(rt; client.send(display, 1, &[Arg::New]), Ok(Some(REGISTRY)));
     }
     assert!(rt; granted.is_some());
     assert_ne!(rt; granted, Some(0));
@@ -59,9 +91,15 @@ fn a_call_without_memory_changes_nothing(rt: HostRuntime) -> Result<(), Fail> {
 /// Whether the answer is the event that tells of the compositor.
 fn tells_compositor(answer: &Result<Option<Incoming<RefusingAllocator>>, NextError>) -> bool {
     match answer {
-        Ok(Some(Incoming::Event { target, opcode, args })) => {
-            *target == REGISTRY && *opcode == 0 && args.as_slice().len() == 3
-        }
+        Ok(
+            Some(
+                Incoming::Event {
+                    target,
+                    opcode,
+                    args,
+                },
+            ),
+        ) => { *target == REGISTRY && *opcode == 0 && args.as_slice().len() == 3 }
         _ => false,
     }
 }
@@ -90,9 +128,15 @@ fn a_message_that_finds_no_memory_stays(rt: HostRuntime) -> Result<(), Fail> {
             Ok(_) => assert!(rt; false),
         }
         assert_eq!(rt; client.in_room().bytes, 4060);
-        assert_eq!(rt; client.bind(REGISTRY, 1, b"wl_compositor", 6), Err(SendError::BadBind));
+        assert_eq!(rt;
+            client.bind(REGISTRY, 1, b"wl_compositor", 6),
+            Err(SendError::BadBind)
+        );
         assert!(rt; tells_compositor(&client.next()));
-        assert_eq!(rt; client.bind(REGISTRY, 1, b"wl_compositor", 6), Ok(COMPOSITOR));
+        assert_eq!(rt;
+            client.bind(REGISTRY, 1, b"wl_compositor", 6),
+            Ok(COMPOSITOR)
+        );
     }
     assert!(rt; granted.is_some());
     assert_ne!(rt; granted, Some(0));
@@ -111,7 +155,14 @@ fn an_error_that_finds_no_memory_stays(rt: HostRuntime) -> Result<(), Fail> {
         Ok(_) => assert!(rt; false),
     }
     match client.next()? {
-        Some(Incoming::Error { id, named, code, text }) => {
+        Some(
+            Incoming::Error {
+                id,
+                named,
+                code,
+                text,
+            },
+        ) => {
             assert_eq!(rt; id, 1);
             assert_eq!(rt; named, Named::Live(Object { id: 1, birth: 0 }));
             assert_eq!(rt; code, 2);
@@ -132,7 +183,13 @@ fn some_reports_take_no_memory(rt: HostRuntime) -> Result<(), Fail> {
     memory.refuse_nth(0);
     // wl_pointer.frame
     match read(&mut client, b"\x02\0\0\0\x05\0\x08\0", &[])? {
-        Some(Incoming::Event { target, opcode, args }) => {
+        Some(
+            Incoming::Event {
+                target,
+                opcode,
+                args,
+            },
+        ) => {
             assert_eq!(rt; target, pointer);
             assert_eq!(rt; opcode, 5);
             assert_eq!(rt; args.as_slice().len(), 0);
