@@ -1,0 +1,4 @@
+pub mod Dues
+pub mod Progresses
+pub mod Owings
+pub mod Tells
