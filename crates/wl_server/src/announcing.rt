@@ -173,3 +173,6 @@ impl<'t, T: Table> Server<'t, T> {
         Ok(told.count)
     }
 }
+
+#[cfg(test)]
+mod tests;
