@@ -1,12 +1,17 @@
 -- wl_display's row stays as it is, and no message destroys wl_display.
-use Rattle.std.proofs.Common.{◌≡◌, ◌≢◌, ℕ, Bool, true, false, refl, sym, ◌∙◌, ap, cond, eqb, subst, arith}
+use Rattle.std.proofs.Common.{◌≡◌, ◌≢◌, ℕ, zero, suc, Bool, true, false, List, refl, sym, ◌∙◌, ap, cond, eqb, subst, arith}
 use Rattle.std.proofs.lemmas.Bool.Decides.{nat_tests}
 use Rattle.std.specs.declared.option.Option.TheVariants.{None, Some}
 use Rattle.std.specs.declared.result.Result.TheVariants.{Ok, Err}
-use Rattle.std.specs.Prelude.{option_map, Option, Result, ◌↔◌, IsTrue, OnOk, OnErr, is_some}
-use Rattle.wl_objects.specs.declared.object.Entry.{Entry}
+use Rattle.std.specs.Prelude.{Option, Result, OnErr, OnOk, ◌↔◌, IsTrue, is_some, option_map, slice_get}
 use Rattle.wl_wire.specs.declared.kind.Iface.{Iface}
-use Rattle.wl_sigs.specs.Fixed.{display}
+use Rattle.wl_sigs.specs.declared.signature.Side.{Side}
+use Rattle.wl_sigs.specs.declared.signature.Side.TheVariants.{Request, Event}
+use Rattle.wl_sigs.specs.declared.signature.Destroys.TheVariants.{Nothing, Target}
+use Rattle.wl_sigs.specs.Tables.{Interface, Message, signature_at, messages_of}
+use Rattle.wl_sigs.specs.Fixed.{wl_display, display}
+use Rattle.wl_sigs.specs.Valid.{Valid}
+use Rattle.wl_objects.specs.declared.object.Entry.{Entry}
 use Rattle.wl_objects.specs.declared.object.State.TheVariants.{Live}
 use Rattle.wl_objects.specs.declared.object.Object.{Object}
 use Rattle.wl_objects.specs.declared.object.TableError.{TableError}
@@ -34,6 +39,12 @@ HasDisplay-opened_at view id iface version s f d =
 pub HasDisplay-opened : (view : View) (iface : Iface) (version : ℕ) → Sound view → HasDisplay view → HasDisplay (opened view iface version)
 HasDisplay-opened view iface version s d = HasDisplay-opened_at view (next_id view) iface version s (free_or_next-next_id view) d
 
+-- an opening that may be refused
+pub HasDisplay-opening_next : {X E : Type 0} (result : Result X E) (before now : View) (iface : Iface) (version : ℕ) → Sound before → HasDisplay before
+    → OnOk result (now ≡ opened before iface version) → OnErr result (now ≡ before) → HasDisplay now
+HasDisplay-opening_next (Ok object) before now iface version s d ok err = subst HasDisplay (sym ok) (HasDisplay-opened before iface version s d)
+HasDisplay-opening_next (Err why) before now iface version s d ok err = subst HasDisplay (sym err) d
+
 other : (id : ℕ) → id ≢ 1 → eqb 1 id ≡ false
 other id n = grind (arith, nat_tests, n)
 
@@ -42,6 +53,27 @@ HasDisplay-closed view id n d = look-closed view id 1 ∙ (ap (λ b. cond b None
 
 pub HasDisplay-zombied : (view : View) (id : ℕ) → id ≢ 1 → HasDisplay view → HasDisplay (zombied view id)
 HasDisplay-zombied view id n d = look-zombied view id 1 ∙ (ap (λ b. cond b (option_map zombie (look view 1)) (look view 1)) (other id n) ∙ d)
+
+-- what a message of wl_display destroys
+nothing-at : (side : Side) (opcode : ℕ) (m : Message) → slice_get (messages_of side wl_display) opcode ≡ Some m → m.destroys ≡ Nothing
+nothing-at Request zero m e = let d = ap (option_map (λ (n : Message). n.destroys)) e in cc
+nothing-at Request (suc zero) m e = let d = ap (option_map (λ (n : Message). n.destroys)) e in cc
+nothing-at Request (suc (suc n)) m e = absurd (cc)
+nothing-at Event zero m e = let d = ap (option_map (λ (n : Message). n.destroys)) e in cc
+nothing-at Event (suc zero) m e = let d = ap (option_map (λ (n : Message). n.destroys)) e in cc
+nothing-at Event (suc (suc n)) m e = absurd (cc)
+
+-- no message destroys wl_display
+pub ends-another : (tables : List Interface) (view : View) (side : Side) (id opcode : ℕ) (entry : Entry) (m : Message) → Valid tables → HasDisplay view
+    → look view id ≡ Some entry → signature_at tables entry.iface.0 side opcode ≡ Some m → m.destroys ≡ Target → id ≢ 1
+ends-another tables view side id opcode entry m valid d row e t = λ same.
+    let one : Some entry ≡ Some (record { birth = 0; iface = display; version = 1; state = Live }) = sym row ∙ ap (look view) same ∙ d in
+    let place : Some entry.iface.0 ≡ Some 0 = ap (option_map (λ (x : Entry). x.iface.0)) one in
+    let zero_place : entry.iface.0 ≡ 0 = cc in
+    let at : signature_at tables 0 side opcode ≡ Some m = subst (λ (n : ℕ). signature_at tables n side opcode ≡ Some m) zero_place e in
+    let found : slice_get (messages_of side wl_display) opcode ≡ Some m = rw valid.fixed_three.display at at in
+    let nothing : m.destroys ≡ Nothing = nothing-at side opcode m found in
+    let no : Nothing ≡ Target = sym nothing ∙ t in cc
 
 is_held-of : (o : Option Entry) → is_some o ≡ false → o ≡ None
 is_held-of None e = refl

@@ -1,3 +1,4 @@
 pub mod Displays
 pub mod Messages
+pub mod Sends
 pub mod Receivings
