@@ -19,9 +19,9 @@ use Rattle.wl_sigs.specs.Fixed.{registry}
 use Rattle.wl_end.specs.Core.{Core}
 use Rattle.wl_end.specs.Receiving.{Found, has_arguments, is_none}
 use Rattle.wl_end.specs.Outcomes.{Gives, left}
-use Rattle.wl_server.specs.State.{State, Registry, RiseFrom, with_core, untold}
+use Rattle.wl_server.specs.State.{State, Global, Registry, RiseFrom, with_core, untold}
 use Rattle.wl_server.specs.Requests.{Report, request, is_out_full, next_answer, after_next, answer_found, state_found, state_past, made_in, registries_after, without_registry}
-use Rattle.wl_server.specs.Steps.{Step, step_of, step_found, front_step, after_front, after_step, report_by, core_by, core_told, registries_by}
+use Rattle.wl_server.specs.Steps.{Step, step_of, step_found, front_step, after_front, after_step, report_by, core_by, core_told, registries_by, state_of}
 use Rattle.wl_server.proofs.Risings.{rise-below, rise-new, rise-without}
 
 -- ---- the registries
@@ -142,6 +142,7 @@ made-some state (Ok (Some f)) step e m = by_full (is_out_full state.core f) e
     by_kinds : (ks : List Kind) → f.message.signature.kinds ≡ ks → step.made ≡ made_in state.core f.message → not (is_none ks) ≡ true
     by_kinds (k ∷ ks) s n = refl
     by_kinds [] s n = absurd (m (n ∙ ap (λ (l : List Kind). made state.core.tables f.message.entry.version l f.message.values) s))
+
     by_full : (b : Bool) → Ok (Some step) ≡ (if b then Err errors.OutFull else Ok (Some (step_of state.core f))) → not (is_none f.message.signature.kinds) ≡ true
     by_full true e = absurd (cc e)
     by_full false e = let same : step ≡ step_of state.core f = cc e in by_kinds f.message.signature.kinds refl (ap (λ (s : Step). s.made) same)
@@ -151,3 +152,8 @@ pub memory-wanted : (state : State) (step : Step) → state.core.failed ≡ fals
 memory-wanted state step h g m = either
     (λ e. inr (refl, made-some state (request state) step e m, subst IsOk (sym (answer-front state h)) (ok-report (front_step state) (subst IsOk e (search rules)))))
     (λ k. absurd (cc k.0)) g
+
+-- what stands in front does not depend on the registries
+pub seen-by : (state : State) (globals : List Global) (x : Result (Option Step) NextError) → globals ≡ state.globals
+    → Gives errors.Memory (has_arguments (request (state_of state.core globals))) (front_step (state_of state.core globals)) x → Gives errors.Memory (has_arguments (request state)) (front_step state) x
+seen-by state globals x e g = subst (λ (l : List Global). Gives errors.Memory (has_arguments (request (state_of state.core l))) (front_step (state_of state.core l)) x) e g

@@ -20,12 +20,12 @@ use crate::request::Request;
 use crate::server::Server;
 use crate::step::Step;
 use std::alloc::{AllocError, Allocator};
+use wl_end::{Core, MAX_TOKENS};
 use wl_objects::{
-    Fault, Gots, Made, NextError, Object, REGISTRY, Received, Table, descriptors, is_bind, made_by_message, receive,
-    report_arguments,
+    Fault, Gots, Made, NextError, Object, REGISTRY, Received, Table, descriptors, is_bind,
+    made_by_message, receive, report_arguments,
 };
 use wl_sigs::{Destroys, Side, Tables};
-use wl_end::{Core, MAX_TOKENS};
 use wl_wire::Header;
 
 /// The id of wl_display.
@@ -187,7 +187,10 @@ fn front<T: Table>(
     let frame = match core.inbox.frame() {
         Ok(Some(frame)) => frame,
         Ok(None) => return Ok(None),
-        Err(_) => return Err(NextError::Fault { fault: Fault::BadSize, offset }),
+        Err(_) => return Err(NextError::Fault {
+            fault: Fault::BadSize,
+            offset,
+        }),
     };
     let header = frame.header;
     let received = match receive(
@@ -202,7 +205,10 @@ fn front<T: Table>(
         Err(fault) => return Err(NextError::Fault { fault, offset }),
     };
     if is_bad_bind(core.tables, globals, header.opcode, &received) {
-        return Err(NextError::Fault { fault: Fault::BadBind, offset });
+        return Err(NextError::Fault {
+            fault: Fault::BadBind,
+            offset,
+        });
     }
     if is_out_full(room, &received) {
         return Err(NextError::OutFull);
