@@ -2,6 +2,7 @@
 #![tactic(auto)]
 
 mod advertised;
+mod announcing;
 mod faults;
 mod globals;
 mod receiving;
