@@ -1,3 +1,6 @@
+pub mod Fronts
+pub mod Risings
+pub mod Taking
 pub mod Dues
 pub mod Progresses
 pub mod Owings

@@ -5,8 +5,10 @@ mod advertised;
 mod announcing;
 mod faults;
 mod globals;
+mod receiving;
 mod request;
 mod server;
+mod step;
 
 pub use request::{GlobalError, Request};
 pub use server::Server;
