@@ -5,3 +5,4 @@ pub mod Dues
 pub mod Progresses
 pub mod Owings
 pub mod Tells
+pub mod Births
