@@ -1,0 +1,10 @@
+//! Both ends of a Wayland connection together, with nothing between: what they are told to do, and
+//! what they answer.
+#![tactic(auto)]
+
+mod lending;
+mod moves;
+mod pair;
+
+pub use moves::{Carried, Move, Reply, SendArg};
+pub use pair::Pair;
