@@ -2,6 +2,7 @@
 //! what they answer.
 #![tactic(auto)]
 
+mod calls;
 mod lending;
 mod moves;
 mod pair;
