@@ -3,6 +3,7 @@
 #![tactic(auto)]
 
 mod calls;
+mod carrying;
 mod lending;
 mod moves;
 mod pair;

@@ -47,7 +47,9 @@ pub enum Move<A: Allocator = Global> {
         args: Vec<SendArg<A>, A>,
     },
     /// The server ends an object without an event.
-    ServerDrop { object: Object },
+    ServerDrop {
+        object: Object,
+    },
     /// The server posts an error, which ends the session.
     PostError {
         object: Object,
@@ -55,15 +57,24 @@ pub enum Move<A: Allocator = Global> {
         text: Vec<u8, A>,
     },
     /// The server gives a global.
-    AddGlobal { iface: Iface, version: u32 },
+    AddGlobal {
+        iface: Iface,
+        version: u32,
+    },
     /// The server withdraws a global.
-    Withdraw { name: u32 },
+    Withdraw {
+        name: u32,
+    },
     /// The server tells its registries of globals.
     Announce,
     /// At most so many bytes go from the client to the server, and at most what its inbox has room for.
-    CarryToServer { most: usize },
+    CarryToServer {
+        most: usize,
+    },
     /// At most so many bytes go from the server to the client, and at most what its inbox has room for.
-    CarryToClient { most: usize },
+    CarryToClient {
+        most: usize,
+    },
     /// The client reads a message.
     ClientNext,
     /// The server reads a message.

@@ -107,7 +107,7 @@ pub record Fitting (from to : Core) (most : ℕ) : Type 0 where
   pub bytes_there : length (carried_bytes from (carries from to most)) ≡ (carries from to most).bytes
   pub tokens_there : length (carried_tokens from (carries from to most)) ≡ (carries from to most).tokens
 
-begun_few : (o : Outgoing) (n : ℕ) → length (all_tokens (newly_begun o n)) ≤ length (waiting_tokens o)
+pub begun_few : (o : Outgoing) (n : ℕ) → length (all_tokens (newly_begun o n)) ≤ length (waiting_tokens o)
 begun_few o n =
     let m = begun_front (n - length o.left) o.messages in
     let e : o.messages ≡ newly_begun o n ++ drop (length (newly_begun o n)) o.messages = sym (take-append-drop (length (newly_begun o n)) o.messages) ∙ ap (λ (x : List Sent). x ++ drop (length (newly_begun o n)) o.messages) (sym m) in
