@@ -4,7 +4,6 @@ use Rattle.std.specs.declared.option.Option.{Option}
 use Rattle.std.specs.declared.option.Option.TheVariants.{None, Some}
 use Rattle.std.specs.declared.result.Result.{Result}
 use Rattle.std.specs.declared.result.Result.TheVariants.{Ok, Err}
-use Rattle.wl_wire.specs.Argument.{Argument}
 use Rattle.wl_message.specs.Arrived.{Arrived}
 use Rattle.wl_sigs.specs.declared.signature.Side.{Side}
 use Rattle.wl_sigs.specs.Tables.{Message}
@@ -19,7 +18,7 @@ use Rattle.wl_objects.specs.Messages.{checked}
 use Rattle.wl_end.specs.Core.{Core}
 use Rattle.wl_end.specs.Receiving.{Found, found}
 use Rattle.wl_end.specs.Outcomes.{left}
-use Rattle.wl_end.specs.Sending.{after_send, after_checked, with_following, following, sent, with_sent}
+use Rattle.wl_end.specs.Sending.{after_send, after_checked, with_following, following, with_sent}
 use Rattle.wl_sigs.specs.declared.signature.Side.TheVariants.{Event as event_side}
 use Rattle.wl_client.specs.State as client
 use Rattle.wl_client.specs.Reports as events

@@ -12,10 +12,10 @@ use Rattle.wl_recording.specs.declared.piece.Direction.{Direction}
 use Rattle.wl_recording.specs.declared.piece.Direction.TheVariants.{ToServer, ToClient}
 use Rattle.wl_recording.specs.Piece.{Piece, passed, last_len}
 use Rattle.wl_recording.proofs.FillLemmas.{last_len-passed, filled_passed, written_over}
-use Rattle.wl_end.specs.Core.{Core, in_room, no_room, feeds, with_gone, with_arrived}
+use Rattle.wl_end.specs.Core.{Core, in_room, feeds, with_gone, with_arrived}
 use Rattle.wl_client.specs.State as client
 use Rattle.wl_server.specs.State as server
-use Rattle.wl_world.specs.Pair.{PairState, carries, carried_bytes, carried_tokens, all_of, after_carry_to_server, after_carry_to_client, Carries, Carried, Moved, Memory, moved, no_memory}
+use Rattle.wl_world.specs.Pair.{PairState, carries, carried_bytes, carried_tokens, all_of, after_carry_to_server, after_carry_to_client, Carries, Moved, Memory, moved, no_memory}
 use Rattle.wl_world.proofs.Carries.{carry_fits, carry_whole, begun_few}
 use Rattle.wl_session.specs.Room.{Holds, filled}
 

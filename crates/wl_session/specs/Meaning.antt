@@ -1,7 +1,5 @@
 -- The code's own moves and replies, without where they lie in memory.
-use Rattle.std.specs.Prelude.{ℕ, List, [], ◌∷◌, map, length, Option, Some, None}
-use Rattle.std.specs.declared.result.Result.{Result}
-use Rattle.std.specs.declared.result.Result.TheVariants.{Ok, Err}
+use Rattle.std.specs.Prelude.{ℕ, List, map, length, Some, None}
 use Rattle.wl_wire.specs.Argument.{Int, Uint, Fixed, Str, Obj, New, Array, Fd, units}
 use Rattle.wl_objects.specs.Writing.{Given}
 use Rattle.wl_client.specs.Seen as client

@@ -2,11 +2,13 @@
 //! what they answer.
 #![tactic(auto)]
 
+mod agreeing;
 mod calls;
 mod carrying;
 mod lending;
 mod moves;
 mod pair;
+mod running;
 
 pub use moves::{Carried, Move, Reply, SendArg};
 pub use pair::Pair;
