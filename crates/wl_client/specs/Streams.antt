@@ -1,12 +1,11 @@
 -- Whole streams at a client.
 use Rattle.std.specs.Prelude.{◌≡◌, ℕ, Bool, true, false, List, [], ◌∷◌, Option, Some, None}
-use Rattle.std.specs.declared.result.Result.{Result}
 use Rattle.std.specs.declared.result.Result.TheVariants.{Ok, Err}
 use Rattle.wl_objects.specs.declared.error.Fault.{Fault}
 use Rattle.wl_objects.specs.declared.error.NextError.{NextError}
 use Rattle.wl_objects.specs.declared.error.NextError.TheVariants as errors
 use Rattle.wl_client.specs.State.{State}
-use Rattle.wl_client.specs.Reports.{Report, Event, Discarded, Deleted, Stray, Error, next_answer, after_next}
+use Rattle.wl_client.specs.Reports.{Report, Error, next_answer, after_next}
 
 -- whether this is the report of wl_display.error, after which nothing is read
 abbrev pub is_last : Report → Bool

@@ -1,8 +1,20 @@
 //! The client's end of a Wayland connection.
 #![tactic(auto)]
 
+mod binding;
+mod client;
+mod globals;
 mod incoming;
+mod reading;
+mod sending;
+mod steps;
 mod tokens;
+mod values;
 
+pub use client::Client;
+pub use globals::Global;
 pub use incoming::Incoming;
 pub use tokens::Tokens;
+
+#[cfg(test)]
+mod tests;
