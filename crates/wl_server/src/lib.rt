@@ -2,10 +2,13 @@
 #![tactic(auto)]
 
 mod advertised;
+mod announcing;
 mod faults;
 mod globals;
+mod receiving;
 mod request;
 mod server;
+mod step;
 
 pub use request::{GlobalError, Request};
 pub use server::Server;
