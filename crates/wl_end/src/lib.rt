@@ -5,6 +5,8 @@
 //! tells which end is meant.
 #![tactic(auto)]
 
+mod laws;
 mod shared;
 
+pub use laws::found_stays;
 pub use shared::Core;
