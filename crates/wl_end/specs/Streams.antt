@@ -3,7 +3,7 @@ use Rattle.std.specs.Prelude.{◌≡◌, ℕ, zero, suc, ◌<◌, ◌⊎◌, Lis
 use Rattle.std.specs.declared.result.Result.TheVariants.{Ok}
 use Rattle.wl_sigs.specs.declared.signature.Side.{Side}
 use Rattle.wl_message.specs.declared.amounts.Fed.{Fed}
-use Rattle.wl_message.specs.InStep.{Part, Need, part_bytes, part_tokens}
+use Rattle.wl_message.specs.InStep.{Part, Need}
 use Rattle.wl_end.specs.Core.{Core, with_arrived, no_room}
 use Rattle.wl_end.specs.Receiving.{Found, found, takes}
 
@@ -41,15 +41,14 @@ taken_tokens (p ∷ ps) zero some = take some.tokens p.tokens
 taken_tokens (p ∷ ps) (suc count) some = p.tokens ++ taken_tokens ps count some
 
 -- what was not taken
-abbrev pub untaken_bytes : List Part → ℕ → Fed → List ℕ
-untaken_bytes [] count some = []
-untaken_bytes (p ∷ ps) zero some = drop some.bytes p.bytes ++ part_bytes ps
-untaken_bytes (p ∷ ps) (suc count) some = untaken_bytes ps count some
+abbrev pub untaken : List Part → ℕ → Fed → List Part
+untaken [] count some = []
+untaken (p ∷ ps) zero some = record { bytes = drop some.bytes p.bytes; tokens = drop some.tokens p.tokens } ∷ ps
+untaken (p ∷ ps) (suc count) some = untaken ps count some
 
-abbrev pub untaken_tokens : List Part → ℕ → Fed → List ℕ
-untaken_tokens [] count some = []
-untaken_tokens (p ∷ ps) zero some = drop some.tokens p.tokens ++ part_tokens ps
-untaken_tokens (p ∷ ps) (suc count) some = untaken_tokens ps count some
+-- a piece with more behind it
+abbrev pub longer : Part → List ℕ → List ℕ → Part
+longer p bytes tokens = record { bytes = p.bytes ++ bytes; tokens = p.tokens ++ tokens }
 
 -- No piece is left, or not all tokens of the next find room.
 abbrev pub NoneFits : ℕ → List Part → ℕ → Type 0

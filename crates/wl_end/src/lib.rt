@@ -7,6 +7,8 @@
 
 mod laws;
 mod shared;
+mod streams;
 
-pub use laws::found_stays;
+pub use laws::{found_stays, taking_keeps_pieces};
 pub use shared::Core;
+pub use streams::ReadAll;

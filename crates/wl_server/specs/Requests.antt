@@ -1,9 +1,8 @@
 -- What a server reads, and what it makes of it.
-use Rattle.std.specs.Prelude.{ℕ, Bool, true, false, ◌&&◌, ◌||◌, not, nat_eq, nat_lt, nat_le, bytes_eq, if◌then◌else◌, List, [], ◌∷◌, ◌++◌, codes, Option, Some, None, unwrap_or, slice_get}
+use Rattle.std.specs.Prelude.{ℕ, Bool, true, false, ◌&&◌, not, nat_eq, nat_lt, nat_le, bytes_eq, if◌then◌else◌, List, [], ◌∷◌, ◌++◌, codes, Option, Some, None}
 use Rattle.std.specs.declared.result.Result.{Result}
 use Rattle.std.specs.declared.result.Result.TheVariants.{Ok, Err}
-use Rattle.wl_wire.specs.declared.kind.Iface.{Iface}
-use Rattle.wl_wire.specs.Argument.{Argument, Shape, Int, Uint, Fixed, Str, Obj, New, NewNamed, Array, Fd}
+use Rattle.wl_wire.specs.Argument.{Argument, Uint, NewNamed}
 use Rattle.wl_sigs.specs.declared.signature.Side.TheVariants.{Request as request_side}
 use Rattle.wl_sigs.specs.Tables.{Interface, interface_at, destroys_target}
 use Rattle.wl_sigs.specs.Fixed.{registry}
@@ -13,7 +12,6 @@ use Rattle.wl_objects.specs.declared.error.Fault.{Fault}
 use Rattle.wl_objects.specs.declared.error.Fault.TheVariants as faults
 use Rattle.wl_objects.specs.declared.error.NextError.{NextError}
 use Rattle.wl_objects.specs.declared.error.NextError.TheVariants as errors
-use Rattle.wl_objects.specs.View.{View}
 use Rattle.wl_objects.specs.Reading.{Reported}
 use Rattle.wl_objects.specs.Messages.{Received, Made, made, is_bind, same_iface, Server as server, after}
 use Rattle.wl_end.specs.Core.{Core, with_view}
