@@ -3,3 +3,4 @@ pub mod Reports
 pub mod Calls
 pub mod Streams
 pub mod Seen
+pub mod Steps

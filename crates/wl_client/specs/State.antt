@@ -5,12 +5,7 @@ use Rattle.wl_wire.specs.declared.kind.Iface.{Iface}
 use Rattle.wl_sigs.specs.Tables.{Interface}
 use Rattle.wl_message.specs.declared.amounts.Sizes.{Sizes}
 use Rattle.wl_end.specs.Core.{Core, new_core}
-
--- a global as it was advertised
-pub record Global : Type 0 where
-  pub name : ℕ
-  pub iface : Iface
-  pub version : ℕ
+pub use Rattle.wl_client.specs.declared.globals.Global.{Global}
 
 -- The globals that the client remembers, no name twice, in the order in which their names were told.
 pub record State : Type 0 where

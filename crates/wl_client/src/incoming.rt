@@ -19,7 +19,7 @@ pub enum Incoming<A: Allocator = Global> {
     Discarded {
         target: Object,
         opcode: u16,
-        tokens: Tokens<A>,
+        tokens: Tokens,
     },
     /// wl_display.delete_id of an object: its id is free again.
     Deleted {

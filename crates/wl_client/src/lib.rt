@@ -1,10 +1,16 @@
 //! The client's end of a Wayland connection.
 #![tactic(auto)]
 
+mod client;
+mod globals;
 mod incoming;
 mod laws;
+mod steps;
 mod tokens;
+mod values;
 
+pub use client::Client;
+pub use globals::Global;
 pub use incoming::Incoming;
 pub use laws::{any_cut_reads, one_reading};
 pub use tokens::Tokens;

@@ -1,3 +1,5 @@
 pub mod Descriptors
 pub mod Coming
 pub mod Pieces
+pub mod Displays
+pub mod Messages

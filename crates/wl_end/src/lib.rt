@@ -6,6 +6,7 @@
 #![tactic(auto)]
 
 mod laws;
+mod sending;
 mod shared;
 mod streams;
 

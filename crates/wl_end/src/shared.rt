@@ -35,10 +35,10 @@ pub struct Core<'t, T: Table> {
 }
 
 impl<'t, T: Table> Model for Core<'t, T> {
-    ghost use Rattle.std.specs.Prelude.{◌≤◌, vec_capacity};
+    ghost use Rattle.std.specs.Prelude.{◌≡◌, ◌≤◌, false, vec_capacity};
     ghost use Rattle.std.specs.Coded.{codes};
     ghost use Rattle.wl_objects.specs.View.{view_code};
-    ghost use Rattle.wl_end.specs.Core.{Core as CoreState};
+    ghost use Rattle.wl_end.specs.Core.{Core as CoreState, HasDisplay};
 
     ghost Value = { CoreState };
 
@@ -46,7 +46,12 @@ impl<'t, T: Table> Model for Core<'t, T> {
 
     ghost view = { λ c. record { tables = c.tables.now; view = T.view c.table; inbox = c.inbox; outbox = c.outbox; failed = c.failed; read = c.read } };
 
-    ghost invariant = { λ c. 4096 ≤ vec_capacity c.store };
+    // The error event is written once, by an end that fails with it.
+    ghost invariant = { λ c. record {
+      store : 4096 ≤ vec_capacity c.store;
+      display : HasDisplay (T.view c.table);
+      no_error : c.failed ≡ false → c.outbox.has_error ≡ false;
+    } };
 }
 
 impl<'t, T: Table> Core<'t, T> {

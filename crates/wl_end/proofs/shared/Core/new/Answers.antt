@@ -1,0 +1,12 @@
+use Rattle.std.proofs.Common.{sym, subst, ap, arith}
+use Rattle.wl_end.specs.Core.{HasDisplay}
+use Rattle.wl_message.specs.Outgoing.{Outgoing}
+use Rattle.wl_end.proofs.Displays.{HasDisplay-opening}
+use Rattle.wl_end.proofs.shared.Core.new.Goals as goal
+
+pub invariant_of-result : goal.invariant_of-result
+invariant_of-result g c = record {
+  store = omega (arith, c.in_ok-store.ensures.exact);
+  display = subst HasDisplay (sym c.in_ok-table.ensures) HasDisplay-opening;
+  no_error = λ h. ap (λ (o : Outgoing). o.has_error) c.in_ok-outbox.ensures;
+}
