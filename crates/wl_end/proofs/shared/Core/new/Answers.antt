@@ -1,5 +1,7 @@
 use Rattle.std.proofs.Common.{sym, subst, ap, arith}
 use Rattle.wl_end.specs.Core.{HasDisplay}
+use Rattle.std.proofs.Common.{◌≤◌}
+use Rattle.wl_message.specs.Arrived.{Arrived}
 use Rattle.wl_message.specs.Outgoing.{Outgoing}
 use Rattle.wl_end.proofs.Displays.{HasDisplay-opening}
 use Rattle.wl_end.proofs.shared.Core.new.Goals as goal
@@ -9,4 +11,5 @@ invariant_of-result g c = record {
   store = omega (arith, c.in_ok-store.ensures.exact);
   display = subst HasDisplay (sym c.in_ok-table.ensures) HasDisplay-opening;
   no_error = λ h. ap (λ (o : Outgoing). o.has_error) c.in_ok-outbox.ensures;
+  whole = subst (λ (i : Arrived). 4096 ≤ i.capacity) (sym c.in_ok-inbox.ensures) c.requires.in_bytes_low;
 }
