@@ -6,6 +6,7 @@ mod globals;
 mod incoming;
 mod laws;
 mod steps;
+mod streams;
 mod tokens;
 mod values;
 

@@ -16,7 +16,10 @@ use crate::incoming::Incoming;
 use crate::tokens::Tokens;
 use crate::values::{id_at, number_at, text_at};
 use std::alloc::{AllocError, Allocator};
-use wl_objects::{Gots, Object, REGISTRY, Received, State, Table, Values, descriptors, is_delete_id, is_error, named, report_arguments};
+use wl_objects::{
+    Gots, Object, REGISTRY, Received, State, Table, Values, descriptors, is_delete_id, is_error,
+    named, report_arguments,
+};
 use wl_sigs::{Destroys, Side, Tables};
 use wl_wire::Bytes;
 

@@ -3,3 +3,4 @@ pub mod Coming
 pub mod Pieces
 pub mod Displays
 pub mod Messages
+pub mod Appended

@@ -1,4 +1,4 @@
-use Rattle.wl_client.proofs.Streams.{any_cut}
+use Rattle.wl_client.proofs.Comings.{any_cut}
 use Rattle.wl_client.proofs.laws.any_cut_reads.Goals as goal
 
 pub returns : goal.returns

@@ -1,4 +1,4 @@
-use Rattle.wl_client.proofs.Streams.{one_reading, some_stays}
+use Rattle.wl_client.proofs.Comings.{one_reading, some_stays}
 use Rattle.wl_client.proofs.laws.one_reading.Goals as goal
 
 pub returns-clause-reports : goal.returns-clause-reports
