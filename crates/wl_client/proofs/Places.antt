@@ -1,5 +1,5 @@
 -- Values taken from the front, by their places.
-use Rattle.std.proofs.Common.{◌≡◌, ℕ, suc, List, [], ◌∷◌, refl, sym, ap, ◌∙◌}
+use Rattle.std.proofs.Common.{◌≡◌, ℕ, suc, List, [], ◌∷◌, sym, ap, ◌∙◌}
 use Rattle.std.specs.Prelude.{slice_get, Option, Some, None, option_map, MatchOption}
 
 -- what stood second in the list stands first in the rest

@@ -4,3 +4,4 @@ pub mod Calls
 pub mod Streams
 pub mod Seen
 pub mod Steps
+pub mod Reading

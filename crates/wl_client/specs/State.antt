@@ -1,7 +1,6 @@
 -- What a client is: an end, and the globals that it was told.
 use Rattle.std.specs.Prelude.{ℕ, Bool, nat_eq, List, [], Option}
 use Rattle.std.specs.List.{find}
-use Rattle.wl_wire.specs.declared.kind.Iface.{Iface}
 use Rattle.wl_sigs.specs.Tables.{Interface}
 use Rattle.wl_message.specs.declared.amounts.Sizes.{Sizes}
 use Rattle.wl_end.specs.Core.{Core, new_core}

@@ -1,18 +1,13 @@
 -- The steps in which a client reads a message.
-use Rattle.std.specs.Prelude.{◌≡◌, ◌≢◌, ℕ, Bool, false, IsTrue, List, [], Option, Some, None}
-use Rattle.std.specs.declared.result.Result.{Result}
-use Rattle.std.specs.declared.result.Result.TheVariants.{Ok, Err}
+use Rattle.std.specs.Prelude.{◌≢◌, ℕ, Bool, false, IsTrue, List, []}
 use Rattle.wl_sigs.specs.Tables.{Interface}
-use Rattle.wl_message.specs.Arrived.{nothing_arrived}
 use Rattle.wl_message.specs.Outgoing.{no_messages}
-use Rattle.wl_objects.specs.declared.error.Fault.{Fault}
-use Rattle.wl_objects.specs.declared.error.NextError.{NextError}
 use Rattle.wl_objects.specs.declared.reading.Received.{Received as Read}
 use Rattle.wl_sigs.specs.Fixed.{display}
 use Rattle.wl_objects.specs.View.{View, opening, is_held, is_live, closed, zombied}
 use Rattle.wl_objects.specs.Messages.{Received}
-use Rattle.wl_end.specs.Core.{Core}
-use Rattle.wl_end.specs.Receiving.{Found, is_none, takes}
+use Rattle.wl_end.specs.Core.{Core, past, with_view}
+use Rattle.wl_end.specs.Receiving.{Found}
 use Rattle.wl_client.specs.declared.steps.Change.{Change}
 use Rattle.wl_client.specs.declared.steps.Change.TheVariants as changes
 use Rattle.wl_client.specs.declared.steps.Lesson.{Lesson}
@@ -59,6 +54,10 @@ abbrev pub changed : View → Change → View
 changed view changes.Nothing = view
 changed view (changes.Zombie id) = zombied view id
 changed view (changes.Close id) = closed view id
+
+-- the end after the message in front was taken, of so many bytes and tokens; it fails with the last
+abbrev pub stepped : Core → Change → ℕ → ℕ → Bool → Core
+stepped core change bytes tokens last = record (with_view (past core bytes tokens) (changed core.view change)) { failed = last }
 
 -- the change can be made: of an object that is there, and is not wl_display
 abbrev pub CanChange : View → Change → Type 0

@@ -2,7 +2,9 @@
 ghost use Rattle.std.specs.Prelude.{◌≡◌, ◌<◌, ◌≤◌, [], ◌∷◌, ◌++◌, IfOk, length, map, if◌then◌else◌};
 ghost use Rattle.wl_client.specs.State.{global_of, is_named, max_globals};
 ghost use Rattle.wl_client.specs.Reports.{forgotten, replaced, remembered};
+ghost use Rattle.wl_client.specs.Steps.{learnt};
 
+use crate::steps::Lesson;
 use std::alloc::{AllocError, Allocator};
 use std::marker::Model;
 use wl_wire::Iface;
@@ -63,6 +65,17 @@ impl<A: Allocator> Remembered<A> {
         ensures { self.new ≡ forgotten name self.old }
     {
         self.items.retain(|global| global.name != name);
+    }
+
+    /// Learns what an event teaches.
+    pub(crate) fn learn(&mut self, lesson: Lesson)
+        ensures { self.new ≡ learnt self.old lesson }
+    {
+        match lesson {
+            Lesson::Nothing => {}
+            Lesson::Forget(name) => self.forget(name),
+            Lesson::Remember(global) => self.remember(global),
+        }
     }
 
     /// Puts a global in the place of the one of its name; where there is none, last, as long as

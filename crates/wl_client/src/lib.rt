@@ -5,6 +5,7 @@ mod client;
 mod globals;
 mod incoming;
 mod laws;
+mod reading;
 mod steps;
 mod streams;
 mod tokens;

@@ -1,6 +1,4 @@
-use Rattle.std.proofs.Common.{◌≡◌, sym, ◌∙◌, rules}
-use Rattle.wl_objects.specs.View.{zombied}
-use Rattle.wl_client.specs.Steps.{found_as, view_by}
+use Rattle.std.proofs.Common.{sym, ◌∙◌, rules}
 use Rattle.wl_client.proofs.Zombies.{zombied_same}
 use Rattle.wl_client.proofs.steps.change_of.Goals as goal
 

@@ -1,4 +1,4 @@
-use Rattle.std.proofs.Common.{◌≡◌, ◌∙◌, ap, ℕ, suc, ◌+◌, arith}
+use Rattle.std.proofs.Common.{◌≡◌, ◌∙◌, ap, suc, ◌+◌, arith}
 use Rattle.std.specs.Prelude.{slice_get}
 use Rattle.wl_wire.specs.Argument.{lent}
 use Rattle.wl_client.proofs.Places.{second, first}
