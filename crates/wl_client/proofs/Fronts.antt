@@ -29,7 +29,7 @@ use Rattle.wl_client.specs.declared.reading.Stop.TheVariants as stops
 use Rattle.wl_client.specs.Reports.{Report, Event, Discarded, is_error_event, is_delete_event, deleted_id, error_report, delete_report, plain_report}
 use Rattle.wl_client.specs.Steps.{end_with, report_by}
 use Rattle.wl_client.proofs.Firsts.{reports_first}
-use Rattle.wl_client.proofs.Parts.{parts}
+use Rattle.wl_end.proofs.Receivings.{is_received}
 use Rattle.wl_client.specs.Reading.{IsStepOf, IsFront, headed}
 
 -- a frame as it is told
@@ -74,17 +74,17 @@ pub step_is : {A : Type 0} (core : Core) (h : Header) (body : List ℕ) (waiting
     → IsFront core (found core event_side) (Ok (Some step))
 step_is core h body waiting step v f s =
     let m = s.0 in
-    let p = parts core.tables event_side (reader_of core.view) h body waiting m s.1 in
+    let p = is_received core.tables event_side (reader_of core.view) h body waiting m s.1 in
     let small : length m.signature.kinds ≤ 20 = v.small.arguments event_side m.entry.iface.0 h.opcode m.signature p.signature in
     let few : takes m ≤ 20 = omega (arith, few_taken m.signature.kinds) in
-    let values : length m.values ≤ 20 = omega (arith, p.count) in (
+    let values : length m.values ≤ 20 = omega (arith, p.values) in (
       headed h m,
       found_frame core event_side h body waiting f ∙ ap (found_in h.size h.opcode) s.1,
       record {
         message = subst HasMessage (sym f.whole) tt;
         size = sym (ap message_size f.whole);
         few = few;
-        waiting = omega (arith, p.enough, f.tokens);
+        waiting = omega (arith, p.tokens, f.tokens);
       },
       record {
         report = s.2.report ∙ report_first core.view 20 core.inbox.tokens (headed h m) values few;

@@ -8,7 +8,7 @@ use Rattle.wl_objects.specs.declared.error.Fault.{Fault}
 use Rattle.wl_objects.specs.declared.error.NextError.{NextError}
 use Rattle.wl_objects.specs.View.{View}
 use Rattle.wl_objects.specs.Messages.{Received}
-use Rattle.wl_message.specs.Cut.{HasMessage, front, message_size, usual_limit}
+use Rattle.wl_message.specs.Cut.{Whole, front, usual_limit}
 use Rattle.wl_end.specs.Core.{Core}
 use Rattle.wl_end.specs.Receiving.{Found, has_arguments, is_none, takes}
 use Rattle.wl_client.specs.declared.reading.Step.{Step}
@@ -41,8 +41,7 @@ IsStepOf tables view tokens header r (Ok step) = (m : Received) × (r ≡ Ok m) 
 
 -- the message in front can be taken: it is whole, and its tokens wait
 pub record CanTake (core : Core) (f : Found) : Type 0 where
-  pub message : HasMessage (front usual_limit core.inbox.bytes)
-  pub size : f.size ≡ message_size (front usual_limit core.inbox.bytes)
+  pub message : front usual_limit core.inbox.bytes ≡ Whole f.size
   pub few : takes f.message ≤ 20
   pub waiting : takes f.message ≤ length core.inbox.tokens
 

@@ -3,7 +3,7 @@ ghost use Rattle.std.specs.Prelude.{◌≡◌, ◌≤◌, ℕ, List, [], false, 
 ghost use Rattle.wl_wire.specs.Word.{IsHeader};
 ghost use Rattle.wl_sigs.specs.declared.signature.Side.TheVariants.{Event as event_side};
 ghost use Rattle.wl_sigs.specs.Valid.{Valid};
-ghost use Rattle.wl_message.specs.Cut.{HasMessage, front, message_size, usual_limit};
+ghost use Rattle.wl_message.specs.Cut.{Whole, front, usual_limit};
 ghost use Rattle.wl_objects.specs.Messages.{reader_of, received};
 ghost use Rattle.wl_end.specs.Core.{HasDisplay};
 ghost use Rattle.wl_end.specs.Outcomes.{Gives, left};
@@ -146,8 +146,7 @@ fn step_of<T: Table>(
 /// Takes the message in front, of so many bytes, with its tokens, and makes its change among the
 /// objects. The end fails with the last message.
 fn take<T: Table>(core: &mut Core<'_, T>, change: Change, bytes: u16, tokens: usize, last: bool)
-    requires message { HasMessage (front usual_limit core.old.inbox.bytes) }
-    requires bytes { bytes ≡ message_size (front usual_limit core.old.inbox.bytes) }
+    requires message { front usual_limit core.old.inbox.bytes ≡ Whole bytes }
     requires few { tokens ≤ MAX_TOKENS }
     requires waiting { tokens ≤ length core.old.inbox.tokens }
     requires change { CanChange core.old.view change }
@@ -155,8 +154,7 @@ fn take<T: Table>(core: &mut Core<'_, T>, change: Change, bytes: u16, tokens: us
     ensures { core.new ≡ stepped core.old change bytes tokens last }
 {
     let mut taken = [0; MAX_TOKENS];
-    core.inbox.pop(&mut taken[..tokens]);
-    core.read = core.read.saturating_add(u64::from(bytes));
+    core.pass(bytes, &mut taken[..tokens]);
     make(&mut core.table, change);
     core.failed = last;
 }

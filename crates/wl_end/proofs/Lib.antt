@@ -4,3 +4,5 @@ pub mod Pieces
 pub mod Displays
 pub mod Messages
 pub mod Appended
+pub mod Sends
+pub mod Receivings

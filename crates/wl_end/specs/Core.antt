@@ -1,5 +1,5 @@
 -- What both ends have: signature tables, objects, what came in, what goes out, whether the end has failed, and how many bytes it read.
-use Rattle.std.specs.Prelude.{◌≡◌, ℕ, ◌+◌, Bool, true, false, ◌&&◌, min, List, if◌then◌else◌, Option, Some, option_map}
+use Rattle.std.specs.Prelude.{◌≡◌, ℕ, ◌+◌, ◌≤◌, Bool, true, false, ◌&&◌, min, List, if◌then◌else◌, Option, Some, option_map}
 use Rattle.wl_wire.specs.declared.kind.Iface.{Iface}
 use Rattle.wl_sigs.specs.Tables.{Interface}
 use Rattle.wl_sigs.specs.Fixed.{display}
@@ -43,6 +43,10 @@ display_object = record { id = 1; birth = 0 }
 -- its row, which stays as it is for good
 abbrev pub HasDisplay : View → Type 0
 HasDisplay view = look view 1 ≡ Some (record { birth = 0; iface = display; version = 1; state = Live })
+
+-- The outbox of an end that has not failed: no error event was added to it, and its size is one that an end has.
+abbrev pub IsOrdinary : Outgoing → Type 0
+IsOrdinary outbox = (outbox.has_error ≡ false) × (outbox.error_to ≡ 0) × (outbox.capacity ≤ 16777216)
 
 abbrev pub kind_and_version : Entry → Iface × ℕ
 kind_and_version entry = (entry.iface, entry.version)

@@ -39,7 +39,7 @@ impl<'t, T: Table> Model for Core<'t, T> {
     ghost use Rattle.std.specs.Prelude.{◌≡◌, ◌≤◌, false, vec_capacity};
     ghost use Rattle.std.specs.Coded.{codes};
     ghost use Rattle.wl_objects.specs.View.{view_code};
-    ghost use Rattle.wl_end.specs.Core.{Core as CoreState, HasDisplay};
+    ghost use Rattle.wl_end.specs.Core.{Core as CoreState, HasDisplay, IsOrdinary};
 
     ghost Value = { CoreState };
 
@@ -51,7 +51,7 @@ impl<'t, T: Table> Model for Core<'t, T> {
     ghost invariant = { λ c. record {
       store : 4096 ≤ vec_capacity c.store;
       display : HasDisplay (T.view c.table);
-      no_error : c.failed ≡ false → c.outbox.has_error ≡ false;
+      no_error : c.failed ≡ false → IsOrdinary c.outbox;
       whole : 4096 ≤ c.inbox.capacity;
     } };
 }

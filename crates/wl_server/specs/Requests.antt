@@ -37,9 +37,12 @@ bind_fits tables iface version None = false
 bind_fits tables iface version (Some global) =
     name_fits iface (interface_at tables global.iface.0) && (nat_le 1 version && nat_le version global.version)
 
+abbrev pub is_good_bind_of : List Interface → List Global → List Argument → Bool
+is_good_bind_of tables globals (Uint name ∷ NewNamed iface version id ∷ []) = bind_fits tables iface version (global_of globals name)
+is_good_bind_of tables globals _ = false
+
 abbrev pub is_good_bind : State → List Argument → Bool
-is_good_bind state (Uint name ∷ NewNamed iface version id ∷ []) = bind_fits state.core.tables iface version (global_of state.globals name)
-is_good_bind state _ = false
+is_good_bind state values = is_good_bind_of state.core.tables state.globals values
 
 -- F9 comes after all other faults
 abbrev pub judged : State → Result (Option Found) Fault → Result (Option Found) Fault

@@ -2,7 +2,12 @@
 #![tactic(auto)]
 
 mod laws;
+mod advertised;
+mod faults;
+mod globals;
 mod request;
+mod server;
 
 pub use laws::{any_cut_reads, one_reading};
 pub use request::{GlobalError, Request};
+pub use server::Server;
