@@ -1,6 +1,7 @@
 //! One message read against an end's table.
 ghost use Rattle.std.specs.Prelude.{◌≡◌, IfOk};
 ghost use Rattle.wl_wire.specs.Argument.{lent};
+ghost use Rattle.wl_wire.specs.Word.{IsHeader};
 ghost use Rattle.wl_sigs.specs.Valid.{Valid};
 ghost use Rattle.wl_objects.specs.View.{look};
 ghost use Rattle.wl_objects.specs.Reading.{arguments_at, descriptors, forgiving, value_fault, object_fault, new_fault, iface_of, values_at};
@@ -42,8 +43,9 @@ pub fn receive<'t: 'a, 'a, T: Table>(
     waiting: usize,
 ) -> Result<Received<'t, 'a>, Fault>
     ensures answer { received_in result ≡ received tables.now side (reader_of (T.view table.now)) header body.now waiting }
-    // Always so, and known because the tables were asked.
+    // Always so, and known because the tables were asked and the header was given.
     ensures valid { IfOk result (λ _. Valid tables.now) }
+    ensures header { IsHeader header }
 {
     receive_by(tables, side, &Held { table }, header, body, waiting)
 }

@@ -5,8 +5,10 @@ mod laws;
 mod advertised;
 mod faults;
 mod globals;
+mod receiving;
 mod request;
 mod server;
+mod step;
 
 pub use laws::{any_cut_reads, one_reading};
 pub use request::{GlobalError, Request};
