@@ -81,8 +81,7 @@ step_is core h body waiting step v f s =
       headed h m,
       found_frame core event_side h body waiting f ∙ ap (found_in h.size h.opcode) s.1,
       record {
-        message = subst HasMessage (sym f.whole) tt;
-        size = sym (ap message_size f.whole);
+        message = f.whole;
         few = few;
         waiting = omega (arith, p.tokens, f.tokens);
       },

@@ -5,3 +5,4 @@ pub mod Streams
 pub mod Seen
 pub mod Steps
 pub mod Reading
+pub mod Binding

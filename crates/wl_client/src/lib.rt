@@ -1,11 +1,13 @@
 //! The client's end of a Wayland connection.
 #![tactic(auto)]
 
+mod binding;
 mod client;
 mod globals;
 mod incoming;
 mod laws;
 mod reading;
+mod sending;
 mod steps;
 mod streams;
 mod tokens;

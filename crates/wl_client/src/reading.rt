@@ -155,7 +155,7 @@ fn take<T: Table>(core: &mut Core<'_, T>, change: Change, bytes: u16, tokens: us
 {
     let mut taken = [0; MAX_TOKENS];
     core.pass(bytes, &mut taken[..tokens]);
-    make(&mut core.table, change);
+    make(core, change);
     core.failed = last;
 }
 

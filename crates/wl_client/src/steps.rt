@@ -4,7 +4,7 @@ ghost use Rattle.wl_sigs.specs.declared.signature.Side.TheVariants.{Event as eve
 ghost use Rattle.wl_objects.specs.View.{look};
 ghost use Rattle.wl_objects.specs.Reading.{reports_of};
 ghost use Rattle.wl_objects.specs.Messages.{is_error, reader_of};
-ghost use Rattle.wl_end.specs.Core.{HasDisplay};
+ghost use Rattle.wl_end.specs.Core.{HasDisplay, with_view};
 ghost use Rattle.wl_end.specs.Receiving.{is_none};
 ghost use Rattle.wl_client.specs.State.{Global as Told};
 ghost use Rattle.wl_client.specs.Reports.{delete_report, error_report};
@@ -16,6 +16,7 @@ use crate::incoming::Incoming;
 use crate::tokens::Tokens;
 use crate::values::{id_at, number_at, text_at};
 use std::alloc::{AllocError, Allocator};
+use wl_end::Core;
 use wl_objects::{
     Gots, Object, REGISTRY, Received, State, Table, Values, descriptors, is_delete_id, is_error,
     named, report_arguments,
@@ -68,14 +69,14 @@ pub(crate) fn change_of<T: Table>(table: &T, opcode: u16, message: &Received<'_,
 }
 
 /// Makes a change among the objects. Takes no memory.
-pub(crate) fn make<T: Table>(table: &mut T, change: Change)
-    requires { CanChange (T.view table.old) change }
-    ensures { T.view table.new ≡ changed (T.view table.old) change }
+pub(crate) fn make<T: Table>(core: &mut Core<'_, T>, change: Change)
+    requires { CanChange core.old.view change }
+    ensures { core.new ≡ with_view core.old (changed core.old.view change) }
 {
     match change {
         Change::Nothing => {}
-        Change::Zombie(id) => table.make_zombie(id),
-        Change::Close(id) => table.close(id),
+        Change::Zombie(id) => core.make_zombie(id),
+        Change::Close(id) => core.close(id),
     }
 }
 

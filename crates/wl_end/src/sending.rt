@@ -1,12 +1,12 @@
 //! What an end writes.
-ghost use Rattle.std.specs.Prelude.{◌≡◌, ◌≢◌, ◌≤◌, ◌+◌, ℕ, false, true, Some, Ok, IfOk, IfSome, IsTrue, OnErr, OnOk, is_some, length};
+ghost use Rattle.std.specs.Prelude.{[], ◌≡◌, ◌≢◌, ◌≤◌, ◌+◌, ℕ, false, true, Some, Ok, IfOk, IfSome, IsTrue, OnErr, OnOk, is_some, length};
 ghost use Rattle.wl_message.specs.Cut.{usual_limit, IsMessage};
 ghost use Rattle.wl_message.specs.Outgoing.{with_message};
 ghost use Rattle.wl_sigs.specs.Tables.{makes};
 ghost use Rattle.wl_sigs.specs.Valid.{Valid};
 ghost use Rattle.wl_objects.specs.Messages.{checked, destroys, opens};
 ghost use Rattle.wl_objects.specs.View.{Sound, is_live, look, next_id};
-ghost use Rattle.wl_objects.specs.Writing.{EachFits, given, has_no_nul, id_of, message_len, on_wire, tokens_of};
+ghost use Rattle.wl_objects.specs.Writing.{EachFits, bind_values, given, has_no_nul, id_of, message_len, on_wire, tokens_of};
 ghost use Rattle.wl_end.specs.Core.{HasDisplay, with_view};
 ghost use Rattle.wl_end.specs.Outcomes.{Gives};
 ghost use Rattle.wl_end.specs.Sending.{after_send, answer_of, delete_id_len, fits, following, following_len, next_object, opening_answer, opens_object, send_answer, sent, with_delete_id, with_error_event, with_following, with_sent, writer};
@@ -15,8 +15,8 @@ use crate::shared::Core;
 use std::alloc::Allocator;
 use wl_message::Outbox;
 use wl_objects::{
-    Arg, Entry, Object, SendError, Table, TableError, call_makes, check_call, encode_call,
-    encode_error, encode_number, message_len, tokens_of,
+    Arg, Entry, Object, SendError, Table, TableError, call_makes, check_call, encode_bind,
+    encode_call, encode_error, encode_number, message_len, tokens_of,
 };
 use wl_sigs::{Destroys, Side, Signature};
 use wl_wire::Iface;
@@ -87,6 +87,17 @@ impl<'t, T: Table> Core<'t, T> {
         encode_error(&mut self.store, object, code, text);
         self.outbox.push_error(&self.store);
         self.failed = true;
+    }
+
+    /// Writes wl_registry.bind, which must fit.
+    pub fn write_bind(&mut self, registry: u32, name: u32, iface: &[u8], version: u32, id: u32)
+        requires fits { EachFits (bind_values name iface.now version id) }
+        requires len { message_len (bind_values name iface.now version id) ≤ 4096 }
+        requires room { IsTrue (fits self.old.outbox (message_len (bind_values name iface.now version id)) 0) }
+        ensures { self.new ≡ with_sent self.old registry 0 (bind_values name iface.now version id) [] }
+    {
+        encode_bind(&mut self.store, registry, name, iface, version, id);
+        add(&mut self.outbox, &self.store, &[]);
     }
 
     /// Opens the object of a message that makes one of this interface and version, at the next id.

@@ -1,7 +1,7 @@
 //! What an end does with a message in front, and with its objects.
 ghost use Rattle.std.specs.Prelude.{◌≡◌, ◌≢◌, ◌≤◌, ◌<◌, ℕ, IsTrue, IfOk, OnOk, OnErr, length, take, slice_index_or};
 ghost use Rattle.wl_message.specs.Cut.{usual_limit, front, Whole};
-ghost use Rattle.wl_objects.specs.View.{is_held, opened_at, closed};
+ghost use Rattle.wl_objects.specs.View.{is_held, is_live, opened_at, closed, zombied};
 ghost use Rattle.wl_end.specs.Core.{past, with_view};
 
 use crate::shared::Core;
@@ -42,6 +42,15 @@ impl<'t, T: Table> Core<'t, T> {
         ensures err { OnErr result (self.new ≡ self.old) }
     {
         self.table.open_at(made.id, made.iface, made.version)
+    }
+
+    /// Makes a live object a zombie: it has ended, and its id stays in use.
+    pub fn make_zombie(&mut self, id: u32)
+        requires live { IsTrue (is_live self.old.view id) }
+        requires not_display { id ≢ 1 }
+        ensures { self.new ≡ with_view self.old (zombied self.old.view id) }
+    {
+        self.table.make_zombie(id);
     }
 
     /// Closes an object: its id is free again.
