@@ -42,14 +42,21 @@ impl<'t, T: Table> Client<'t, T> {
             Some(global) if can_bind(self.core.tables, global, iface, version) => global,
             _ => return Err(SendError::BadBind),
         };
-        let len = 12 + ValueRef::NewNamed { iface, version, id: 0 }.spelled_len();
+        let len = 12
+            + ValueRef::NewNamed {
+                iface,
+                version,
+                id: 0,
+            }
+            .spelled_len();
         if !self.core.fits(len, 0) {
             return Err(SendError::Full);
         }
         match self.core.open_new(Some(global.iface), version)? {
             None => Err(SendError::NoIds),
             Some(object) => {
-                self.core.write_bind(registry.id, name, iface, version, object.id);
+                self.core
+                    .write_bind(registry.id, name, iface, version, object.id);
                 Ok(object)
             }
         }
