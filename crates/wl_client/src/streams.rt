@@ -10,13 +10,8 @@ use crate::client::Client;
 use crate::incoming::Incoming;
 use std::alloc::Allocator;
 use wl_end::ReadAll;
-use wl_message::{Fed, Piece};
+use wl_message::Piece;
 use wl_objects::{NextError, Table};
-
-const NOTHING: Fed = Fed {
-    bytes: 0,
-    tokens: 0,
-};
 
 impl<'t, T: Table> Client<'t, T> {
     /// Reads pieces of a stream, in order, and appends what was read to the reports.
@@ -40,14 +35,14 @@ impl<'t, T: Table> Client<'t, T> {
         ensures nothing { self.old.core.failed ≡ true → reports.new.items ≡ reports.old.items }
     {
         if self.has_failed() {
-            return ended(0, Some(NextError::Failed));
+            return ReadAll::ended(0, Some(NextError::Failed));
         }
         for (taken, piece) in pieces.iter().enumerate() {
             if let Err(stop) = self.read_waiting(reports) {
-                return ended(taken, stop);
+                return ReadAll::ended(taken, stop);
             }
             if self.in_room().tokens < piece.tokens.len() {
-                return ended(taken, None);
+                return ReadAll::ended(taken, None);
             }
             if let Err(end) = self.read_piece(*piece, reports) {
                 return ReadAll {
@@ -57,9 +52,9 @@ impl<'t, T: Table> Client<'t, T> {
             }
         }
         if let Err(stop) = self.read_waiting(reports) {
-            return ended(pieces.len(), stop);
+            return ReadAll::ended(pieces.len(), stop);
         }
-        ended(pieces.len(), None)
+        ReadAll::ended(pieces.len(), None)
     }
 
     /// Whether the client has failed.
@@ -120,17 +115,6 @@ impl<'t, T: Table> Client<'t, T> {
             part.bytes += self.feed(&piece.bytes[part.bytes..], &[]).bytes;
         }
         Ok(())
-    }
-}
-
-/// The end of a reading between two pieces.
-fn ended(pieces: usize, stop: Option<NextError>) -> ReadAll
-    ensures { result ≡ record { pieces = pieces; part = no_room; stop = stop } }
-{
-    ReadAll {
-        pieces,
-        part: NOTHING,
-        stop,
     }
 }
 

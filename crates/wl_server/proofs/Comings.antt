@@ -52,10 +52,10 @@ pub record Read (state : State) (r : Report) : Type 0 where
   pub is : report state.core message ≡ r
   pub leaves : after_next state ≡ state_past state message
 
-answers : (state : State) → state.core.failed ≡ false → next_answer state ≡ answer_found state.core (request state)
+pub answers : (state : State) → state.core.failed ≡ false → next_answer state ≡ answer_found state.core (request state)
 answers state h = ap (λ (b : Bool). cond b (Err errors.Failed) (answer_found state.core (request state))) h
 
-leaves : (state : State) → state.core.failed ≡ false → after_next state ≡ state_found state (request state)
+pub leaves : (state : State) → state.core.failed ≡ false → after_next state ≡ state_found state (request state)
 leaves state h = ap (λ (b : Bool). cond b state (state_found state (request state))) h
 
 -- the answer to a request, and what it leaves, by whether there is room for its delete_id
@@ -158,10 +158,10 @@ arrived_nothing state = ap (with_core state) (arrived_none state.core)
 -- ---- where all that is read is left
 
 -- a server that has failed reads nothing
-failed_answer : (state : State) → state.core.failed ≡ true → next_answer state ≡ Err errors.Failed
+pub failed_answer : (state : State) → state.core.failed ≡ true → next_answer state ≡ Err errors.Failed
 failed_answer state h = ap (λ (b : Bool). cond b (Err errors.Failed) (answer_found state.core (request state))) h
 
-not_failed : (state : State) (b : Bool) → state.core.failed ≡ b → next_answer state ≢ Err errors.Failed → state.core.failed ≡ false
+pub not_failed : (state : State) (b : Bool) → state.core.failed ≡ b → next_answer state ≢ Err errors.Failed → state.core.failed ≡ false
 not_failed state true h n = absurd (n (failed_answer state h))
 not_failed state false h n = h
 

@@ -16,7 +16,7 @@ use Rattle.wl_end.specs.Core.{Core, with_view}
 use Rattle.wl_end.specs.Sending.{fits, with_delete_id, delete_id_len, with_error_event}
 use Rattle.wl_server.specs.declared.request.GlobalError.{GlobalError}
 use Rattle.wl_server.specs.declared.request.GlobalError.TheVariants as global_errors
-use Rattle.wl_server.specs.State.{State, Global, global_of, max_globals, with_core}
+use Rattle.wl_server.specs.State.{State, Global, global_of, max_globals}
 
 -- ---- ending an object without an event
 

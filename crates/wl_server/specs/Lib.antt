@@ -5,3 +5,4 @@ pub mod Announcing
 pub mod Streams
 pub mod Seen
 pub mod Steps
+pub mod Tellings

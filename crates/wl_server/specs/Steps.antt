@@ -4,23 +4,23 @@ use Rattle.std.specs.declared.result.Result.{Result}
 use Rattle.std.specs.declared.result.Result.TheVariants.{Ok, Err}
 use Rattle.wl_sigs.specs.declared.signature.Side.TheVariants.{Request as request_side}
 use Rattle.wl_sigs.specs.declared.signature.Destroys.{Destroys}
-use Rattle.wl_sigs.specs.declared.signature.Destroys.TheVariants.{Target}
+use Rattle.wl_sigs.specs.declared.signature.Destroys.TheVariants.{Nothing, Target}
 use Rattle.wl_sigs.specs.Tables.{Interface, destroys_target}
 use Rattle.wl_message.specs.Cut.{usual_limit, front, Whole}
 use Rattle.wl_objects.specs.declared.object.Object.{Object}
 use Rattle.wl_objects.specs.declared.error.Fault.{Fault}
 use Rattle.wl_objects.specs.declared.error.NextError.{NextError}
 use Rattle.wl_objects.specs.declared.error.NextError.TheVariants as errors
-use Rattle.wl_objects.specs.View.{View, is_held}
+use Rattle.wl_objects.specs.View.{View, is_held, closed}
 use Rattle.wl_objects.specs.declared.reading.Received.{Received as Read}
 use Rattle.wl_objects.specs.Reading.{reports_of, descriptors}
-use Rattle.wl_objects.specs.Messages.{Made, Received, made, reader_of, Server as server, opens, destroys as view_after}
+use Rattle.wl_objects.specs.Messages.{Made, Received, made, reader_of, opens}
 use Rattle.wl_end.specs.Core.{Core, past, with_view}
 use Rattle.wl_end.specs.Receiving.{Found, takes}
-use Rattle.wl_end.specs.Sending.{with_following, fits, delete_id_len}
+use Rattle.wl_end.specs.Sending.{with_delete_id, with_error_event, fits, delete_id_len}
 use Rattle.wl_server.specs.declared.step.Step.{Step as OwnedStep}
-use Rattle.wl_server.specs.State.{State, Global, with_core}
-use Rattle.wl_server.specs.Requests.{Report, request, report, made_in, is_out_full, registries_after, without_registry}
+use Rattle.wl_server.specs.State.{State, Global, Registry, with_core}
+use Rattle.wl_server.specs.Requests.{Report, request, report, made_in, is_out_full, registries_after, without_registry, fault_code, fault_message}
 use Rattle.wl_server.specs.Seen.{report_of}
 
 -- what a request is and does: its report, its numbers of bytes and tokens, the object that it makes, and whether it destroys its target
@@ -84,20 +84,35 @@ pub record CanTake (core : Core) (step : Step) : Type 0 where
 
 -- ---- what the reading leaves
 
--- the server with the object of a request opened
-abbrev pub opened_by : State → Option Made → State
-opened_by state new = record state { core = with_view state.core (opens state.core.view new); registries = registries_after state.core state.registries new }
+-- the end without an object that a request destroys
+abbrev pub core_without : Destroys → ℕ → Core → Core
+core_without Nothing id core = core
+core_without Target id core = with_delete_id (with_view core (closed core.view id)) id
 
--- the server with the message taken
-abbrev pub taken_by : State → Step → State
-taken_by state step = with_core state (past state.core step.size step.tokens)
+-- the end after a request: its object is opened, the message taken, and what it destroys closed
+abbrev pub core_by : Core → Step → Core
+core_by core step = core_without step.destroys step.report.target.id (past (with_view core (opens core.view step.made)) step.size step.tokens)
 
--- the server with the object ended that a request destroys
-abbrev pub ended_by : State → Step → State
-ended_by state step = record state {
-  core = with_following (destroys_target step.destroys) step.report.target.id (with_view state.core (view_after server step.destroys step.report.target.id state.core.view));
-  registries = without_registry (destroys_target step.destroys) step.report.target.birth state.registries;
-}
+-- the registries after a request
+abbrev pub registries_by : Core → List Registry → Step → List Registry
+registries_by core registries step = without_registry (destroys_target step.destroys) step.report.target.birth (registries_after core registries step.made)
 
 abbrev pub after_step : State → Step → State
-after_step state step = ended_by (taken_by (opened_by state step.made) step) step
+after_step state step = record state { core = core_by state.core step; registries = registries_by state.core state.registries step }
+
+-- the end after the client is told of a fault
+abbrev pub core_told : Core → NextError → Core
+core_told core (errors.Fault fault offset) = with_error_event core 1 (fault_code fault) (fault_message fault)
+core_told core why = core
+
+-- what a read leaves, by the step in front
+abbrev pub after_front : State → Result (Option Step) NextError → State
+after_front state (Ok None) = state
+after_front state (Ok (Some step)) = after_step state step
+after_front state (Err why) = with_core state (core_told state.core why)
+
+-- what a read answers, by the step in front
+abbrev pub report_by : Result (Option Step) NextError → Result (Option Report) NextError
+report_by (Ok None) = Ok None
+report_by (Ok (Some step)) = Ok (Some step.report)
+report_by (Err why) = Err why

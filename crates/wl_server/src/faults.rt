@@ -1,5 +1,6 @@
 //! The error event by which a server ends the connection after a fault.
-ghost use Rattle.std.specs.Prelude.{◌≡◌};
+ghost use Rattle.std.specs.Prelude.{◌≡◌, ◌≤◌, IsTrue, length};
+ghost use Rattle.wl_objects.specs.Writing.{has_no_nul};
 ghost use Rattle.wl_server.specs.Requests.{fault_code, fault_message};
 
 use wl_objects::Fault;
@@ -17,7 +18,9 @@ pub(crate) fn fault_code(fault: Fault) -> u32
 
 /// The text of the error.
 pub(crate) fn fault_message(fault: Fault) -> &'static [u8]
-    ensures { result.now ≡ fault_message fault }
+    ensures text { result.now ≡ fault_message fault }
+    ensures plain { IsTrue (has_no_nul result.now) }
+    ensures short { length result.now ≤ 40 }
 {
     match fault {
         Fault::BadSize => b"bad message size",

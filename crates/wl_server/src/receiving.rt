@@ -1,30 +1,175 @@
 //! What a server reads.
-ghost use Rattle.std.specs.Prelude.{◌≡◌, [], true, false, not, ◌&&◌, nat_lt, IfOk, IfSome, OnErr};
+ghost use Rattle.std.specs.Prelude.{◌≡◌, ◌≢◌, Some, None, [], IsTrue, OnOk, true, false, not, ◌&&◌, nat_lt, IfOk, IfSome, OnErr};
 ghost use Rattle.wl_sigs.specs.declared.signature.Side.TheVariants.{Request as request_side};
 ghost use Rattle.wl_sigs.specs.Tables.{destroys_target};
 ghost use Rattle.wl_objects.specs.Reading.{reports_of};
-ghost use Rattle.wl_objects.specs.Messages.{is_bind, reader_of};
-ghost use Rattle.wl_end.specs.Outcomes.{Gives};
+ghost use Rattle.wl_objects.specs.Messages.{is_bind, opens, reader_of};
+ghost use Rattle.wl_objects.specs.View.{is_held};
+ghost use Rattle.wl_end.specs.Core.{with_view};
+ghost use Rattle.wl_end.specs.Outcomes.{Gives, left};
 ghost use Rattle.wl_end.specs.Receiving.{has_arguments, is_none};
-ghost use Rattle.wl_end.specs.Sending.{delete_id_len};
-ghost use Rattle.wl_server.specs.Requests.{request, is_good_bind_of};
-ghost use Rattle.wl_server.specs.Steps.{steps_in, step_in, front_step, state_of, step_with, received_now, CanTake};
+ghost use Rattle.wl_end.specs.Sending.{delete_id_len, fits};
+ghost use Rattle.wl_server.specs.Requests.{request, is_good_bind_of, next_answer, after_next, registries_after, without_registry};
+ghost use Rattle.wl_server.specs.Seen.{report_in};
+ghost use Rattle.wl_server.specs.Steps.{core_by, core_told, core_without, registries_by, steps_in, step_in, front_step, state_of, step_with, received_now, CanTake};
 
-use crate::advertised::Advertised;
+use crate::advertised::{Advertised, OpenRegistry};
+use crate::faults::{fault_code, fault_message};
 use crate::globals::is_good_bind;
 use crate::request::Request;
+use crate::server::Server;
 use crate::step::Step;
 use std::alloc::{AllocError, Allocator};
+use wl_end::{Core, MAX_TOKENS};
 use wl_objects::{
-    Fault, Gots, NextError, Received, Table, descriptors, is_bind, made_by_message, receive,
-    report_arguments,
+    Fault, Gots, Made, NextError, Object, REGISTRY, Received, Table, descriptors, is_bind,
+    made_by_message, receive, report_arguments,
 };
 use wl_sigs::{Destroys, Side, Tables};
-use wl_end::Core;
 use wl_wire::Header;
+
+/// The id of wl_display.
+const DISPLAY_ID: u32 = 1;
 
 /// How many bytes wl_display.delete_id has.
 const DELETE_ID_LEN: usize = 12;
+
+impl<'t, T: Table> Server<'t, T> {
+    /// Reads the next request, once it is whole; none before.
+    ///
+    /// A request that destroys an object closes it and writes its delete_id at once. A fault makes
+    /// the server fail for good, and the error event is the last that it writes. Where there is no
+    /// room for the delete_id, or no memory, the request stays and can be read again; memory is
+    /// wanted only where it has arguments.
+    pub fn next(&mut self) -> Result<Option<Request<T::Alloc>>, NextError>
+        ensures answer { Gives NextError.Memory (has_arguments (request self.old)) (next_answer self.old) (report_in result) }
+        ensures state { self.new ≡ left self.old (after_next self.old) (report_in result) }
+    {
+        if self.core.failed {
+            return Err(NextError::Failed);
+        }
+        let step = match front(&mut self.core, &self.globals, &self.alloc) {
+            Ok(Some(step)) => step,
+            Ok(None) => return Ok(None),
+            Err(why) => {
+                tell(&mut self.core, why);
+                return Err(why);
+            }
+        };
+        if make_step(&mut self.core, &mut self.registries, &self.alloc, &step).is_err() {
+            return Err(NextError::Memory);
+        }
+        Ok(Some(step.report))
+    }
+}
+
+/// Tells the client of a fault, which is the end of the connection.
+fn tell<T: Table>(core: &mut Core<'_, T>, why: NextError)
+    requires { core.old.failed ≡ false }
+    ensures { core.new ≡ core_told core.old why }
+{
+    if let NextError::Fault { fault, .. } = why {
+        core.write_error(DISPLAY_ID, fault_code(fault), fault_message(fault));
+    }
+}
+
+/// Takes the request in front. Where there is no memory nothing changes.
+fn make_step<T: Table>(
+    core: &mut Core<'_, T>,
+    registries: &mut Vec<OpenRegistry<T::Alloc>, T::Alloc>,
+    alloc: &T::Alloc,
+    step: &Step<T::Alloc>,
+) -> Result<(), AllocError>
+    requires { CanTake core.old (step_in step.now) }
+    ensures core { OnOk result (core.new ≡ core_by core.old (step_in step.now)) }
+    ensures registries { OnOk result (registries.new.items ≡ registries_by core.old registries.old.items (step_in step.now)) }
+    ensures err { OnErr result ((core.new ≡ core.old) × (registries.new.items ≡ registries.old.items)) }
+    ensures wants { OnErr result (step.now.made ≢ None) }
+{
+    open_made(core, registries, alloc, step.made)?;
+    // Nothing is wanted from here on.
+    let mut tokens = [0; MAX_TOKENS];
+    core.pass(step.size, &mut tokens[..step.tokens]);
+    end(core, registries, step.destroys, step.report.target);
+    Ok(())
+}
+
+/// Opens the object that a request makes, if it makes one.
+fn open_made<T: Table>(
+    core: &mut Core<'_, T>,
+    registries: &mut Vec<OpenRegistry<T::Alloc>, T::Alloc>,
+    alloc: &T::Alloc,
+    made: Option<Made>,
+) -> Result<(), AllocError>
+    ensures core { OnOk result (core.new ≡ with_view core.old (opens core.old.view made)) }
+    ensures registries { OnOk result (registries.new.items ≡ registries_after core.old registries.old.items made) }
+    ensures err { OnErr result ((core.new ≡ core.old) × (registries.new.items ≡ registries.old.items)) }
+    ensures wants { OnErr result (made ≢ None) }
+{
+    match made {
+        Some(made) => open(core, registries, alloc, made),
+        None => Ok(()),
+    }
+}
+
+/// Opens an object, and where it is a registry makes room for its marks. Where there is no memory
+/// nothing changes.
+fn open<T: Table>(
+    core: &mut Core<'_, T>,
+    registries: &mut Vec<OpenRegistry<T::Alloc>, T::Alloc>,
+    alloc: &T::Alloc,
+    made: Made,
+) -> Result<(), AllocError>
+    ensures core { OnOk result (core.new ≡ with_view core.old (opens core.old.view (Some made))) }
+    ensures registries { OnOk result (registries.new.items ≡ registries_after core.old registries.old.items (Some made)) }
+    ensures err { OnErr result ((core.new ≡ core.old) × (registries.new.items ≡ registries.old.items)) }
+{
+    if made.iface == REGISTRY {
+        let object = Object {
+            id: made.id,
+            birth: core.table.births(),
+        };
+        let registry = OpenRegistry::new(alloc, object)?;
+        registries.reserve(1)?;
+        match core.open(made) {
+            Ok(_) => registries.push_reserved(registry),
+            Err(_) => return Err(AllocError),
+        }
+    } else if core.open(made).is_err() {
+        return Err(AllocError);
+    }
+    Ok(())
+}
+
+/// Ends the target of a request that destroys it.
+fn end<T: Table>(
+    core: &mut Core<'_, T>,
+    registries: &mut Vec<OpenRegistry<T::Alloc>, T::Alloc>,
+    destroys: Destroys,
+    target: Object,
+)
+    requires held { IsTrue (is_held core.old.view target.id) }
+    requires not_display { destroys ≡ Destroys.Target → target.id ≢ 1 }
+    requires room { destroys ≡ Destroys.Target → IsTrue (fits core.old.outbox delete_id_len 0) }
+    ensures core { core.new ≡ core_without destroys target.id core.old }
+    ensures registries { registries.new.items ≡ without_registry (destroys_target destroys) target.birth registries.old.items }
+{
+    match destroys {
+        Destroys::Nothing => {}
+        Destroys::Target => {
+            core.close(target.id);
+            core.write_delete_id(target.id);
+            remove(registries, target.birth);
+        }
+    }
+}
+
+/// Takes out the registry of this birth, if it is one.
+fn remove<A: Allocator + Drop>(registries: &mut Vec<OpenRegistry<A>, A>, birth: u64)
+    ensures { registries.new.items ≡ without_registry true birth registries.old.items }
+{
+    registries.retain(|registry| registry.object.birth != birth);
+}
 
 /// What stands in front: nothing that is whole, or a request that can be taken. Nothing changes.
 fn front<T: Table>(
@@ -42,7 +187,10 @@ fn front<T: Table>(
     let frame = match core.inbox.frame() {
         Ok(Some(frame)) => frame,
         Ok(None) => return Ok(None),
-        Err(_) => return Err(NextError::Fault { fault: Fault::BadSize, offset }),
+        Err(_) => return Err(NextError::Fault {
+            fault: Fault::BadSize,
+            offset,
+        }),
     };
     let header = frame.header;
     let received = match receive(
@@ -57,7 +205,10 @@ fn front<T: Table>(
         Err(fault) => return Err(NextError::Fault { fault, offset }),
     };
     if is_bad_bind(core.tables, globals, header.opcode, &received) {
-        return Err(NextError::Fault { fault: Fault::BadBind, offset });
+        return Err(NextError::Fault {
+            fault: Fault::BadBind,
+            offset,
+        });
     }
     if is_out_full(room, &received) {
         return Err(NextError::OutFull);
