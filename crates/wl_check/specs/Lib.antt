@@ -1,0 +1,6 @@
+pub mod Merged
+pub mod Deeds
+pub mod Places
+pub mod Rules
+pub mod Session
+pub mod Seen
