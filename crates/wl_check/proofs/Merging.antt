@@ -7,7 +7,10 @@ use Rattle.wl_recording.specs.Piece.{Piece}
 use Rattle.wl_check.specs.declared.frames.Frame.{Frame}
 use Rattle.wl_check.specs.declared.frames.Stream.{Stream}
 use Rattle.wl_check.specs.Merged.{cut, framed, same_direction, stream_of, tokens_of, completed, merged_within}
-use Rattle.wl_check.specs.Seen.{IsCut}
+use Rattle.wl_check.specs.declared.frames.Merged.{Merged}
+use Rattle.wl_check.specs.Session.{Session, session_of}
+use Rattle.wl_check.specs.Seen.{IsCut, bytes_in, session_in}
+use Rattle.std.proofs.Math.Path.{fun_ext}
 
 -- an item of a mapped list
 pub read_mapped : {A B : Type 0} (f : A → B) (xs : List A) (k : ℕ) (d x : A) → k < length xs → x ≡ get_or xs k d → slice_get (map f xs) k ≡ Some (f x)
@@ -81,3 +84,10 @@ all_merged f xs k a b = let e : k ≡ length (map f xs) = omega (arith, length-m
 
 pub all_fed : {X A : Type 0} (f : X → Piece) (d : Direction) (xs : List X) (k : ℕ) (s : Stream A) → length xs ≤ k → IsFed d (map f xs) k s → s.bytes.items ≡ stream_of d (map f xs)
 all_fed f d xs k s a fed = fed.bytes_are ∙ ap (stream_of d) (take_all k (map f xs) (omega (arith, length-map f xs)))
+
+bytes_are : {A : Type 0} (ps : List Piece) (m : Merged A) → m.to_server.items ≡ stream_of ToServer ps → m.to_client.items ≡ stream_of ToClient ps → (d : Direction) → bytes_in m d ≡ stream_of d ps
+bytes_are ps m a b ToServer = a
+bytes_are ps m a b ToClient = b
+
+pub session_is : {A : Type 0} (ps : List Piece) (m : Merged A) → m.frames.items ≡ merged_within ps (length ps) → m.to_server.items ≡ stream_of ToServer ps → m.to_client.items ≡ stream_of ToClient ps → session_in m ≡ session_of ps
+session_is ps m f a b = let s = fun_ext (bytes_are ps m a b) in λ i. record { frames = f i; streams = s i }

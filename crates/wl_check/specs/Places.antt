@@ -1,7 +1,6 @@
 -- What is known at a place of a session, told by what stands at the places before it. wl_display stands at place 0, and the
 -- messages of the merged list at 1, 2, ..; an object is told by the place of the request that made it, which is its birth.
-use Rattle.std.specs.Prelude.{ℕ, zero, suc, ◌+◌, max, Bool, true, false, not, ◌&&◌, ◌||◌, nat_lt, nat_eq, if◌then◌else◌, Option, Some, None, option_map}
-use Rattle.std.specs.Option.{option_map_or}
+use Rattle.std.specs.Prelude.{◌≡◌, ℕ, zero, suc, ◌+◌, max, Bool, true, false, not, ◌&&◌, ◌||◌, nat_lt, nat_eq, if◌then◌else◌, Option, Some, None, option_map}
 use Rattle.wl_wire.specs.declared.kind.Iface.{Iface}
 use Rattle.wl_objects.specs.declared.object.Entry.{Entry}
 use Rattle.wl_objects.specs.declared.object.State.{State}
@@ -13,17 +12,29 @@ use Rattle.wl_check.specs.declared.deed.Advertised.{Advertised}
 use Rattle.wl_check.specs.declared.deed.Deed.{Deed}
 use Rattle.wl_check.specs.Merged.{same_direction}
 
+abbrev pub is_id : Option ℕ → ℕ → Bool
+is_id None id = false
+is_id (Some other) id = nat_eq other id
+
+-- the delete_id of 1 changes nothing
+abbrev pub frees : Option ℕ → ℕ → Bool
+frees deleted id = not (nat_eq id 1) && is_id deleted id
+
+abbrev pub is_made : Option Made → ℕ → Bool
+is_made None id = false
+is_made (Some new) id = nat_eq new.id id
+
 -- it makes an object with this id
 abbrev pub makes : Deed → ℕ → Bool
-makes deed id = option_map_or (λ (new : Made). nat_eq new.id id) deed.made false
+makes deed id = is_made deed.made id
 
--- it is the delete_id of this id; that of 1 changes nothing
+-- it is the delete_id of this id, and that of 1 changes nothing
 abbrev pub deletes : Deed → ℕ → Bool
-deletes deed id = not (nat_eq id 1) && option_map_or (λ deleted. nat_eq deleted id) deed.deleted false
+deletes deed id = frees deed.deleted id
 
 -- it destroys the object with this id
 abbrev pub destroys : Deed → ℕ → Bool
-destroys deed id = option_map_or (λ target. nat_eq target id) deed.destroyed false
+destroys deed id = is_id deed.destroyed id
 
 -- The object that is held at a place with this id: the last that was made, unless a delete_id stands between.
 unfoldable pub holder : (ℕ → Deed) → ℕ → ℕ → Option ℕ
@@ -42,26 +53,35 @@ state_of false = Live
 abbrev pub entry_of : ℕ → State → Made → Entry
 entry_of birth state new = record { birth = birth; iface = new.iface; version = new.version; state = state }
 
-abbrev pub none_made : Made
-none_made = record { id = 0; iface = display; version = 0 }
+abbrev pub new_of : Option Made → Made
+new_of None = record { id = 0; iface = display; version = 0 }
+new_of (Some new) = new
 
 -- the object made at a place
 abbrev pub object_of : (ℕ → Deed) → ℕ → State → Entry
-object_of session birth state = entry_of birth state (option_map_or (λ (new : Made). new) (session birth).made none_made)
+object_of session birth state = entry_of birth state (new_of (session birth).made)
 
 -- the object that an id names at a place: one that is held, open or ending
 abbrev pub named : (ℕ → Deed) → ℕ → ℕ → Option Entry
 named session place id = option_map (λ birth. object_of session birth (state_of (is_ending session birth place id))) (holder session place id)
 
 -- the counts behind a message
+abbrev pub used_by : Option Made → ℕ → ℕ
+used_by None count = count
+used_by (Some new) count = max new.id count
+
 abbrev pub used_after : Deed → ℕ → ℕ
-used_after deed count = option_map_or (λ (new : Made). max new.id count) deed.made count
+used_after deed count = used_by deed.made count
 
 abbrev pub tells : ℕ → ℕ → Advertised → Bool
 tells name iface told = nat_eq told.name name && nat_eq told.iface.0 iface
 
+abbrev pub told_once : Advertised → ℕ → ℕ → ℕ → ℕ
+told_once told name iface version = if tells name iface told then max told.version version else version
+
 abbrev pub told_by : Option Advertised → ℕ → ℕ → ℕ → ℕ
-told_by told name iface version = option_map_or (λ (a : Advertised). if tells name iface a then max a.version version else version) told version
+told_by None name iface version = version
+told_by (Some told) name iface version = told_once told name iface version
 
 abbrev pub told_after : Deed → ℕ → ℕ → ℕ → ℕ
 told_after deed name iface version = told_by deed.advertised name iface version
@@ -110,5 +130,19 @@ unless_deleted deleted destroyed entry = if deleted then None else (if destroyed
 -- what an id names behind a message that stands at a place
 abbrev pub object_after : ℕ → Deed → ℕ → Option Entry → Option Entry
 object_after place deed id entry =
-    if makes deed id then Some (entry_of place Live (option_map_or (λ (new : Made). new) deed.made none_made))
+    if makes deed id then Some (entry_of place Live (new_of deed.made))
     else unless_deleted (deletes deed id) (destroys deed id) entry
+
+-- all that is known behind a message that stands at a place
+pub record IsNext (p : ℕ) (deed : Deed) (before after : Known) : Type 0 where
+  pub objects : (id : ℕ) → after.object id ≡ object_after p deed id (before.object id)
+  pub used_is : after.used ≡ used_after deed before.used
+  pub told_is : (name iface : ℕ) → after.told name iface ≡ told_after deed name iface (before.told name iface)
+  pub taken_is : (direction : Direction) → after.taken direction ≡ taken_after deed direction (before.taken direction)
+
+-- all that is known before the first message
+pub record IsFirst (k : Known) : Type 0 where
+  pub objects : (id : ℕ) → k.object id ≡ (if nat_eq id 1 then Some (record { birth = 0; iface = display; version = 1; state = Live }) else None)
+  pub used_is : k.used ≡ 1
+  pub told_is : (name iface : ℕ) → k.told name iface ≡ 0
+  pub taken_is : (direction : Direction) → k.taken direction ≡ 0

@@ -1,5 +1,5 @@
 -- What the code's own types stand for.
-use Rattle.std.specs.Prelude.{◌≡◌, ℕ, List}
+use Rattle.std.specs.Prelude.{◌≡◌, ℕ, ◌+◌, List, if◌then◌else◌}
 use Rattle.std.specs.declared.cmp.Ordering.{Ordering}
 use Rattle.std.specs.Ordering.{nat_cmp, ordering_then}
 use Rattle.std.specs.BTreeMap.{get}
@@ -19,7 +19,12 @@ use Rattle.wl_objects.specs.Messages.{Received}
 use Rattle.wl_objects.specs.declared.reading.Received.{Received as Read}
 use Rattle.wl_check.specs.Deeds.{Call}
 use Rattle.wl_check.specs.Places.{Known}
-use Rattle.wl_check.specs.Merged.{cut}
+use Rattle.wl_check.specs.declared.frames.Merged.{Merged}
+use Rattle.wl_check.specs.declared.frames.Frame.{Frame}
+use Rattle.wl_check.specs.declared.progress.Progress.{Progress}
+use Rattle.wl_check.specs.declared.progress.Tally.{Tally}
+use Rattle.wl_check.specs.Session.{Session}
+use Rattle.wl_check.specs.Merged.{cut, same_direction}
 
 abbrev pub front_in : Front → cuts.Front
 front_in More = cuts.More
@@ -57,3 +62,23 @@ call_of said = record { direction = said.direction; opcode = said.opcode; receiv
 abbrev pub judged_in : Result Said Fault → Result Call Fault
 judged_in (Err fault) = Err fault
 judged_in (Ok said) = Ok (call_of said)
+
+abbrev pub bytes_in : {A : Type 0} → Merged A → Direction → List ℕ
+bytes_in m ToServer = m.to_server.items
+bytes_in m ToClient = m.to_client.items
+
+-- what was merged
+abbrev pub session_in : {A : Type 0} → Merged A → Session
+session_in m = record { frames = m.frames.items; streams = bytes_in m }
+
+-- what is counted of a direction behind a message
+abbrev pub tally_after : Direction → Frame → Tally → Tally
+tally_after direction frame tally =
+    if same_direction frame.direction direction then record { count = tally.count + 1; end = frame.start + frame.size } else tally
+
+abbrev pub tally_in : {A : Type 0} → Progress A → Direction → Tally
+tally_in p ToServer = p.to_server
+tally_in p ToClient = p.to_client
+
+abbrev pub no_tally : Tally
+no_tally = record { count = 0; end = 0 }

@@ -2,10 +2,10 @@
 ghost use Rattle.std.specs.Prelude.{◌≡◌, ◌+◌, ◌^◌, ◌≤◌, ◌<◌, ◌++◌, [], false, map, drop, length, OnOk, IfOk};
 ghost use Rattle.wl_message.specs.Cut.{usual_limit, front, is_size, told_size};
 ghost use Rattle.wl_wire.specs.Word.{header_at};
-ghost use Rattle.wl_check.specs.Seen.{front_in, IsCut};
+ghost use Rattle.wl_check.specs.Seen.{bytes_in, front_in, session_in, IsCut};
 ghost use Rattle.wl_recording.specs.Piece.{plain};
-ghost use Rattle.wl_recording.specs.declared.piece.Direction.TheVariants.{ToServer, ToClient};
-ghost use Rattle.wl_check.specs.Merged.{cut, cutting, framed, merged, stream_of};
+ghost use Rattle.wl_check.specs.Merged.{cut, cutting, framed};
+ghost use Rattle.wl_check.specs.Session.{session_of};
 
 use std::alloc::{AllocError, Allocator, Global};
 use wl_recording::{Direction, Passed};
@@ -172,9 +172,7 @@ pub(crate) fn merge<A: Allocator + Clone>(
     alloc: &A,
     pieces: &[Passed<A>],
 ) -> Result<Merged<A>, AllocError>
-    ensures frames { IfOk result (λ m. m.frames.items ≡ merged (map plain pieces.now)) }
-    ensures to_server { IfOk result (λ m. m.to_server.items ≡ stream_of ToServer (map plain pieces.now)) }
-    ensures to_client { IfOk result (λ m. m.to_client.items ≡ stream_of ToClient (map plain pieces.now)) }
+    ensures { IfOk result (λ m. session_in m ≡ session_of (map plain pieces.now)) }
 {
     let mut frames = Vec::new(alloc.clone()?);
     let mut to_server = empty_stream(alloc.clone()?);
@@ -190,4 +188,16 @@ pub(crate) fn merge<A: Allocator + Clone>(
         to_server: to_server.bytes,
         to_client: to_client.bytes,
     })
+}
+
+impl<A: Allocator> Merged<A> {
+    /// The bytes of one direction.
+    pub(crate) fn stream(&self, direction: Direction) -> &[u8]
+        ensures { result.now ≡ bytes_in self.now direction }
+    {
+        match direction {
+            Direction::ToServer => self.to_server.as_slice(),
+            Direction::ToClient => self.to_client.as_slice(),
+        }
+    }
 }

@@ -1,5 +1,5 @@
 //! One message judged by what is known at its place.
-ghost use Rattle.std.specs.Prelude.{◌≡◌, ◌+◌, ◌≤◌, min, true, length};
+ghost use Rattle.std.specs.Prelude.{◌≡◌, ◌+◌, ◌≤◌, min, true, length, OnOk};
 ghost use Rattle.wl_sigs.specs.Valid.{Valid};
 ghost use Rattle.wl_message.specs.Cut.{usual_limit, is_size};
 ghost use Rattle.wl_check.specs.Deeds.{advertised, deed, first_number, is_global, side_of};
@@ -47,7 +47,8 @@ pub(crate) fn judge<'t: 'a, 'a, A: Allocator>(
     requires valid { Valid tables.now }
     requires header { frame.now.start + 8 ≤ length stream.now }
     requires whole { is_size usual_limit frame.now.size ≡ true → frame.now.start + frame.now.size ≤ length stream.now }
-    ensures { judged_in result ≡ judged tables.now (known_in known.now) stream.now frame.now }
+    ensures judged { judged_in result ≡ judged tables.now (known_in known.now) stream.now frame.now }
+    ensures size { OnOk result (is_size usual_limit frame.now.size ≡ true) }
 {
     if !is_size(frame.size) {
         return Err(Fault::BadSize);

@@ -1,20 +1,19 @@
 //! What is known at a place of a session.
-ghost use Rattle.std.specs.Prelude.{◌≡◌, ℕ, ◌+◌, ◌^◌, ◌<◌, OnOk, IfOk, cond, nat_eq, Some, None};
+ghost use Rattle.std.specs.Prelude.{◌≡◌, ℕ, ◌+◌, ◌^◌, ◌<◌, OnOk, IfOk, cond, nat_eq, Some, None, option_map};
 ghost use Rattle.std.specs.Ordering.{nat_cmp};
 ghost use Rattle.std.specs.BTreeMap.{get};
 ghost use Rattle.std.specs.Option.{unwrap_or};
 ghost use Rattle.wl_objects.specs.declared.object.State.TheVariants.{Live};
-ghost use Rattle.wl_recording.specs.declared.piece.Direction.{Direction as SpecDirection};
 ghost use Rattle.wl_sigs.specs.Fixed.{display};
 ghost use Rattle.wl_sigs.specs.Valid.{Valid};
-ghost use Rattle.wl_check.specs.Places.{object_after, used_after, told_by, told_after, taken_after};
+ghost use Rattle.wl_check.specs.Places.{ending, entry_of, frees, is_id, is_made, new_of, used_after, told_once, IsFirst, IsNext};
 ghost use Rattle.wl_check.specs.Rules.{is_free, reader};
 ghost use Rattle.wl_check.specs.Seen.{known_in, pair_cmp, taken_in};
 
 use crate::deed::{Advertised, Deed};
 use std::alloc::{AllocError, Allocator, Global};
 use std::collections::BTreeMap;
-use wl_objects::{DISPLAY, Entry, Lookup, NewId, State};
+use wl_objects::{DISPLAY, Entry, Lookup, Made, NewId, State};
 use wl_recording::Direction;
 use wl_sigs::Tables;
 use wl_wire::Iface;
@@ -37,25 +36,37 @@ pub(crate) struct Knowledge<A: Allocator = Global> {
     pub taken_to_client: u128,
 }
 
-/// Writes what a message does to the objects.
-fn change_objects<A: Allocator + Clone>(
-    objects: &mut BTreeMap<u32, Entry, A>,
-    place: u64,
-    deed: &Deed,
-) -> Result<(), AllocError>
-    ensures { OnOk result ((id : ℕ) → get nat_cmp objects.new id ≡ object_after place deed.now id (get nat_cmp objects.old id)) }
+/// Frees an id, unless it is that of wl_display.
+fn delete<A: Allocator + Clone>(objects: &mut BTreeMap<u32, Entry, A>, id: Option<u32>)
+    ensures { (other : ℕ) → get nat_cmp objects.new other ≡ cond (frees id other) None (get nat_cmp objects.old other) }
 {
-    if let Some(id) = deed.deleted {
+    if let Some(id) = id {
         if id != DISPLAY_ID {
             let _ = objects.remove(&id);
         }
     }
-    if let Some(id) = deed.destroyed {
+}
+
+/// Makes a zombie of an object.
+fn destroy<A: Allocator>(objects: &mut BTreeMap<u32, Entry, A>, id: Option<u32>)
+    ensures { (other : ℕ) → get nat_cmp objects.new other ≡ cond (is_id id other) (option_map ending (get nat_cmp objects.old other)) (get nat_cmp objects.old other) }
+{
+    if let Some(id) = id {
         if let Some(entry) = objects.get_mut(&id) {
             entry.state = State::Zombie;
         }
     }
-    if let Some(new) = deed.made {
+}
+
+/// Opens an object that was made at a place.
+fn open<A: Allocator + Clone>(
+    objects: &mut BTreeMap<u32, Entry, A>,
+    place: u64,
+    made: Option<Made>,
+) -> Result<(), AllocError>
+    ensures { OnOk result ((other : ℕ) → get nat_cmp objects.new other ≡ cond (is_made made other) (Some (entry_of place Live (new_of made))) (get nat_cmp objects.old other)) }
+{
+    if let Some(new) = made {
         let entry = Entry {
             birth: place,
             iface: new.iface,
@@ -70,15 +81,14 @@ fn change_objects<A: Allocator + Clone>(
 /// Remembers what an event tells of a global.
 fn remember<A: Allocator + Clone>(
     globals: &mut BTreeMap<(u32, u16), u32, A>,
-    told: &Option<Advertised>,
+    told: &Advertised,
 ) -> Result<(), AllocError>
-    ensures { OnOk result ((name iface : ℕ) → unwrap_or (get pair_cmp globals.new (name, iface)) 0 ≡ told_by told.now name iface (unwrap_or (get pair_cmp globals.old (name, iface)) 0)) }
+    ensures { OnOk result ((name iface : ℕ) → unwrap_or (get pair_cmp globals.new (name, iface)) 0 ≡ told_once told.now name iface (unwrap_or (get pair_cmp globals.old (name, iface)) 0)) }
 {
-    if let Some(told) = told {
-        let key = (told.name, told.iface.0);
-        let before = globals.get(&key).copied().unwrap_or(0);
-        globals.insert(key, told.version.max(before))?;
-    }
+    let key = (told.name, told.iface.0);
+    let before = globals.get(&key).copied().unwrap_or(0);
+    let version = told.version.max(before);
+    globals.insert(key, version)?;
     Ok(())
 }
 
@@ -86,9 +96,7 @@ impl<A: Allocator + Clone> Knowledge<A> {
     /// What is known before the first message: wl_display is there, with id 1.
     pub(crate) fn new(alloc: &A, tables: &Tables) -> Result<Self, AllocError>
         ensures valid { OnOk result (Valid tables.now) }
-        ensures objects { IfOk result (λ k. (id : ℕ) → get nat_cmp k.objects id ≡ cond (nat_eq id 1) (Some (record { birth = 0; iface = display; version = 1; state = Live })) None) }
-        ensures used { IfOk result (λ k. k.used ≡ 1) }
-        ensures told { IfOk result (λ k. (name iface : ℕ) → unwrap_or (get pair_cmp k.globals (name, iface)) 0 ≡ 0) }
+        ensures known { IfOk result (λ k. IsFirst (known_in k)) }
         ensures to_server { IfOk result (λ k. k.taken_to_server ≡ 0) }
         ensures to_client { IfOk result (λ k. k.taken_to_client ≡ 0) }
     {
@@ -114,15 +122,16 @@ impl<A: Allocator + Clone> Knowledge<A> {
     pub(crate) fn apply(&mut self, place: u64, deed: &Deed) -> Result<(), AllocError>
         requires to_server { self.old.taken_to_server + 2 ^ 64 < 2 ^ 128 }
         requires to_client { self.old.taken_to_client + 2 ^ 64 < 2 ^ 128 }
-        ensures objects { OnOk result ((id : ℕ) → get nat_cmp self.new.objects id ≡ object_after place deed.now id (get nat_cmp self.old.objects id)) }
-        ensures used { OnOk result (self.new.used ≡ used_after deed.now self.old.used) }
-        ensures told { OnOk result ((name iface : ℕ) → unwrap_or (get pair_cmp self.new.globals (name, iface)) 0 ≡ told_after deed.now name iface (unwrap_or (get pair_cmp self.old.globals (name, iface)) 0)) }
-        ensures taken { OnOk result ((direction : SpecDirection) → taken_in self.new direction ≡ taken_after deed.now direction (taken_in self.old direction)) }
+        ensures known { OnOk result (IsNext place deed.now (known_in self.old) (known_in self.new)) }
         ensures few_to_server { OnOk result (self.new.taken_to_server < self.old.taken_to_server + 2 ^ 64) }
         ensures few_to_client { OnOk result (self.new.taken_to_client < self.old.taken_to_client + 2 ^ 64) }
     {
-        change_objects(&mut self.objects, place, deed)?;
-        remember(&mut self.globals, &deed.advertised)?;
+        delete(&mut self.objects, deed.deleted);
+        destroy(&mut self.objects, deed.destroyed);
+        open(&mut self.objects, place, deed.made)?;
+        if let Some(told) = &deed.advertised {
+            remember(&mut self.globals, told)?;
+        }
         self.used = used_after(self.used, deed);
         match deed.direction {
             Direction::ToServer => self.taken_to_server += deed.tokens as u128,
@@ -169,6 +178,7 @@ impl<A: Allocator> Knowledge<A> {
 }
 
 /// What the reader of a message knows: of a request, only the open objects.
+#[derive(Drop)]
 pub(crate) struct Looker<'a, A: Allocator = Global> {
     pub known: &'a Knowledge<A>,
     pub direction: Direction,

@@ -5,10 +5,13 @@
 //! is named.
 #![tactic(auto)]
 
+mod checking;
 mod deed;
 mod frames;
 mod judging;
 mod known;
+mod progress;
 mod verdict;
 
+pub use checking::check;
 pub use verdict::Verdict;

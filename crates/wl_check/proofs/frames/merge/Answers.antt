@@ -2,7 +2,7 @@ use Rattle.std.proofs.Common.{◌≡◌, ◌+◌, ◌*◌, ◌^◌, ◌<◌, ◌
 use Rattle.wl_recording.specs.declared.piece.Direction.TheVariants.{ToServer, ToClient}
 use Rattle.wl_recording.specs.Piece.{Piece, plain}
 use Rattle.wl_check.specs.Merged.{cut, cutting, merged_within}
-use Rattle.wl_check.proofs.Merging.{IsFed, read_mapped, fed_own, fed_other, frames_more, all_merged, all_fed}
+use Rattle.wl_check.proofs.Merging.{IsFed, read_mapped, fed_own, fed_other, frames_more, all_merged, all_fed, session_is}
 use Rattle.wl_check.proofs.frames.merge.Goals as goal
 use Rattle.wl_check.proofs.frames.merge.Goals.{in-ToServer+in_ok-feed-in-ToServer, in-ToClient+in_ok-feed-in-ToClient}
 
@@ -46,4 +46,7 @@ returns g c =
     let i = c.pieces.invariant in
     let ps = map plain c.args.pieces.now in
     let done : length c.args.pieces.now ≤ c.pieces.piece-index = omega arith in
-    record { frames = i.frames_are ∙ all_merged plain c.args.pieces.now c.pieces.piece-index done c.pieces.auto.piece-index-end; to_server = all_fed plain ToServer c.args.pieces.now c.pieces.piece-index c.pieces.to_server done i.server; to_client = all_fed plain ToClient c.args.pieces.now c.pieces.piece-index c.pieces.to_client done i.client }
+    let f = i.frames_are ∙ all_merged plain c.args.pieces.now c.pieces.piece-index done c.pieces.auto.piece-index-end in
+    let a = all_fed plain ToServer c.args.pieces.now c.pieces.piece-index c.pieces.to_server done i.server in
+    let b = all_fed plain ToClient c.args.pieces.now c.pieces.piece-index c.pieces.to_client done i.client in
+    session_is (map plain c.args.pieces.now) (record { frames = c.pieces.frames; to_server = c.pieces.to_server.bytes; to_client = c.pieces.to_client.bytes }) f a b
