@@ -1,5 +1,5 @@
 -- What is examined, what is counted, and the verdict.
-use Rattle.std.proofs.Common.{◌≡◌, ℕ, zero, suc, ◌+◌, ◌*◌, ◌^◌, ◌-◌, ◌<◌, ◌≤◌, Bool, true, false, cond, Some, None, List, [], ◌∷◌, ◌++◌, slice_get, get_or, length, take, refl, sym, ap, ◌∙◌, arith, subst, ◌⊎◌, inl, inr, nat_lt, nat_eq, ◌↔◌, count_by, add-one}
+use Rattle.std.proofs.Common.{◌≡◌, ℕ, zero, suc, ◌+◌, ◌*◌, ◌^◌, ◌-◌, ◌<◌, ◌≤◌, Bool, true, false, cond, Some, None, List, [], ◌∷◌, ◌++◌, slice_get, get_or, length, take, refl, sym, ap, ◌∙◌, arith, subst, ◌⊎◌, inl, inr, nat_lt, nat_eq, ◌↔◌, count_by, add-one, IfOk}
 use Rattle.std.specs.Prelude.{Option}
 use Rattle.std.specs.declared.result.Result.{Result}
 use Rattle.std.specs.declared.result.Result.TheVariants.{Ok, Err}
@@ -12,6 +12,7 @@ use Rattle.std.proofs.lemmas.Bool.Decides.{nat_tests}
 use Rattle.wl_sigs.specs.Tables.{Interface}
 use Rattle.wl_sigs.specs.Fixed.{display}
 use Rattle.wl_objects.specs.declared.error.Fault.{Fault}
+use Rattle.wl_objects.specs.declared.object.Entry.{Entry}
 use Rattle.wl_objects.specs.declared.object.State.TheVariants.{Live}
 use Rattle.wl_recording.specs.declared.piece.Direction.{Direction}
 use Rattle.wl_recording.specs.declared.piece.Direction.TheVariants.{ToServer, ToClient}
@@ -23,7 +24,7 @@ use Rattle.wl_check.specs.declared.verdict.Verdict.{Verdict}
 use Rattle.wl_check.specs.declared.verdict.Verdict.TheVariants.{Lawful, Broken}
 use Rattle.wl_check.specs.Merged.{same_direction}
 use Rattle.wl_check.specs.Deeds.{Call, deed, beginning}
-use Rattle.wl_check.specs.Places.{holder, is_ending, used, told, taken, taken_after, Known, known, IsNext, IsFirst}
+use Rattle.wl_check.specs.Places.{holder, is_ending, used, told, taken, taken_after, deletes, unless_deleted, object_after, Known, known, IsNext, IsFirst}
 use Rattle.wl_check.specs.Rules.{judged}
 use Rattle.wl_check.specs.Session.{Session, Judged, deeds, messages, ends_session, examined, fault_of, breaks, IsLawful, counted, count_in, end_after, Answers, SaysLawful, IsFirstBroken}
 use Rattle.wl_check.specs.Seen.{known_in, tally_after, tally_in, no_tally}
@@ -152,8 +153,19 @@ pub message_is : {A : Type 0} (tables : List Interface) (s : Session) (k : ℕ) 
     → slice_get (messages tables s) k ≡ Some (judged tables (known_in p.known) (s.streams f.direction) f)
 message_is tables s k f p e at = reading tables s k f e ∙ ap (λ (x : Known). Some (judged tables x (s.streams f.direction) f)) (sym at.known_is)
 
-first_object : (id : ℕ) → cond (nat_eq 1 id) (Some (record { birth = 0; iface = display; version = 1; state = Live })) None ≡ cond (nat_eq id 1) (Some (record { birth = 0; iface = display; version = 1; state = Live })) None
-first_object id = grind (arith, nat_tests)
+abbrev first_entry : Bool → Option Entry
+first_entry b = cond b (Some (record { birth = 0; iface = display; version = 1; state = Live })) None
+
+first_test : (id : ℕ) → nat_eq 1 id ≡ nat_eq id 1
+first_test id = grind (arith, nat_tests)
+
+first_step : (b d : Bool) → cond b (first_entry true) (unless_deleted d false None) ≡ first_entry b
+first_step true d = refl
+first_step false true = refl
+first_step false false = refl
+
+first_object : (id : ℕ) → object_after 0 beginning id None ≡ first_entry (nat_eq id 1)
+first_object id = first_step (nat_eq 1 id) (deletes beginning id) ∙ ap first_entry (first_test id)
 
 first_taken : (d : Direction) → taken_after beginning d 0 ≡ 0
 first_taken ToServer = refl
@@ -177,11 +189,11 @@ at_first tables s p k a b c d = record {
   taken_to_client = omega (arith, d) }
 
 -- behind a message that keeps the rules
-pub at_next : {A : Type 0} (tables : List Interface) (s : Session) (k : ℕ) (f : Frame) (call : Call) (p q : Progress A) → slice_get s.frames k ≡ Some f → slice_get (messages tables s) k ≡ Some (Ok call)
-    → f.start + f.size ≤ length (s.streams f.direction) → IsNext (k + 1) (deed tables call) (known_in p.known) (known_in q.known) → q.to_server ≡ tally_after ToServer f p.to_server → q.to_client ≡ tally_after ToClient f p.to_client
+pub at_next : {A : Type 0} (tables : List Interface) (s : Session) (k : ℕ) (f : Frame) (call : Call) (d : Deed) (p q : Progress A) → d ≡ deed tables call → slice_get s.frames k ≡ Some f → slice_get (messages tables s) k ≡ Some (Ok call)
+    → f.start + f.size ≤ length (s.streams f.direction) → IsNext (k + 1) d (known_in p.known) (known_in q.known) → q.to_server ≡ tally_after ToServer f p.to_server → q.to_client ≡ tally_after ToClient f p.to_client
     → q.known.taken_to_server < p.known.taken_to_server + 2 ^ 64 → q.known.taken_to_client < p.known.taken_to_client + 2 ^ 64 → IsAt tables s k p → IsAt tables s (k + 1) q
-at_next tables s k f call p q e m h n a b c d at =
-    let is : deeds tables (messages tables s) (suc k) ≡ deed tables call = rw m refl in
+at_next tables s k f call what p q what_is e m h n a b c d at =
+    let is : deeds tables (messages tables s) (suc k) ≡ what = rw (m, what_is) refl in
     let next : IsNext (suc k) (deeds tables (messages tables s) (suc k)) (known_in p.known) (known_in q.known) = rw (is, ← add-one) n in
     record {
       known_is = rw add-one (known_next (deeds tables (messages tables s)) (suc k) (known_in p.known) (known_in q.known) at.known_is next);
@@ -194,6 +206,22 @@ pub passed_next : (ms : List Judged) (k : ℕ) (call : Call) → ArePassed ms k 
 passed_next ms k call a e on j h = elim (cases_order j k) [
     inl same ↦ rw same (record { call = call; is = e; goes_on = on })
   | inr o ↦ elim o [ inl less ↦ a j less | inr more ↦ absurd (omega arith) ] ]
+
+-- what the code finds at a place
+pub found_is : {A : Type 0} (tables : List Interface) (s : Session) (k : ℕ) (f : Frame) (p : Progress A) (stream : List ℕ) (x : Judged) → slice_get s.frames k ≡ Some f → IsAt tables s k p
+    → stream ≡ s.streams f.direction → x ≡ judged tables (known_in p.known) stream f → slice_get (messages tables s) k ≡ Some x
+found_is tables s k f p stream x e at stream_is is =
+    message_is tables s k f p e at ∙ ap (λ (y : Judged). Some y) (sym (is ∙ ap (λ (b : List ℕ). judged tables (known_in p.known) b f) stream_is))
+
+pub frame_is : (frames items : List Frame) (k : ℕ) (d : Frame) → items ≡ frames → k < length items → slice_get frames k ≡ Some (get_or items k d)
+frame_is frames items k d is h = ap (λ (l : List Frame). slice_get l k) (sym is) ∙ slice_get-get_or items k d h
+
+pub ends_is : (tables : List Interface) (call : Call) (d : Deed) (b : Bool) → d ≡ deed tables call → d.is_error ≡ b → ends_session (Ok call) ≡ b
+ends_is tables call d b is e = sym (ap (λ (x : Deed). x.is_error) is) ∙ e
+
+pub if_ok_to : {X E : Type 0} (r : Result X E) (P Q : X → Type 0) → ((x : X) → P x → Q x) → IfOk r P → IfOk r Q
+if_ok_to (Ok x) P Q f h = f x h
+if_ok_to (Err e) P Q f h = tt
 
 -- ---- the verdict
 
@@ -215,7 +243,7 @@ answers_all tables s k p e a at =
 
 pub answers_end : {A : Type 0} (tables : List Interface) (s : Session) (k : ℕ) (call : Call) (p : Progress A) → slice_get (messages tables s) k ≡ Some (Ok call) → ends_session (Ok call) ≡ true → ArePassed (messages tables s) k
     → IsAt tables s (k + 1) p → Answers tables s (lawful_in s p)
-answers_end tables s k call p e ends a at = counts_at tables s (k + 1) p (end_examined (messages tables s) k (Ok call) e ends a ∙ sym add-one) at (lawful_end tables s k call e ends a)
+answers_end tables s k call p e ends a at = let one : k + 1 ≡ suc k = add-one k in counts_at tables s (k + 1) p (end_examined (messages tables s) k (Ok call) e ends a ∙ sym one) at (lawful_end tables s k call e ends a)
 
 tally_of : {A : Type 0} (s : Session) (k : ℕ) (p : Progress A) (d : Direction) → IsTallied s k ToServer p.to_server → IsTallied s k ToClient p.to_client → (tally_in p d).count ≡ count_in d (take k s.frames)
 tally_of s k p ToServer a b = a.count_is

@@ -4,6 +4,7 @@ use Rattle.std.specs.Prelude.{Option}
 use Rattle.std.specs.List.{AllByRecursion}
 use Rattle.std.proofs.lemmas.List.{length-drop}
 use Rattle.wl_recording.specs.declared.piece.Direction.{Direction}
+use Rattle.wl_recording.specs.declared.piece.Direction.TheVariants.{ToServer, ToClient}
 use Rattle.wl_recording.specs.Piece.{Piece}
 use Rattle.wl_message.specs.Cut.{usual_limit, is_size, front, Front, More, Bad, Whole}
 use Rattle.wl_message.proofs.Cuts.{front_spoiled}
@@ -63,7 +64,8 @@ frames_step ps d t n [] h a = tt
 frames_step ps d t n (m ∷ ms) h a = (record { header = (let b = a.0.0 in omega (arith, b, h)); whole = λ good. (let b = a.0.1 good in omega (arith, b, h)) }, frames_step ps d t n ms h a.1)
 
 same_itself : (d : Direction) → same_direction d d ≡ true
-same_itself d = elim d [ | _ ↦ refl ]
+same_itself ToServer = refl
+same_itself ToClient = refl
 
 completed_within : (ps : List Piece) (k : ℕ) (o : Option Piece) → slice_get ps k ≡ o → AllByRecursion (LiesIn ps) (completed_at ps k o)
 completed_within ps k None e = tt

@@ -83,7 +83,7 @@ fn remember<A: Allocator + Clone>(
     globals: &mut BTreeMap<(u32, u16), u32, A>,
     told: &Advertised,
 ) -> Result<(), AllocError>
-    ensures { OnOk result ((name iface : ℕ) → unwrap_or (get pair_cmp globals.new (name, iface)) 0 ≡ told_once told.now name iface (unwrap_or (get pair_cmp globals.old (name, iface)) 0)) }
+    ensures { OnOk result ((q : ℕ × ℕ) → unwrap_or (get pair_cmp globals.new q) 0 ≡ told_once told.now q.0 q.1 (unwrap_or (get pair_cmp globals.old q) 0)) }
 {
     let key = (told.name, told.iface.0);
     let before = globals.get(&key).copied().unwrap_or(0);
