@@ -42,8 +42,11 @@ pub record Passed (ms : List Judged) (j : ℕ) : Type 0 where
 abbrev pub ArePassed : List Judged → ℕ → Type 0
 ArePassed ms k = (j : ℕ) → j < k → Passed ms j
 
-behind : (x : Judged) (xs : List Judged) (k : ℕ) → ArePassed (x ∷ xs) (suc k) → ArePassed xs k
+pub behind : (x : Judged) (xs : List Judged) (k : ℕ) → ArePassed (x ∷ xs) (suc k) → ArePassed xs k
 behind x xs k a j h = let p = a (suc j) (omega arith) in record { call = p.call; is = p.is; goes_on = p.goes_on }
+
+pub first_call : (x : Judged) (xs : List Judged) (p : Passed (x ∷ xs) 0) → x ≡ Ok p.call
+first_call x xs p = let e = p.is in cc
 
 first_on : (x : Judged) (xs : List Judged) (k : ℕ) → ArePassed (x ∷ xs) (suc k) → ends_session x ≡ false
 first_on x xs k a = let p = a 0 (omega arith) in let is : x ≡ Ok p.call = (let e = p.is in cc) in ap ends_session is ∙ p.goes_on

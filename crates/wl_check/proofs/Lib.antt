@@ -5,3 +5,4 @@ pub mod Stepping
 pub mod Reading
 pub mod Examined
 pub mod Within
+pub mod Lines

@@ -4,3 +4,4 @@ pub mod Places
 pub mod Rules
 pub mod Session
 pub mod Seen
+pub mod Trace

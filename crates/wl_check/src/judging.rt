@@ -1,15 +1,17 @@
 //! One message judged by what is known at its place.
-ghost use Rattle.std.specs.Prelude.{◌≡◌, ◌+◌, ◌≤◌, min, true, length, OnOk};
+ghost use Rattle.std.specs.Prelude.{◌≡◌, ◌+◌, ◌≤◌, ◌^◌, ◌<◌, ◌++◌, min, true, length, OnOk};
 ghost use Rattle.wl_sigs.specs.Valid.{Valid};
 ghost use Rattle.wl_message.specs.Cut.{usual_limit, is_size};
 ghost use Rattle.wl_check.specs.Deeds.{advertised, deed, first_number, is_global, side_of};
 ghost use Rattle.wl_check.specs.Rules.{is_bad_bind, judged, judged_as, may_bind, version_of};
-ghost use Rattle.wl_check.specs.Seen.{call_of, judged_in, known_in, read_of};
+ghost use Rattle.wl_check.specs.Seen.{call_of, judged_in, known_in, read_of, taken_in};
+ghost use Rattle.wl_check.specs.Trace.{call_line};
 
 use crate::deed::{Advertised, Deed};
 use crate::frames::{Frame, header_of, is_size};
 use crate::known::{Knowledge, Looker};
-use std::alloc::Allocator;
+use std::alloc::{AllocError, Allocator};
+use wl_lines::write_line;
 use wl_objects::{
     Fault, Made, REGISTRY, Received, Values, descriptors, is_bind, is_delete_id, is_error,
     made_by_message, receive_by,
@@ -205,5 +207,22 @@ impl<'t, 'a> Said<'t, 'a> {
             tokens: descriptors(kinds),
             is_error: is_error(side, iface, self.opcode),
         }
+    }
+
+    /// Appends the message's line to a trace, before the message changes what is known.
+    pub(crate) fn write<A: Allocator>(
+        &self,
+        text: &mut Vec<u8, A>,
+        tables: &Tables,
+        known: &Knowledge<A>,
+    ) -> Result<(), AllocError>
+        requires { taken_in known.now self.now.direction < 2 ^ 127 }
+        ensures { OnOk result (text.new.items ≡ text.old.items ++ call_line tables.now (known_in known.now) (call_of self.now)) }
+    {
+        let direction = self.direction;
+        let looker = Looker { known, direction };
+        let taken = known.taken(direction);
+        let side = side_of(direction);
+        write_line(text, tables, side, &looker, &self.received, taken)
     }
 }

@@ -11,7 +11,9 @@ mod frames;
 mod judging;
 mod known;
 mod progress;
+mod tracing;
 mod verdict;
 
 pub use checking::check;
+pub use tracing::trace;
 pub use verdict::Verdict;
