@@ -4,7 +4,7 @@ use Rattle.std.proofs.lemmas.Bool.{lt-ltb, le-ltb}
 use Rattle.std.proofs.lemmas.List.{length-drop, drop_all, drop-append-le, take_all}
 use Rattle.wl_recording.specs.declared.piece.Direction.{Direction}
 use Rattle.wl_message.specs.Cut.{usual_limit, is_size, told_size, front, Front, More, Bad, Whole}
-use Rattle.wl_message.proofs.Fronts.{front_stands, Stands}
+use Rattle.wl_message.proofs.Fronts.{front_stands}
 use Rattle.wl_message.proofs.Cuts.{front_none, whole_stays, bad_stays}
 use Rattle.wl_check.specs.declared.frames.Frame.{Frame}
 use Rattle.wl_check.specs.Merged.{Mark, mark, Cutting, cutting, stopped, bad_at, then_cut, cut_at, cut, framed}
@@ -37,7 +37,7 @@ front_rest s p f within e = e ∙ ap (front usual_limit) (rest_is s p within)
 
 -- ---- one step of the cutting
 
-front_past : (s : List ℕ) (p : ℕ) → length s ≤ p → front usual_limit (drop p s) ≡ More
+pub front_past : (s : List ℕ) (p : ℕ) → length s ≤ p → front usual_limit (drop p s) ≡ More
 front_past s p h = ap (front usual_limit) (drop_all p s h) ∙ front_none usual_limit
 
 -- where a message stands, the next place is later and within the stream

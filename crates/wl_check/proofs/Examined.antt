@@ -1,11 +1,10 @@
 -- What is examined, what is counted, and the verdict.
-use Rattle.std.proofs.Common.{◌≡◌, ℕ, zero, suc, ◌+◌, ◌*◌, ◌^◌, ◌-◌, ◌<◌, ◌≤◌, Bool, true, false, cond, Some, None, List, [], ◌∷◌, ◌++◌, slice_get, get_or, length, take, refl, sym, ap, ◌∙◌, arith, subst, ◌⊎◌, inl, inr, nat_lt, nat_eq, ◌↔◌, count_by, add-one, IfOk}
+use Rattle.std.proofs.Common.{◌≡◌, ℕ, zero, suc, ◌+◌, ◌*◌, ◌^◌, ◌-◌, ◌<◌, ◌≤◌, Bool, true, false, cond, Some, None, List, [], ◌∷◌, slice_get, get_or, length, take, refl, sym, ap, ◌∙◌, arith, subst, inl, inr, nat_lt, nat_eq, ◌↔◌, add-one, IfOk}
 use Rattle.std.specs.Prelude.{Option}
 use Rattle.std.specs.declared.result.Result.{Result}
 use Rattle.std.specs.declared.result.Result.TheVariants.{Ok, Err}
-use Rattle.std.proofs.lemmas.Bool.{cases_Bool, cases_lt, cases_order, lt-ltb, le-ltb}
+use Rattle.std.proofs.lemmas.Bool.{cases_lt, cases_order, lt-ltb, le-ltb}
 use Rattle.std.proofs.lemmas.Option.{slice_get_past, slice_get-get_or, slice_get_within}
-use Rattle.std.proofs.lemmas.List.{take_all}
 use Rattle.std.proofs.lemmas.List.Sums.{sum_by_more}
 use Rattle.std.proofs.Math.Path.{fun_ext}
 use Rattle.std.proofs.lemmas.Bool.Decides.{nat_tests}
@@ -26,8 +25,9 @@ use Rattle.wl_check.specs.Merged.{same_direction}
 use Rattle.wl_check.specs.Deeds.{Call, deed, beginning}
 use Rattle.wl_check.specs.Places.{holder, is_ending, used, told, taken, taken_after, deletes, unless_deleted, object_after, Known, known, IsNext, IsFirst}
 use Rattle.wl_check.specs.Rules.{judged}
-use Rattle.wl_check.specs.Session.{Session, Judged, deeds, messages, ends_session, examined, fault_of, breaks, IsLawful, counted, count_in, end_after, Answers, SaysLawful, IsFirstBroken}
+use Rattle.wl_check.specs.Session.{Session, Judged, deeds, messages, ends_session, examined, fault_of, breaks, IsLawful, count_in, end_after, Answers, SaysLawful}
 use Rattle.wl_check.specs.Seen.{known_in, tally_after, tally_in, no_tally}
+use Rattle.wl_check.specs.Text.{IsExamined}
 use Rattle.wl_check.proofs.Stepping.{known_next, named_next}
 use Rattle.wl_check.proofs.Reading.{reading, length_messages}
 
@@ -280,3 +280,32 @@ answers_broken tables s k f fault p e m a at = record {
 pub exact_from : (tables : List Interface) (s : Session) (v : Verdict) → Answers tables s v → SaysLawful v ↔ IsLawful tables s
 exact_from tables s (Lawful r e a b) h = (λ _. h.0, λ _. tt)
 exact_from tables s (Broken d i o f) h = (λ no. absurd no, λ lawful. (let none : breaks tables s h.place ≡ None = lawful h.place in let some = h.broken in absurd (cc)))
+
+-- ---- how many are examined, in words
+
+from_none : (ms : List Judged) (j : ℕ) (m : Judged) → j < 0 → slice_get ms j ≡ Some m → ends_session m ≡ false
+from_none ms j m h e = absurd (omega arith)
+
+from_later : (x : Judged) (xs : List Judged) (k j : ℕ) (m : Judged) → ends_session x ≡ false → IsExamined xs k → j < suc k → slice_get (x ∷ xs) j ≡ Some m → ends_session m ≡ false
+from_later x xs k zero m e i b is = let same : m ≡ x = cc in ap ends_session same ∙ e
+from_later x xs k (suc j) m e i b is = i.goes_on j m (omega (arith, b)) is
+
+from_step : (x : Judged) (xs : List Judged) (k : ℕ) (b : Bool) → ends_session x ≡ b → k < cond b 1 (suc (examined xs)) → ((j : ℕ) → j < examined xs → IsExamined xs j) → IsExamined (x ∷ xs) k
+from_step x xs zero b e h ih = record { within = omega arith; goes_on = from_none (x ∷ xs) }
+from_step x xs (suc k) true e h ih = absurd (omega (arith, h))
+from_step x xs (suc k) false e h ih = let i = ih k (omega (arith, h)) in let w = i.within in record { within = omega (arith, w); goes_on = λ j m. from_later x xs k j m e i }
+
+examined_from : (ms : List Judged) (k : ℕ) → k < examined ms → IsExamined ms k
+examined_from [] k h = absurd (omega arith)
+examined_from (x ∷ xs) k h = from_step x xs k (ends_session x) refl h (examined_from xs)
+
+examined_at : (ms : List Judged) (k : ℕ) → IsExamined ms k → k < examined ms
+examined_at [] k h = absurd (let w = h.within in omega (arith, w))
+examined_at (x ∷ xs) zero h = first_some (ends_session x) (examined xs)
+examined_at (x ∷ xs) (suc k) h =
+    let e : ends_session x ≡ false = h.goes_on 0 x (omega arith) refl in
+    let w = h.within in
+    rw e (let i = examined_at xs k (record { within = omega (arith, w); goes_on = λ j m b is. h.goes_on (suc j) m (omega (arith, b)) is }) in omega (arith, i))
+
+pub examined_is : (ms : List Judged) (k : ℕ) → (k < examined ms) ↔ IsExamined ms k
+examined_is ms k = (examined_from ms k, examined_at ms k)

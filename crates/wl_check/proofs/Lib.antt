@@ -6,3 +6,6 @@ pub mod Reading
 pub mod Examined
 pub mod Within
 pub mod Lines
+pub mod Holding
+pub mod Fresh
+pub mod Bringing

@@ -1,7 +1,6 @@
 -- The lines of a trace.
-use Rattle.std.proofs.Common.{◌≡◌, ℕ, zero, suc, ◌+◌, ◌*◌, ◌^◌, ◌<◌, ◌≤◌, Bool, true, false, cond, Some, None, List, [], ◌∷◌, ◌++◌, slice_get, length, refl, sym, ap, ◌∙◌, arith, subst, add-one, append-nil}
+use Rattle.std.proofs.Common.{◌≡◌, ℕ, zero, suc, ◌+◌, ◌^◌, ◌<◌, true, cond, Some, List, [], ◌∷◌, ◌++◌, slice_get, length, refl, sym, ap, ◌∙◌, arith, subst, add-one}
 use Rattle.std.specs.Prelude.{Option}
-use Rattle.std.specs.declared.result.Result.{Result}
 use Rattle.std.specs.declared.result.Result.TheVariants.{Ok, Err}
 use Rattle.wl_sigs.specs.Tables.{Interface}
 use Rattle.wl_objects.specs.declared.error.Fault.{Fault}
@@ -13,7 +12,7 @@ use Rattle.wl_check.specs.Places.{Known, known}
 use Rattle.wl_check.specs.Session.{Session, Judged, messages, deeds, ends_session}
 use Rattle.wl_check.specs.Trace.{call_line, judged_line, lines_within, lasting, trace_of}
 use Rattle.wl_check.specs.Seen.{known_in, taken_in}
-use Rattle.wl_check.proofs.Examined.{Passed, ArePassed, IsAt, behind, first_call}
+use Rattle.wl_check.proofs.Examined.{ArePassed, IsAt, behind, first_call}
 use Rattle.wl_check.proofs.Reading.{length_messages}
 
 -- ---- how many messages last

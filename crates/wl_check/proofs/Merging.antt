@@ -1,5 +1,5 @@
 -- One piece more.
-use Rattle.std.proofs.Common.{◌≡◌, ℕ, zero, suc, ◌+◌, ◌*◌, ◌^◌, ◌<◌, ◌≤◌, Bool, true, false, cond, Some, List, [], ◌∷◌, ◌++◌, length, get_or, take, drop, map, refl, sym, ap, ◌∙◌, arith, add-one, append-nil, append_assoc, slice_get}
+use Rattle.std.proofs.Common.{◌≡◌, ℕ, zero, suc, ◌+◌, ◌*◌, ◌^◌, ◌<◌, ◌≤◌, true, false, cond, Some, List, [], ◌∷◌, ◌++◌, length, get_or, take, drop, map, refl, sym, ap, ◌∙◌, arith, add-one, append-nil, append_assoc, slice_get}
 use Rattle.std.proofs.lemmas.List.{take_all}
 use Rattle.wl_recording.specs.declared.piece.Direction.{Direction}
 use Rattle.wl_recording.specs.declared.piece.Direction.TheVariants.{ToServer, ToClient}
@@ -8,7 +8,7 @@ use Rattle.wl_check.specs.declared.frames.Frame.{Frame}
 use Rattle.wl_check.specs.declared.frames.Stream.{Stream}
 use Rattle.wl_check.specs.Merged.{cut, framed, same_direction, stream_of, tokens_of, completed, merged_within}
 use Rattle.wl_check.specs.declared.frames.Merged.{Merged}
-use Rattle.wl_check.specs.Session.{Session, session_of}
+use Rattle.wl_check.specs.Session.{session_of}
 use Rattle.wl_check.specs.Seen.{IsCut, bytes_in, session_in}
 use Rattle.std.proofs.Math.Path.{fun_ext}
 

@@ -1,12 +1,12 @@
 -- Each message is judged by what stands at the places before it.
-use Rattle.std.proofs.Common.{◌≡◌, ℕ, zero, suc, ◌+◌, ◌<◌, ◌≤◌, Bool, true, false, cond, Some, None, IfSome, List, [], ◌∷◌, ◌++◌, slice_get, length, refl, sym, ap, ◌∙◌, arith, append-nil, append_assoc, length-append}
+use Rattle.std.proofs.Common.{◌≡◌, ℕ, zero, suc, ◌+◌, ◌<◌, Some, None, IfSome, List, [], ◌∷◌, ◌++◌, slice_get, length, refl, sym, ap, ◌∙◌, arith, append-nil, append_assoc, length-append}
 use Rattle.std.specs.Prelude.{Option, option_map}
 use Rattle.std.proofs.Math.Path.{fun_ext}
 use Rattle.wl_sigs.specs.Tables.{Interface}
 use Rattle.wl_recording.specs.declared.piece.Direction.{Direction}
 use Rattle.wl_check.specs.declared.deed.Deed.{Deed}
 use Rattle.wl_check.specs.declared.frames.Frame.{Frame}
-use Rattle.wl_check.specs.Places.{holder, is_ending, state_of, object_of, named, used, told, taken, Known, known, used_after, told_after, taken_after, makes, deletes, destroys}
+use Rattle.wl_check.specs.Places.{holder, is_ending, state_of, object_of, named, used, told, taken, Known, known}
 use Rattle.wl_check.specs.Rules.{judged}
 use Rattle.wl_check.specs.Session.{Judged, deed_of, deeds, judged_after, messages, Session}
 use Rattle.wl_check.proofs.Stepping.{holder_before}

@@ -1,14 +1,12 @@
 -- What is known behind a message, by what is known before it.
-use Rattle.std.proofs.Common.{◌≡◌, ℕ, zero, suc, ◌+◌, ◌<◌, ◌≤◌, Bool, true, false, ◌&&◌, ◌||◌, cond, Some, None, IfSome, refl, sym, ap, ◌∙◌, inl, inr, arith, nat_lt}
+use Rattle.std.proofs.Common.{◌≡◌, ℕ, zero, suc, ◌<◌, ◌≤◌, Bool, true, false, cond, Some, None, IfSome, refl, sym, ap, ◌∙◌, arith}
 use Rattle.std.specs.Prelude.{Option, option_map}
 use Rattle.std.proofs.Math.Path.{fun_ext}
 use Rattle.std.proofs.lemmas.Bool.{lt-ltb, le-ltb}
 use Rattle.wl_objects.specs.declared.object.Entry.{Entry}
-use Rattle.wl_objects.specs.declared.object.State.TheVariants.{Live, Zombie}
-use Rattle.wl_objects.specs.Messages.{Made}
-use Rattle.wl_recording.specs.declared.piece.Direction.{Direction}
+use Rattle.wl_objects.specs.declared.object.State.TheVariants.{Live}
 use Rattle.wl_check.specs.declared.deed.Deed.{Deed}
-use Rattle.wl_check.specs.Places.{makes, deletes, destroys, holder, is_ending, state_of, entry_of, new_of, object_of, named, ending, unless_deleted, object_after, used_after, told_after, taken_after, used, told, taken, Known, known, IsNext}
+use Rattle.wl_check.specs.Places.{makes, deletes, destroys, holder, is_ending, state_of, entry_of, new_of, object_of, named, unless_deleted, object_after, used_after, told_after, taken_after, used, told, taken, Known, known, IsNext}
 
 -- nothing stands between a place and the next
 is_ending_none : (s : ℕ → Deed) (m p i : ℕ) → p ≤ suc m → is_ending s m p i ≡ false

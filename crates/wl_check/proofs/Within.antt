@@ -1,5 +1,5 @@
 -- Each message lies within its stream.
-use Rattle.std.proofs.Common.{◌≡◌, ℕ, zero, suc, ◌+◌, ◌<◌, ◌≤◌, Bool, true, false, cond, Some, None, List, [], ◌∷◌, ◌++◌, slice_get, length, take, drop, map, refl, sym, ap, ◌∙◌, arith, subst, length-append}
+use Rattle.std.proofs.Common.{◌≡◌, ℕ, zero, suc, ◌+◌, ◌≤◌, true, cond, Some, None, List, [], ◌∷◌, ◌++◌, slice_get, length, take, drop, map, refl, ap, arith, subst, length-append}
 use Rattle.std.specs.Prelude.{Option}
 use Rattle.std.specs.List.{AllByRecursion}
 use Rattle.std.proofs.lemmas.List.{length-drop}
@@ -9,7 +9,7 @@ use Rattle.wl_recording.specs.Piece.{Piece}
 use Rattle.wl_message.specs.Cut.{usual_limit, is_size, front, Front, More, Bad, Whole}
 use Rattle.wl_message.proofs.Cuts.{front_spoiled}
 use Rattle.wl_check.specs.declared.frames.Frame.{Frame}
-use Rattle.wl_check.specs.Merged.{Mark, mark, Cutting, cutting, cut_at, cut, same_direction, stream_of, tokens_of, framed, completed, completed_at, merged_within, merged}
+use Rattle.wl_check.specs.Merged.{Mark, cutting, cut_at, cut, same_direction, stream_of, tokens_of, framed, completed_at, merged_within, merged}
 use Rattle.wl_check.specs.Session.{session_of, IsWithin, AreWithin}
 use Rattle.wl_check.proofs.Cutting.{next_within}
 

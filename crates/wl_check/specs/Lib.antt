@@ -5,3 +5,4 @@ pub mod Rules
 pub mod Session
 pub mod Seen
 pub mod Trace
+pub mod Text

@@ -1,6 +1,5 @@
 -- The trace of a session.
-use Rattle.std.specs.Prelude.{ℕ, zero, suc, List, [], ◌∷◌, ◌++◌, slice_get, if◌then◌else◌, Option, Some, None}
-use Rattle.std.specs.declared.result.Result.{Result}
+use Rattle.std.specs.Prelude.{ℕ, zero, suc, List, [], ◌∷◌, ◌++◌, slice_get, if◌then◌else◌, Option, Some}
 use Rattle.std.specs.declared.result.Result.TheVariants.{Ok, Err}
 use Rattle.wl_sigs.specs.Tables.{Interface}
 use Rattle.wl_lines.specs.Line.{line}

@@ -10,6 +10,7 @@ mod deed;
 mod frames;
 mod judging;
 mod known;
+pub mod laws;
 mod progress;
 #[cfg(test)]
 mod tests;

@@ -1,6 +1,5 @@
-use Rattle.std.proofs.Common.{◌≡◌, refl, sym, ◌∙◌, ap, subst}
-use Rattle.wl_check.specs.declared.verdict.Verdict.{Verdict}
-use Rattle.wl_check.specs.Session.{Session, session_of, Answers, AreWithin, IsLawful, SaysLawful}
+use Rattle.std.proofs.Common.{◌≡◌, sym, ◌∙◌, ap, subst}
+use Rattle.wl_check.specs.Session.{Session, session_of, Answers, AreWithin}
 use Rattle.wl_check.specs.Seen.{session_in}
 use Rattle.wl_check.proofs.Within.{all_within}
 use Rattle.wl_check.proofs.Examined.{if_ok_to, exact_from}

@@ -1,4 +1,4 @@
-use Rattle.std.proofs.Common.{arith, refl, sym, ◌∙◌, ◌+◌, ◌≤◌, length}
+use Rattle.std.proofs.Common.{arith, refl, sym, ◌∙◌}
 use Rattle.wl_check.proofs.Cutting.{ended_more, ended_bad, left_good, next_within, front_rest}
 use Rattle.wl_check.proofs.frames.cut_on.Goals as goal
 

@@ -1,8 +1,8 @@
-use Rattle.std.proofs.Common.{◌≡◌, ◌+◌, ◌*◌, ◌^◌, ◌<◌, ◌≤◌, ℕ, Some, length, map, slice_get, arith, refl, sym, ◌∙◌}
+use Rattle.std.proofs.Common.{◌≡◌, ◌≤◌, Some, length, map, slice_get, arith, refl, ◌∙◌}
 use Rattle.wl_recording.specs.declared.piece.Direction.TheVariants.{ToServer, ToClient}
 use Rattle.wl_recording.specs.Piece.{Piece, plain}
-use Rattle.wl_check.specs.Merged.{cut, cutting, merged_within}
-use Rattle.wl_check.proofs.Merging.{IsFed, read_mapped, fed_own, fed_other, frames_more, all_merged, all_fed, session_is}
+use Rattle.wl_check.specs.Merged.{cutting, merged_within}
+use Rattle.wl_check.proofs.Merging.{read_mapped, fed_own, fed_other, frames_more, all_merged, all_fed, session_is}
 use Rattle.wl_check.proofs.frames.merge.Goals as goal
 use Rattle.wl_check.proofs.frames.merge.Goals.{in-ToServer+in_ok-feed-in-ToServer, in-ToClient+in_ok-feed-in-ToClient}
 

@@ -1,11 +1,11 @@
-use Rattle.std.proofs.Common.{◌≡◌, ◌+◌, ◌≤◌, ◌<◌, ℕ, Some, Ok, Err, length, refl, sym, ◌∙◌, arith, slice_get, get_or, ap, true, false, List}
+use Rattle.std.proofs.Common.{◌≡◌, ◌+◌, ◌≤◌, ℕ, Some, Ok, Err, length, arith, slice_get, get_or, ap, true, false, List}
 use Rattle.wl_recording.specs.declared.piece.Direction.TheVariants.{ToServer}
 use Rattle.wl_check.specs.declared.frames.Frame.{Frame}
 use Rattle.wl_check.specs.Deeds.{Call}
-use Rattle.wl_check.specs.Session.{Session, Judged, messages, ends_session}
+use Rattle.wl_check.specs.Session.{Session, messages}
 use Rattle.wl_check.specs.Seen.{session_in, call_of}
 use Rattle.wl_check.specs.Trace.{lines_within}
-use Rattle.wl_check.proofs.Examined.{IsAt, at_first, at_next, passed_next, found_is, frame_is, ends_is, answers_all, answers_end, answers_broken}
+use Rattle.wl_check.proofs.Examined.{at_first, at_next, passed_next, found_is, frame_is, ends_is, answers_all, answers_end, answers_broken}
 use Rattle.wl_check.proofs.Lines.{lines_more, trace_all, trace_end, trace_broken, few_taken}
 use Rattle.wl_check.proofs.tracing.scan_lines.Goals as goal
 
