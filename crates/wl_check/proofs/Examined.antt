@@ -89,15 +89,18 @@ passed_fine tables s k a j h = let p = a j h in fine_at tables s j p.call p.is
 
 lawful_all : (tables : List Interface) (s : Session) → ArePassed (messages tables s) (length (messages tables s)) → IsLawful tables s
 lawful_all tables s a j = elim (cases_lt j (length (messages tables s))) [
-    inl h ↦ passed_fine tables s (length (messages tables s)) a j h
-  | inr h ↦ past tables s j h ]
+  | inl h ↦ passed_fine tables s (length (messages tables s)) a j h
+  | inr h ↦ past tables s j h
+]
 
 lawful_end : (tables : List Interface) (s : Session) (k : ℕ) (call : Call) → slice_get (messages tables s) k ≡ Some (Ok call) → ends_session (Ok call) ≡ true → ArePassed (messages tables s) k → IsLawful tables s
 lawful_end tables s k call e ends a j = elim (cases_order j k) [
-    inl same ↦ rw same (fine_at tables s k call e)
+  | inl same ↦ rw same (fine_at tables s k call e)
   | inr o ↦ elim o [
-      inl less ↦ passed_fine tables s k a j less
-    | inr more ↦ unexamined tables s j (let x = end_examined (messages tables s) k (Ok call) e ends a in omega (arith, x, more)) ] ]
+    | inl less ↦ passed_fine tables s k a j less
+    | inr more ↦ unexamined tables s j (let x = end_examined (messages tables s) k (Ok call) e ends a in omega (arith, x, more))
+  ]
+]
 
 -- ---- what is counted
 
@@ -125,12 +128,14 @@ tallied_step s k d t f true e same h i = record {
   count_is = ap (λ (n : ℕ). n + 1) i.count_is ∙ sym (count_more d s.frames k f e ∙ rw same refl);
   end_is = sym (rw add-one (end_more d 0 s.frames k f e ∙ rw same refl));
   few = (let c = i.few in omega (arith, c));
-  within = h refl }
+  within = h refl;
+}
 tallied_step s k d t f false e same h i = record {
   count_is = (let m = count_more d s.frames k f e in i.count_is ∙ sym (m ∙ rw same (omega arith)));
   end_is = i.end_is ∙ sym (rw add-one (end_more d 0 s.frames k f e ∙ rw same refl));
   few = (let c = i.few in omega (arith, c));
-  within = i.within }
+  within = i.within;
+}
 
 same_is : (f d : Direction) → same_direction f d ≡ true → f ≡ d
 same_is ToServer ToServer e = refl
@@ -189,7 +194,8 @@ at_first tables s p k a b c d = record {
   to_server = rw a (record { count_is = refl; end_is = refl; few = omega arith; within = omega arith });
   to_client = rw b (record { count_is = refl; end_is = refl; few = omega arith; within = omega arith });
   taken_to_server = omega (arith, c);
-  taken_to_client = omega (arith, d) }
+  taken_to_client = omega (arith, d);
+}
 
 -- behind a message that keeps the rules
 pub at_next : {A : Type 0} (tables : List Interface) (s : Session) (k : ℕ) (f : Frame) (call : Call) (d : Deed) (p q : Progress A) → d ≡ deed tables call → slice_get s.frames k ≡ Some f → slice_get (messages tables s) k ≡ Some (Ok call)
@@ -203,12 +209,14 @@ at_next tables s k f call what p q what_is e m h n a b c d at =
       to_server = tallied_next s k ToServer p.to_server q.to_server f e h a at.to_server;
       to_client = tallied_next s k ToClient p.to_client q.to_client f e h b at.to_client;
       taken_to_server = (let t = at.taken_to_server in omega (arith, c, t));
-      taken_to_client = (let t = at.taken_to_client in omega (arith, d, t)) }
+      taken_to_client = (let t = at.taken_to_client in omega (arith, d, t));
+    }
 
 pub passed_next : (ms : List Judged) (k : ℕ) (call : Call) → ArePassed ms k → slice_get ms k ≡ Some (Ok call) → ends_session (Ok call) ≡ false → ArePassed ms (k + 1)
 passed_next ms k call a e on j h = elim (cases_order j k) [
-    inl same ↦ rw same (record { call = call; is = e; goes_on = on })
-  | inr o ↦ elim o [ inl less ↦ a j less | inr more ↦ absurd (omega arith) ] ]
+  | inl same ↦ rw same (record { call = call; is = e; goes_on = on })
+  | inr o ↦ elim o [ inl less ↦ a j less | inr more ↦ absurd (omega arith) ]
+]
 
 -- what the code finds at a place
 pub found_is : {A : Type 0} (tables : List Interface) (s : Session) (k : ℕ) (f : Frame) (p : Progress A) (stream : List ℕ) (x : Judged) → slice_get s.frames k ≡ Some f → IsAt tables s k p
@@ -232,11 +240,15 @@ abbrev lawful_in : {A : Type 0} → Session → Progress A → Verdict
 lawful_in s p = Lawful p.to_server.count p.to_client.count (length (s.streams ToServer) - p.to_server.end) (length (s.streams ToClient) - p.to_client.end)
 
 counts_at : {A : Type 0} (tables : List Interface) (s : Session) (k : ℕ) (p : Progress A) → examined (messages tables s) ≡ k → IsAt tables s k p → IsLawful tables s → Answers tables s (lawful_in s p)
-counts_at tables s k p e at lawful = (lawful, record {
-  requests_are = rw e at.to_server.count_is;
-  events_are = rw e at.to_client.count_is;
-  to_server = rw e (ap (λ (n : ℕ). length (s.streams ToServer) - n) at.to_server.end_is);
-  to_client = rw e (ap (λ (n : ℕ). length (s.streams ToClient) - n) at.to_client.end_is) })
+counts_at tables s k p e at lawful = (
+  lawful,
+  record {
+    requests_are = rw e at.to_server.count_is;
+    events_are = rw e at.to_client.count_is;
+    to_server = rw e (ap (λ (n : ℕ). length (s.streams ToServer) - n) at.to_server.end_is);
+    to_client = rw e (ap (λ (n : ℕ). length (s.streams ToClient) - n) at.to_client.end_is);
+  },
+)
 
 pub answers_all : {A : Type 0} (tables : List Interface) (s : Session) (k : ℕ) (p : Progress A) → length s.frames ≡ k → ArePassed (messages tables s) k → IsAt tables s k p → Answers tables s (lawful_in s p)
 answers_all tables s k p e a at =
@@ -255,12 +267,15 @@ tally_of s k p ToClient a b = b.count_is
 pub answers_broken : {A : Type 0} (tables : List Interface) (s : Session) (k : ℕ) (f : Frame) (fault : Fault) (p : Progress A) → slice_get s.frames k ≡ Some f → slice_get (messages tables s) k ≡ Some (Err fault) → ArePassed (messages tables s) k
     → IsAt tables s k p → Answers tables s (Broken f.direction ((tally_in p f.direction).count + 1) f.start fault)
 answers_broken tables s k f fault p e m a at = record {
-  place = k; frame = f; stands = e;
+  place = k;
+  frame = f;
+  stands = e;
   broken = rw (lt-ltb k (examined (messages tables s)) (below_examined (messages tables s) k (Err fault) m a), m) refl;
   least = passed_fine tables s k a;
   direction_is = refl;
   index_is = (let t = tally_of s k p f.direction at.to_server at.to_client in omega (arith, t));
-  offset_is = refl }
+  offset_is = refl;
+}
 
 pub exact_from : (tables : List Interface) (s : Session) (v : Verdict) → Answers tables s v → SaysLawful v ↔ IsLawful tables s
 exact_from tables s (Lawful r e a b) h = (λ _. h.0, λ _. tt)

@@ -48,7 +48,7 @@ lines_more tables s k call p old new m at old_is new_is =
     let one : k + 1 ≡ suc k = add-one k in
     let w : known (deeds tables (messages tables s)) (suc k) ≡ known_in p.known = sym at.known_is in
     let l : judged_line tables (known (deeds tables (messages tables s)) (suc k)) (slice_get (messages tables s) k) ≡ call_line tables (known_in p.known) call =
-        ap (λ (o : Option Judged). judged_line tables (known (deeds tables (messages tables s)) (suc k)) o) m ∙ ap (λ (x : Known). call_line tables x call) w in
+    ap (λ (o : Option Judged). judged_line tables (known (deeds tables (messages tables s)) (suc k)) o) m ∙ ap (λ (x : Known). call_line tables x call) w in
     new_is ∙ ap (λ (x : List ℕ). x ++ call_line tables (known_in p.known) call) old_is ∙ ap (λ (x : List ℕ). lines_within tables s k ++ x) (sym l) ∙ ap (λ (n : ℕ). lines_within tables s n) (sym one)
 
 pub trace_all : (tables : List Interface) (s : Session) (k : ℕ) (text : List ℕ) → length s.frames ≡ k → ArePassed (messages tables s) k → text ≡ lines_within tables s k → text ≡ trace_of tables s

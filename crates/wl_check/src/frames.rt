@@ -109,11 +109,21 @@ fn cut_on<A: Allocator>(
         match front_of(&bytes[start..]) {
             Front::More => return Ok((start, false)),
             Front::Bad(size) => {
-                frames.push(Frame { direction, start, size, tokens })?;
+                frames.push(Frame {
+                    direction,
+                    start,
+                    size,
+                    tokens,
+                })?;
                 return Ok((start, true));
             }
             Front::Whole(size) => {
-                frames.push(Frame { direction, start, size, tokens })?;
+                frames.push(Frame {
+                    direction,
+                    start,
+                    size,
+                    tokens,
+                })?;
                 place += size as usize;
             }
         }

@@ -11,6 +11,8 @@ mod frames;
 mod judging;
 mod known;
 mod progress;
+#[cfg(test)]
+mod tests;
 mod tracing;
 mod verdict;
 

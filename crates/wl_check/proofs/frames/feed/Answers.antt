@@ -25,7 +25,7 @@ pub returns-clause-cut : goal.returns-clause-cut
 returns-clause-cut g c =
     let fine : (cut c.args.stream.now.bytes.items).is_bad ≡ false = sym c.requires.cut.is_bad ∙ c.if-stream.false in
     let w = went_on c.args.stream.now.bytes.items c.as_slice.result.now c.as_slice-2.result.now c.extend_from_slice.new.self.items c.args.stream.now.place c.in_ok-place.place c.in_ok-place.is_bad
-        c.as_slice-2.ensures.value c.in_ok-extend_from_slice.ensures.items c.requires.cut.place fine c.in_ok-place.ensures.place c.in_ok-place.ensures.bad in
+    c.as_slice-2.ensures.value c.in_ok-extend_from_slice.ensures.items c.requires.cut.place fine c.in_ok-place.ensures.place c.in_ok-place.ensures.bad in
     record { place = w.0; is_bad = w.1 }
 
 pub returns-clause-frames : goal.returns-clause-frames

@@ -43,8 +43,8 @@ advance-requires-clause-end g c =
     let l = ap (λ (b : List ℕ). length b) c.stream-stream.ensures in
     omega (arith, h, l)
 
-pub lawful-requires-clause-to_client : goal.lawful-requires-clause-to_client
-lawful-requires-clause-to_client g c =
+pub lawful-verdict-requires-clause-to_client : goal.lawful-verdict-requires-clause-to_client
+lawful-verdict-requires-clause-to_client g c =
     let tables = c.args.tables.now in
     let s : Session = session_in c.args.merged.now in
     let k : ℕ = c.loop-index.index in
