@@ -1,7 +1,7 @@
 -- What a client's binding of a global answers and writes.
-use Rattle.std.specs.Prelude.{ℕ, Bool, true, false, ◌&&◌, not, nat_eq, nat_le, nat_lt, bytes_eq, if◌then◌else◌, List, [], ◌∷◌, Option, Some, None}
+use Rattle.std.specs.Prelude.{ℕ, Bool, false, ◌&&◌, not, nat_le, bytes_eq, if◌then◌else◌, List, [], ◌∷◌, Option, Some, None}
 use Rattle.std.specs.declared.result.Result.{Result}
-use Rattle.std.specs.declared.result.Result.TheVariants.{Ok, Err}
+use Rattle.std.specs.declared.result.Result.TheVariants.{Err}
 use Rattle.wl_wire.specs.declared.kind.Iface.{Iface}
 use Rattle.wl_wire.specs.Argument.{Argument, Uint, NewNamed}
 use Rattle.wl_sigs.specs.Tables.{Interface, interface_at}
@@ -10,10 +10,10 @@ use Rattle.wl_objects.specs.declared.object.Object.{Object}
 use Rattle.wl_objects.specs.declared.object.Entry.{Entry}
 use Rattle.wl_objects.specs.declared.error.SendError.{SendError}
 use Rattle.wl_objects.specs.declared.error.SendError.TheVariants as refusals
-use Rattle.wl_objects.specs.View.{View, look, next_id, opened}
+use Rattle.wl_objects.specs.View.{next_id, opened}
 use Rattle.wl_objects.specs.Writing.{message_len}
 use Rattle.wl_objects.specs.Messages.{Made, live_row, same_iface}
-use Rattle.wl_end.specs.Core.{Core, with_view}
+use Rattle.wl_end.specs.Core.{with_view}
 use Rattle.wl_end.specs.Sending.{fits, with_sent, opening_answer}
 use Rattle.wl_client.specs.State.{State, Global, global_of}
 

@@ -1,16 +1,10 @@
 -- What a client is: an end, and the globals that it was told.
-use Rattle.std.specs.Prelude.{ℕ, Bool, nat_eq, List, [], Option, Some, None}
+use Rattle.std.specs.Prelude.{ℕ, Bool, nat_eq, List, [], Option}
 use Rattle.std.specs.List.{find}
-use Rattle.wl_wire.specs.declared.kind.Iface.{Iface}
 use Rattle.wl_sigs.specs.Tables.{Interface}
 use Rattle.wl_message.specs.declared.amounts.Sizes.{Sizes}
 use Rattle.wl_end.specs.Core.{Core, new_core}
-
--- a global as it was advertised
-pub record Global : Type 0 where
-  pub name : ℕ
-  pub iface : Iface
-  pub version : ℕ
+pub use Rattle.wl_client.specs.declared.globals.Global.{Global}
 
 -- The globals that the client remembers, no name twice, in the order in which their names were told.
 pub record State : Type 0 where

@@ -19,12 +19,16 @@ pub enum Incoming<A: Allocator = Global> {
     Discarded {
         target: Object,
         opcode: u16,
-        tokens: Tokens<A>,
+        tokens: Tokens,
     },
     /// wl_display.delete_id of an object: its id is free again.
-    Deleted { object: Object },
+    Deleted {
+        object: Object,
+    },
     /// wl_display.delete_id of an id that names no object, or of wl_display's own. Nothing changed.
-    Stray { id: u32 },
+    Stray {
+        id: u32,
+    },
     /// wl_display.error, which is fatal: the client has failed. `named` is the object that the
     /// client has under the id; null where that is 0 or unknown.
     Error {

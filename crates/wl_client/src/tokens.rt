@@ -1,45 +1,75 @@
-//! Owned tokens, seen as a list.
-ghost use Rattle.std.specs.Prelude.{◌≡◌};
+//! The tokens of one message, seen as a list.
+ghost use Rattle.std.specs.Prelude.{◌≡◌, ◌≤◌, length, take};
 
-use std::alloc::{Allocator, Global};
+use std::alloc::Allocator;
+use std::fmt::{self, Debug, Formatter};
 use std::marker::Model;
+use wl_message::Inbox;
 
-/// Tokens of a message, in order, in memory of their own.
-///
-/// It is made from a `Vec` and gives it back without taking memory.
-#[derive(Debug, Drop)]
-pub struct Tokens<A: Allocator = Global> {
-    items: Vec<u32, A>,
+/// The most tokens that a message has, one for each argument.
+pub(crate) const MAX_TOKENS: usize = 20;
+
+/// Tokens of a message, in order. They take no memory.
+#[derive(Drop)]
+pub struct Tokens {
+    items: [u32; MAX_TOKENS],
+    count: usize,
 }
 
-impl<A: Allocator> Model for Tokens<A> {
-    ghost use Rattle.std.specs.Prelude.{ℕ, List};
+impl Model for Tokens {
+    ghost use Rattle.std.specs.Prelude.{◌≤◌, ℕ, List, take};
 
     ghost Value = { List ℕ };
 
-    ghost view = { λ t. t.items.items };
+    ghost view = { λ t. take t.count t.items };
+
+    ghost invariant = { λ t. t.count ≤ 20 };
 }
 
-impl<A: Allocator> Tokens<A> {
-    /// The tokens of a vector, with its memory.
-    pub fn from_vec(items: Vec<u32, A>) -> Tokens<A>
-        ensures { result ≡ items.items }
+impl Tokens {
+    /// The tokens that wait first in an inbox, as many as a message can have.
+    pub(crate) fn waiting<A: Allocator>(inbox: &Inbox<A>) -> Self
+        ensures { result ≡ take 20 inbox.now.tokens }
     {
-        Tokens { items }
+        let mut items = [0; MAX_TOKENS];
+        let count = copy_waiting(inbox, &mut items);
+        Self { items, count }
     }
 
-    /// The vector of these tokens, with their memory.
-    pub fn into_vec(self) -> Vec<u32, A>
-        ensures { result.items ≡ self }
+    /// The first of these tokens, so many of them if there are so many.
+    pub(crate) fn first(&self, count: usize) -> Self
+        ensures { result ≡ take count self.now }
     {
-        let Tokens { items } = self;
-        items
+        Self {
+            items: self.items,
+            count: count.min(self.count),
+        }
     }
 
     /// The tokens, lent.
     pub fn as_slice(&self) -> &[u32]
         ensures { result.now ≡ self.now }
     {
-        self.items.as_slice()
+        &self.items[..self.count]
+    }
+}
+
+/// Copies the tokens that wait first into the front of a slice, and answers how many there are.
+fn copy_waiting<A: Allocator>(inbox: &Inbox<A>, items: &mut [u32]) -> usize
+    ensures within { result ≤ length items.old }
+    ensures items { take result items.new ≡ take (length items.old) inbox.now.tokens }
+{
+    'places: for place in 0..items.len() {
+        match inbox.token(place) {
+            Some(token) => items[place] = token,
+            None => return place,
+        }
+    }
+    items.len()
+}
+
+impl Debug for Tokens {
+    fn fmt<W: fmt::Write>(&self, f: &mut Formatter<W>) -> fmt::Result {
+        self.as_slice().fmt(f)
     }
 }

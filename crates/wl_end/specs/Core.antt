@@ -1,5 +1,5 @@
 -- What both ends have: signature tables, objects, what came in, what goes out, whether the end has failed, and how many bytes it read.
-use Rattle.std.specs.Prelude.{ℕ, ◌+◌, Bool, true, false, ◌&&◌, min, List, if◌then◌else◌, Option, option_map}
+use Rattle.std.specs.Prelude.{◌≡◌, ℕ, ◌+◌, ◌≤◌, Bool, true, false, ◌&&◌, min, List, if◌then◌else◌, Option, Some, option_map}
 use Rattle.wl_wire.specs.declared.kind.Iface.{Iface}
 use Rattle.wl_sigs.specs.Tables.{Interface}
 use Rattle.wl_sigs.specs.Fixed.{display}
@@ -9,7 +9,8 @@ use Rattle.wl_message.specs.Arrived.{Arrived, nothing_arrived, free_bytes, free_
 use Rattle.wl_message.specs.Outgoing.{Outgoing, no_messages, waiting_bytes, waiting_tokens, after_taking}
 use Rattle.wl_objects.specs.declared.object.Object.{Object}
 use Rattle.wl_objects.specs.declared.object.Entry.{Entry}
-use Rattle.wl_objects.specs.View.{View, opening}
+use Rattle.wl_objects.specs.declared.object.State.TheVariants.{Live}
+use Rattle.wl_objects.specs.View.{View, opening, look}
 use Rattle.wl_objects.specs.Messages.{live_row, is_empty}
 
 pub record Core : Type 0 where
@@ -38,6 +39,14 @@ new_core tables sizes = record {
 -- wl_display, the first object of each end
 abbrev pub display_object : Object
 display_object = record { id = 1; birth = 0 }
+
+-- its row, which stays as it is for good
+abbrev pub HasDisplay : View → Type 0
+HasDisplay view = look view 1 ≡ Some (record { birth = 0; iface = display; version = 1; state = Live })
+
+-- The outbox of an end that has not failed: no error event was added to it, and its size is one that an end has.
+abbrev pub IsOrdinary : Outgoing → Type 0
+IsOrdinary outbox = (outbox.has_error ≡ false) × (outbox.error_to ≡ 0) × (outbox.capacity ≤ 16777216)
 
 abbrev pub kind_and_version : Entry → Iface × ℕ
 kind_and_version entry = (entry.iface, entry.version)

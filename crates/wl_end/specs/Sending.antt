@@ -1,5 +1,5 @@
 -- What an end writes.
-use Rattle.std.specs.Prelude.{ℕ, ◌+◌, Bool, true, false, ◌||◌, nat_lt, if◌then◌else◌, List, [], ◌∷◌, length, map, Option, Some, None, is_some}
+use Rattle.std.specs.Prelude.{ℕ, ◌+◌, Bool, true, false, ◌||◌, nat_lt, if◌then◌else◌, List, [], ◌∷◌, length, map, Option, Some, None, is_some, option_map}
 use Rattle.std.specs.declared.result.Result.{Result}
 use Rattle.std.specs.declared.result.Result.TheVariants.{Ok, Err}
 use Rattle.wl_wire.specs.Argument.{Argument, Uint, Str, Obj}
@@ -12,7 +12,8 @@ use Rattle.wl_objects.specs.declared.object.Object.{Object}
 use Rattle.wl_objects.specs.declared.object.Entry.{Entry}
 use Rattle.wl_objects.specs.declared.error.SendError.{SendError}
 use Rattle.wl_objects.specs.declared.error.SendError.TheVariants as refusals
-use Rattle.wl_objects.specs.View.{next_id, can_open, look}
+use Rattle.wl_wire.specs.declared.kind.Iface.{Iface}
+use Rattle.wl_objects.specs.View.{View, next_id, can_open, look}
 use Rattle.wl_objects.specs.Writing.{Given, wired, message_len, message_bytes, tokens_of}
 use Rattle.wl_objects.specs.Messages.{Made, made, checked, End, Client, Server, after}
 use Rattle.wl_end.specs.Core.{Core, with_view}
@@ -38,6 +39,10 @@ with_error_event core object code text = record core {
   outbox = with_error core.outbox (message_bytes 1 0 (Obj object ∷ Uint code ∷ Str (Some text) ∷ []));
   failed = true;
 }
+
+-- the object of this interface and version that is opened next, if one is made
+abbrev pub next_object : View → ℕ → Option Iface → Option Made
+next_object view version iface = option_map (λ i. record { id = next_id view; iface = i; version = version }) iface
 
 -- the object that a call makes, at the next id
 abbrev pub made_by_call : Core → ℕ → Message → List Given → Option Made

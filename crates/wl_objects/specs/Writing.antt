@@ -110,6 +110,14 @@ EachFits (value ∷ values) = Fits value × EachFits values
 abbrev pub bind_values : ℕ → List ℕ → ℕ → ℕ → List Argument
 bind_values name iface version id = Uint name ∷ NewNamed iface version id ∷ []
 
+-- the arguments of wl_display.error
+abbrev pub error_values : ℕ → ℕ → List ℕ → List Argument
+error_values object code text = Obj object ∷ Uint code ∷ Str (Some text) ∷ []
+
+-- the arguments of wl_registry.global
+abbrev pub global_values : ℕ → List ℕ → ℕ → List Argument
+global_values name iface version = Uint name ∷ Str (Some iface) ∷ Uint version ∷ []
+
 -- the tokens of a call, in order
 abbrev pub tokens_of : List Given → List ℕ
 tokens_of [] = []

@@ -1,7 +1,8 @@
 //! The arguments of a call, checked before a message is made of them.
 ghost use Rattle.std.specs.Prelude.{◌≡◌, ◌≤◌, ℕ, suc, ◌<◌, ◌≤◌, ◌+◌, IfOk, IfSome, length, Some};
 ghost use Rattle.std.specs.List.{All};
-ghost use Rattle.wl_objects.specs.View.{look};
+ghost use Rattle.wl_sigs.specs.Valid.{Valid};
+ghost use Rattle.wl_objects.specs.View.{look, Sound};
 ghost use Rattle.wl_objects.specs.Reading.{is_of, iface_of};
 ghost use Rattle.wl_objects.specs.Messages.{checked, live_row};
 ghost use Rattle.wl_objects.specs.Carried.{InRange, IsTyped};
@@ -33,6 +34,9 @@ pub fn check_call<'t, T: Table>(
     ensures fits { IfOk result (λ _. (id : ℕ) → EachFits (on_wire id args.now) × (message_len (on_wire id args.now) ≤ 4096)) }
     ensures in_range { IfOk result (λ _. All InRange (given args.now)) }
     ensures few { IfOk result (λ _. length args.now ≤ 20) }
+    // Always so, and known because the table and the tables were asked.
+    ensures sound { Sound (T.view table.now) }
+    ensures valid { IfOk result (λ _. Valid tables.now) }
 {
     let entry = match live_row(table, target) {
         Some(entry) => entry,
@@ -64,6 +68,7 @@ pub fn check_call<'t, T: Table>(
 /// The entry of an object that is live with this birth.
 fn live_row<T: Table>(table: &T, object: Object) -> Option<Entry>
     ensures row { result ≡ live_row (T.view table.now) object }
+    ensures sound { Sound (T.view table.now) }
     ensures held { IfSome result (λ entry. look (T.view table.now) object.id ≡ Some entry) }
 {
     match table.look(object.id) {

@@ -36,4 +36,6 @@ pub use reading::{Received, descriptors, receive, receive_by};
 pub use reporting::{Gots, named, report_arguments};
 pub use table::Table;
 pub use values::Values;
-pub use writing::{encode_bind, encode_call, message_len, tokens_of};
+pub use writing::{
+    encode_bind, encode_call, encode_error, encode_global, encode_number, message_len, tokens_of,
+};

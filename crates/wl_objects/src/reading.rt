@@ -1,6 +1,8 @@
 //! One message read against an end's table.
-ghost use Rattle.std.specs.Prelude.{◌≡◌};
+ghost use Rattle.std.specs.Prelude.{◌≡◌, IfOk};
 ghost use Rattle.wl_wire.specs.Argument.{lent};
+ghost use Rattle.wl_wire.specs.Word.{IsHeader};
+ghost use Rattle.wl_sigs.specs.Valid.{Valid};
 ghost use Rattle.wl_objects.specs.View.{look};
 ghost use Rattle.wl_objects.specs.Reading.{arguments_at, descriptors, forgiving, value_fault, object_fault, new_fault, iface_of, values_at};
 ghost use Rattle.wl_objects.specs.Messages.{reader_of, received};
@@ -40,7 +42,10 @@ pub fn receive<'t: 'a, 'a, T: Table>(
     body: &'a [u8],
     waiting: usize,
 ) -> Result<Received<'t, 'a>, Fault>
-    ensures { received_in result ≡ received tables.now side (reader_of (T.view table.now)) header body.now waiting }
+    ensures answer { received_in result ≡ received tables.now side (reader_of (T.view table.now)) header body.now waiting }
+    // Always so, and known because the tables were asked and the header was given.
+    ensures valid { IfOk result (λ _. Valid tables.now) }
+    ensures header { IsHeader header }
 {
     receive_by(tables, side, &Held { table }, header, body, waiting)
 }
@@ -54,7 +59,8 @@ pub fn receive_by<'t: 'a, 'a, L: Lookup>(
     body: &'a [u8],
     waiting: usize,
 ) -> Result<Received<'t, 'a>, Fault>
-    ensures { received_in result ≡ received tables.now side (L.reader lookup.now) header body.now waiting }
+    ensures answer { received_in result ≡ received tables.now side (L.reader lookup.now) header body.now waiting }
+    ensures valid { IfOk result (λ _. Valid tables.now) }
 {
     let entry = match lookup.object(header.object) {
         Some(entry) => entry,

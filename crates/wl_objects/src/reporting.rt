@@ -1,5 +1,6 @@
 //! The arguments of a message as its reader reports them.
 ghost use Rattle.std.specs.Prelude.{◌≡◌, [], ◌∷◌, ◌++◌, IfOk};
+ghost use Rattle.std.specs.Option.{option_map_or};
 ghost use Rattle.wl_wire.specs.Argument.{lent};
 ghost use Rattle.wl_objects.specs.View.{look};
 ghost use Rattle.wl_objects.specs.Reading.{first_or, named_at, report_of, reports_of, tokens_after};
@@ -17,30 +18,40 @@ use wl_wire::{Bytes, ValueRef};
 /// The arguments of a report, in memory of their own.
 #[derive(Debug, Drop)]
 pub struct Gots<A: Allocator = Global> {
-    items: Vec<Got<A>, A>,
+    // None at a message without arguments, so that its report needs no allocator.
+    items: Option<Vec<Got<A>, A>>,
 }
 
 impl<A: Allocator> Model for Gots<A> {
-    ghost use Rattle.std.specs.Prelude.{List};
+    ghost use Rattle.std.specs.Prelude.{List, []};
+    ghost use Rattle.std.specs.Option.{option_map_or};
     ghost use Rattle.wl_objects.specs.Reading.{Reported};
     ghost use Rattle.wl_objects.specs.Seen.{gots};
 
     ghost Value = { List Reported };
 
-    ghost view = { λ g. gots g.items.items };
+    ghost view = { λ g. option_map_or (λ v. gots v.items) g.items [] };
 }
 
 impl<A: Allocator> Gots<A> {
+    /// No arguments. Takes no memory, and needs no allocator.
+    pub fn none() -> Self
+        ensures { result ≡ [] }
+    {
+        Self { items: None }
+    }
+
     /// Takes over a vector, without taking memory.
     pub fn from_vec(items: Vec<Got<A>, A>) -> Self
         ensures { result ≡ gots items.items }
     {
-        Self { items }
+        Self { items: Some(items) }
     }
 
-    /// Gives the vector back, without taking memory.
-    pub fn into_vec(self) -> Vec<Got<A>, A>
-        ensures { gots result.items ≡ self }
+    /// Gives the vector back, without taking memory. None where there is none, as at a message
+    /// without arguments.
+    pub fn into_vec(self) -> Option<Vec<Got<A>, A>>
+        ensures { option_map_or (λ v. gots v.items) result [] ≡ self }
     {
         self.items
     }
@@ -49,7 +60,10 @@ impl<A: Allocator> Gots<A> {
     pub fn as_slice(&self) -> &[Got<A>]
         ensures { gots result.now ≡ self.now }
     {
-        self.items.as_slice()
+        match &self.items {
+            Some(items) => items.as_slice(),
+            None => &[],
+        }
     }
 }
 
@@ -72,7 +86,7 @@ pub fn report_arguments<A: Allocator + Clone + Drop, T: Table>(
         waiting = tokens_after(&value, waiting);
         items.push(report_of(&alloc, table, token, value)?)?;
     }
-    Ok(Gots { items })
+    Ok(Gots::from_vec(items))
 }
 
 /// The token that waits first, or 0.

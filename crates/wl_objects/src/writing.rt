@@ -1,9 +1,9 @@
 //! Messages made of a call's arguments.
-ghost use Rattle.std.specs.Prelude.{◌≡◌, ◌<◌, ◌≤◌, ◌+◌, ◌++◌, ℕ, MatchOption, length, take, vec_len, vec_capacity};
-ghost use Rattle.wl_wire.specs.Argument.{lent};
-ghost use Rattle.wl_wire.specs.Spelling.{canonical, spelled_len, padded, Fits};
+ghost use Rattle.std.specs.Prelude.{◌≡◌, ◌<◌, ◌≤◌, ◌+◌, ◌++◌, ◌∷◌, [], ℕ, MatchOption, length, take, vec_len, vec_capacity};
+ghost use Rattle.wl_wire.specs.Argument.{lent, Uint};
+ghost use Rattle.wl_wire.specs.Spelling.{canonical, spelled_len, padded, Fits, IsText};
 ghost use Rattle.wl_wire.specs.Word.{header_bytes};
-ghost use Rattle.wl_objects.specs.Writing.{given, given_of, wired, on_wire, message_len, len_in_limit, tokens_of, message_bytes, bind_values, EachFits};
+ghost use Rattle.wl_objects.specs.Writing.{given, given_of, wired, on_wire, message_len, len_in_limit, tokens_of, message_bytes, bind_values, error_values, global_values, EachFits};
 
 use crate::argument::Arg;
 use std::alloc::Allocator;
@@ -125,6 +125,53 @@ pub fn encode_bind<A: Allocator>(
     start(store, registry, len, 0);
     append(store, ValueRef::Uint(name));
     append(store, named);
+}
+
+/// Writes a message whose one argument is a number, as wl_display.delete_id.
+pub fn encode_number<A: Allocator>(store: &mut Vec<u8, A>, object: u32, opcode: u16, number: u32)
+    requires { 4096 ≤ vec_capacity store.old }
+    ensures message { store.new.items ≡ message_bytes object opcode (Uint number ∷ []) }
+    ensures capacity { vec_capacity store.old ≤ vec_capacity store.new }
+{
+    start(store, object, 12, opcode);
+    append(store, ValueRef::Uint(number));
+}
+
+/// Writes wl_display.error of wl_display itself, for an object of this id. The text is short.
+pub fn encode_error<A: Allocator>(store: &mut Vec<u8, A>, object: u32, code: u32, text: &[u8])
+    requires text { IsText text.now }
+    requires short { length text.now ≤ 40 }
+    requires room { 4096 ≤ vec_capacity store.old }
+    ensures message { store.new.items ≡ message_bytes 1 0 (error_values object code text.now) }
+    ensures capacity { vec_capacity store.old ≤ vec_capacity store.new }
+{
+    let text = ValueRef::Str(Some(text));
+    start(store, 1, 16 + text.spelled_len(), 0);
+    append(store, ValueRef::Obj(object));
+    append(store, ValueRef::Uint(code));
+    append(store, text);
+}
+
+/// Writes wl_registry.global for this registry, of the global of this name. The interface is one of
+/// the tables.
+pub fn encode_global<A: Allocator>(
+    store: &mut Vec<u8, A>,
+    registry: u32,
+    global: u32,
+    iface: &[u8],
+    version: u32,
+)
+    requires text { IsText iface.now }
+    requires short { length iface.now ≤ 256 }
+    requires room { 4096 ≤ vec_capacity store.old }
+    ensures message { store.new.items ≡ message_bytes registry 0 (global_values global iface.now version) }
+    ensures capacity { vec_capacity store.old ≤ vec_capacity store.new }
+{
+    let iface = ValueRef::Str(Some(iface));
+    start(store, registry, 16 + iface.spelled_len(), 0);
+    append(store, ValueRef::Uint(global));
+    append(store, iface);
+    append(store, ValueRef::Uint(version));
 }
 
 /// How many bytes a call's message has, which is not too long. Its length is the same whatever

@@ -16,7 +16,7 @@ use Rattle.wl_end.specs.Core.{Core, with_view}
 use Rattle.wl_end.specs.Sending.{fits, with_delete_id, delete_id_len, with_error_event}
 use Rattle.wl_server.specs.declared.request.GlobalError.{GlobalError}
 use Rattle.wl_server.specs.declared.request.GlobalError.TheVariants as global_errors
-use Rattle.wl_server.specs.State.{State, Global, global_of, max_globals, with_core}
+use Rattle.wl_server.specs.State.{State, Global, global_of, max_globals}
 
 -- ---- ending an object without an event
 
@@ -105,3 +105,12 @@ add_refusal state iface version =
 abbrev pub withdraw_refusal : State → ℕ → Option GlobalError
 withdraw_refusal state name =
     if state.core.failed then Some global_errors.Failed else if is_present (global_of state.globals name) then None else Some global_errors.NoSuchGlobal
+
+-- an answer where nothing refuses it
+abbrev pub ok_unless : {X E : Type 0} → Option E → X → Result X E
+ok_unless None x = Ok x
+ok_unless (Some why) x = Err why
+
+-- What `add_global` answers, where memory is not wanted: the name, or why it is refused.
+abbrev pub add_answer : State → Iface → ℕ → Result ℕ GlobalError
+add_answer state iface version = ok_unless (add_refusal state iface version) (next_name state)

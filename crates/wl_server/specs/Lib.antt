@@ -4,3 +4,5 @@ pub mod Calls
 pub mod Announcing
 pub mod Streams
 pub mod Seen
+pub mod Steps
+pub mod Tellings

@@ -1,9 +1,8 @@
 -- What a server reads, and what it makes of it.
-use Rattle.std.specs.Prelude.{ℕ, Bool, true, false, ◌&&◌, ◌||◌, not, nat_eq, nat_lt, nat_le, bytes_eq, if◌then◌else◌, List, [], ◌∷◌, ◌++◌, codes, Option, Some, None, unwrap_or, slice_get}
+use Rattle.std.specs.Prelude.{ℕ, Bool, true, false, ◌&&◌, not, nat_eq, nat_lt, nat_le, bytes_eq, if◌then◌else◌, List, [], ◌∷◌, ◌++◌, codes, Option, Some, None}
 use Rattle.std.specs.declared.result.Result.{Result}
 use Rattle.std.specs.declared.result.Result.TheVariants.{Ok, Err}
-use Rattle.wl_wire.specs.declared.kind.Iface.{Iface}
-use Rattle.wl_wire.specs.Argument.{Argument, Shape, Int, Uint, Fixed, Str, Obj, New, NewNamed, Array, Fd}
+use Rattle.wl_wire.specs.Argument.{Argument, Uint, NewNamed}
 use Rattle.wl_sigs.specs.declared.signature.Side.TheVariants.{Request as request_side}
 use Rattle.wl_sigs.specs.Tables.{Interface, interface_at, destroys_target}
 use Rattle.wl_sigs.specs.Fixed.{registry}
@@ -13,7 +12,6 @@ use Rattle.wl_objects.specs.declared.error.Fault.{Fault}
 use Rattle.wl_objects.specs.declared.error.Fault.TheVariants as faults
 use Rattle.wl_objects.specs.declared.error.NextError.{NextError}
 use Rattle.wl_objects.specs.declared.error.NextError.TheVariants as errors
-use Rattle.wl_objects.specs.View.{View}
 use Rattle.wl_objects.specs.Reading.{Reported}
 use Rattle.wl_objects.specs.Messages.{Received, Made, made, is_bind, same_iface, Server as server, after}
 use Rattle.wl_end.specs.Core.{Core, with_view}
@@ -39,9 +37,12 @@ bind_fits tables iface version None = false
 bind_fits tables iface version (Some global) =
     name_fits iface (interface_at tables global.iface.0) && (nat_le 1 version && nat_le version global.version)
 
+abbrev pub is_good_bind_of : List Interface → List Global → List Argument → Bool
+is_good_bind_of tables globals (Uint name ∷ NewNamed iface version id ∷ []) = bind_fits tables iface version (global_of globals name)
+is_good_bind_of tables globals _ = false
+
 abbrev pub is_good_bind : State → List Argument → Bool
-is_good_bind state (Uint name ∷ NewNamed iface version id ∷ []) = bind_fits state.core.tables iface version (global_of state.globals name)
-is_good_bind state _ = false
+is_good_bind state values = is_good_bind_of state.core.tables state.globals values
 
 -- F9 comes after all other faults
 abbrev pub judged : State → Result (Option Found) Fault → Result (Option Found) Fault

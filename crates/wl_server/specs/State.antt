@@ -1,5 +1,5 @@
 -- What a server is: an end, the globals that it has given, and what each open registry was told.
-use Rattle.std.specs.Prelude.{ℕ, zero, suc, ◌-◌, Bool, true, false, not, ◌&&◌, nat_lt, List, [], slice_get, slice_set, unwrap_or, replicate, Option, Some, None}
+use Rattle.std.specs.Prelude.{ℕ, zero, suc, ◌-◌, ◌≤◌, Bool, true, false, List, [], ◌∷◌, slice_get, slice_set, unwrap_or, replicate, Option, None}
 use Rattle.wl_wire.specs.declared.kind.Iface.{Iface}
 use Rattle.wl_sigs.specs.Tables.{Interface}
 use Rattle.wl_message.specs.declared.amounts.Sizes.{Sizes}
@@ -50,3 +50,8 @@ with_mark marks name = slice_set marks (name - 1) true
 -- a registry that was told nothing yet
 abbrev pub untold : Object → Registry
 untold object = record { object = object; told = replicate max_globals false; removed = replicate max_globals false }
+
+-- the births of these registries rise, from the first number on and below the last
+abbrev pub RiseFrom : ℕ → ℕ → List Registry → Type 0
+RiseFrom low high [] = low ≤ high
+RiseFrom low high (r ∷ registries) = (low ≤ r.object.birth) × RiseFrom (suc r.object.birth) high registries

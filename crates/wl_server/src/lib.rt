@@ -1,6 +1,17 @@
 //! The server's end of a Wayland connection: what a compositor keeps for one client.
 #![tactic(auto)]
 
+mod advertised;
+mod announcing;
+mod faults;
+mod globals;
+mod laws;
+mod receiving;
 mod request;
+mod server;
+mod step;
+mod streams;
 
+pub use laws::{any_cut_reads, one_reading};
 pub use request::{GlobalError, Request};
+pub use server::Server;

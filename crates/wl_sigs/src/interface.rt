@@ -1,10 +1,10 @@
 //! An interface and its messages.
 ghost use Rattle.std.specs.Prelude.{◌≡◌, IfOk, map, slice_get, option_copied, option_map};
-ghost use Rattle.wl_sigs.specs.Tables.{message_of};
+ghost use Rattle.wl_sigs.specs.Tables.{has_destroying_event, message_of};
 ghost use Rattle.wl_sigs.specs.Written.{message_written, interface_written};
 
 use crate::core_interfaces::{CoreInterface, CoreMessage};
-use crate::signature::{Side, Signature};
+use crate::signature::{Destroys, Side, Signature};
 use std::alloc::{AllocError, Allocator, Global};
 use std::marker::Model;
 
@@ -45,6 +45,15 @@ impl<A: Allocator> Entry<A> {
             Side::Request => self.requests.get(opcode as usize),
             Side::Event => self.events.get(opcode as usize),
         }
+    }
+
+    /// Whether an event destroys its target.
+    pub(crate) fn has_destroying_event(&self) -> bool
+        ensures { result ≡ has_destroying_event self.now }
+    {
+        self.events
+            .iter()
+            .any(|event| event.destroys() == Destroys::Target)
     }
 }
 

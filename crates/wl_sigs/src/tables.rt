@@ -2,6 +2,7 @@
 ghost use Rattle.std.specs.Prelude.{◌≡◌, IfOk, map, slice_get, option_copied, option_map, position, bytes_eq, length, IfSome, ◌<◌};
 ghost use Rattle.wl_sigs.specs.Core.{core_tables};
 ghost use Rattle.wl_sigs.specs.Tables.{interface_at, signature_at, place_of};
+ghost use Rattle.wl_sigs.specs.Rules.{is_ended_by_event};
 ghost use Rattle.wl_sigs.specs.Valid.{Valid};
 ghost use Rattle.wl_sigs.specs.Written.{interface_written};
 
@@ -72,6 +73,17 @@ impl<A: Allocator> Tables<A> {
     {
         let entry = self.entry(iface)?;
         entry.message(side, opcode)
+    }
+
+    /// Whether an event destroys objects of the interface at a place. False past the tables.
+    pub fn ends_by_event(&self, iface: Iface) -> bool
+        ensures answer { result ≡ is_ended_by_event (interface_at self.now iface.0) }
+        ensures valid { Valid self.now }
+    {
+        match self.entry(iface) {
+            Some(entry) => entry.has_destroying_event(),
+            None => false,
+        }
     }
 
     fn entry(&self, iface: Iface) -> Option<&Entry<A>>

@@ -13,4 +13,4 @@ left-preserved g c =
 pub returns : goal.returns
 returns g c =
     let r : Reader = reader_of (g.T.Table.view c.args.table.now) in
-    sym (reported-end r c.left.items.items _ c.left.waiting.now c.in_default.ensures.0) ∙ c.left.invariant
+    c.from_vec.ensures ∙ sym (reported-end r c.left.items.items _ c.left.waiting.now c.in_default.ensures.0) ∙ c.left.invariant

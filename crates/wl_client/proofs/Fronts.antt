@@ -1,0 +1,125 @@
+-- What an end finds, where the frame of a message was told.
+use Rattle.std.proofs.Common.{◌≡◌, ℕ, ◌≤◌, List, [], ◌++◌, length, take, drop, sym, ap, ◌∙◌, subst, arith}
+use Rattle.std.proofs.lemmas.List.{take-append-drop, append_assoc, take-take}
+use Rattle.std.proofs.lemmas.List.Sums.{count_by-le-length}
+use Rattle.std.specs.Prelude.{not, if◌then◌else◌}
+use Rattle.std.specs.declared.option.Option.{Option}
+use Rattle.std.specs.declared.option.Option.TheVariants.{Some}
+use Rattle.std.specs.declared.result.Result.TheVariants.{Ok, Err}
+use Rattle.wl_wire.specs.declared.header.Header.{Header}
+use Rattle.wl_wire.specs.Word.{IsHeader, header_at, header_bytes}
+use Rattle.wl_wire.proofs.Canonicals.{header_at-bytes}
+use Rattle.wl_wire.specs.declared.kind.Kind.{Kind}
+use Rattle.wl_sigs.specs.declared.signature.Side.{Side}
+use Rattle.wl_sigs.specs.declared.signature.Side.TheVariants.{Event as event_side}
+use Rattle.wl_sigs.specs.Valid.{Valid}
+use Rattle.wl_message.specs.declared.inbox.Frame.{Frame}
+use Rattle.wl_message.specs.Arrived.{Tells}
+use Rattle.wl_message.specs.Cut.{usual_limit, front, Whole, HasMessage, message_size}
+use Rattle.wl_objects.specs.declared.object.State.{State as ObjectState}
+use Rattle.wl_objects.specs.declared.object.State.TheVariants.{Live, Zombie}
+use Rattle.wl_objects.specs.View.{View}
+use Rattle.wl_objects.specs.Reading.{descriptors, is_descriptor_kind}
+use Rattle.wl_objects.specs.Messages.{Received, received, reader_of}
+use Rattle.wl_end.specs.Core.{Core}
+use Rattle.wl_end.specs.Receiving.{Found, found, found_at, found_in, has_arguments, takes, header_of}
+use Rattle.wl_client.specs.declared.reading.Step.{Step}
+use Rattle.wl_client.specs.declared.reading.Stop.{Stop}
+use Rattle.wl_client.specs.declared.reading.Stop.TheVariants as stops
+use Rattle.wl_client.specs.Reports.{Report, Event, Discarded, is_error_event, is_delete_event, deleted_id, error_report, delete_report, plain_report}
+use Rattle.wl_client.specs.Steps.{end_with, report_by}
+use Rattle.wl_client.proofs.Firsts.{reports_first}
+use Rattle.wl_end.proofs.Receivings.{is_received}
+use Rattle.wl_client.specs.Reading.{IsStepOf, IsFront, headed}
+
+-- a frame as it is told
+pub record IsFrame (core : Core) (h : Header) (body : List ℕ) (waiting : ℕ) : Type 0 where
+  pub header : IsHeader h
+  pub whole : front usual_limit core.inbox.bytes ≡ Whole h.size
+  pub parts : take h.size core.inbox.bytes ≡ header_bytes h ++ body
+  pub tokens : waiting ≡ length core.inbox.tokens
+
+pub found_frame : (core : Core) (side : Side) (h : Header) (body : List ℕ) (waiting : ℕ) → IsFrame core h body waiting
+    → found core side ≡ found_in h.size h.opcode (received core.tables side (reader_of core.view) h body waiting)
+found_frame core side h body waiting f =
+    let bytes = core.inbox.bytes in
+    let rest = drop h.size bytes in
+    let whole : bytes ≡ header_bytes h ++ (body ++ rest) =
+    sym (take-append-drop h.size bytes) ∙ ap (λ (x : List ℕ). x ++ rest) f.parts ∙ append_assoc (header_bytes h) body rest in
+    let head : header_of bytes ≡ h = ap header_at whole ∙ header_at-bytes h (body ++ rest) f.header in
+    ap (found_at core side) f.whole
+    ∙ ap (λ (k : Header). found_in h.size k.opcode (received core.tables side (reader_of core.view) k (drop 8 (take h.size bytes)) (length core.inbox.tokens))) head
+    ∙ ap (λ (x : List ℕ). found_in h.size h.opcode (received core.tables side (reader_of core.view) h x (length core.inbox.tokens))) (ap (drop 8) f.parts)
+    ∙ ap (λ (n : ℕ). found_in h.size h.opcode (received core.tables side (reader_of core.view) h body n)) (sym f.tokens)
+
+-- ---- the first tokens are enough for the report
+
+plain_first : (view : View) (n : ℕ) (tokens : List ℕ) (opcode : ℕ) (m : Received) (s : ObjectState) → length m.values ≤ n → takes m ≤ n
+    → plain_report (end_with [] view (take n tokens)) opcode m s ≡ plain_report (end_with [] view tokens) opcode m s
+plain_first view n tokens opcode m Live v t = ap (λ l. Event m.target opcode l) (reports_first (reader_of view) n tokens m.values v)
+plain_first view n tokens opcode m Zombie v t = ap (λ (l : List ℕ). Discarded m.target opcode l) (take-take (takes m) n tokens t)
+
+report_first : (view : View) (n : ℕ) (tokens : List ℕ) (f : Found) → length f.message.values ≤ n → takes f.message ≤ n → report_by view (take n tokens) f ≡ report_by view tokens f
+report_first view n tokens f v t =
+    ap (λ (x : Report). if is_error_event f then error_report (end_with [] view tokens) f.message.values else if is_delete_event f then delete_report (end_with [] view tokens) (deleted_id f) else x)
+    (plain_first view n tokens f.opcode f.message f.message.entry.state v t)
+
+-- ---- what comes of a frame
+
+few_taken : (ks : List Kind) → descriptors ks ≤ length ks
+few_taken ks = count_by-le-length is_descriptor_kind ks
+
+pub step_is : {A : Type 0} (core : Core) (h : Header) (body : List ℕ) (waiting : ℕ) (step : Step A) → Valid core.tables → IsFrame core h body waiting
+    → IsStepOf core.tables core.view (take 20 core.inbox.tokens) h (received core.tables event_side (reader_of core.view) h body waiting) (Ok step)
+    → IsFront core (found core event_side) (Ok (Some step))
+step_is core h body waiting step v f s =
+    let m = s.0 in
+    let p = is_received core.tables event_side (reader_of core.view) h body waiting m s.1 in
+    let small : length m.signature.kinds ≤ 20 = v.small.arguments event_side m.entry.iface.0 h.opcode m.signature p.signature in
+    let few : takes m ≤ 20 = omega (arith, few_taken m.signature.kinds) in
+    let values : length m.values ≤ 20 = omega (arith, p.values) in (
+      headed h m,
+      found_frame core event_side h body waiting f ∙ ap (found_in h.size h.opcode) s.1,
+      record {
+        message = f.whole;
+        few = few;
+        waiting = omega (arith, p.tokens, f.tokens);
+      },
+      record {
+        report = s.2.report ∙ report_first core.view 20 core.inbox.tokens (headed h m) values few;
+        objects = s.2.objects;
+        can = s.2.can;
+        globals = s.2.globals;
+        bytes = s.2.bytes;
+        tokens_taken = s.2.tokens_taken;
+        last = s.2.last;
+      },
+    )
+
+pub stop_is : (A : Type 0) (core : Core) (h : Header) (body : List ℕ) (waiting : ℕ) (stop : Stop) → IsFrame core h body waiting
+    → IsStepOf {A = A} core.tables core.view (take 20 core.inbox.tokens) h (received core.tables event_side (reader_of core.view) h body waiting) (Err stop)
+    → IsFront {A = A} core (found core event_side) (Err stop)
+stop_is A core h body waiting (stops.Fault fault) f s = found_frame core event_side h body waiting f ∙ ap (found_in h.size h.opcode) s
+stop_is A core h body waiting stops.Memory f s =
+    ap has_arguments (found_frame core event_side h body waiting f ∙ ap (found_in h.size h.opcode) s.1) ∙ ap not s.2
+
+-- ---- as the code has it
+
+framed : (core : Core) (o : Option Frame) (f : Frame) → o ≡ Some f → Tells core.inbox (Ok o) → IsHeader f.header → IsFrame core f.header f.body.now f.tokens
+framed core o f e t h = let k = rw e at t in record { header = h; whole = k.0; parts = k.1; tokens = k.2 }
+
+pub step_told : {A : Type 0} (core before : Core) (o : Option Frame) (f : Frame) (first : List ℕ) (step : Step A) → core ≡ before → o ≡ Some f → Tells core.inbox (Ok o) → IsHeader f.header → Valid core.tables
+    → first ≡ take 20 core.inbox.tokens → IsStepOf core.tables core.view first f.header (received core.tables event_side (reader_of core.view) f.header f.body.now f.tokens) (Ok step)
+    → IsFront before (found before event_side) (Ok (Some step))
+step_told core before o f first step same e t h v w s =
+    subst (λ (c : Core). IsFront c (found c event_side) (Ok (Some step))) same
+    (step_is core f.header f.body.now f.tokens step v (framed core o f e t h)
+    (subst (λ (l : List ℕ). IsStepOf core.tables core.view l f.header (received core.tables event_side (reader_of core.view) f.header f.body.now f.tokens) (Ok step)) w s))
+
+pub stop_told : (A : Type 0) (core before : Core) (o : Option Frame) (f : Frame) (first : List ℕ) (stop : Stop) → core ≡ before → o ≡ Some f → Tells core.inbox (Ok o) → IsHeader f.header
+    → first ≡ take 20 core.inbox.tokens → IsStepOf {A = A} core.tables core.view first f.header (received core.tables event_side (reader_of core.view) f.header f.body.now f.tokens) (Err stop)
+    → IsFront {A = A} before (found before event_side) (Err stop)
+stop_told A core before o f first stop same e t h w s =
+    subst (λ (c : Core). IsFront {A = A} c (found c event_side) (Err stop)) same
+    (stop_is A core f.header f.body.now f.tokens stop (framed core o f e t h)
+    (subst (λ (l : List ℕ). IsStepOf {A = A} core.tables core.view l f.header (received core.tables event_side (reader_of core.view) f.header f.body.now f.tokens) (Err stop)) w s))

@@ -1,0 +1,25 @@
+-- What a client is after the step of a message.
+use Rattle.std.proofs.Common.{◌≡◌, List, ap, ◌∙◌}
+use Rattle.std.specs.declared.option.Option.{Option}
+use Rattle.std.specs.declared.option.Option.TheVariants.{None, Some}
+use Rattle.std.specs.declared.result.Result.{Result}
+use Rattle.std.specs.declared.result.Result.TheVariants.{Ok}
+use Rattle.wl_objects.specs.declared.error.NextError.{NextError}
+use Rattle.wl_end.specs.Core.{Core}
+use Rattle.wl_end.specs.Outcomes.{left}
+use Rattle.wl_client.specs.State.{Global}
+use Rattle.wl_client.specs.Reports.{after_next}
+use Rattle.wl_client.specs.Steps.{state_of, learnt}
+use Rattle.wl_client.specs.declared.reading.Step.{Step}
+use Rattle.wl_client.specs.Reading.{step_in, taught}
+
+-- an end is this after its step, whatever globals the client has
+abbrev pub Leaves : {A : Type 0} → Core → Core → Result (Option (Step A)) NextError → Type 0
+Leaves before after result = (globals : List Global) → state_of after (taught globals result) ≡ left (state_of before globals) (after_next (state_of before globals)) (step_in result)
+
+pub after_none : {A : Type 0} (o : Option (Step A)) (before after : Core) (globals : List Global) → o ≡ None → Leaves before after (Ok o) → state_of after globals ≡ after_next (state_of before globals)
+after_none o before after globals e h = let k = rw e at h in k globals
+
+pub after_some : {A : Type 0} (o : Option (Step A)) (step : Step A) (before after : Core) (globals learned : List Global) → o ≡ Some step → learned ≡ learnt globals step.lesson → Leaves before after (Ok o)
+    → state_of after learned ≡ after_next (state_of before globals)
+after_some o step before after globals learned e l h = let k = rw e at h in ap (state_of after) l ∙ k globals

@@ -1,0 +1,27 @@
+-- A zombie that is made a zombie stays one.
+use Rattle.std.proofs.Common.{◌≡◌, ℕ, Bool, true, false, refl, sym, ap, ◌∙◌, cond, eqb}
+use Rattle.std.proofs.lemmas.Bool.{eqb-true}
+use Rattle.std.specs.Ordering.{nat_cmp}
+use Rattle.std.specs.Cmp.{nat_cmp_total}
+use Rattle.std.specs.FinMap.{FinMap, get, insert, same_map, nat_cmp-IsAntisymmetric}
+use Rattle.std.specs.declared.option.Option.TheVariants.{Some}
+use Rattle.wl_objects.specs.declared.object.Entry.{Entry}
+use Rattle.wl_objects.specs.declared.object.State.TheVariants.{Zombie}
+use Rattle.wl_objects.specs.View.{View, look, zombie, with_zombie, zombied}
+use Rattle.wl_objects.specs.Views.{get_put}
+
+at_key : (rows : FinMap nat_cmp Entry) (id q : ℕ) (e : Entry) (b : Bool) → eqb q id ≡ b → get rows id ≡ Some e → cond b (Some e) (get rows q) ≡ get rows q
+at_key rows id q e false t h = refl
+at_key rows id q e true t h = sym h ∙ ap (get rows) (sym (eqb-true q id t))
+
+-- what is there is put there
+put_same : (rows : FinMap nat_cmp Entry) (id : ℕ) (e : Entry) → get rows id ≡ Some e → insert rows id e ≡ rows
+put_same rows id e h = same_map nat_cmp_total nat_cmp-IsAntisymmetric _ _ (λ q. get_put rows id e q ∙ at_key rows id q e (eqb q id) refl h)
+
+zombie_same : (e : Entry) → e.state ≡ Zombie → zombie e ≡ e
+zombie_same e h = λ i. record e { state = sym h i }
+
+pub zombied_same : (view : View) (id : ℕ) (e : Entry) → look view id ≡ Some e → e.state ≡ Zombie → zombied view id ≡ view
+zombied_same view id e l z =
+    ap (λ (r : FinMap nat_cmp Entry). record view { rows = r })
+    (ap (with_zombie view.rows id) l ∙ ap (insert view.rows id) (zombie_same e z) ∙ put_same view.rows id e l)

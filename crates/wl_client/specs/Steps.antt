@@ -1,0 +1,72 @@
+-- The steps in which a client reads a message.
+use Rattle.std.specs.Prelude.{◌≢◌, ℕ, Bool, false, IsTrue, List, []}
+use Rattle.wl_sigs.specs.Tables.{Interface}
+use Rattle.wl_message.specs.Outgoing.{no_messages}
+use Rattle.wl_objects.specs.declared.reading.Received.{Received as Read}
+use Rattle.wl_sigs.specs.Fixed.{display}
+use Rattle.wl_objects.specs.View.{View, opening, is_held, is_live, closed, zombied}
+use Rattle.wl_objects.specs.Messages.{Received}
+use Rattle.wl_end.specs.Core.{Core, past, with_view}
+use Rattle.wl_end.specs.Receiving.{Found}
+use Rattle.wl_client.specs.declared.steps.Change.{Change}
+use Rattle.wl_client.specs.declared.steps.Change.TheVariants as changes
+use Rattle.wl_client.specs.declared.steps.Lesson.{Lesson}
+use Rattle.wl_client.specs.declared.steps.Lesson.TheVariants as lessons
+use Rattle.wl_client.specs.State.{State, Global}
+use Rattle.wl_client.specs.Reports.{Report, report, view_after, globals_after, forgotten, remembered}
+
+-- a message that was read, without where it lies in memory
+abbrev pub message_of : Read → Received
+message_of read = record { target = read.target; entry = read.entry; signature = read.signature.now; values = read.values }
+
+-- an end with these tables and objects, at which these tokens wait
+abbrev pub end_with : List Interface → View → List ℕ → Core
+end_with tables view tokens = record {
+  tables = tables;
+  view = view;
+  inbox = record { bytes = []; tokens = tokens; capacity = 0; token_capacity = 0 };
+  outbox = no_messages 0 0;
+  failed = false;
+  read = 0;
+}
+
+-- the message as it was found, where its size does not matter
+abbrev pub found_as : ℕ → Read → Found
+found_as opcode read = record { size = 0; opcode = opcode; message = message_of read }
+
+abbrev pub state_of : Core → List Global → State
+state_of core globals = record { core = core; globals = globals }
+
+-- what is reported where these objects and tokens are there
+abbrev pub report_by : View → List ℕ → Found → Report
+report_by view tokens f = report (end_with [] view tokens) f
+
+-- the objects after a message
+abbrev pub view_by : View → Found → View
+view_by view f = view_after (end_with [] view []) f
+
+-- the globals after a message
+abbrev pub globals_by : List Interface → List Global → Found → List Global
+globals_by tables globals f = globals_after (state_of (end_with tables (opening display) []) globals) f
+
+-- the objects after a change
+abbrev pub changed : View → Change → View
+changed view changes.Nothing = view
+changed view (changes.Zombie id) = zombied view id
+changed view (changes.Close id) = closed view id
+
+-- the end after the message in front was taken, of so many bytes and tokens; it fails with the last
+abbrev pub stepped : Core → Change → ℕ → ℕ → Bool → Core
+stepped core change bytes tokens last = record (with_view (past core bytes tokens) (changed core.view change)) { failed = last }
+
+-- the change can be made: of an object that is there, and is not wl_display
+abbrev pub CanChange : View → Change → Type 0
+CanChange view changes.Nothing = Unit {0}
+CanChange view (changes.Zombie id) = IsTrue (is_live view id) × (id ≢ 1)
+CanChange view (changes.Close id) = IsTrue (is_held view id) × (id ≢ 1)
+
+-- the globals after a lesson
+abbrev pub learnt : List Global → Lesson → List Global
+learnt globals lessons.Nothing = globals
+learnt globals (lessons.Forget name) = forgotten name globals
+learnt globals (lessons.Remember global) = remembered global globals

@@ -1,0 +1,78 @@
+//! How a client binds a global.
+ghost use Rattle.std.specs.Prelude.{◌≡◌, Some, true, OnErr, OnOk};
+ghost use Rattle.wl_end.specs.Outcomes.{Gives};
+ghost use Rattle.wl_client.specs.Calls.{after_bind, bind_answer, can_bind};
+ghost use Rattle.wl_client.specs.Binding.{FitsBind};
+ghost use Rattle.wl_client.specs.Seen.{new_in};
+
+use crate::client::Client;
+use crate::globals::Global;
+use wl_objects::{Object, REGISTRY, SendError, State, Table};
+use wl_sigs::Tables;
+use wl_wire::ValueRef;
+
+impl<'t, T: Table> Client<'t, T> {
+    /// Binds a global that the client was told, of this name and interface, and answers the new
+    /// object, of this version.
+    ///
+    /// The refusals are tested in the order of their numbers: S1, S2, S3 where `registry` is no
+    /// wl_registry, S7, S9, S10, S11.
+    pub fn bind(
+        &mut self,
+        registry: Object,
+        name: u32,
+        iface: &[u8],
+        version: u32,
+    ) -> Result<Object, SendError>
+        ensures answer { Gives SendError.Memory true (bind_answer self.old registry name iface.now version) (new_in result) }
+        ensures ok { OnOk result (self.new ≡ after_bind self.old registry name iface.now version) }
+        ensures err { OnErr result (self.new ≡ self.old) }
+    {
+        if self.core.failed {
+            return Err(SendError::Failed);
+        }
+        let entry = match self.core.table.look(registry.id) {
+            Some(entry) if entry.birth == registry.birth && entry.state == State::Live => entry,
+            _ => return Err(SendError::Stale),
+        };
+        if entry.iface != REGISTRY {
+            return Err(SendError::NoSuchMessage);
+        }
+        let global = match self.globals.get(name) {
+            Some(global) if can_bind(self.core.tables, global, iface, version) => global,
+            _ => return Err(SendError::BadBind),
+        };
+        let len = 12
+            + ValueRef::NewNamed {
+                iface,
+                version,
+                id: 0,
+            }
+            .spelled_len();
+        if !self.core.fits(len, 0) {
+            return Err(SendError::Full);
+        }
+        match self.core.open_new(Some(global.iface), version)? {
+            None => Err(SendError::NoIds),
+            Some(object) => {
+                self.core
+                    .write_bind(registry.id, name, iface, version, object.id);
+                Ok(object)
+            }
+        }
+    }
+}
+
+/// Whether a global is of this interface, and was advertised with at least this version, which
+/// the tables know.
+fn can_bind(tables: &Tables, global: Global, iface: &[u8], version: u32) -> bool
+    ensures answer { result ≡ can_bind tables.now iface.now version (Some global) }
+    ensures fits { result ≡ true → FitsBind iface.now }
+{
+    match (tables.name(global.iface), tables.version(global.iface)) {
+        (Some(known), Some(latest)) => {
+            known == iface && 1 <= version && version <= global.version && version <= latest
+        }
+        _ => false,
+    }
+}

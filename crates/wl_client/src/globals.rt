@@ -1,0 +1,110 @@
+//! The globals that a client was told.
+ghost use Rattle.std.specs.Prelude.{◌≡◌, ◌<◌, ◌≤◌, [], ◌∷◌, ◌++◌, IfOk, length, map, if◌then◌else◌};
+ghost use Rattle.wl_client.specs.State.{global_of, is_named, max_globals};
+ghost use Rattle.wl_client.specs.Reports.{forgotten, replaced, remembered};
+ghost use Rattle.wl_client.specs.Steps.{learnt};
+
+use crate::steps::Lesson;
+use std::alloc::{AllocError, Allocator};
+use std::marker::Model;
+use wl_wire::Iface;
+
+/// The most globals that a client remembers.
+const MAX_GLOBALS: usize = 1024;
+
+/// A global as it was advertised.
+#[derive(Clone, Copy, Debug, PartialEq, Eq)]
+pub struct Global {
+    /// The number that names it at this server.
+    pub name: u32,
+    /// Its interface, a place in the tables.
+    pub iface: Iface,
+    /// The greatest version that can be bound.
+    pub version: u32,
+}
+
+/// The globals that a client remembers, no name twice, in the order in which their names were
+/// told.
+///
+/// All memory is taken by `new`.
+#[derive(Drop)]
+pub(crate) struct Remembered<A: Allocator> {
+    items: Vec<Global, A>,
+}
+
+impl<A: Allocator> Model for Remembered<A> {
+    ghost use Rattle.std.specs.Prelude.{List, ◌≤◌, length, vec_capacity};
+    ghost use Rattle.wl_client.specs.State.{Global};
+
+    ghost Value = { List Global };
+
+    ghost view = { λ r. r.items.items };
+
+    ghost invariant = { λ r. record { few : length r.items.items ≤ 1024; reserved : 1024 ≤ vec_capacity r.items } };
+}
+
+impl<A: Allocator> Remembered<A> {
+    /// No globals, with room for as many as are ever remembered.
+    pub(crate) fn new(alloc: A) -> Result<Self, AllocError>
+        ensures { IfOk result (λ globals. globals ≡ []) }
+    {
+        Ok(Remembered {
+            items: Vec::with_capacity(alloc, MAX_GLOBALS)?,
+        })
+    }
+
+    /// The global of a name.
+    pub(crate) fn get(&self, name: u32) -> Option<Global>
+        ensures { result ≡ global_of self.now name }
+    {
+        global_of(self.items.as_slice(), name)
+    }
+
+    /// Takes out the global of a name.
+    pub(crate) fn forget(&mut self, name: u32)
+        ensures { self.new ≡ forgotten name self.old }
+    {
+        self.items.retain(|global| global.name != name);
+    }
+
+    /// Learns what an event teaches.
+    pub(crate) fn learn(&mut self, lesson: Lesson)
+        ensures { self.new ≡ learnt self.old lesson }
+    {
+        match lesson {
+            Lesson::Nothing => {}
+            Lesson::Forget(name) => self.forget(name),
+            Lesson::Remember(global) => self.remember(global),
+        }
+    }
+
+    /// Puts a global in the place of the one of its name; where there is none, last, as long as
+    /// there is room.
+    pub(crate) fn remember(&mut self, global: Global)
+        ensures { self.new ≡ remembered global self.old }
+    {
+        if global_of(self.items.as_slice(), global.name).is_some() {
+            replace(&mut self.items, global);
+        } else if self.items.len() < MAX_GLOBALS {
+            self.items.push_reserved(global);
+        }
+    }
+}
+
+/// The first global of a name.
+fn global_of(globals: &[Global], name: u32) -> Option<Global>
+    ensures { result ≡ global_of globals.now name }
+{
+    globals.iter().find(|global| global.name == name).copied()
+}
+
+/// Puts a global in the place of those of its name.
+fn replace(globals: &mut [Global], global: Global)
+    ensures { globals.new ≡ replaced global globals.old }
+{
+    'globals: for other in globals.iter_mut() {
+        if other.name == global.name {
+            *other = global;
+        }
+    }
+}

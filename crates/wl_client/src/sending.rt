@@ -1,0 +1,32 @@
+//! What a client writes.
+ghost use Rattle.std.specs.Prelude.{◌≡◌, OnErr, OnOk};
+ghost use Rattle.wl_sigs.specs.declared.signature.Side.TheVariants.{Request as request_side};
+ghost use Rattle.wl_objects.specs.Messages.{checked};
+ghost use Rattle.wl_objects.specs.Writing.{given};
+ghost use Rattle.wl_end.specs.Outcomes.{Gives};
+ghost use Rattle.wl_end.specs.Sending.{after_send, opens_object, send_answer};
+ghost use Rattle.wl_client.specs.State.{with_core};
+
+use crate::client::Client;
+use wl_objects::{Arg, Object, SendError, Table};
+use wl_sigs::Side;
+
+impl<'t, T: Table> Client<'t, T> {
+    /// Writes a request with these arguments, `New` standing for the object that it makes, and
+    /// answers that object. An object that the request destroys is a zombie afterwards.
+    ///
+    /// The refusals are tested in the order of their numbers: S1, S2, S3, S4, S5, S6, S8, S9, S10,
+    /// S11. wl_registry.bind is S3.
+    pub fn send(
+        &mut self,
+        target: Object,
+        opcode: u16,
+        args: &[Arg<'_>],
+    ) -> Result<Option<Object>, SendError>
+        ensures answer { Gives SendError.Memory (opens_object (checked self.old.core.tables request_side self.old.core.view target opcode (given args.now))) (send_answer self.old.core request_side target opcode (given args.now)) result }
+        ensures ok { OnOk result (self.new ≡ with_core self.old (after_send self.old.core request_side target opcode (given args.now))) }
+        ensures err { OnErr result (self.new ≡ self.old) }
+    {
+        self.core.send(Side::Request, target, opcode, args)
+    }
+}

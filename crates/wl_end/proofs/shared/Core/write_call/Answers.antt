@@ -1,0 +1,20 @@
+use Rattle.std.proofs.Common.{◌≡◌, ℕ, true, length, sym, subst, arith, ap, ◌∙◌}
+use Rattle.wl_objects.specs.Writing.{on_wire, message_len, id_of}
+use Rattle.wl_objects.proofs.Wholes.{length-message}
+use Rattle.wl_end.specs.Core.{Core}
+use Rattle.wl_end.specs.Sending.{fits}
+use Rattle.wl_end.proofs.Messages.{whole}
+use Rattle.wl_end.proofs.shared.Core.write_call.Goals as goal
+
+pub add-requires-clause-whole : goal.add-requires-clause-whole
+add-requires-clause-whole g c =
+    rw (c.deref.ensures.value, c.encode_call.ensures.message, c.id_of.ensures)
+    (whole c.args.target c.args.opcode (on_wire (id_of c.args.new) c.args.args.now) (omega (arith, c.ranges.opcode)) c.requires.len)
+
+pub add-requires-clause-room : goal.add-requires-clause-room
+add-requires-clause-room g c =
+    let len : length c.deref.result.now ≡ message_len (on_wire (id_of c.args.new) c.args.args.now) =
+    ap length (c.deref.ensures.value ∙ c.encode_call.ensures.message)
+    ∙ (length-message c.args.target c.args.opcode (on_wire c.id_of.result c.args.args.now) ∙ ap (λ (n : ℕ). message_len (on_wire n c.args.args.now)) c.id_of.ensures) in
+    subst (λ (n : ℕ). fits c.self.inside.outbox n (length c.args.tokens.now) ≡ true) (sym len)
+    (subst (λ (core : Core). fits core.outbox (message_len (on_wire (id_of c.args.new) c.args.args.now)) (length c.args.tokens.now) ≡ true) (sym c.self.view_is) c.requires.room)

@@ -1,0 +1,231 @@
+//! What an end writes.
+ghost use Rattle.std.specs.Prelude.{[], ◌≡◌, ◌≢◌, ◌≤◌, ◌+◌, ℕ, false, true, Some, Ok, IfOk, IfSome, IsTrue, OnErr, OnOk, is_some, length};
+ghost use Rattle.wl_message.specs.Cut.{usual_limit, IsMessage};
+ghost use Rattle.wl_message.specs.Outgoing.{with_message};
+ghost use Rattle.wl_sigs.specs.Tables.{makes};
+ghost use Rattle.wl_sigs.specs.Valid.{Valid};
+ghost use Rattle.wl_objects.specs.Messages.{checked, destroys, opens};
+ghost use Rattle.wl_objects.specs.View.{Sound, is_live, look, next_id};
+ghost use Rattle.wl_objects.specs.Writing.{EachFits, bind_values, given, has_no_nul, id_of, message_len, on_wire, tokens_of};
+ghost use Rattle.wl_end.specs.Core.{HasDisplay, with_view};
+ghost use Rattle.wl_end.specs.Outcomes.{Gives};
+ghost use Rattle.wl_end.specs.Sending.{after_send, answer_of, delete_id_len, fits, following, following_len, next_object, opening_answer, opens_object, send_answer, sent, with_delete_id, with_error_event, with_following, with_sent, writer};
+
+use crate::shared::Core;
+use std::alloc::Allocator;
+use wl_message::Outbox;
+use wl_objects::{
+    Arg, Entry, Object, SendError, Table, TableError, call_makes, check_call, encode_bind,
+    encode_call, encode_error, encode_number, message_len, tokens_of,
+};
+use wl_sigs::{Destroys, Side, Signature};
+use wl_wire::Iface;
+
+/// The id of wl_display.
+const DISPLAY_ID: u32 = 1;
+
+/// The opcode of wl_display.delete_id.
+const DELETE_ID: u16 = 1;
+
+/// How many bytes wl_display.delete_id has.
+const DELETE_ID_LEN: usize = 12;
+
+/// The most arguments that a message has.
+const MOST_ARGUMENTS: usize = 20;
+
+/// How many bytes directly follow a message of this side: a delete_id follows a destroying event.
+fn following_len(side: Side, destroys: Destroys) -> usize
+    ensures { result ≡ following_len side destroys }
+{
+    match (side, destroys) {
+        (Side::Event, Destroys::Target) => DELETE_ID_LEN,
+        _ => 0,
+    }
+}
+
+/// The id of the object that a message makes; 0 where it makes none.
+fn id_of(new: Option<Object>) -> u32
+    ensures { result ≡ id_of new }
+{
+    new.map_or(0, |object| object.id)
+}
+
+/// Adds a message that fits.
+fn add<A: Allocator>(outbox: &mut Outbox<A>, message: &[u8], tokens: &[u32])
+    requires whole { IsMessage usual_limit message.now }
+    requires room { IsTrue (fits outbox.old (length message.now) (length tokens.now)) }
+    ensures { outbox.new ≡ with_message outbox.old message.now tokens.now }
+{
+    let _ = outbox.push(message, tokens);
+}
+
+impl<'t, T: Table> Core<'t, T> {
+    /// Whether so many bytes and tokens are free in the outbox.
+    pub fn fits(&self, bytes: usize, tokens: usize) -> bool
+        ensures { result ≡ fits self.now.outbox bytes tokens }
+    {
+        bytes <= self.outbox.room() && tokens <= self.outbox.token_room()
+    }
+
+    /// Writes wl_display.delete_id, for which 12 bytes must be free.
+    pub fn write_delete_id(&mut self, id: u32)
+        requires { IsTrue (fits self.old.outbox delete_id_len 0) }
+        ensures { self.new ≡ with_delete_id self.old id }
+    {
+        encode_number(&mut self.store, DISPLAY_ID, DELETE_ID, id);
+        add(&mut self.outbox, &self.store, &[]);
+    }
+
+    /// Writes wl_display.error, about an object of this id, into the room that is kept for it. The
+    /// end has failed afterwards.
+    pub fn write_error(&mut self, object: u32, code: u32, text: &[u8])
+        requires open { self.old.failed ≡ false }
+        requires text { IsTrue (has_no_nul text.now) }
+        requires short { length text.now ≤ 40 }
+        ensures { self.new ≡ with_error_event self.old object code text.now }
+    {
+        encode_error(&mut self.store, object, code, text);
+        self.outbox.push_error(&self.store);
+        self.failed = true;
+    }
+
+    /// Writes wl_registry.bind, which must fit.
+    pub fn write_bind(&mut self, registry: u32, name: u32, iface: &[u8], version: u32, id: u32)
+        requires fits { EachFits (bind_values name iface.now version id) }
+        requires len { message_len (bind_values name iface.now version id) ≤ 4096 }
+        requires room { IsTrue (fits self.old.outbox (message_len (bind_values name iface.now version id)) 0) }
+        ensures { self.new ≡ with_sent self.old registry 0 (bind_values name iface.now version id) [] }
+    {
+        encode_bind(&mut self.store, registry, name, iface, version, id);
+        add(&mut self.outbox, &self.store, &[]);
+    }
+
+    /// Opens the object of a message that makes one of this interface and version, at the next id.
+    /// S10 is tested before S11.
+    pub fn open_new(
+        &mut self,
+        iface: Option<Iface>,
+        version: u32,
+    ) -> Result<Option<Object>, SendError>
+        requires { Sound self.old.view }
+        ensures answer { Gives SendError.Memory (is_some iface) (opening_answer self.old (next_object self.old.view version iface)) result }
+        ensures ok { OnOk result (self.new ≡ with_view self.old (opens self.old.view (next_object self.old.view version iface))) }
+        ensures id { IfOk result (λ new. IfSome iface (λ _. id_of new ≡ next_id self.old.view)) }
+        ensures err { OnErr result (self.new ≡ self.old) }
+    {
+        let Some(iface) = iface else {
+            return Ok(None);
+        };
+        match self.table.open_next(iface, version) {
+            Ok(object) => Ok(Some(object)),
+            Err(TableError::Memory) => Err(SendError::Memory),
+            Err(_) => Err(SendError::NoIds),
+        }
+    }
+
+    /// Writes the message that a call becomes, where this is its new object.
+    fn write_call(
+        &mut self,
+        target: u32,
+        opcode: u16,
+        args: &[Arg<'_>],
+        tokens: &[u32],
+        new: Option<Object>,
+    )
+        requires fits { EachFits (on_wire (id_of new) args.now) }
+        requires len { message_len (on_wire (id_of new) args.now) ≤ 4096 }
+        requires room { IsTrue (fits self.old.outbox (message_len (on_wire (id_of new) args.now)) (length tokens.now)) }
+        ensures { self.new ≡ with_sent self.old target opcode (on_wire (id_of new) args.now) tokens.now }
+    {
+        encode_call(&mut self.store, target, opcode, args, id_of(new));
+        add(&mut self.outbox, &self.store, tokens);
+    }
+
+    /// Ends the target of a message that destroys it: at a client it is a zombie, at a server it is
+    /// closed, and delete_id follows.
+    fn end_target(&mut self, side: Side, what: Destroys, id: u32)
+        requires live { IsTrue (is_live self.old.view id) }
+        requires other { what ≡ Destroys.Target → id ≢ 1 }
+        requires room { IsTrue (fits self.old.outbox (following_len side what) 0) }
+        ensures { self.new ≡ with_following (following side what) id (with_view self.old (destroys (writer side) what id self.old.view)) }
+    {
+        match (side, what) {
+            (_, Destroys::Nothing) => {}
+            (Side::Request, Destroys::Target) => self.table.make_zombie(id),
+            (Side::Event, Destroys::Target) => {
+                self.table.close(id);
+                self.write_delete_id(id);
+            }
+        }
+    }
+
+    /// Writes a call that passed its checks: S9, then as `open_new`.
+    fn write_checked(
+        &mut self,
+        side: Side,
+        target: Object,
+        opcode: u16,
+        args: &[Arg<'_>],
+        entry: Entry,
+        signature: &Signature,
+    ) -> Result<Option<Object>, SendError>
+        requires passes { checked self.old.tables side self.old.view target opcode (given args.now) ≡ Ok signature.now }
+        requires entry { look self.old.view target.id ≡ Some entry }
+        requires fits { (id : ℕ) → EachFits (on_wire id args.now) × (message_len (on_wire id args.now) ≤ 4096) }
+        requires few { length args.now ≤ 20 }
+        requires sound { Sound self.old.view }
+        requires display { HasDisplay self.old.view }
+        requires valid { Valid self.old.tables }
+        ensures answer { Gives SendError.Memory (is_some (makes signature.now)) (answer_of self.old side target (given args.now) (Ok signature.now)) result }
+        ensures ok { OnOk result (self.new ≡ sent self.old side target opcode (given args.now) signature.now) }
+        ensures err { OnErr result (self.new ≡ self.old) }
+    {
+        let len = message_len(args).unwrap_or(0);
+        let mut tokens = [0; MOST_ARGUMENTS];
+        let count = tokens_of(args, &mut tokens);
+        if !self.fits(len + following_len(side, signature.destroys()), count) {
+            return Err(SendError::Full);
+        }
+        let new = self.open_new(call_makes(signature.kinds()), entry.version)?;
+        self.write_call(target.id, opcode, args, &tokens[..count], new);
+        self.end_target(side, signature.destroys(), target.id);
+        Ok(new)
+    }
+
+    /// Writes a message with these arguments, `New` standing for the object that it makes, and
+    /// answers that object. What the message destroys is ended at once; after an event that
+    /// destroys, delete_id is written too.
+    ///
+    /// The refusals are tested in the order of their numbers: S1, S2, S3, S4, S5, S6, S8, S9, S10,
+    /// S11. The messages that other calls write are S3.
+    pub fn send(
+        &mut self,
+        side: Side,
+        target: Object,
+        opcode: u16,
+        args: &[Arg<'_>],
+    ) -> Result<Option<Object>, SendError>
+        ensures answer { Gives SendError.Memory (opens_object (checked self.old.tables side self.old.view target opcode (given args.now))) (send_answer self.old side target opcode (given args.now)) result }
+        ensures ok { OnOk result (self.new ≡ after_send self.old side target opcode (given args.now)) }
+        ensures err { OnErr result (self.new ≡ self.old) }
+    {
+        if self.failed {
+            return Err(SendError::Failed);
+        }
+        let (entry, signature) = match check_call(
+            self.tables,
+            side,
+            &self.table,
+            target,
+            opcode,
+            args,
+        ) {
+            Ok(found) => found,
+            Err(refusal) => return Err(refusal),
+        };
+        self.write_checked(side, target, opcode, args, entry, signature)
+    }
+}
+
+#[cfg(test)]
+mod tests;

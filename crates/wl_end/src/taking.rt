@@ -1,0 +1,64 @@
+//! What an end does with a message in front, and with its objects.
+ghost use Rattle.std.specs.Prelude.{◌≡◌, ◌≢◌, ◌≤◌, ◌<◌, ℕ, IsTrue, IfOk, OnOk, OnErr, length, take, slice_index_or};
+ghost use Rattle.wl_message.specs.Cut.{usual_limit, front, Whole};
+ghost use Rattle.wl_objects.specs.View.{is_held, is_live, opened_at, closed, zombied};
+ghost use Rattle.wl_end.specs.Core.{past, with_view};
+
+use crate::shared::Core;
+use wl_objects::{Made, Object, Table, TableError};
+
+/// The most descriptors that a message has.
+pub const MAX_TOKENS: usize = 20;
+
+impl<'t, T: Table> Core<'t, T> {
+    /// The tokens that wait first, as many as a message can take, and zeros where fewer wait.
+    pub fn first_tokens(&self) -> [u32; MAX_TOKENS]
+        ensures { (place : ℕ) → place < 20 → slice_index_or result place 0 ≡ slice_index_or self.now.inbox.tokens place 0 }
+    {
+        let mut tokens = [0; MAX_TOKENS];
+        'places: for place in 0..MAX_TOKENS {
+            tokens[place] = self.inbox.token(place).unwrap_or(0);
+        }
+        tokens
+    }
+
+    /// Takes out the message in front, of so many bytes, and as many of the first tokens as the slice
+    /// has places, in order.
+    pub fn pass(&mut self, size: u16, tokens: &mut [u32])
+        requires message { front usual_limit self.old.inbox.bytes ≡ Whole size }
+        requires tokens { length tokens.old ≤ length self.old.inbox.tokens }
+        ensures tokens { tokens.new ≡ take (length tokens.old) self.old.inbox.tokens }
+        ensures state { self.new ≡ past self.old size (length tokens.old) }
+    {
+        self.inbox.pop(tokens);
+        self.read = self.read.saturating_add(u64::from(size));
+    }
+
+    /// Opens the object that a message makes. What is refused is as the table says, and changes
+    /// nothing.
+    pub fn open(&mut self, made: Made) -> Result<Object, TableError>
+        ensures ok { OnOk result (self.new ≡ with_view self.old (opened_at self.old.view made.id made.iface made.version)) }
+        ensures object { IfOk result (λ object. object ≡ record { id = made.id; birth = self.old.view.births }) }
+        ensures err { OnErr result (self.new ≡ self.old) }
+    {
+        self.table.open_at(made.id, made.iface, made.version)
+    }
+
+    /// Makes a live object a zombie: it has ended, and its id stays in use.
+    pub fn make_zombie(&mut self, id: u32)
+        requires live { IsTrue (is_live self.old.view id) }
+        requires not_display { id ≢ 1 }
+        ensures { self.new ≡ with_view self.old (zombied self.old.view id) }
+    {
+        self.table.make_zombie(id);
+    }
+
+    /// Closes an object: its id is free again.
+    pub fn close(&mut self, id: u32)
+        requires held { IsTrue (is_held self.old.view id) }
+        requires not_display { id ≢ 1 }
+        ensures { self.new ≡ with_view self.old (closed self.old.view id) }
+    {
+        self.table.close(id);
+    }
+}

@@ -1,0 +1,14 @@
+use Rattle.std.proofs.Common.{◌≡◌, sym, ap, subst, ◌∙◌}
+use Rattle.std.specs.Prelude.{IsTrue}
+use Rattle.wl_objects.specs.View.{View, is_held}
+use Rattle.wl_objects.specs.Messages.{opens}
+use Rattle.wl_end.specs.Core.{Core}
+use Rattle.wl_server.proofs.Taking.{held-opened}
+use Rattle.wl_server.proofs.receiving.make_step.Goals as goal
+
+pub end-requires-clause-held : goal.end-requires-clause-held
+end-requires-clause-held g c =
+    let id = c.args.step.now.report.target.id in
+    let view : c.pass.new.self.view ≡ opens c.args.core.now.view c.args.step.now.made =
+    ap (λ (core : Core). core.view) c.pass.ensures.state ∙ ap (λ (core : Core). core.view) c.in_ok-open_made.ensures.core in
+    subst (λ (v : View). IsTrue (is_held v id)) (sym view) (held-opened c.args.core.now.view c.args.step.now.made id c.requires.held)

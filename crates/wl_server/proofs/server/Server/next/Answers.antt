@@ -1,0 +1,71 @@
+use Rattle.std.proofs.Common.{◌≡◌, Bool, true, false, Some, Ok, Err, sym, ap, subst, ◌∙◌, refl}
+use Rattle.std.specs.Prelude.{Option, Result, OnOk, OnErr, is_err}
+use Rattle.std.specs.declared.result.Result.TheVariants.{Ok as ok, Err as err}
+use Rattle.wl_objects.specs.declared.error.NextError.{NextError}
+use Rattle.wl_objects.specs.declared.error.NextError.TheVariants.{Memory}
+use Rattle.wl_end.specs.Core.{Core}
+use Rattle.wl_end.specs.Outcomes.{Gives, left}
+use Rattle.wl_end.specs.Receiving.{has_arguments}
+use Rattle.wl_server.specs.State.{State, with_core, Registry, RiseFrom}
+use Rattle.wl_server.specs.Requests.{Report, request, next_answer, after_next}
+use Rattle.wl_server.specs.Steps.{Step, step_in, steps_in, front_step, core_by, registries_by, core_told}
+use Rattle.wl_server.proofs.Taking.{seen-by, gives-front, leaves-err, leaves-some, memory-wanted, rise-step}
+use Rattle.wl_server.proofs.server.Server.next.Goals as goal
+
+on_ok : {X E P : Type 0} (r : Result X E) → is_err r ≡ false → OnOk r P → P
+on_ok (ok x) e p = p
+on_ok (err x) e p = absurd (cc e)
+
+on_err : {X E P : Type 0} (r : Result X E) → is_err r ≡ true → OnErr r P → P
+on_err (ok x) e p = absurd (cc e)
+on_err (err x) e p = p
+
+pub returns-in-Err-clause-state : goal.returns-in-Err-clause-state
+returns-in-Err-clause-state g c =
+    let state : State = record { core = c.self.inside.core; globals = c.self.inside.globals.items; registries = c.self.inside.registries.items } in
+    let lives : state.core.failed ≡ false = sym (λ i. (c.self-inside.view_is i).core.failed) ∙ c.if-self.false in
+    let told : c.tell.new.core ≡ core_told state.core c.in-Err.why = c.tell.ensures ∙ ap (λ (core : Core). core_told core c.in-Err.why) c.in-Err.ensures.same in
+    subst (λ (s : State). with_core state c.tell.new.core ≡ left s (after_next s) (let it : Result (Option Report) NextError = err c.in-Err.why in it)) c.self.view_is
+    (leaves-err state c.tell.new.core c.in-Err.why lives (seen-by state c.deref.result.now (err c.in-Err.why) c.deref.ensures.value c.in-Err.ensures.answer) told)
+
+pub returns-then-is_err-clause-answer : goal.returns-then-is_err-clause-answer
+returns-then-is_err-clause-answer g c =
+    let state : State = record { core = c.self.inside.core; globals = c.self.inside.globals.items; registries = c.self.inside.registries.items } in
+    let lives : state.core.failed ≡ false = sym (λ i. (c.self-inside.view_is i).core.failed) ∙ c.if-self.false in
+    let answer : Gives Memory (has_arguments (request state)) (front_step state) (ok (Some (step_in c.in-Ok-Some.step))) = seen-by state c.deref.result.now (ok (Some (step_in c.in-Ok-Some.step))) c.deref.ensures.value (rw c.in-Ok-Some.field-0-is at c.in-Ok-Some.ensures.answer) in
+    subst (λ (s : State). Gives Memory (has_arguments (request s)) (next_answer s) (let it : Result (Option Report) NextError = err Memory in it)) c.self.view_is
+    (memory-wanted state (step_in c.in-Ok-Some.step) lives answer (on_err c.make_step.result (sym c.is_err.ensures.value ∙ c.if-is_err.true) c.make_step.ensures.wants))
+
+pub invariant_of-self-2 : goal.invariant_of-self-2
+invariant_of-self-2 g c =
+    let step = step_in c.in-Ok-Some.step in
+    let is_ok = sym c.is_err.ensures.value ∙ c.if-is_err.false in
+    let core : c.make_step.new.core ≡ core_by c.self.inside.core step = on_ok c.make_step.result is_ok c.make_step.ensures.core ∙ ap (λ (k : Core). core_by k step) c.in-Ok-Some.ensures.same in
+    let registries : c.make_step.new.registries.items ≡ registries_by c.self.inside.core c.self.inside.registries.items step =
+    on_ok c.make_step.result is_ok c.make_step.ensures.registries ∙ ap (λ (k : Core). registries_by k c.self.inside.registries.items step) c.in-Ok-Some.ensures.same in
+    record {
+      few = c.self.invariant.few;
+      rising = subst (λ (k : Core). RiseFrom 0 k.view.births c.make_step.new.registries.items) (sym core)
+          (subst (RiseFrom 0 (core_by c.self.inside.core step).view.births) (sym registries) (rise-step c.self.inside.core c.self.inside.registries.items step c.self.invariant.rising));
+    }
+
+pub returns-clause-answer : goal.returns-clause-answer
+returns-clause-answer g c =
+    let state : State = record { core = c.self.inside.core; globals = c.self.inside.globals.items; registries = c.self.inside.registries.items } in
+    let lives : state.core.failed ≡ false = sym (λ i. (c.self-inside.view_is i).core.failed) ∙ c.if-self.false in
+    let step = step_in c.in-Ok-Some.step in
+    let answer : Gives Memory (has_arguments (request state)) (front_step state) (ok (Some step)) = seen-by state c.deref.result.now (ok (Some step)) c.deref.ensures.value (rw c.in-Ok-Some.field-0-is at c.in-Ok-Some.ensures.answer) in
+    subst (λ (s : State). Gives Memory (has_arguments (request s)) (next_answer s) (let it : Result (Option Report) NextError = ok (Some step.report) in it)) c.self.view_is
+    (gives-front state (ok (Some step)) lives answer)
+
+pub returns-clause-state : goal.returns-clause-state
+returns-clause-state g c =
+    let state : State = record { core = c.self.inside.core; globals = c.self.inside.globals.items; registries = c.self.inside.registries.items } in
+    let lives : state.core.failed ≡ false = sym (λ i. (c.self-inside.view_is i).core.failed) ∙ c.if-self.false in
+    let step = step_in c.in-Ok-Some.step in
+    let answer : Gives Memory (has_arguments (request state)) (front_step state) (ok (Some step)) = seen-by state c.deref.result.now (ok (Some step)) c.deref.ensures.value (rw c.in-Ok-Some.field-0-is at c.in-Ok-Some.ensures.answer) in
+    let is_ok = sym c.is_err.ensures.value ∙ c.if-is_err.false in
+    let core : c.make_step.new.core ≡ core_by c.self.inside.core step = on_ok c.make_step.result is_ok c.make_step.ensures.core ∙ ap (λ (k : Core). core_by k step) c.in-Ok-Some.ensures.same in
+    let registries : c.make_step.new.registries.items ≡ registries_by c.self.inside.core c.self.inside.registries.items step =
+    on_ok c.make_step.result is_ok c.make_step.ensures.registries ∙ ap (λ (k : Core). registries_by k c.self.inside.registries.items step) c.in-Ok-Some.ensures.same in
+    leaves-some state c.make_step.new.core c.make_step.new.registries.items step lives answer core registries ∙ ap after_next c.self.view_is

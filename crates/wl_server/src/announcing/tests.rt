@@ -1,0 +1,150 @@
+//! What registries are told, and the bytes of it.
+ghost use Rattle.std.specs.Prelude.{◌≤◌};
+ghost use Rattle.wl_message.specs.Arrived.{AreSizes};
+
+use crate::advertised::OpenRegistry;
+use crate::server::Server;
+use std::alloc::Global;
+use std::test::Fail;
+use wl_message::{Sizes, Taken};
+use wl_objects::{Made, MapTable, REGISTRY, SendError};
+use wl_sigs::Tables;
+use wl_wire::Iface;
+
+type TestServer<'t> = Server<'t, MapTable<Global>>;
+
+const COMPOSITOR: Iface = Iface(3);
+
+const SEAT: Iface = Iface(9);
+
+/// wl_registry.global of name 1, a wl_compositor of version 6, to object 2.
+const COMPOSITOR_TOLD: [u8; 36] = [
+    2, 0, 0, 0, 0, 0, 36, 0, 1, 0, 0, 0, 14, 0, 0, 0, b'w', b'l', b'_', b'c', b'o', b'm', b'p',
+    b'o', b's', b'i', b't', b'o', b'r', 0, 0, 0, 6, 0, 0, 0,
+];
+
+/// wl_registry.global of name 2, a wl_seat of version 9, to object 2.
+const SEAT_TOLD: [u8; 28] = [
+    2, 0, 0, 0, 0, 0, 28, 0, 2, 0, 0, 0, 8, 0, 0, 0, b'w', b'l', b'_', b's', b'e', b'a', b't', 0,
+    9, 0, 0, 0,
+];
+
+fn sizes(out_bytes: usize) -> Sizes
+    requires { out_bytes ≤ 16777216 }
+    ensures { AreSizes result }
+{
+    Sizes {
+        out_bytes,
+        out_tokens: 0,
+        in_bytes: 4096,
+        in_tokens: 20,
+    }
+}
+
+/// A server with the registries 2 and 3, a wl_compositor and a wl_seat.
+fn with_registries<'t>(
+    alloc: Global,
+    tables: &'t Tables,
+    out_bytes: usize,
+) -> Result<TestServer<'t>, Fail>
+    requires { out_bytes ≤ 16777216 }
+{
+    let mut server = TestServer::new(alloc, tables, sizes(out_bytes))?;
+    let object = server.core.open(registry(2))?;
+    server.registries.push(OpenRegistry::new(&alloc, object)?)?;
+    let object = server.core.open(registry(3))?;
+    server.registries.push(OpenRegistry::new(&alloc, object)?)?;
+    server.add_global(COMPOSITOR, 6)?;
+    server.add_global(SEAT, 9)?;
+    Ok(server)
+}
+
+fn registry(id: u32) -> Made {
+    Made {
+        id,
+        iface: REGISTRY,
+        version: 1,
+    }
+}
+
+#[test]
+fn nothing_is_owed_to_nobody(rt: HostRuntime) -> Result<(), Fail> {
+    let tables = Tables::core(rt.alloc())?;
+    let mut server = TestServer::new(rt.alloc(), &tables, sizes(64))?;
+    server.add_global(COMPOSITOR, 6)?;
+    assert_eq!(rt; server.announce(), Ok(0));
+    assert!(rt; server.is_drained());
+    Ok(())
+}
+
+#[test]
+fn each_registry_is_told_once_as_far_as_it_fits(rt: HostRuntime) -> Result<(), Fail> {
+    let tables = Tables::core(rt.alloc())?;
+    let mut server = with_registries(rt.alloc(), &tables, 40)?;
+    let mut bytes = [0; 36];
+    assert_eq!(rt; server.announce(), Ok(1));
+    assert_eq!(rt; server.announce(), Ok(0));
+    let _ = server.take(&mut bytes, &mut []);
+    assert_eq!(rt; bytes, COMPOSITOR_TOLD);
+    assert!(rt; server.is_drained());
+    let mut bytes = [0; 28];
+    assert_eq!(rt; server.announce(), Ok(1));
+    let _ = server.take(&mut bytes, &mut []);
+    assert_eq!(rt; bytes, SEAT_TOLD);
+    // the other registry
+    let mut bytes = [0; 40];
+    assert_eq!(rt; server.announce(), Ok(1));
+    assert_eq!(rt;
+        server.take(&mut bytes, &mut []),
+        Taken {
+            bytes: 36,
+            tokens: 0
+        }
+    );
+    assert_eq!(rt; bytes[0], 3);
+    assert_eq!(rt; server.announce(), Ok(1));
+    assert_eq!(rt;
+        server.take(&mut bytes, &mut []),
+        Taken {
+            bytes: 28,
+            tokens: 0
+        }
+    );
+    assert_eq!(rt; bytes[0], 3);
+    assert_eq!(rt; server.announce(), Ok(0));
+    assert!(rt; server.is_drained());
+    Ok(())
+}
+
+#[test]
+fn a_withdrawn_global_is_removed_where_it_was_told(rt: HostRuntime) -> Result<(), Fail> {
+    let tables = Tables::core(rt.alloc())?;
+    let mut server = with_registries(rt.alloc(), &tables, 64)?;
+    // registry 2 is told of both, registry 3 of none
+    assert_eq!(rt; server.announce(), Ok(2));
+    let _ = server.take(&mut [0; 64], &mut []);
+    server.withdraw(1)?;
+    let mut bytes = [0; 40];
+    assert_eq!(rt; server.announce(), Ok(2));
+    let _ = server.take(&mut bytes, &mut []);
+    assert_eq!(rt;
+        bytes,
+        [
+            2, 0, 0, 0, 1, 0, 12, 0, 1, 0, 0, 0, 3, 0, 0, 0, 0, 0, 28, 0, 2, 0, 0, 0, 8, 0, 0, 0,
+            b'w', b'l', b'_', b's', b'e', b'a', b't', 0, 9, 0, 0, 0
+        ]
+    );
+    assert_eq!(rt; server.announce(), Ok(0));
+    assert!(rt; server.is_drained());
+    Ok(())
+}
+
+#[test]
+fn a_failed_server_announces_nothing(rt: HostRuntime) -> Result<(), Fail> {
+    let tables = Tables::core(rt.alloc())?;
+    let mut server = with_registries(rt.alloc(), &tables, 64)?;
+    server.core.failed = true;
+    assert_eq!(rt; server.announce(), Err(SendError::Failed));
+    assert!(rt; server.is_drained());
+    Ok(())
+}

@@ -1,0 +1,36 @@
+//! The error event by which a server ends the connection after a fault.
+ghost use Rattle.std.specs.Prelude.{◌≡◌, ◌≤◌, IsTrue, length};
+ghost use Rattle.wl_objects.specs.Writing.{has_no_nul};
+ghost use Rattle.wl_server.specs.Requests.{fault_code, fault_message};
+
+use wl_objects::Fault;
+
+/// The code of the error: 0 invalid_object, 1 invalid_method, 2 no_memory.
+pub(crate) fn fault_code(fault: Fault) -> u32
+    ensures { result ≡ fault_code fault }
+{
+    match fault {
+        Fault::UnknownObject | Fault::BadBind => 0,
+        Fault::TooManyObjects => 2,
+        _ => 1,
+    }
+}
+
+/// The text of the error.
+pub(crate) fn fault_message(fault: Fault) -> &'static [u8]
+    ensures text { result.now ≡ fault_message fault }
+    ensures plain { IsTrue (has_no_nul result.now) }
+    ensures short { length result.now ≤ 40 }
+{
+    match fault {
+        Fault::BadSize => b"bad message size",
+        Fault::UnknownObject => b"unknown object",
+        Fault::UnknownMessage => b"unknown request",
+        Fault::BadArgument(_, _) | Fault::TrailingBytes => b"malformed request",
+        Fault::BadObject(_) => b"bad object argument",
+        Fault::BadNewId(_) => b"bad new id",
+        Fault::MissingDescriptor => b"missing descriptor",
+        Fault::BadBind => b"bad bind",
+        Fault::TooManyObjects => b"too many objects",
+    }
+}
