@@ -3,6 +3,7 @@
 
 mod advertised;
 mod announcing;
+mod calling;
 mod faults;
 mod globals;
 mod laws;
