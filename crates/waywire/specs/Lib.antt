@@ -1,7 +1,4 @@
-pub mod Line
-pub mod First
-pub mod Seen
-pub mod Stage
+pub mod Verdict
 pub mod Failing
-pub mod Trace
+pub mod Output
 pub mod Stopping

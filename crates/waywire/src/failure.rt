@@ -1,9 +1,8 @@
 //! Why a job has no output.
 ghost use Rattle.std.specs.Prelude.{◌≡◌};
 ghost use Rattle.waywire.specs.declared.failure.Failure.TheVariants as failures;
-ghost use Rattle.waywire.specs.Failing.{recording_failure, first_failure, status_of};
+ghost use Rattle.waywire.specs.Failing.{recording_failure, status_of};
 
-use crate::first::FirstError;
 use std::alloc::AllocError;
 use std::io::Write;
 use thiserror::Error;
@@ -21,9 +20,6 @@ pub enum Failure<'a> {
     /// This line is no line of a recording. Lines are counted from 1.
     #[error("line {0}: bad line")]
     BadLine(usize),
-    /// The recording has what cannot be traced yet.
-    #[error("not in this stage")]
-    OutsideStage,
     /// The output was not taken.
     #[error("cannot write")]
     CannotWrite,
@@ -33,12 +29,11 @@ pub enum Failure<'a> {
 }
 
 impl Failure<'_> {
-    /// The exit status: 1 for what is not traced yet, 4 for want of memory, else 3.
+    /// The exit status: 4 for want of memory, else 3.
     fn status(&self) -> u8
         ensures { result ≡ status_of self.now }
     {
         match self {
-            Failure::OutsideStage => 1,
             Failure::Memory => 4,
             _ => 3,
         }
@@ -69,17 +64,6 @@ impl From<RecordingError> for Failure<'_> {
         match error {
             RecordingError::BadLine { line } => Failure::BadLine(line),
             RecordingError::Memory => Failure::Memory,
-        }
-    }
-}
-
-impl From<FirstError> for Failure<'_> {
-    ghost from_gives = { λ error e. e ≡ first_failure error };
-
-    fn from(error: FirstError) -> Self {
-        match error {
-            FirstError::OutsideStage { .. } => Failure::OutsideStage,
-            FirstError::Memory => Failure::Memory,
         }
     }
 }

@@ -5,15 +5,18 @@ mod binding;
 mod client;
 mod globals;
 mod incoming;
+mod laws;
 mod reading;
 mod sending;
 mod steps;
+mod streams;
 mod tokens;
 mod values;
 
 pub use client::Client;
 pub use globals::Global;
 pub use incoming::Incoming;
+pub use laws::{any_cut_reads, one_reading};
 pub use tokens::Tokens;
 
 #[cfg(test)]

@@ -2,3 +2,4 @@ pub mod Core
 pub mod Receiving
 pub mod Sending
 pub mod Outcomes
+pub mod Streams

@@ -5,9 +5,13 @@
 //! tells which end is meant.
 #![tactic(auto)]
 
+mod laws;
 mod sending;
 mod shared;
+mod streams;
 mod taking;
 
+pub use laws::{found_stays, taking_keeps_pieces};
 pub use shared::Core;
+pub use streams::ReadAll;
 pub use taking::MAX_TOKENS;

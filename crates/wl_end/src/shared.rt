@@ -1,6 +1,7 @@
 //! One end of a connection, whichever.
 ghost use Rattle.std.specs.Prelude.{◌≡◌, ◌≤◌, ◌↔◌, IfOk, IsTrue, length, take, drop, ◌++◌};
 ghost use Rattle.wl_message.specs.Arrived.{AreSizes};
+ghost use Rattle.wl_message.specs.Cut.{usual_limit};
 ghost use Rattle.wl_message.specs.Outgoing.{goes, waiting_bytes, waiting_tokens};
 ghost use Rattle.wl_end.specs.Core.{new_core, display_object, live, in_room, feeds, with_arrived, with_gone, is_drained};
 
@@ -51,6 +52,7 @@ impl<'t, T: Table> Model for Core<'t, T> {
       store : 4096 ≤ vec_capacity c.store;
       display : HasDisplay (T.view c.table);
       no_error : c.failed ≡ false → IsOrdinary c.outbox;
+      whole : 4096 ≤ c.inbox.capacity;
     } };
 }
 
@@ -118,10 +120,11 @@ impl<'t, T: Table> Core<'t, T> {
     }
 
     /// Takes in what comes: as many tokens as fit, and where these are all, as many bytes as fit.
-    /// A failed end takes nothing.
+    /// A failed end takes nothing. Whatever waits, the inbox can hold the longest message.
     pub fn feed(&mut self, bytes: &[u8], tokens: &[u32]) -> Fed
         ensures fed { result ≡ feeds self.old bytes.now tokens.now }
         ensures state { self.new ≡ with_arrived self.old (take result.bytes bytes.now) (take result.tokens tokens.now) }
+        ensures holds { usual_limit ≤ self.old.inbox.capacity }
     {
         if self.failed {
             return Fed {

@@ -6,10 +6,13 @@ mod announcing;
 mod calling;
 mod faults;
 mod globals;
+mod laws;
 mod receiving;
 mod request;
 mod server;
 mod step;
+mod streams;
 
+pub use laws::{any_cut_reads, one_reading};
 pub use request::{GlobalError, Request};
 pub use server::Server;

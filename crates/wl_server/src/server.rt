@@ -1,6 +1,7 @@
 //! A server, and what it shares with the other end.
-ghost use Rattle.std.specs.Prelude.{◌≡◌, IfOk, length, take, drop, ◌++◌};
+ghost use Rattle.std.specs.Prelude.{◌≡◌, ◌≤◌, IfOk, length, take, drop, ◌++◌};
 ghost use Rattle.wl_message.specs.Arrived.{AreSizes};
+ghost use Rattle.wl_message.specs.Cut.{usual_limit};
 ghost use Rattle.wl_message.specs.Outgoing.{goes, waiting_bytes, waiting_tokens};
 ghost use Rattle.wl_end.specs.Core.{display_object, live, in_room, feeds, with_arrived, with_gone, is_drained};
 ghost use Rattle.wl_server.specs.State.{new_state, with_core};
@@ -98,10 +99,11 @@ impl<'t, T: Table> Server<'t, T> {
     }
 
     /// Takes in what comes: as many tokens as fit, and where these are all, as many bytes as fit.
-    /// A failed server takes nothing.
+    /// A failed server takes nothing. Whatever waits, the inbox can hold the longest message.
     pub fn feed(&mut self, bytes: &[u8], tokens: &[u32]) -> Fed
         ensures fed { result ≡ feeds self.old.core bytes.now tokens.now }
         ensures state { self.new ≡ with_core self.old (with_arrived self.old.core (take result.bytes bytes.now) (take result.tokens tokens.now)) }
+        ensures holds { usual_limit ≤ self.old.core.inbox.capacity }
     {
         self.core.feed(bytes, tokens)
     }

@@ -30,7 +30,7 @@ use Rattle.wl_server.specs.Announcing.{Owing, Removal, Telling, owes_removal, ow
 use Rattle.wl_world.specs.Meant.{Born, Known, Message, Coming, Event, Arg, renamed, rearg, born_of, birth_of, wire, tokens, made_in, objects}
 use Rattle.wl_world.specs.World.{World, Each, event_written}
 use Rattle.wl_world.specs.Pair.{PairState, Announce, with_server, with_server_core, Announces, announced, refused}
-use Rattle.wl_world.specs.Answers.{Owed, owed_by, mark, mark_in, told_args, WritesThat, AnnouncesThose, none, more, before}
+use Rattle.wl_world.specs.Answers.{NotEnded, Owed, owed_by, mark, mark_in, told_args, WritesThat, AnnouncesThose, none, more, before}
 use Rattle.wl_world.specs.Flight.{Rows, server_rows}
 use Rattle.wl_world.specs.Stands.{stands, StandsBy, TellsFitly, IsRegistry, IsGlobal, marks_of}
 use Rattle.wl_world.specs.Runs.{Keeps}
@@ -329,7 +329,7 @@ marked_stands p w asked told s d = record {
 pub record Told (p : PairState) (w : World) (asked : List (Message Known)) (ds : List Due) (after_all : PairState) : Type 0 where
   pub world : World
   pub told : List (Coming Known)
-  pub not_ended : world.ended ≡ false
+  pub not_ended : NotEnded after_all world
   pub announces : AnnouncesThose p.server.core.tables w (map owed_of ds) world
   pub stands_by : StandsBy after_all world asked told
 
@@ -359,7 +359,7 @@ writes_due p w asked told s d i =
       steps = tells_world p w asked told s m can;
     }
 
-pub tell_all : (p : PairState) (w : World) (asked : List (Message Known)) (told : List (Coming Known)) → StandsBy p w asked told → w.ended ≡ false → (ds : List Due)
+pub tell_all : (p : PairState) (w : World) (asked : List (Message Known)) (told : List (Coming Known)) → StandsBy p w asked told → NotEnded p w → (ds : List Due)
     → Each (IsDue p.server.core.tables p.server.globals (server_rows p.server.core.view)) ds
     → Told p w asked ds (with_server p (record p.server { core = with_dues p.server.core ds; registries = all_marked ds p.server.registries }))
 tell_all p w asked told s z [] i = record { world = w; told = told; not_ended = z; announces = none; stands_by = s }
@@ -368,7 +368,7 @@ tell_all p w asked told s z (d ∷ ds) i =
     let r = tell_all (with_server p (one_told p.server d)) _ asked _ one z ds i.1 in
     record { world = r.world; told = r.told; not_ended = r.not_ended; announces = more (writes_due p w asked told s d i.0) r.announces; stands_by = r.stands_by }
 
-pub announce_keeps : (p : PairState) (w : World) (asked : List (Message Known)) (told : List (Coming Known)) → StandsBy p w asked told → w.ended ≡ false → (reply : Result ℕ SendError) (p' : PairState) → Announces p reply p'
+pub announce_keeps : (p : PairState) (w : World) (asked : List (Message Known)) (told : List (Coming Known)) → StandsBy p w asked told → NotEnded p w → (reply : Result ℕ SendError) (p' : PairState) → Announces p reply p'
     → Keeps p w Announce (Announce reply) p'
 announce_keeps p w asked told s z reply p' (announced {count = count} l f) =
     let ds = take count (owed p.server) in

@@ -11,9 +11,9 @@ use Rattle.wl_message.proofs.Goings.{begun_front, goes_goes}
 use Rattle.wl_end.specs.Core.{Core, in_room, no_room, feeds}
 use Rattle.wl_world.specs.Meant.{Known, Message, Coming, spelled, spelled_coming}
 use Rattle.wl_world.specs.World.{World}
-use Rattle.wl_world.specs.Pair.{PairState, CarryToServer, CarryToClient, carries, carried_bytes, carried_tokens, all_of, after_carry_to_server, after_carry_to_client}
-use Rattle.wl_world.specs.Answers.{before}
-use Rattle.wl_world.specs.Stands.{Stands, stands, StandsBy, InFlight}
+use Rattle.wl_world.specs.Pair.{PairState, CarryToServer, CarryToClient, Carried, Carries, moved, no_memory, carries, carried_bytes, carried_tokens, all_of, after_carry_to_server, after_carry_to_client}
+use Rattle.wl_world.specs.Answers.{NotEnded, before}
+use Rattle.wl_world.specs.Stands.{stands, StandsBy, InFlight}
 use Rattle.wl_world.specs.Runs.{Keeps}
 use Rattle.wl_world.proofs.Channels.{carried, goes_there, goes_tokens, all_tokens_more}
 
@@ -89,21 +89,15 @@ to_client_stands p w asked told most s = record {
   open_registries = s.open_registries;
 }
 
-pub carry_to_server_keeps : (p : PairState) (w : World) (asked : List (Message Known)) (told : List (Coming Known)) → StandsBy p w asked told → w.ended ≡ false → (most : ℕ) (fed : Fed) (p' : PairState)
-    → (fed ≡ all_of (carries p.client.core p.server.core most)) × (p' ≡ after_carry_to_server p (carries p.client.core p.server.core most)) → Keeps p w (CarryToServer most) (CarryToServer fed) p'
-carry_to_server_keeps p w asked told s z most fed p' d = record {
-  world = w;
-  answers = before z d refl;
-  stands = subst (λ (q : PairState). Stands q w) (sym d.1) (stands asked told z (to_server_stands p w asked told most s));
-}
+pub carry_to_server_keeps : (p : PairState) (w : World) (asked : List (Message Known)) (told : List (Coming Known)) → StandsBy p w asked told → NotEnded p w → (most : ℕ) (reply : Carried) (p' : PairState)
+    → Carries (carries p.client.core p.server.core most) p (after_carry_to_server p (carries p.client.core p.server.core most)) reply p' → Keeps p w (CarryToServer most) (CarryToServer reply) p'
+carry_to_server_keeps p w asked told s z most reply p' moved = record { world = w; answers = before z moved refl; stands = stands asked told z (to_server_stands p w asked told most s) }
+carry_to_server_keeps p w asked told s z most reply p' (no_memory h) = record { world = w; answers = before z (no_memory h) refl; stands = stands asked told z s }
 
-pub carry_to_client_keeps : (p : PairState) (w : World) (asked : List (Message Known)) (told : List (Coming Known)) → StandsBy p w asked told → w.ended ≡ false → (most : ℕ) (fed : Fed) (p' : PairState)
-    → (fed ≡ all_of (carries p.server.core p.client.core most)) × (p' ≡ after_carry_to_client p (carries p.server.core p.client.core most)) → Keeps p w (CarryToClient most) (CarryToClient fed) p'
-carry_to_client_keeps p w asked told s z most fed p' d = record {
-  world = w;
-  answers = before z d refl;
-  stands = subst (λ (q : PairState). Stands q w) (sym d.1) (stands asked told z (to_client_stands p w asked told most s));
-}
+pub carry_to_client_keeps : (p : PairState) (w : World) (asked : List (Message Known)) (told : List (Coming Known)) → StandsBy p w asked told → NotEnded p w → (most : ℕ) (reply : Carried) (p' : PairState)
+    → Carries (carries p.server.core p.client.core most) p (after_carry_to_client p (carries p.server.core p.client.core most)) reply p' → Keeps p w (CarryToClient most) (CarryToClient reply) p'
+carry_to_client_keeps p w asked told s z most reply p' moved = record { world = w; answers = before z moved refl; stands = stands asked told z (to_client_stands p w asked told most s) }
+carry_to_client_keeps p w asked told s z most reply p' (no_memory h) = record { world = w; answers = before z (no_memory h) refl; stands = stands asked told z s }
 
 -- ---- all that goes is taken in
 
@@ -113,7 +107,7 @@ pub record Fitting (from to : Core) (most : ℕ) : Type 0 where
   pub bytes_there : length (carried_bytes from (carries from to most)) ≡ (carries from to most).bytes
   pub tokens_there : length (carried_tokens from (carries from to most)) ≡ (carries from to most).tokens
 
-begun_few : (o : Outgoing) (n : ℕ) → length (all_tokens (newly_begun o n)) ≤ length (waiting_tokens o)
+pub begun_few : (o : Outgoing) (n : ℕ) → length (all_tokens (newly_begun o n)) ≤ length (waiting_tokens o)
 begun_few o n =
     let m = begun_front (n - length o.left) o.messages in
     let e : o.messages ≡ newly_begun o n ++ drop (length (newly_begun o n)) o.messages = sym (take-append-drop (length (newly_begun o n)) o.messages) ∙ ap (λ (x : List Sent). x ++ drop (length (newly_begun o n)) o.messages) (sym m) in

@@ -37,7 +37,7 @@ use Rattle.wl_server.specs.Requests.{bind_fits, name_fits}
 use Rattle.wl_world.specs.Meant.{Known, Message, Coming, renamed, born_of, made_in, plain}
 use Rattle.wl_world.specs.World.{World, Open, Each, request_written}
 use Rattle.wl_world.specs.Pair.{PairState, ClientBind, with_client, Writes, accepted, refused, no_memory}
-use Rattle.wl_world.specs.Answers.{WritesThat, birth_at, before}
+use Rattle.wl_world.specs.Answers.{NotEnded, WritesThat, birth_at, before}
 use Rattle.wl_world.specs.Answers as answers
 use Rattle.wl_world.specs.Flight.{client_rows, row, as_row}
 use Rattle.wl_world.specs.Stands.{Stands, stands, StandsBy, WasGiven, IsGlobal}
@@ -224,7 +224,7 @@ left_by st entry target name iface version g what e d =
       };
     })
 
-pub client_bind_keeps : (p : PairState) (w : World) (asked : List (Message Known)) (told : List (Coming Known)) → StandsBy p w asked told → w.ended ≡ false → (target : Object) (name : ℕ) (iface : List ℕ) (version : ℕ)
+pub client_bind_keeps : (p : PairState) (w : World) (asked : List (Message Known)) (told : List (Coming Known)) → StandsBy p w asked told → NotEnded p w → (target : Object) (name : ℕ) (iface : List ℕ) (version : ℕ)
     → (reply : Result (Option Object) SendError) (p' : PairState)
     → Writes (bind_answer p.client target name iface version) true p (with_client p (after_bind p.client target name iface version)) reply p'
     → Keeps p w (ClientBind target name iface version) (ClientBind reply) p'

@@ -24,7 +24,7 @@ use Rattle.wl_world.specs.Meant.{Known, Message, Coming, Event, Delete, Arg, ren
 use Rattle.wl_world.specs.World.{World, Row, Open, Ending, event_read, delete_read, Steps, reads_event, reads_delete, ReadEvent}
 use Rattle.wl_world.specs.World as world
 use Rattle.wl_world.specs.Pair.{PairState, ClientNext, with_client, Nexts, answered, no_memory}
-use Rattle.wl_world.specs.Answers.{before, ReportsArgs, ReportsComing}
+use Rattle.wl_world.specs.Answers.{NotEnded, before, ReportsArgs, ReportsComing}
 use Rattle.wl_world.specs.Flight.{as_row}
 use Rattle.wl_world.specs.Stands.{stands, StandsBy, AreOf}
 use Rattle.wl_world.specs.Runs.{Keeps}
@@ -77,7 +77,7 @@ reports_it p w m cs asked s n i =
     (reports_as p w m i.more i.target.entry f.signature i.target.entry.state i.target.shown (ap birth_of i.target.same) i.tokens_are count
     (rw i.tokens_are (reports_right p.client.core.view w.client m.args i.more i.met)))
 
-keeps_event : (p : PairState) (w : World) (m : Message Known) (cs : List (Coming Known)) (asked : List (Message Known)) (s : StandsBy p w asked (Event m ∷ cs)) (n : ℕ) → w.ended ≡ false
+keeps_event : (p : PairState) (w : World) (m : Message Known) (cs : List (Coming Known)) (asked : List (Message Known)) (s : StandsBy p w asked (Event m ∷ cs)) (n : ℕ) → NotEnded p w
     → front usual_limit p.client.core.inbox.bytes ≡ Whole n → (i : InEvent p w m cs asked s n) → (reply : Result (Option Report) NextError) (p' : PairState)
     → (Nexts (next_answer p.client) (found p.client.core event_side) p (with_client p (after_next p.client)) reply p')
     → Nexts (Ok (Some (report p.client.core (the_found n m i.target.entry s.told_fit.0.fits.signature)))) (Ok (Some (the_found n m i.target.entry s.told_fit.0.fits.signature))) p
@@ -94,7 +94,7 @@ keeps_event p w m cs asked s n z e i reply p' d (no_memory q h) = record {
   stands = stands asked (Event m ∷ cs) z s;
 }
 
-at_event : (p : PairState) (w : World) (m : Message Known) (cs : List (Coming Known)) (asked : List (Message Known)) (s : StandsBy p w asked (Event m ∷ cs)) (n : ℕ) → w.ended ≡ false
+at_event : (p : PairState) (w : World) (m : Message Known) (cs : List (Coming Known)) (asked : List (Message Known)) (s : StandsBy p w asked (Event m ∷ cs)) (n : ℕ) → NotEnded p w
     → front usual_limit p.client.core.inbox.bytes ≡ Whole n → (reply : Result (Option Report) NextError) (p' : PairState)
     → (Nexts (next_answer p.client) (found p.client.core event_side) p (with_client p (after_next p.client)) reply p') → Keeps p w ClientNext (ClientNext reply) p'
 at_event p w m cs asked s n z e reply p' d =
@@ -110,7 +110,7 @@ at_event p w m cs asked s n z e reply p' d =
 
 -- ---- a delete
 
-keeps_delete : (p : PairState) (w : World) (x : Known) (cs : List (Coming Known)) (asked : List (Message Known)) (s : StandsBy p w asked (Delete x ∷ cs)) (n : ℕ) → w.ended ≡ false
+keeps_delete : (p : PairState) (w : World) (x : Known) (cs : List (Coming Known)) (asked : List (Message Known)) (s : StandsBy p w asked (Delete x ∷ cs)) (n : ℕ) → NotEnded p w
     → front usual_limit p.client.core.inbox.bytes ≡ Whole n → (i : InDelete p x cs s.meet.middle n) → (reply : Result (Option Report) NextError) (p' : PairState) (what : Result (Option Found) Fault)
     → (Nexts (next_answer p.client) (found p.client.core event_side) p (with_client p (after_next p.client)) reply p')
     → Nexts (Ok (Some (reports.Deleted (record { id = x.id; birth = i.entry.birth })))) what p (with_client p (after_delete p.client x n)) reply p'
@@ -126,7 +126,7 @@ keeps_delete p w x cs asked s n z e i reply p' what d (no_memory q h) = record {
   stands = stands asked (Delete x ∷ cs) z s;
 }
 
-at_delete : (p : PairState) (w : World) (x : Known) (cs : List (Coming Known)) (asked : List (Message Known)) (s : StandsBy p w asked (Delete x ∷ cs)) (n : ℕ) → w.ended ≡ false
+at_delete : (p : PairState) (w : World) (x : Known) (cs : List (Coming Known)) (asked : List (Message Known)) (s : StandsBy p w asked (Delete x ∷ cs)) (n : ℕ) → NotEnded p w
     → front usual_limit p.client.core.inbox.bytes ≡ Whole n → (reply : Result (Option Report) NextError) (p' : PairState)
     → (Nexts (next_answer p.client) (found p.client.core event_side) p (with_client p (after_next p.client)) reply p') → Keeps p w ClientNext (ClientNext reply) p'
 at_delete p w x cs asked s n z e reply p' d =
@@ -140,20 +140,20 @@ at_delete p w x cs asked s n z e reply p' d =
 
 -- ---- all fronts
 
-at_whole : (p : PairState) (w : World) (asked : List (Message Known)) (told : List (Coming Known)) (s : StandsBy p w asked told) (n : ℕ) → w.ended ≡ false
+at_whole : (p : PairState) (w : World) (asked : List (Message Known)) (told : List (Coming Known)) (s : StandsBy p w asked told) (n : ℕ) → NotEnded p w
     → front usual_limit p.client.core.inbox.bytes ≡ Whole n → (reply : Result (Option Report) NextError) (p' : PairState)
     → (Nexts (next_answer p.client) (found p.client.core event_side) p (with_client p (after_next p.client)) reply p') → Keeps p w ClientNext (ClientNext reply) p'
 at_whole p w asked [] s n z e reply p' d = absurd (let q = pops p.server.core.outbox p.client.core.inbox [] n s.to_client e in cc q.is)
 at_whole p w asked (Event m ∷ cs) s n z e reply p' d = at_event p w m cs asked s n z e reply p' d
 at_whole p w asked (Delete x ∷ cs) s n z e reply p' d = at_delete p w x cs asked s n z e reply p' d
 
-keeps_idle : (p : PairState) (w : World) (asked : List (Message Known)) (told : List (Coming Known)) (s : StandsBy p w asked told) → w.ended ≡ false → front usual_limit p.client.core.inbox.bytes ≡ More
+keeps_idle : (p : PairState) (w : World) (asked : List (Message Known)) (told : List (Coming Known)) (s : StandsBy p w asked told) → NotEnded p w → front usual_limit p.client.core.inbox.bytes ≡ More
     → (reply : Result (Option Report) NextError) (p' : PairState) → (what : Result (Option Found) Fault) → (Nexts (next_answer p.client) (found p.client.core event_side) p (with_client p (after_next p.client)) reply p')
     → Nexts (Ok None) what p p reply p' → Keeps p w ClientNext (ClientNext reply) p'
 keeps_idle p w asked told s z e reply p' what d answered = record { world = w; answers = before z d (λ h. subst HasMessage e h, refl); stands = stands asked told z s }
 keeps_idle p w asked told s z e reply p' what d (no_memory q h) = absurd (cc q)
 
-at_front : (p : PairState) (w : World) (asked : List (Message Known)) (told : List (Coming Known)) (s : StandsBy p w asked told) → w.ended ≡ false
+at_front : (p : PairState) (w : World) (asked : List (Message Known)) (told : List (Coming Known)) (s : StandsBy p w asked told) → NotEnded p w
     → (reply : Result (Option Report) NextError) (p' : PairState) → (Nexts (next_answer p.client) (found p.client.core event_side) p (with_client p (after_next p.client)) reply p')
     → (f : Front) → front usual_limit p.client.core.inbox.bytes ≡ f → Keeps p w ClientNext (ClientNext reply) p'
 at_front p w asked told s z reply p' d More e =
@@ -164,7 +164,7 @@ at_front p w asked told s z reply p' d More e =
 at_front p w asked told s z reply p' d (Bad n) e = absurd (never_bad p.server.core.outbox p.client.core.inbox _ n s.to_client e)
 at_front p w asked told s z reply p' d (Whole n) e = at_whole p w asked told s n z e reply p' d
 
-pub client_next_keeps : (p : PairState) (w : World) (asked : List (Message Known)) (told : List (Coming Known)) → StandsBy p w asked told → w.ended ≡ false
+pub client_next_keeps : (p : PairState) (w : World) (asked : List (Message Known)) (told : List (Coming Known)) → StandsBy p w asked told → NotEnded p w
     → (reply : Result (Option Report) NextError) (p' : PairState) → (Nexts (next_answer p.client) (found p.client.core event_side) p (with_client p (after_next p.client)) reply p')
     → Keeps p w ClientNext (ClientNext reply) p'
 client_next_keeps p w asked told s z reply p' d = at_front p w asked told s z reply p' d _ refl

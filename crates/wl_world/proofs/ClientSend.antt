@@ -22,7 +22,7 @@ use Rattle.wl_end.specs.Sending.{send_answer, after_send, after_checked, made_at
 use Rattle.wl_world.specs.Meant.{Born, Known, Message, Coming, renamed, born_of, birth_of, made_in, objects, plain, live_entry}
 use Rattle.wl_world.specs.World.{World, display_born, Open, Each, IfThere, IsOpen, request_written, Steps, writes_request, WriteRequest}
 use Rattle.wl_world.specs.Pair.{PairState, ClientSend, with_client_core, Writes, accepted, refused, no_memory}
-use Rattle.wl_world.specs.Answers.{WritesThat, handed, birth_at, before}
+use Rattle.wl_world.specs.Answers.{NotEnded, WritesThat, handed, birth_at, before}
 use Rattle.wl_world.specs.Flight.{Fresh, client_rows, row, as_row}
 use Rattle.wl_world.specs.Stands.{Stands, stands, StandsBy, Fits, AreOf}
 use Rattle.wl_world.specs.Runs.{Keeps, IsGiven}
@@ -169,7 +169,7 @@ sends_that p w asked told s target opcode given signature new c k o can =
       steps = asks_world p w asked told s m can;
     }
 
-pub client_send_keeps : (p : PairState) (w : World) (asked : List (Message Known)) (told : List (Coming Known)) → StandsBy p w asked told → w.ended ≡ false → (target : Object) (opcode : ℕ) (given : List Given) → Each IsGiven given
+pub client_send_keeps : (p : PairState) (w : World) (asked : List (Message Known)) (told : List (Coming Known)) → StandsBy p w asked told → NotEnded p w → (target : Object) (opcode : ℕ) (given : List Given) → Each IsGiven given
     → (reply : Result (Option Object) SendError) (p' : PairState)
     → Writes (send_answer p.client.core Request target opcode given) (opens_object (checked p.client.core.tables Request p.client.core.view target opcode given)) p
     (with_client_core p (after_send p.client.core Request target opcode given)) reply p'

@@ -17,7 +17,7 @@ use Rattle.wl_world.specs.World.{World, Each}
 use Rattle.wl_world.specs.Pair.{PairState, AddGlobal, Withdraw, with_server, Adds, added, refused, no_memory, Calls, done}
 use Rattle.wl_server.specs.declared.request.GlobalError.{GlobalError}
 use Rattle.wl_server.specs.declared.request.GlobalError.TheVariants.{Failed, BadGlobal, TooMany}
-use Rattle.wl_world.specs.Answers.{before}
+use Rattle.wl_world.specs.Answers.{NotEnded, before}
 use Rattle.wl_world.specs.Stands.{stands, StandsBy, WasGiven, AsksFitly, ComesFitly, IsGlobal}
 use Rattle.wl_world.specs.Runs.{Keeps}
 use Rattle.wl_world.proofs.Wholes.{each_by, each_more}
@@ -122,7 +122,7 @@ can_add s iface version false false c l e f h = absurd (cc h)
 can_add s iface version false true false l e f h = absurd (cc h)
 can_add s iface version false true true l e f h = record { can = e; few = ltb-true _ _ f }
 
-pub add_global_keeps : (p : PairState) (w : World) (asked : List (Message Known)) (told : List (Coming Known)) → StandsBy p w asked told → w.ended ≡ false → (iface : Iface) (version : ℕ) → version < 2 ^ 32
+pub add_global_keeps : (p : PairState) (w : World) (asked : List (Message Known)) (told : List (Coming Known)) → StandsBy p w asked told → NotEnded p w → (iface : Iface) (version : ℕ) → version < 2 ^ 32
     → (reply : Result ℕ GlobalError) (p' : PairState) → Adds (add_refusal p.server iface version) (next_name p.server) p (with_server p (with_global p.server iface version)) reply p'
     → Keeps p w (AddGlobal iface version) (AddGlobal reply) p'
 add_global_keeps p w asked told s z iface version v reply p' (added h) =
@@ -183,7 +183,7 @@ withdraw_stands p w asked told s name (Some x) e =
     (each_without (IsGlobal p.server.core.tables) (λ g h. record { can_be = h.can_be; word = h.word }) p.server.globals name x e s.globals)
     (let l = length_set p.server.globals (name - 1) (withdrawn x) in omega (arith, l, s.few_globals))
 
-pub withdraw_keeps : (p : PairState) (w : World) (asked : List (Message Known)) (told : List (Coming Known)) → StandsBy p w asked told → w.ended ≡ false → (name : ℕ) (reply : Result (Unit {0}) GlobalError) (p' : PairState)
+pub withdraw_keeps : (p : PairState) (w : World) (asked : List (Message Known)) (told : List (Coming Known)) → StandsBy p w asked told → NotEnded p w → (name : ℕ) (reply : Result (Unit {0}) GlobalError) (p' : PairState)
     → Calls (withdraw_refusal p.server name) p (with_server p (after_withdraw p.server name)) reply p' → Keeps p w (Withdraw name) (Withdraw reply) p'
 withdraw_keeps p w asked told s z name reply p' (done h) = record {
   world = record w { given = without_at p.server.globals name (global_of p.server.globals name) };

@@ -25,6 +25,7 @@ pub mod Opening
 pub mod Places
 pub mod Announces
 pub mod ClientBind
+pub mod Records
 pub mod Steps
 pub mod Plain
 pub mod Samples

@@ -60,7 +60,7 @@ nothing_flies : (from : Outgoing) (to : Arrived) → from.left ≡ [] → from.m
 nothing_flies from to a b c d = record { begun = []; all = sym b; bytes = rw (c, a) refl; tokens = d; whole = tt }
 
 pub new_stands : (tables : List Interface) (client_sizes server_sizes : Sizes) → Valid tables → Stands (new_pair tables client_sizes server_sizes) opening
-new_stands tables client_sizes server_sizes v = stands [] [] refl (record {
+new_stands tables client_sizes server_sizes v = stands [] [] (refl, refl) (record {
   same_tables = refl;
   valid = v;
   deletes_follow = tt;

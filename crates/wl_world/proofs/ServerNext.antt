@@ -20,7 +20,7 @@ use Rattle.wl_server.specs.Requests.{Report, judged, request, report, is_out_ful
 use Rattle.wl_world.specs.Meant.{Known, Message, Coming, Arg, renamed, rearg, born_of, birth_of}
 use Rattle.wl_world.specs.World.{World, request_read, reads_request}
 use Rattle.wl_world.specs.Pair.{PairState, ServerNext, with_server, Nexts, answered, no_memory}
-use Rattle.wl_world.specs.Answers.{before, ReportsRequest, rows_of_server, IsOutFull}
+use Rattle.wl_world.specs.Answers.{NotEnded, before, ReportsRequest, rows_of_server, IsOutFull}
 use Rattle.wl_world.specs.Stands.{stands, StandsBy, AreOf}
 use Rattle.wl_world.specs.Runs.{Keeps}
 use Rattle.wl_world.proofs.Channels.{pops, never_bad}
@@ -66,7 +66,7 @@ and_not : (a b : Bool) → (a && b) ≡ false → a ≡ true → b ≡ false
 and_not true b h e = h
 and_not false b h e = absurd (cc e)
 
-keeps_out_full : (p : PairState) (w : World) (m : Message Known) (ms : List (Message Known)) (told : List (Coming Known)) (s : StandsBy p w (m ∷ ms) told) (n : ℕ) → w.ended ≡ false
+keeps_out_full : (p : PairState) (w : World) (m : Message Known) (ms : List (Message Known)) (told : List (Coming Known)) (s : StandsBy p w (m ∷ ms) told) (n : ℕ) → NotEnded p w
     → front usual_limit p.server.core.inbox.bytes ≡ Whole n → InRequest p w m ms told s n → (reply : Result (Option Report) NextError) (p' : PairState) (what : Result (Option Found) Fault)
     → (Nexts (next_answer p.server) (request p.server) p (with_server p (after_next p.server)) reply p')
     → (m.destroys ≡ true) × (room_of p.server.core.outbox < delete_id_len)
@@ -78,7 +78,7 @@ keeps_out_full p w m ms told s n z e i reply p' what d full answered = record {
 }
 keeps_out_full p w m ms told s n z e i reply p' what d full (no_memory q h) = absurd (cc q)
 
-keeps_read : (p : PairState) (w : World) (m : Message Known) (ms : List (Message Known)) (told : List (Coming Known)) (s : StandsBy p w (m ∷ ms) told) (n : ℕ) → w.ended ≡ false
+keeps_read : (p : PairState) (w : World) (m : Message Known) (ms : List (Message Known)) (told : List (Coming Known)) (s : StandsBy p w (m ∷ ms) told) (n : ℕ) → NotEnded p w
     → front usual_limit p.server.core.inbox.bytes ≡ Whole n → (i : InRequest p w m ms told s n) → (reply : Result (Option Report) NextError) (p' : PairState)
     → (Nexts (next_answer p.server) (request p.server) p (with_server p (after_next p.server)) reply p')
     → (IsOutFull p (renamed born_of m) → ⊥)
@@ -96,7 +96,7 @@ keeps_read p w m ms told s n z e i reply p' d room (no_memory q h) = record {
   stands = stands (m ∷ ms) told z s;
 }
 
-at_request : (p : PairState) (w : World) (m : Message Known) (ms : List (Message Known)) (told : List (Coming Known)) (s : StandsBy p w (m ∷ ms) told) (n : ℕ) → w.ended ≡ false
+at_request : (p : PairState) (w : World) (m : Message Known) (ms : List (Message Known)) (told : List (Coming Known)) (s : StandsBy p w (m ∷ ms) told) (n : ℕ) → NotEnded p w
     → front usual_limit p.server.core.inbox.bytes ≡ Whole n → (i : InRequest p w m ms told s n) → (reply : Result (Option Report) NextError) (p' : PairState)
     → (Nexts (next_answer p.server) (request p.server) p (with_server p (after_next p.server)) reply p')
     → (b : Bool) → is_out_full p.server.core (the_found n m i.entry s.asked_fit.0.fits.signature) ≡ b → Keeps p w ServerNext (ServerNext reply) p'
@@ -115,7 +115,7 @@ at_request p w m ms told s n z e i reply p' d false h =
     (subst (λ y. Nexts (Ok (Some (report p.server.core f))) y p (with_server p (after_next p.server)) reply p') i.finds_it
     (subst (λ x. Nexts x (request p.server) p (with_server p (after_next p.server)) reply p') a.answer d)))
 
-at_whole : (p : PairState) (w : World) (asked : List (Message Known)) (told : List (Coming Known)) (s : StandsBy p w asked told) (n : ℕ) → w.ended ≡ false
+at_whole : (p : PairState) (w : World) (asked : List (Message Known)) (told : List (Coming Known)) (s : StandsBy p w asked told) (n : ℕ) → NotEnded p w
     → front usual_limit p.server.core.inbox.bytes ≡ Whole n → (reply : Result (Option Report) NextError) (p' : PairState)
     → (Nexts (next_answer p.server) (request p.server) p (with_server p (after_next p.server)) reply p') → Keeps p w ServerNext (ServerNext reply) p'
 at_whole p w [] told s n z e reply p' d = absurd (let q = pops p.client.core.outbox p.server.core.inbox [] n s.to_server e in cc q.is)
@@ -123,13 +123,13 @@ at_whole p w (m ∷ ms) told s n z e reply p' d =
     let i = in_request p w m ms told s n e in
     at_request p w m ms told s n z e i reply p' d _ refl
 
-keeps_idle : (p : PairState) (w : World) (asked : List (Message Known)) (told : List (Coming Known)) (s : StandsBy p w asked told) → w.ended ≡ false → front usual_limit p.server.core.inbox.bytes ≡ More
+keeps_idle : (p : PairState) (w : World) (asked : List (Message Known)) (told : List (Coming Known)) (s : StandsBy p w asked told) → NotEnded p w → front usual_limit p.server.core.inbox.bytes ≡ More
     → (reply : Result (Option Report) NextError) (p' : PairState) → (what : Result (Option Found) Fault) → (Nexts (next_answer p.server) (request p.server) p (with_server p (after_next p.server)) reply p')
     → Nexts (Ok None) what p p reply p' → Keeps p w ServerNext (ServerNext reply) p'
 keeps_idle p w asked told s z e reply p' what d answered = record { world = w; answers = before z d (λ h. subst HasMessage e h, refl); stands = stands asked told z s }
 keeps_idle p w asked told s z e reply p' what d (no_memory q h) = absurd (cc q)
 
-at_front : (p : PairState) (w : World) (asked : List (Message Known)) (told : List (Coming Known)) (s : StandsBy p w asked told) → w.ended ≡ false
+at_front : (p : PairState) (w : World) (asked : List (Message Known)) (told : List (Coming Known)) (s : StandsBy p w asked told) → NotEnded p w
     → (reply : Result (Option Report) NextError) (p' : PairState) → (Nexts (next_answer p.server) (request p.server) p (with_server p (after_next p.server)) reply p')
     → (f : Front) → front usual_limit p.server.core.inbox.bytes ≡ f → Keeps p w ServerNext (ServerNext reply) p'
 at_front p w asked told s z reply p' d More e =
@@ -140,7 +140,7 @@ at_front p w asked told s z reply p' d More e =
 at_front p w asked told s z reply p' d (Bad n) e = absurd (never_bad p.client.core.outbox p.server.core.inbox _ n s.to_server e)
 at_front p w asked told s z reply p' d (Whole n) e = at_whole p w asked told s n z e reply p' d
 
-pub server_next_keeps : (p : PairState) (w : World) (asked : List (Message Known)) (told : List (Coming Known)) → StandsBy p w asked told → w.ended ≡ false
+pub server_next_keeps : (p : PairState) (w : World) (asked : List (Message Known)) (told : List (Coming Known)) → StandsBy p w asked told → NotEnded p w
     → (reply : Result (Option Report) NextError) (p' : PairState) → (Nexts (next_answer p.server) (request p.server) p (with_server p (after_next p.server)) reply p')
     → Keeps p w ServerNext (ServerNext reply) p'
 server_next_keeps p w asked told s z reply p' d = at_front p w asked told s z reply p' d _ refl

@@ -19,11 +19,11 @@ use Rattle.wl_objects.specs.Writing.{Given, message_bytes, is_live_as}
 use Rattle.wl_objects.specs.Messages.{Made, Server as server_end, after, checked, live_row, same_iface}
 use Rattle.wl_end.specs.Core.{Core}
 use Rattle.wl_end.specs.Sending.{send_answer, after_send, after_checked, made_at, opens_object, with_following}
-use Rattle.wl_server.specs.Calls.{drop_refusal, drop_at, ends_by_event, after_drop, error_refusal, after_error}
+use Rattle.wl_server.specs.Calls.{drop_refusal, drop_at, ends_by_event, after_drop, error_refusal}
 use Rattle.wl_world.specs.Meant.{Known, Message, Coming, Event as event_of, Delete, renamed, born_of, birth_of, spelled, made_in, objects, plain}
 use Rattle.wl_world.specs.World.{World, Each, IsThere, delete, event_written, dropped, Steps, writes_event, drops, WriteEvent}
-use Rattle.wl_world.specs.Pair.{PairState, ServerSend, ServerDrop, PostError, with_server_core, Writes, accepted, refused, no_memory, Calls, done}
-use Rattle.wl_world.specs.Answers.{birth_at, before}
+use Rattle.wl_world.specs.Pair.{after_post, PairState, ServerSend, ServerDrop, PostError, with_server_core, Writes, accepted, refused, no_memory, Calls, done}
+use Rattle.wl_world.specs.Answers.{NotEnded, birth_at, before}
 use Rattle.wl_world.specs.Flight.{server_rows}
 use Rattle.wl_world.specs.Stands.{Stands, stands, ended, StandsBy}
 use Rattle.wl_world.specs.Runs.{Keeps, IsGiven}
@@ -87,7 +87,7 @@ tells_world p w asked told s m c =
     writes_event (renamed born_of m) (s.server_sets.shown m.target.id m.target.born c.target)
     (rw (objects_map born_of m.args) (each_map born_of (IsThere w.server) (objects m.args) (each_by (ThereRow (server_rows v)) (λ (x : Known). IsThere w.server x.born) (λ x h. s.server_sets.shown x.id x.born h) (objects m.args) c.args)))
 
-pub server_send_keeps : (p : PairState) (w : World) (asked : List (Message Known)) (told : List (Coming Known)) → StandsBy p w asked told → w.ended ≡ false → (target : Object) (opcode : ℕ) (given : List Given) → Each IsGiven given
+pub server_send_keeps : (p : PairState) (w : World) (asked : List (Message Known)) (told : List (Coming Known)) → StandsBy p w asked told → NotEnded p w → (target : Object) (opcode : ℕ) (given : List Given) → Each IsGiven given
     → (reply : Result (Option Object) SendError) (p' : PairState)
     → Writes (send_answer p.server.core Event target opcode given) (opens_object (checked p.server.core.tables Event p.server.core.view target opcode given)) p
     (with_server_core p (after_send p.server.core Event target opcode given)) reply p'
@@ -156,7 +156,7 @@ droppable : (core : Core) (object : Object) → core.failed ≡ false → drop_r
 droppable core object l h =
     droppable_at core object (live_row core.view object) refl (sym (ap (λ (b : Bool). cond b (Some refusals.Failed) (drop_at core (live_row core.view object))) l) ∙ h)
 
-pub server_drop_keeps : (p : PairState) (w : World) (asked : List (Message Known)) (told : List (Coming Known)) → StandsBy p w asked told → w.ended ≡ false → (object : Object) (reply : Result (Unit {0}) SendError) (p' : PairState)
+pub server_drop_keeps : (p : PairState) (w : World) (asked : List (Message Known)) (told : List (Coming Known)) → StandsBy p w asked told → NotEnded p w → (object : Object) (reply : Result (Unit {0}) SendError) (p' : PairState)
     → Calls (drop_refusal p.server.core object) p (with_server_core p (after_drop p.server.core object)) reply p' → Keeps p w (ServerDrop object) (ServerDrop reply) p'
 server_drop_keeps p w asked told s z object reply p' (done h) =
     let d = droppable p.server.core object s.server_lives h in
@@ -172,7 +172,7 @@ server_drop_keeps p w asked told s z object reply p' (refused h) = record { worl
 
 -- ---- an error
 
-pub post_error_keeps : (p : PairState) (w : World) (asked : List (Message Known)) (told : List (Coming Known)) → StandsBy p w asked told → w.ended ≡ false → (object : Object) (code : ℕ) (text : List ℕ) (reply : Result (Unit {0}) SendError) (p' : PairState)
-    → Calls (error_refusal p.server.core object text) p (with_server_core p (after_error p.server.core object code text)) reply p' → Keeps p w (PostError object code text) (PostError reply) p'
+pub post_error_keeps : (p : PairState) (w : World) (asked : List (Message Known)) (told : List (Coming Known)) → StandsBy p w asked told → NotEnded p w → (object : Object) (code : ℕ) (text : List ℕ) (reply : Result (Unit {0}) SendError) (p' : PairState)
+    → Calls (error_refusal p.server.core object text) p (after_post p object code text) reply p' → Keeps p w (PostError object code text) (PostError reply) p'
 post_error_keeps p w asked told s z object code text reply p' (done h) = record { world = record w { ended = true }; answers = before z (done h) refl; stands = ended refl }
 post_error_keeps p w asked told s z object code text reply p' (refused h) = record { world = w; answers = before z (refused h) refl; stands = stands asked told z s }

@@ -11,7 +11,7 @@ use Rattle.wl_client.specs.Reports as events
 use Rattle.wl_server.specs.Requests as requests
 use Rattle.wl_world.specs.World.{World, Each}
 use Rattle.wl_world.specs.Pair.{PairState, Move, Reply, ClientSend, ClientBind, ServerSend, ServerDrop, PostError, AddGlobal, Withdraw, Announce, CarryToServer, CarryToClient, ClientNext, ServerNext, Does, with_client, with_server, answered}
-use Rattle.wl_world.specs.Answers.{Answers, before, after, ReadsAtClient, ReadsAtServer}
+use Rattle.wl_world.specs.Answers.{NotEnded, Answers, before, after, ReadsAtClient, ReadsAtServer}
 use Rattle.wl_world.specs.Meant.{Known, Message, Coming}
 use Rattle.wl_world.specs.Stands.{Stands, stands, ended, StandsBy}
 use Rattle.wl_world.specs.Runs.{Keeps, IsMove, Runs, DoesAll}
@@ -23,8 +23,9 @@ use Rattle.wl_world.proofs.Announces.{announce_keeps}
 use Rattle.wl_world.proofs.Carries.{carry_to_server_keeps, carry_to_client_keeps}
 use Rattle.wl_world.proofs.ClientNext.{client_next_keeps}
 use Rattle.wl_world.proofs.ServerNext.{server_next_keeps}
+use Rattle.wl_world.proofs.Records.{keeps_record}
 
-by_move : (p : PairState) (w : World) (asked : List (Message Known)) (told : List (Coming Known)) → StandsBy p w asked told → w.ended ≡ false → (move : Move) (reply : Reply) (p' : PairState) → IsMove move → Does p move reply p'
+by_move : (p : PairState) (w : World) (asked : List (Message Known)) (told : List (Coming Known)) → StandsBy p w asked told → NotEnded p w → (move : Move) (reply : Reply) (p' : PairState) → IsMove move → Does p move reply p'
     → Keeps p w move reply p'
 by_move p w asked told s z (ClientSend target opcode given) (ClientSend reply) p' m d = client_send_keeps p w asked told s z target opcode given m reply p' d
 by_move p w asked told s z (ClientBind target name iface version) (ClientBind reply) p' m d = client_bind_keeps p w asked told s z target name iface version reply p' d
@@ -34,14 +35,14 @@ by_move p w asked told s z (PostError object code text) (PostError reply) p' m d
 by_move p w asked told s z (AddGlobal iface version) (AddGlobal reply) p' m d = add_global_keeps p w asked told s z iface version m reply p' d
 by_move p w asked told s z (Withdraw name) (Withdraw reply) p' m d = withdraw_keeps p w asked told s z name reply p' d
 by_move p w asked told s z Announce (Announce reply) p' m d = announce_keeps p w asked told s z reply p' d
-by_move p w asked told s z (CarryToServer most) (CarryToServer fed) p' m d = carry_to_server_keeps p w asked told s z most fed p' d
-by_move p w asked told s z (CarryToClient most) (CarryToClient fed) p' m d = carry_to_client_keeps p w asked told s z most fed p' d
+by_move p w asked told s z (CarryToServer most) (CarryToServer reply) p' m d = carry_to_server_keeps p w asked told s z most reply p' d
+by_move p w asked told s z (CarryToClient most) (CarryToClient reply) p' m d = carry_to_client_keeps p w asked told s z most reply p' d
 by_move p w asked told s z ClientNext (ClientNext reply) p' m d = client_next_keeps p w asked told s z reply p' d
 by_move p w asked told s z ServerNext (ServerNext reply) p' m d = server_next_keeps p w asked told s z reply p' d
 by_move p w asked told s z _ _ p' m d = absurd d
 
 pub step_keeps : (p : PairState) (w : World) → Stands p w → (move : Move) (reply : Reply) (p' : PairState) → IsMove move → Does p move reply p' → Keeps p w move reply p'
-step_keeps p w (ended e) move reply p' m d = record { world = w; answers = after e e; stands = ended e }
+step_keeps p w (ended e) move reply p' m d = record { world = w; answers = after e e (keeps_record p move reply p' d); stands = ended e }
 step_keeps p w (stands asked told z s) move reply p' m d = by_move p w asked told s z move reply p' m d
 
 -- whole lists of moves
@@ -57,7 +58,7 @@ run_keeps p w (move ∷ moves) (reply ∷ replies) last s m d =
 
 fault_at : (p : PairState) (w world : World) (reply : Result (Option events.Report) NextError) (what : Fault) (offset : ℕ) (p' : PairState) → w.ended ≡ false → Answers p w ClientNext (ClientNext reply) p' world → reply ≡ Err (errors.Fault what offset) → ⊥
 fault_at p w world reply what offset p' z (before e d m) h = subst (λ r. ReadsAtClient p.client.core.tables p w r world) h m
-fault_at p w world reply what offset p' z (after e f) h = absurd (cc (e, z))
+fault_at p w world reply what offset p' z (after e f k) h = absurd (cc (e, z))
 
 pub client_meets_none : (p : PairState) (w : World) (what : Fault) (offset : ℕ) → Stands p w → w.ended ≡ false → next_answer p.client ≡ Err (errors.Fault what offset) → ⊥
 client_meets_none p w what offset s z h =
@@ -66,7 +67,7 @@ client_meets_none p w what offset s z h =
 
 fault_in : (p : PairState) (w world : World) (reply : Result (Option requests.Report) NextError) (what : Fault) (offset : ℕ) (p' : PairState) → w.ended ≡ false → Answers p w ServerNext (ServerNext reply) p' world → reply ≡ Err (errors.Fault what offset) → ⊥
 fault_in p w world reply what offset p' z (before e d m) h = subst (λ r. ReadsAtServer p.server.core.tables p w r world) h m
-fault_in p w world reply what offset p' z (after e f) h = absurd (cc (e, z))
+fault_in p w world reply what offset p' z (after e f k) h = absurd (cc (e, z))
 
 pub server_meets_none : (p : PairState) (w : World) (what : Fault) (offset : ℕ) → Stands p w → w.ended ≡ false → requests.next_answer p.server ≡ Err (errors.Fault what offset) → ⊥
 server_meets_none p w what offset s z h =

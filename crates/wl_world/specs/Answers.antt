@@ -23,6 +23,7 @@ use Rattle.wl_server.specs.State as server
 use Rattle.wl_server.specs.Requests as requests
 use Rattle.wl_server.specs.Calls.{without_at}
 use Rattle.wl_server.specs.Announcing.{Owing, Removal, Telling, owed_to, opcode_of, values_of}
+use Rattle.wl_recording.specs.Piece.{Piece}
 use Rattle.wl_world.specs.Meant.{Born, Message, Coming, Event, Delete, Arg, rearg, birth_of, made_in, tokens}
 use Rattle.wl_world.specs.World.{World, Row, Open, Ending, Marks, Deed, WriteRequest, ReadRequest, WriteEvent, Drop, ReadEvent, Steps}
 use Rattle.wl_world.specs.Pair.{PairState, Move, Reply, ClientSend, ClientBind, ServerSend, ServerDrop, PostError, AddGlobal, Withdraw, Announce, CarryToServer, CarryToClient, ClientNext, ServerNext, Does}
@@ -228,13 +229,24 @@ Means p w (AddGlobal iface version) (AddGlobal reply) w' =
     IfAccepted reply w w' (λ name. (name ≡ length w.given + 1) × (w' ≡ record w { given = w.given ++ record { iface = iface; version = version; present = true } ∷ [] }))
 Means p w (Withdraw name) (Withdraw reply) w' = IfOk reply w w' (w' ≡ record w { given = without_at w.given name (server.global_of w.given name) })
 Means p w Announce (Announce reply) w' = IfAccepted reply w w' (λ count. AnnouncesThose p.server.core.tables w (take count (owed_by w.given w.registries)) w')
-Means p w (CarryToServer most) (CarryToServer fed) w' = w' ≡ w
-Means p w (CarryToClient most) (CarryToClient fed) w' = w' ≡ w
+Means p w (CarryToServer most) (CarryToServer reply) w' = w' ≡ w
+Means p w (CarryToClient most) (CarryToClient reply) w' = w' ≡ w
 Means p w ClientNext (ClientNext reply) w' = ReadsAtClient p.client.core.tables p w reply w'
 Means p w ServerNext (ServerNext reply) w' = ReadsAtServer p.server.core.tables p w reply w'
 Means p w _ _ w' = ⊥
 
--- What a move may be answered, and what it leaves of the pair and the world. After an error was posted all is allowed.
+-- no error was posted yet
+abbrev pub NotEnded : PairState → World → Type 0
+NotEnded p w = (w.ended ≡ false) × (p.ended_at ≡ None)
+
+-- the pieces recorded stay where they are, and so does the mark that an error set
+pub record KeepsRecord (p p' : PairState) : Type 0 where
+  pub more : List Piece
+  pub pieces : p'.recording ≡ p.recording ++ more
+  pub mark : (count : ℕ) → p.ended_at ≡ Some count → p'.ended_at ≡ Some count
+
+-- What a move may be answered, and what it leaves of the pair and the world. After an error was posted all is allowed, but what was
+-- recorded stays.
 pub data Answers (p : PairState) (w : World) (move : Move) (reply : Reply) (p' : PairState) (w' : World) : Type 0 where
-  before : w.ended ≡ false → Does p move reply p' → Means p w move reply w' → Answers p w move reply p' w'
-  after : w.ended ≡ true → w'.ended ≡ true → Answers p w move reply p' w'
+  before : NotEnded p w → Does p move reply p' → Means p w move reply w' → Answers p w move reply p' w'
+  after : w.ended ≡ true → w'.ended ≡ true → KeepsRecord p p' → Answers p w move reply p' w'

@@ -1,5 +1,5 @@
 -- A client and a server with nothing between, what can be done with them, and what each call answers and leaves.
-use Rattle.std.specs.Prelude.{◌≡◌, ℕ, Bool, true, false, not, min, nat_lt, if◌then◌else◌, List, [], ◌∷◌, length, take, Option, Some, None}
+use Rattle.std.specs.Prelude.{◌≡◌, ℕ, ◌<◌, Bool, true, false, min, List, [], ◌++◌, length, take, Option, Some, None}
 use Rattle.std.specs.declared.result.Result.{Result}
 use Rattle.std.specs.declared.result.Result.TheVariants.{Ok, Err}
 use Rattle.wl_wire.specs.declared.kind.Iface.{Iface}
@@ -30,14 +30,19 @@ use Rattle.wl_server.specs.State.{max_globals, global_of}
 use Rattle.wl_server.specs.Requests as requests
 use Rattle.wl_server.specs.Calls.{drop_refusal, after_drop, error_refusal, after_error, add_refusal, withdraw_refusal, with_global, next_name, after_withdraw}
 use Rattle.wl_server.specs.Announcing.{Fitting, after_announce}
+use Rattle.wl_recording.specs.declared.piece.Direction.TheVariants.{ToServer, ToClient}
+use Rattle.wl_recording.specs.Piece.{Piece, passed}
 
 pub record PairState : Type 0 where
   pub client : client.State
   pub server : server.State
+  -- what was carried, piece by piece, and how many pieces these were when the first error was posted
+  pub recording : List Piece
+  pub ended_at : Option ℕ
 
 -- both ends as they begin
 abbrev pub new_pair : List Interface → Sizes → Sizes → PairState
-new_pair tables client_sizes server_sizes = record { client = client.new_state tables client_sizes; server = server.new_state tables server_sizes }
+new_pair tables client_sizes server_sizes = record { client = client.new_state tables client_sizes; server = server.new_state tables server_sizes; recording = []; ended_at = None }
 
 -- what can be done with a pair
 pub data Move : Type 0 where
@@ -54,6 +59,11 @@ pub data Move : Type 0 where
   ClientNext : Move
   ServerNext : Move
 
+-- what a carry is answered: how much it moved, or that there is no memory to record it
+pub data Carried : Type 0 where
+  Moved : Fed → Carried
+  Memory : Carried
+
 -- what a move is answered
 pub data Reply : Type 0 where
   ClientSend : Result (Option Object) SendError → Reply
@@ -64,8 +74,8 @@ pub data Reply : Type 0 where
   AddGlobal : Result ℕ GlobalError → Reply
   Withdraw : Result (Unit {0}) GlobalError → Reply
   Announce : Result ℕ SendError → Reply
-  CarryToServer : Fed → Reply
-  CarryToClient : Fed → Reply
+  CarryToServer : Carried → Reply
+  CarryToClient : Carried → Reply
   ClientNext : Result (Option events.Report) NextError → Reply
   ServerNext : Result (Option requests.Report) NextError → Reply
 
@@ -98,17 +108,30 @@ carried_tokens from taken = take taken.tokens (waiting_tokens from.outbox)
 abbrev pub all_of : Taken → Fed
 all_of taken = record { bytes = taken.bytes; tokens = taken.tokens }
 
+-- What a carry leaves: just that is recorded.
 abbrev pub after_carry_to_server : PairState → Taken → PairState
-after_carry_to_server p taken = record {
+after_carry_to_server p taken = record p {
   client = client.with_core p.client (with_gone p.client.core taken.bytes);
   server = server.with_core p.server (with_arrived p.server.core (carried_bytes p.client.core taken) (carried_tokens p.client.core taken));
+  recording = p.recording ++ passed ToServer (carried_bytes p.client.core taken) taken.tokens;
 }
 
 abbrev pub after_carry_to_client : PairState → Taken → PairState
-after_carry_to_client p taken = record {
+after_carry_to_client p taken = record p {
   client = client.with_core p.client (with_arrived p.client.core (carried_bytes p.server.core taken) (carried_tokens p.server.core taken));
   server = server.with_core p.server (with_gone p.server.core taken.bytes);
+  recording = p.recording ++ passed ToClient (carried_bytes p.server.core taken) taken.tokens;
 }
+
+-- ---- an error
+
+-- the first error sets the mark, and no later one changes it
+abbrev pub marked : Option ℕ → ℕ → Option ℕ
+marked None count = Some count
+marked (Some first) count = Some first
+
+abbrev pub after_post : PairState → Object → ℕ → List ℕ → PairState
+after_post p object code text = record (with_server_core p (after_error p.server.core object code text)) { ended_at = marked p.ended_at (length p.recording) }
 
 -- ---- what a call answers and leaves
 
@@ -139,6 +162,11 @@ pub data Nexts {R : Type 0} (answer : Result (Option R) NextError) (what : Resul
   answered : Nexts answer what before after answer after
   no_memory : {report : R} → answer ≡ Ok (Some report) → has_arguments what ≡ true → Nexts answer what before after (Err errors.Memory) before
 
+-- A carry moves so much; or, only where something would move, there is no memory to record it, and nothing changes.
+pub data Carries (taken : Taken) (before after : PairState) : Carried → PairState → Type 0 where
+  moved : Carries taken before after (Moved (all_of taken)) after
+  no_memory : 0 < taken.bytes → Carries taken before after Memory before
+
 -- What both ends answer to a move, and leave.
 abbrev pub Does : PairState → Move → Reply → PairState → Type 0
 Does p (ClientSend target opcode given) (ClientSend reply) p' =
@@ -151,15 +179,15 @@ Does p (ServerSend target opcode given) (ServerSend reply) p' =
     p (with_server_core p (after_send p.server.core Event target opcode given)) reply p'
 Does p (ServerDrop object) (ServerDrop reply) p' = Calls (drop_refusal p.server.core object) p (with_server_core p (after_drop p.server.core object)) reply p'
 Does p (PostError object code text) (PostError reply) p' =
-    Calls (error_refusal p.server.core object text) p (with_server_core p (after_error p.server.core object code text)) reply p'
+    Calls (error_refusal p.server.core object text) p (after_post p object code text) reply p'
 Does p (AddGlobal iface version) (AddGlobal reply) p' =
     Adds (add_refusal p.server iface version) (next_name p.server) p (with_server p (with_global p.server iface version)) reply p'
 Does p (Withdraw name) (Withdraw reply) p' = Calls (withdraw_refusal p.server name) p (with_server p (after_withdraw p.server name)) reply p'
 Does p Announce (Announce reply) p' = Announces p reply p'
-Does p (CarryToServer most) (CarryToServer fed) p' =
-    (fed ≡ all_of (carries p.client.core p.server.core most)) × (p' ≡ after_carry_to_server p (carries p.client.core p.server.core most))
-Does p (CarryToClient most) (CarryToClient fed) p' =
-    (fed ≡ all_of (carries p.server.core p.client.core most)) × (p' ≡ after_carry_to_client p (carries p.server.core p.client.core most))
+Does p (CarryToServer most) (CarryToServer reply) p' =
+    Carries (carries p.client.core p.server.core most) p (after_carry_to_server p (carries p.client.core p.server.core most)) reply p'
+Does p (CarryToClient most) (CarryToClient reply) p' =
+    Carries (carries p.server.core p.client.core most) p (after_carry_to_client p (carries p.server.core p.client.core most)) reply p'
 Does p ClientNext (ClientNext reply) p' =
     Nexts (events.next_answer p.client) (found p.client.core Event) p (with_client p (events.after_next p.client)) reply p'
 Does p ServerNext (ServerNext reply) p' =

@@ -28,6 +28,7 @@ use Rattle.wl_server.specs.Announcing.{name_at}
 use Rattle.wl_world.specs.Meant.{Born, Known, Message, Coming, Event, Delete, Arg, renamed, recoming, born_of, birth_of, made_in, new_in, wire, spelled, spelled_coming, live_entry}
 use Rattle.wl_world.specs.World.{World, display_born, Row, Open, Ending, Marks, Each, IfThere}
 use Rattle.wl_world.specs.Pair.{PairState}
+use Rattle.wl_world.specs.Answers.{NotEnded}
 use Rattle.wl_world.specs.Flight.{Rows, client_rows, server_rows, all_asks, all_tells, Meets}
 
 -- ---- objects by id and by birth
@@ -200,4 +201,4 @@ pub record StandsBy (p : PairState) (w : World) (asked : List (Message Known)) (
 -- The pair stands for the world: an ended world stands with every pair.
 pub data Stands (p : PairState) (w : World) : Type 0 where
   ended : w.ended ≡ true → Stands p w
-  stands : (asked : List (Message Known)) (told : List (Coming Known)) → w.ended ≡ false → StandsBy p w asked told → Stands p w
+  stands : (asked : List (Message Known)) (told : List (Coming Known)) → NotEnded p w → StandsBy p w asked told → Stands p w

@@ -1,6 +1,5 @@
 use super::*;
 use refusing::RefusingAllocator;
-use std::alloc::Global;
 use std::io::{self, Error};
 use std::test::Fail;
 
@@ -24,120 +23,214 @@ impl Write for Failing {
     }
 }
 
-fn job(alloc: Global) -> Result<Job, Fail> {
+fn trace_job(alloc: Global) -> Result<Job, Fail> {
     Ok(Job::Trace {
         file: String::from_str(alloc, "session.rec")?,
     })
 }
 
-/// The recordings that are traced, with their traces.
-const TRACED: [(&[u8], &[u8]); 7] = [
+fn check_job(alloc: Global) -> Result<Job, Fail> {
+    Ok(Job::Check {
+        file: String::from_str(alloc, "session.rec")?,
+    })
+}
+
+/// Lawful sessions: the recording, its trace, and the line of its verdict.
+const LAWFUL: [(&[u8], &[u8], &[u8]); 9] = [
     (
-        b"> 0100000001000c0002000000\n",
+        b"> 0100000001000c0002000000",
         b"-> wl_display@1.get_registry(new id wl_registry@2)\n",
+        b"lawful: 1 requests, 0 events, 0 and 0 bytes left\n",
+    ),
+    // The same bytes to the client: a delete_id of an id that was never used.
+    (
+        b"< 0100000001000c0002000000",
+        b"<- wl_display@1.delete_id(2)\n",
+        b"lawful: 0 requests, 1 events, 0 and 0 bytes left\n",
     ),
     (
-        b"> 0100000000000c0002000000\n> 0100000001000c0003000000\n",
-        b"-> wl_display@1.sync(new id wl_callback@2)\n-> wl_display@1.get_registry(new id wl_registry@3)\n",
+        b"",
+        b"",
+        b"lawful: 0 requests, 0 events, 0 and 0 bytes left\n",
     ),
-    (b"", b""),
-    // Comments, empty lines, a carriage return before a line feed, no last line feed.
+    // Comments, empty lines, carriage returns, digits of upper case, no last line feed.
     (
-        b"# a comment\n\n\r\n> 0100000001000c0002000000\r\n\n# the end",
+        b"# a comment\n\n\r\n> 0100000001000C0002000000\r\n\n# the end",
         b"-> wl_display@1.get_registry(new id wl_registry@2)\n",
+        b"lawful: 1 requests, 0 events, 0 and 0 bytes left\n",
     ),
-    // Digits of upper case, and any id.
+    // One message in pieces, one of which brings nothing; and a part of one.
     (
-        b"> 0100000001000C00FFFFFFFF",
-        b"-> wl_display@1.get_registry(new id wl_registry@4294967295)\n",
-    ),
-    // One message in pieces, one of which brings nothing.
-    (
-        b"> 01000000\n> -\n> 01000c00020000\n> 00",
+        b"> 01000000\n> -\n> 01000c00020000\n> 000100\n",
         b"-> wl_display@1.get_registry(new id wl_registry@2)\n",
+        b"lawful: 1 requests, 0 events, 2 and 0 bytes left\n",
     ),
-    // The rest is no whole message.
+    // A callback, its event, and its id used again.
     (
-        b"> 0100000000000c0007000000010000",
-        b"-> wl_display@1.sync(new id wl_callback@7)\n",
+        b"> 0100000000000c0002000000\n< 0200000000000c00070000000100000001000c0002000000\n> 0100000000000c0002000000\n",
+        b"-> wl_display@1.sync(new id wl_callback@2)\n<- wl_callback@2.done(7)\n<- wl_display@1.delete_id(2)\n-> wl_display@1.sync(new id wl_callback@2)\n",
+        b"lawful: 2 requests, 2 events, 0 and 0 bytes left\n",
+    ),
+    // A token that comes before its message.
+    (
+        b"> 0100000001000c0002000000\n< 0200000000001c000100000007000000776c5f73686d000001000000\n> 02000000000020000100000007000000776c5f73686d00000100000003000000 +1\n> 03000000000010000400000000100000\n",
+        b"-> wl_display@1.get_registry(new id wl_registry@2)\n<- wl_registry@2.global(1, \"wl_shm\", 1)\n-> wl_registry@2.bind(1, \"wl_shm\", 1, new id wl_shm@3)\n-> wl_shm@3.create_pool(new id wl_shm_pool@4, fd 1, 4096)\n",
+        b"lawful: 3 requests, 1 events, 0 and 0 bytes left\n",
+    ),
+    // An error ends the session: what follows in either direction is left.
+    (
+        b"< 010000000000180000000000010000000100000000000000ffff\n> 00\n> 0900000000000800\n",
+        b"<- wl_display@1.error(nil, 1, \"\")\n",
+        b"lawful: 0 requests, 1 events, 9 and 2 bytes left\n",
+    ),
+    (
+        b"< 010000000000180007000000010000000400000061226200\n",
+        b"<- wl_display@1.error(unknown@7, 1, \"a\\x22b\")\n",
+        b"lawful: 0 requests, 1 events, 0 and 0 bytes left\n",
     ),
 ];
 
-/// The recordings that are not traced, with their statuses and what standard error says.
-const REFUSED: [(&[u8], u8, &[u8]); 10] = [
-    (b"# fine\n> 012\n", 3, b"waywire: line 2: bad line\n"),
-    (b"> 00\r", 3, b"waywire: line 1: bad line\n"),
-    // A bad line comes before what is not traced yet.
-    (b"< 00\n\n>00\n", 3, b"waywire: line 3: bad line\n"),
+/// Broken sessions: the recording, the lines before the verdict's end, and the line of its verdict.
+const BROKEN: [(&[u8], &[u8], &[u8]); 12] = [
     (
-        b"< 0100000001000c0002000000\n",
-        1,
-        b"waywire: not in this stage\n",
+        b"> 0100000001000c0003000000\n",
+        b"",
+        b"broken: > message 1 at byte 0: F6 bad new id, argument 0\n",
     ),
-    (b"> - +1\n", 1, b"waywire: not in this stage\n"),
-    // For another object.
+    // A size of 7, and behind a message one of 4100.
     (
-        b"> 0200000001000c0002000000\n",
-        1,
-        b"waywire: not in this stage\n",
+        b"> 0100000000000700\n",
+        b"",
+        b"broken: > message 1 at byte 0: F1 bad message size\n",
     ),
-    // No such request.
     (
-        b"> 0100000002000c0002000000\n",
-        1,
-        b"waywire: not in this stage\n",
+        b"> 0100000001000c0002000000\n> 0100000000000410\n",
+        b"-> wl_display@1.get_registry(new id wl_registry@2)\n",
+        b"broken: > message 2 at byte 12: F1 bad message size\n",
     ),
-    // Bytes left over, and bytes missing.
+    (
+        b"> 0900000000000800\n",
+        b"",
+        b"broken: > message 1 at byte 0: F2 unknown object\n",
+    ),
+    (
+        b"< 0900000000000800\n",
+        b"",
+        b"broken: < message 1 at byte 0: F2 unknown object\n",
+    ),
+    (
+        b"> 0100000002000800\n",
+        b"",
+        b"broken: > message 1 at byte 0: F3 unknown message\n",
+    ),
+    // A name whose length is one too small.
+    (
+        b"> 0100000001000c00020000000100000000000c0003000000\n> 0200000000002800010000000d000000776c5f636f6d706f7369746f720000000600000004000000\n",
+        b"-> wl_display@1.get_registry(new id wl_registry@2)\n-> wl_display@1.sync(new id wl_callback@3)\n",
+        b"broken: > message 3 at byte 24: F4 malformed argument 1 (A3)\n",
+    ),
+    (
+        b"> 0100000000000800\n",
+        b"",
+        b"broken: > message 1 at byte 0: F4 malformed argument 0 (A1)\n",
+    ),
+    // A compositor in place of a buffer.
+    (
+        b"> 0100000001000c0002000000\n< 0200000000002400010000000e000000776c5f636f6d706f7369746f7200000006000000\n> 0200000000002800010000000e000000776c5f636f6d706f7369746f7200000006000000030000000300000000000c00040000000400000001001400030000000000000000000000\n",
+        b"-> wl_display@1.get_registry(new id wl_registry@2)\n<- wl_registry@2.global(1, \"wl_compositor\", 6)\n-> wl_registry@2.bind(1, \"wl_compositor\", 6, new id wl_compositor@3)\n-> wl_compositor@3.create_surface(new id wl_surface@4)\n",
+        b"broken: > message 4 at byte 64: F5 bad object, argument 0\n",
+    ),
     (
         b"> 01000000010010000200000000000000\n",
-        1,
-        b"waywire: not in this stage\n",
+        b"",
+        b"broken: > message 1 at byte 0: F7 trailing bytes\n",
     ),
-    (b"> 0100000001000800\n", 1, b"waywire: not in this stage\n"),
-    // A bad size.
-    (b"> 0100000001000d00\n", 1, b"waywire: not in this stage\n"),
+    // A pool without its descriptor.
+    (
+        b"> 0100000001000c0002000000\n< 0200000000001c000100000007000000776c5f73686d000001000000\n> 02000000000020000100000007000000776c5f73686d00000100000003000000\n> 03000000000010000400000000100000\n",
+        b"-> wl_display@1.get_registry(new id wl_registry@2)\n<- wl_registry@2.global(1, \"wl_shm\", 1)\n-> wl_registry@2.bind(1, \"wl_shm\", 1, new id wl_shm@3)\n",
+        b"broken: > message 3 at byte 44: F8 missing descriptor\n",
+    ),
+    // A global of which no event told.
+    (
+        b"> 0100000001000c0002000000\n> 02000000000020000100000007000000776c5f73686d00000100000003000000\n",
+        b"-> wl_display@1.get_registry(new id wl_registry@2)\n",
+        b"broken: > message 2 at byte 12: F9 bad bind\n",
+    ),
 ];
 
+/// Texts that are no recordings, and what standard error says.
+const REFUSED: [(&[u8], &[u8]); 3] = [
+    (b"# fine\n> 012\n", b"waywire: line 2: bad line\n"),
+    (b"> 00\r", b"waywire: line 1: bad line\n"),
+    // A bad line comes before a broken rule.
+    (
+        b"> 0900000000000800\n\n>00\n",
+        b"waywire: line 3: bad line\n",
+    ),
+];
+
+/// Whether a job answers this status and writes this output, its last part behind the first, and
+/// nothing to standard error.
+fn prints(alloc: Global, job: &Job, text: &[u8], status: u8, first: &[u8], last: &[u8]) -> bool {
+    let mut file = text;
+    let mut out = Vec::new(alloc);
+    let mut err = Vec::new(alloc);
+    let answer = act(alloc, alloc, job, &mut file, &mut out, &mut err);
+    answer == status && out.strip_prefix(first) == Some(last) && err.is_empty()
+}
+
 #[test]
-fn traces_recordings(rt: HostRuntime) -> Result<(), Fail> {
-    let job = job(rt.alloc())?;
-    for (text, trace) in TRACED {
-        let mut file = text;
-        let mut out = Vec::new(rt.alloc());
-        let mut err = Vec::new(rt.alloc());
-        let status = act(rt.alloc(), &job, &mut file, &mut out, &mut err);
-        assert_eq!(rt; status, 0);
-        assert_eq!(rt; out.as_slice(), trace);
-        assert_eq!(rt; err.len(), 0);
+fn traces_and_checks_lawful_sessions(rt: HostRuntime) -> Result<(), Fail> {
+    let alloc = rt.alloc();
+    let (trace, check) = (trace_job(alloc)?, check_job(alloc)?);
+    for (text, lines, verdict) in LAWFUL {
+        assert!(rt; prints(alloc, &trace, text, 0, lines, b""));
+        assert!(rt; prints(alloc, &check, text, 0, b"", verdict));
     }
     Ok(())
 }
 
 #[test]
-fn refuses_recordings(rt: HostRuntime) -> Result<(), Fail> {
-    let job = job(rt.alloc())?;
-    for (text, wanted, said) in REFUSED {
-        let mut file = text;
-        let mut out = Vec::new(rt.alloc());
-        let mut err = Vec::new(rt.alloc());
-        let status = act(rt.alloc(), &job, &mut file, &mut out, &mut err);
-        assert_eq!(rt; status, wanted);
-        assert_eq!(rt; out.len(), 0);
-        assert_eq!(rt; err.as_slice(), said);
+fn traces_and_checks_broken_sessions(rt: HostRuntime) -> Result<(), Fail> {
+    let alloc = rt.alloc();
+    let (trace, check) = (trace_job(alloc)?, check_job(alloc)?);
+    for (text, lines, verdict) in BROKEN {
+        assert!(rt; prints(alloc, &trace, text, 1, lines, verdict));
+        assert!(rt; prints(alloc, &check, text, 1, b"", verdict));
+    }
+    Ok(())
+}
+
+#[test]
+fn refuses_other_texts(rt: HostRuntime) -> Result<(), Fail> {
+    let alloc = rt.alloc();
+    let jobs = [trace_job(alloc)?, check_job(alloc)?];
+    for (text, said) in REFUSED {
+        for job in &jobs {
+            let mut file = text;
+            let mut out = Vec::new(alloc);
+            let mut err = Vec::new(alloc);
+            let status = act(alloc, alloc, job, &mut file, &mut out, &mut err);
+            assert_eq!(rt; status, 3);
+            assert_eq!(rt; out.len(), 0);
+            assert_eq!(rt; err.as_slice(), said);
+        }
     }
     Ok(())
 }
 
 #[test]
 fn reads_no_longer_file(rt: HostRuntime) -> Result<(), Fail> {
-    let job = job(rt.alloc())?;
-    let mut out = Vec::new(rt.alloc());
-    let mut err = Vec::new(rt.alloc());
+    let alloc = rt.alloc();
+    let job = trace_job(alloc)?;
+    let mut out = Vec::new(alloc);
+    let mut err = Vec::new(alloc);
     let mut longest = io::repeat(b'#').take(16_777_216);
-    let status = act(rt.alloc(), &job, &mut longest, &mut out, &mut err);
+    let status = act(alloc, alloc, &job, &mut longest, &mut out, &mut err);
     assert_eq!(rt; status, 0);
     let mut endless = io::repeat(b'#');
-    let status = act(rt.alloc(), &job, &mut endless, &mut out, &mut err);
+    let status = act(alloc, alloc, &job, &mut endless, &mut out, &mut err);
     assert_eq!(rt; status, 3);
     assert_eq!(rt; out.len(), 0);
     assert_eq!(rt; err.as_slice(), b"waywire: file too long\n".as_slice());
@@ -146,10 +239,11 @@ fn reads_no_longer_file(rt: HostRuntime) -> Result<(), Fail> {
 
 #[test]
 fn says_which_stream_failed(rt: HostRuntime) -> Result<(), Fail> {
-    let job = job(rt.alloc())?;
-    let mut out = Vec::new(rt.alloc());
-    let mut err = Vec::new(rt.alloc());
-    let status = act(rt.alloc(), &job, &mut Failing, &mut out, &mut err);
+    let alloc = rt.alloc();
+    let job = check_job(alloc)?;
+    let mut out = Vec::new(alloc);
+    let mut err = Vec::new(alloc);
+    let status = act(alloc, alloc, &job, &mut Failing, &mut out, &mut err);
     assert_eq!(rt; status, 3);
     assert_eq!(rt; out.len(), 0);
     assert_eq!(rt;
@@ -157,34 +251,35 @@ fn says_which_stream_failed(rt: HostRuntime) -> Result<(), Fail> {
         b"waywire: cannot read session.rec\n".as_slice()
     );
 
-    let mut file = TRACED[0].0;
-    let mut err = Vec::new(rt.alloc());
-    let status = act(rt.alloc(), &job, &mut file, &mut Failing, &mut err);
+    let mut file = LAWFUL[0].0;
+    let mut err = Vec::new(alloc);
+    let status = act(alloc, alloc, &job, &mut file, &mut Failing, &mut err);
     assert_eq!(rt; status, 3);
     assert_eq!(rt; err.as_slice(), b"waywire: cannot write\n".as_slice());
 
     // A standard error that fails changes no status.
     let mut file = REFUSED[0].0;
-    let status = act(rt.alloc(), &job, &mut file, &mut out, &mut Failing);
+    let status = act(alloc, alloc, &job, &mut file, &mut out, &mut Failing);
     assert_eq!(rt; status, 3);
     Ok(())
 }
 
 #[test]
 fn is_refused_each_of_its_allocations_in_turn(rt: HostRuntime) -> Result<(), Fail> {
-    let job = job(rt.alloc())?;
-    let (text, trace) = TRACED[0];
-    let memory = RefusingAllocator::new(rt.alloc())?;
+    let alloc = rt.alloc();
+    let job = trace_job(alloc)?;
+    let (text, lines, verdict) = BROKEN[10];
+    let memory = RefusingAllocator::new(alloc)?;
     let mut is_granted = false;
     for number in 0u64..2000 {
         let mut file = text;
-        let mut out = Vec::new(rt.alloc());
-        let mut err = Vec::new(rt.alloc());
+        let mut out = Vec::new(alloc);
+        let mut err = Vec::new(alloc);
         memory.refuse_nth(number);
-        let status = act(memory.clone()?, &job, &mut file, &mut out, &mut err);
+        let status = act(memory.clone()?, alloc, &job, &mut file, &mut out, &mut err);
         if !memory.has_refused() {
-            assert_eq!(rt; status, 0);
-            assert_eq!(rt; out.as_slice(), trace);
+            assert_eq!(rt; status, 1);
+            assert_eq!(rt; out.strip_prefix(lines), Some(verdict));
             is_granted = true;
             break;
         }

@@ -10,6 +10,7 @@ invariant_of-self g c = record {
   store = c.self.invariant.store;
   display = subst HasDisplay (sym c.make_zombie.ensures) (HasDisplay-zombied (g.T.Table.view c.self.inside.table) c.args.id (c.requires.other c.in-Request-Target.is-1) c.self.invariant.display);
   no_error = c.self.invariant.no_error;
+  whole = c.self.invariant.whole;
 }
 
 pub invariant_of-self-in-Event-Target : goal.invariant_of-self-in-Event-Target
@@ -17,6 +18,7 @@ invariant_of-self-in-Event-Target g c = record {
   store = c.self-in-Event-Target.invariant.store;
   display = subst HasDisplay (sym c.close.ensures) (HasDisplay-closed (g.T.Table.view c.self-in-Event-Target.inside.table) c.args.id (c.requires.other c.in-Event-Target.is-1) c.self-in-Event-Target.invariant.display);
   no_error = c.self-in-Event-Target.invariant.no_error;
+  whole = c.self-in-Event-Target.invariant.whole;
 }
 
 pub returns-in-Event-Target : goal.returns-in-Event-Target

@@ -10,4 +10,5 @@ invariant_of-self g c = record {
   display = HasDisplay-opening_next c.open_next.result (g.T.Table.view c.self.inside.table) (g.T.Table.view c.open_next.new.self) c.in-Some.iface c.args.version
       (subst (λ (core : Core). Sound core.view) (sym c.self.view_is) c.requires) c.self.invariant.display c.open_next.ensures.ok c.open_next.ensures.err;
   no_error = c.self.invariant.no_error;
+  whole = c.self.invariant.whole;
 }

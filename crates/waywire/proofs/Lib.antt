@@ -1,4 +1,0 @@
-pub mod Cutting
-pub mod Telling
-pub mod Asking
-pub mod OneAnswer

@@ -1,0 +1,146 @@
+-- A piece brings the last byte of each message that it completes; and the messages are those that the sizes alone cut off.
+use Rattle.std.proofs.Common.{◌≡◌, ℕ, zero, suc, ◌+◌, ◌*◌, ◌<◌, ◌≤◌, Bool, true, false, cond, List, [], ◌∷◌, ◌++◌, length, drop, take, map, refl, sym, ap, ◌∙◌, arith, subst, length-append}
+use Rattle.std.proofs.lemmas.List.{length-drop, get_or_append_left, drop-append-le, drop-drop}
+use Rattle.wl_message.specs.Cut.{usual_limit, is_size, told_size, front, Front, More, Bad, Whole, cut_within, messages_of}
+use Rattle.wl_message.proofs.Fronts.{Seen, short, long, whole, bad, seen, front_stands, is_size-true}
+use Rattle.wl_message.proofs.Cuts.{front_spoiled}
+use Rattle.wl_check.specs.Merged.{Mark, mark, cutting, cut_at, cut, finish}
+use Rattle.wl_check.specs.Text.{part_of, sound, Brings}
+use Rattle.wl_check.proofs.Cutting.{step, new_marks, next_within, front_past, place_within}
+
+told_append : (xs ys : List ℕ) → 8 ≤ length xs → told_size (xs ++ ys) ≡ told_size xs
+told_append xs ys h =
+    let p = get_or_append_left xs ys 0 6 (omega arith) in
+    let q = get_or_append_left xs ys 0 7 (omega arith) in
+    λ i. p i + 256 * q i
+
+-- ---- where a message ends
+
+finish_bad : (p z : ℕ) → is_size usual_limit z ≡ false → finish (mark p z) ≡ p + 8
+finish_bad p z e = rw e refl
+
+finish_good : (p z : ℕ) → is_size usual_limit z ≡ true → finish (mark p z) ≡ p + z
+finish_good p z e = rw e refl
+
+whole_size : (s : List ℕ) (p z : ℕ) → front usual_limit (drop p s) ≡ Whole z → is_size usual_limit z ≡ true
+whole_size s p z e = is_size-true usual_limit z (front_stands usual_limit (drop p s) z e).size
+
+within_step : (n b : ℕ) (w : List ℕ) (p : ℕ) (f : Front) → front usual_limit (drop p w) ≡ f → p ≤ length w → b ≤ p → ((z : ℕ) → p + z ≤ length w → Brings b (length w) (cutting n w (p + z)).marks)
+    → Brings b (length w) (cut_at p f (cutting n w)).marks
+within_step n b w p More e within after ih = tt
+within_step n b w p (Bad z) e within after ih =
+    let x = front_spoiled usual_limit (drop p w) z e in
+    let f = finish_bad p z x.none in
+    let h = x.header in
+    ((omega (arith, f, after), omega (arith, f, h, length-drop p w, within)), tt)
+within_step n b w p (Whole z) e within after ih =
+    let x = next_within w p z e within in
+    let f = finish_good p z (whole_size w p z e) in
+    let big = x.0 in
+    let there = x.1 in
+    ((omega (arith, f, big, after), omega (arith, f, there)), ih z there)
+
+within : (n b : ℕ) (w : List ℕ) (p : ℕ) → p ≤ length w → b ≤ p → Brings b (length w) (cutting n w p).marks
+unfolding cutting
+within zero b w p there after = tt
+within (suc n) b w p there after = within_step n b w p (front usual_limit (drop p w)) refl there after (λ z h. within n b w (p + z) h (omega arith))
+
+-- ---- why a cutting stops
+
+why_step : (n : ℕ) (s : List ℕ) (p : ℕ) (f : Front) → front usual_limit (drop p s) ≡ f → p ≤ length s
+    → ((z : ℕ) → 8 ≤ z → p + z ≤ length s → (cutting n s (p + z)).is_bad ≡ false → front usual_limit (drop (cutting n s (p + z)).place s) ≡ More)
+    → (cut_at p f (cutting n s)).is_bad ≡ false → front usual_limit (drop (cut_at p f (cutting n s)).place s) ≡ More
+why_step n s p More e within ih fine = e
+why_step n s p (Bad z) e within ih fine = absurd (cc)
+why_step n s p (Whole z) e within ih fine = let x = next_within s p z e within in ih z x.0 x.1 fine
+
+why : (n : ℕ) (s : List ℕ) (p : ℕ) → p ≤ length s → length s ≤ p + n → (cutting n s p).is_bad ≡ false → front usual_limit (drop (cutting n s p).place s) ≡ More
+unfolding cutting
+why zero s p within enough fine = front_past s p (omega arith)
+why (suc n) s p within enough fine = why_step n s p (front usual_limit (drop p s)) refl within (λ z big there. why n s (p + z) there (omega arith)) fine
+
+-- ---- what comes with a piece
+
+-- where more bytes were needed, what stands in front with more of them is longer than what was there
+longer_by : (x y : List ℕ) (f : Front) → Seen usual_limit x f → f ≡ More → (z : ℕ) → front usual_limit (x ++ y) ≡ Whole z → length x < z
+longer_by x y f (short h) e z w = let s = front_stands usual_limit (x ++ y) z w in let big = s.size.header in omega (arith, big, h)
+longer_by x y f (long h size l) e z w = let s = front_stands usual_limit (x ++ y) z w in let t = s.told ∙ told_append x y h in omega (arith, t, l)
+longer_by x y f (whole size l) e z w = absurd (cc)
+longer_by x y f (bad h none) e z w = absurd (cc)
+
+spoiled_by : (x y : List ℕ) (f : Front) → Seen usual_limit x f → f ≡ More → (z : ℕ) → front usual_limit (x ++ y) ≡ Bad z → length x < 8
+spoiled_by x y f (short h) e z w = h
+spoiled_by x y f (long h size l) e z w =
+    let s = front_spoiled usual_limit (x ++ y) z w in
+    let t : z ≡ told_size x = s.told ∙ told_append x y h in
+    let yes : is_size usual_limit z ≡ true = subst (λ (n : ℕ). is_size usual_limit n ≡ true) (sym t) (is_size-true usual_limit (told_size x) size) in
+    absurd (let no = s.none in cc)
+spoiled_by x y f (whole size l) e z w = absurd (cc)
+spoiled_by x y f (bad h none) e z w = absurd (cc)
+
+fresh_step : (s t : List ℕ) (p : ℕ) (f : Front) → p ≤ length s → front usual_limit (drop p s) ≡ More → drop p (s ++ t) ≡ drop p s ++ t → front usual_limit (drop p (s ++ t)) ≡ f
+    → Brings (length s) (length (s ++ t)) (cut_at p f (cutting (length (s ++ t)) (s ++ t))).marks
+fresh_step s t p More there more apart e = tt
+fresh_step s t p (Bad z) there more apart e =
+    let less = spoiled_by (drop p s) t (front usual_limit (drop p s)) (seen usual_limit (drop p s)) more z (sym (ap (front usual_limit) apart) ∙ e) in
+    let x = front_spoiled usual_limit (drop p (s ++ t)) z e in
+    let f = finish_bad p z x.none in
+    let h = x.header in
+    ((omega (arith, f, less, length-drop p s, there), omega (arith, f, h, length-drop p (s ++ t), length-append s t, there)), tt)
+fresh_step s t p (Whole z) there more apart e =
+    let less = longer_by (drop p s) t (front usual_limit (drop p s)) (seen usual_limit (drop p s)) more z (sym (ap (front usual_limit) apart) ∙ e) in
+    let x = next_within (s ++ t) p z e (omega (arith, there, length-append s t)) in
+    let f = finish_good p z (whole_size (s ++ t) p z e) in
+    let in_all = x.1 in
+    ((omega (arith, f, less, length-drop p s, there), omega (arith, f, in_all)), within (length (s ++ t)) (length s) (s ++ t) (p + z) in_all (omega (arith, less, length-drop p s, there)))
+
+brings_step : (s t : List ℕ) (b : Bool) → (cut s).is_bad ≡ b → Brings (length s) (length (s ++ t)) (cond b [] (cutting (length (s ++ t)) (s ++ t) (cut s).place).marks)
+brings_step s t true is = tt
+brings_step s t false is =
+    let p = (cut s).place in
+    let there : p ≤ length s = place_within (length s) s 0 (omega arith) in
+    rw (step (length (s ++ t)) (s ++ t) p (omega (arith, there, length-append s t)) (omega arith)) (fresh_step s t p (front usual_limit (drop p (s ++ t))) there (why (length s) s 0 (omega arith) (omega arith) is) (drop-append-le p s t there) refl)
+
+pub piece_brings : (s t : List ℕ) → Brings (length s) (length (s ++ t)) (drop (length (cut s).marks) (cut (s ++ t)).marks)
+piece_brings s t = rw (new_marks s t) (brings_step s t (cut s).is_bad refl)
+
+-- ---- the messages by their sizes
+
+abbrev parts : List ℕ → List Mark → List (List ℕ)
+parts s ms = map (part_of s) (sound ms)
+
+sound_bad : (p z : ℕ) (ms : List Mark) → is_size usual_limit z ≡ false → sound (mark p z ∷ ms) ≡ sound ms
+sound_bad p z ms e = rw e refl
+
+sound_good : (p z : ℕ) (ms : List Mark) → is_size usual_limit z ≡ true → sound (mark p z ∷ ms) ≡ mark p z ∷ sound ms
+sound_good p z ms e = rw e refl
+
+within_more : (count : ℕ) (bytes : List ℕ) → front usual_limit bytes ≡ More → (cut_within (suc count) usual_limit bytes).messages ≡ []
+unfolding cut_within
+within_more count bytes e = rw (e, cut_within) refl
+
+within_bad : (count z : ℕ) (bytes : List ℕ) → front usual_limit bytes ≡ Bad z → (cut_within (suc count) usual_limit bytes).messages ≡ []
+unfolding cut_within
+within_bad count z bytes e = rw (e, cut_within) refl
+
+within_whole : (count z : ℕ) (bytes : List ℕ) → front usual_limit bytes ≡ Whole z → (cut_within (suc count) usual_limit bytes).messages ≡ take z bytes ∷ (cut_within count usual_limit (drop z bytes)).messages
+unfolding cut_within
+within_whole count z bytes e = rw (e, cut_within) refl
+
+parts_step : (n : ℕ) (s : List ℕ) (p : ℕ) (f : Front) → front usual_limit (drop p s) ≡ f → ((z : ℕ) → parts s (cutting n s (p + z)).marks ≡ (cut_within n usual_limit (drop (p + z) s)).messages)
+    → parts s (cut_at p f (cutting n s)).marks ≡ (cut_within (suc n) usual_limit (drop p s)).messages
+parts_step n s p More e ih = sym (within_more n (drop p s) e)
+parts_step n s p (Bad z) e ih = ap (map (part_of s)) (sound_bad p z [] (front_spoiled usual_limit (drop p s) z e).none) ∙ sym (within_bad n z (drop p s) e)
+parts_step n s p (Whole z) e ih =
+    let d : drop z (drop p s) ≡ drop (p + z) s = drop-drop z p s in
+    let first = take z (drop p s) in
+    ap (map (part_of s)) (sound_good p z (cutting n s (p + z)).marks (whole_size s p z e)) ∙ ap (λ (l : List (List ℕ)). first ∷ l) (ih z)
+    ∙ ap (λ (b : List ℕ). first ∷ (cut_within n usual_limit b).messages) (sym d) ∙ sym (within_whole n z (drop p s) e)
+
+parts_are : (n : ℕ) (s : List ℕ) (p : ℕ) → parts s (cutting n s p).marks ≡ (cut_within n usual_limit (drop p s)).messages
+unfolding cutting cut_within
+parts_are zero s p = refl
+parts_are (suc n) s p = parts_step n s p (front usual_limit (drop p s)) refl (λ z. parts_are n s (p + z))
+
+pub cut_messages : (s : List ℕ) → parts s (cut s).marks ≡ messages_of usual_limit s
+cut_messages s = parts_are (length s) s 0

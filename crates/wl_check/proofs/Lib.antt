@@ -1,0 +1,11 @@
+pub mod Cutting
+pub mod Merging
+pub mod Verdicts
+pub mod Stepping
+pub mod Reading
+pub mod Examined
+pub mod Within
+pub mod Lines
+pub mod Holding
+pub mod Fresh
+pub mod Bringing

@@ -1,0 +1,72 @@
+-- The lines of a trace.
+use Rattle.std.proofs.Common.{◌≡◌, ℕ, zero, suc, ◌+◌, ◌^◌, ◌<◌, true, cond, Some, List, [], ◌∷◌, ◌++◌, slice_get, length, refl, sym, ap, ◌∙◌, arith, subst, add-one}
+use Rattle.std.specs.Prelude.{Option}
+use Rattle.std.specs.declared.result.Result.TheVariants.{Ok, Err}
+use Rattle.wl_sigs.specs.Tables.{Interface}
+use Rattle.wl_objects.specs.declared.error.Fault.{Fault}
+use Rattle.wl_recording.specs.declared.piece.Direction.{Direction}
+use Rattle.wl_recording.specs.declared.piece.Direction.TheVariants.{ToServer, ToClient}
+use Rattle.wl_check.specs.declared.progress.Progress.{Progress}
+use Rattle.wl_check.specs.Deeds.{Call}
+use Rattle.wl_check.specs.Places.{Known, known}
+use Rattle.wl_check.specs.Session.{Session, Judged, messages, deeds, ends_session}
+use Rattle.wl_check.specs.Trace.{call_line, judged_line, lines_within, lasting, trace_of}
+use Rattle.wl_check.specs.Seen.{known_in, taken_in}
+use Rattle.wl_check.proofs.Examined.{ArePassed, IsAt, behind, first_call}
+use Rattle.wl_check.proofs.Reading.{length_messages}
+
+-- ---- how many messages last
+
+first_last : (x : Judged) (call : Call) (xs : List Judged) → x ≡ Ok call → lasting (x ∷ xs) ≡ cond (ends_session (Ok call)) 1 (suc (lasting xs))
+first_last x call xs e = ap (λ (y : Judged). lasting (y ∷ xs)) e
+
+on : (x : Judged) (xs : List Judged) (k : ℕ) → ArePassed (x ∷ xs) (suc k) → lasting (x ∷ xs) ≡ suc (lasting xs)
+on x xs k a = let p = a 0 (omega arith) in first_last x p.call xs (first_call x xs p) ∙ rw p.goes_on refl
+
+lasting_all : (ms : List Judged) → ArePassed ms (length ms) → lasting ms ≡ length ms
+lasting_all [] a = refl
+lasting_all (x ∷ xs) a = on x xs (length xs) a ∙ ap suc (lasting_all xs (behind x xs (length xs) a))
+
+lasting_end : (ms : List Judged) (k : ℕ) (call : Call) → slice_get ms k ≡ Some (Ok call) → ends_session (Ok call) ≡ true → ArePassed ms k → lasting ms ≡ suc k
+lasting_end [] k call e ends a = absurd (cc)
+lasting_end (x ∷ xs) zero call e ends a = let is : x ≡ Ok call = cc in first_last x call xs is ∙ rw ends refl
+lasting_end (x ∷ xs) (suc k) call e ends a = on x xs k a ∙ ap suc (lasting_end xs k call e ends (behind x xs k a))
+
+lasting_broken : (ms : List Judged) (k : ℕ) (fault : Fault) → slice_get ms k ≡ Some (Err fault) → ArePassed ms k → lasting ms ≡ k
+lasting_broken [] k fault e a = absurd (cc)
+lasting_broken (x ∷ xs) zero fault e a = let is : x ≡ Err fault = cc in ap (λ (y : Judged). lasting (y ∷ xs)) is
+lasting_broken (x ∷ xs) (suc k) fault e a = on x xs k a ∙ ap suc (lasting_broken xs k fault e (behind x xs k a))
+
+-- ---- the lines
+
+-- one line more
+pub lines_more : {A : Type 0} (tables : List Interface) (s : Session) (k : ℕ) (call : Call) (p : Progress A) (old new : List ℕ) → slice_get (messages tables s) k ≡ Some (Ok call) → IsAt tables s k p → old ≡ lines_within tables s k
+    → new ≡ old ++ call_line tables (known_in p.known) call → new ≡ lines_within tables s (k + 1)
+unfolding lines_within
+lines_more tables s k call p old new m at old_is new_is =
+    let one : k + 1 ≡ suc k = add-one k in
+    let w : known (deeds tables (messages tables s)) (suc k) ≡ known_in p.known = sym at.known_is in
+    let l : judged_line tables (known (deeds tables (messages tables s)) (suc k)) (slice_get (messages tables s) k) ≡ call_line tables (known_in p.known) call =
+    ap (λ (o : Option Judged). judged_line tables (known (deeds tables (messages tables s)) (suc k)) o) m ∙ ap (λ (x : Known). call_line tables x call) w in
+    new_is ∙ ap (λ (x : List ℕ). x ++ call_line tables (known_in p.known) call) old_is ∙ ap (λ (x : List ℕ). lines_within tables s k ++ x) (sym l) ∙ ap (λ (n : ℕ). lines_within tables s n) (sym one)
+
+pub trace_all : (tables : List Interface) (s : Session) (k : ℕ) (text : List ℕ) → length s.frames ≡ k → ArePassed (messages tables s) k → text ≡ lines_within tables s k → text ≡ trace_of tables s
+trace_all tables s k text e a t =
+    let l : length (messages tables s) ≡ k = length_messages tables s ∙ e in
+    let all : ArePassed (messages tables s) (length (messages tables s)) = subst (λ (n : ℕ). ArePassed (messages tables s) n) (sym l) a in
+    t ∙ ap (λ (n : ℕ). lines_within tables s n) (sym (lasting_all (messages tables s) all ∙ l))
+
+pub trace_end : (tables : List Interface) (s : Session) (k : ℕ) (call : Call) (text : List ℕ) → slice_get (messages tables s) k ≡ Some (Ok call) → ends_session (Ok call) ≡ true → ArePassed (messages tables s) k
+    → text ≡ lines_within tables s (k + 1) → text ≡ trace_of tables s
+trace_end tables s k call text e ends a t =
+    let one : k + 1 ≡ suc k = add-one k in
+    t ∙ ap (λ (n : ℕ). lines_within tables s n) (one ∙ sym (lasting_end (messages tables s) k call e ends a))
+
+pub trace_broken : (tables : List Interface) (s : Session) (k : ℕ) (fault : Fault) (text : List ℕ) → slice_get (messages tables s) k ≡ Some (Err fault) → ArePassed (messages tables s) k
+    → text ≡ lines_within tables s k → text ≡ trace_of tables s
+trace_broken tables s k fault text e a t = t ∙ ap (λ (n : ℕ). lines_within tables s n) (sym (lasting_broken (messages tables s) k fault e a))
+
+-- the count of tokens is small
+pub few_taken : {A : Type 0} (tables : List Interface) (s : Session) (k : ℕ) (p : Progress A) (d : Direction) → k < 2 ^ 63 → IsAt tables s k p → taken_in p.known d < 2 ^ 127
+few_taken tables s k p ToServer h at = let t = at.taken_to_server in omega (arith, t, h)
+few_taken tables s k p ToClient h at = let t = at.taken_to_client in omega (arith, t, h)

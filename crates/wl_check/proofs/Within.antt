@@ -1,0 +1,84 @@
+-- Each message lies within its stream.
+use Rattle.std.proofs.Common.{◌≡◌, ℕ, zero, suc, ◌+◌, ◌≤◌, true, cond, Some, None, List, [], ◌∷◌, ◌++◌, slice_get, length, take, drop, map, refl, ap, arith, subst, length-append}
+use Rattle.std.specs.Prelude.{Option}
+use Rattle.std.specs.List.{AllByRecursion}
+use Rattle.std.proofs.lemmas.List.{length-drop}
+use Rattle.wl_recording.specs.declared.piece.Direction.{Direction}
+use Rattle.wl_recording.specs.declared.piece.Direction.TheVariants.{ToServer, ToClient}
+use Rattle.wl_recording.specs.Piece.{Piece}
+use Rattle.wl_message.specs.Cut.{usual_limit, is_size, front, Front, More, Bad, Whole}
+use Rattle.wl_message.proofs.Cuts.{front_spoiled}
+use Rattle.wl_check.specs.declared.frames.Frame.{Frame}
+use Rattle.wl_check.specs.Merged.{Mark, cutting, cut_at, cut, same_direction, stream_of, tokens_of, framed, completed_at, merged_within, merged}
+use Rattle.wl_check.specs.Session.{session_of, IsWithin, AreWithin}
+use Rattle.wl_check.proofs.Cutting.{next_within}
+
+abbrev FitsIn : ℕ → Mark → Type 0
+FitsIn n m = (m.start + 8 ≤ n) × (is_size usual_limit m.size ≡ true → m.start + m.size ≤ n)
+
+marks_step : (n : ℕ) (s : List ℕ) (p : ℕ) (f : Front) → front usual_limit (drop p s) ≡ f → p ≤ length s
+    → ((z : ℕ) → p + z ≤ length s → AllByRecursion (FitsIn (length s)) (cutting n s (p + z)).marks) → AllByRecursion (FitsIn (length s)) (cut_at p f (cutting n s)).marks
+marks_step n s p More e within ih = tt
+marks_step n s p (Bad z) e within ih =
+    let b = front_spoiled usual_limit (drop p s) z e in
+    ((omega (arith, b.header, length-drop p s), λ good. absurd (let none = b.none in cc)), tt)
+marks_step n s p (Whole z) e within ih = let w = next_within s p z e within in ((omega (arith, w.0, w.1), λ good. w.1), ih z w.1)
+
+marks_within : (n : ℕ) (s : List ℕ) (p : ℕ) → p ≤ length s → AllByRecursion (FitsIn (length s)) (cutting n s p).marks
+unfolding cutting
+marks_within zero s p within = tt
+marks_within (suc n) s p within = marks_step n s p (front usual_limit (drop p s)) refl within (λ z there. marks_within n s (p + z) there)
+
+all_drop : {X : Type 0} (P : X → Type 0) (n : ℕ) (xs : List X) → AllByRecursion P xs → AllByRecursion P (drop n xs)
+all_drop P zero xs a = a
+all_drop P (suc n) [] a = tt
+all_drop P (suc n) (x ∷ xs) a = all_drop P n xs a.1
+
+all_append : {X : Type 0} (P : X → Type 0) (xs ys : List X) → AllByRecursion P xs → AllByRecursion P ys → AllByRecursion P (xs ++ ys)
+all_append P [] ys a b = b
+all_append P (x ∷ xs) ys a b = (a.0, all_append P xs ys a.1 b)
+
+all_get : {X : Type 0} (P : X → Type 0) (xs : List X) (k : ℕ) (x : X) → AllByRecursion P xs → slice_get xs k ≡ Some x → P x
+all_get P [] k x a e = absurd (cc)
+all_get P (y ∷ ys) zero x a e = let same : y ≡ x = cc in subst P same a.0
+all_get P (y ∷ ys) (suc k) x a e = all_get P ys k x a.1 e
+
+-- a stream grows
+stream_le : (d : Direction) (ps : List Piece) (k : ℕ) (p : Piece) → slice_get ps k ≡ Some p → same_direction p.direction d ≡ true → length (stream_of d (take k ps) ++ p.bytes) ≤ length (stream_of d ps)
+stream_le d [] k p e same = absurd (cc)
+stream_le d (x ∷ xs) zero p e same =
+    let is : x ≡ p = cc in
+    let own : cond (same_direction x.direction d) x.bytes [] ≡ p.bytes = rw (is, same) refl in
+    let l = ap (λ (b : List ℕ). length b) own in
+    omega (arith, l, length-append (cond (same_direction x.direction d) x.bytes []) (stream_of d xs))
+stream_le d (x ∷ xs) (suc k) p e same =
+    let own = cond (same_direction x.direction d) x.bytes [] in
+    let i = stream_le d xs k p e same in
+    omega (arith, i, length-append own (stream_of d xs), length-append (own ++ stream_of d (take k xs)) p.bytes, length-append own (stream_of d (take k xs)), length-append (stream_of d (take k xs)) p.bytes)
+
+abbrev LiesIn : List Piece → Frame → Type 0
+LiesIn ps f = IsWithin (length (stream_of f.direction ps)) f
+
+frames_step : (ps : List Piece) (d : Direction) (t n : ℕ) (ms : List Mark) → n ≤ length (stream_of d ps) → AllByRecursion (FitsIn n) ms → AllByRecursion (LiesIn ps) (map (framed d t) ms)
+frames_step ps d t n [] h a = tt
+frames_step ps d t n (m ∷ ms) h a = (record { header = (let b = a.0.0 in omega (arith, b, h)); whole = λ good. (let b = a.0.1 good in omega (arith, b, h)) }, frames_step ps d t n ms h a.1)
+
+same_itself : (d : Direction) → same_direction d d ≡ true
+same_itself ToServer = refl
+same_itself ToClient = refl
+
+completed_within : (ps : List Piece) (k : ℕ) (o : Option Piece) → slice_get ps k ≡ o → AllByRecursion (LiesIn ps) (completed_at ps k o)
+completed_within ps k None e = tt
+completed_within ps k (Some p) e =
+    let s = stream_of p.direction (take k ps) in
+    frames_step ps p.direction (tokens_of p.direction (take k ps) + p.tokens) (length (s ++ p.bytes)) (drop (length (cut s).marks) (cut (s ++ p.bytes)).marks)
+    (stream_le p.direction ps k p e (same_itself p.direction))
+    (all_drop (FitsIn (length (s ++ p.bytes))) (length (cut s).marks) (cut (s ++ p.bytes)).marks (marks_within (length (s ++ p.bytes)) (s ++ p.bytes) 0 (omega arith)))
+
+merged_lies : (ps : List Piece) (k : ℕ) → AllByRecursion (LiesIn ps) (merged_within ps k)
+unfolding merged_within
+merged_lies ps zero = tt
+merged_lies ps (suc k) = all_append (LiesIn ps) (merged_within ps k) (completed_at ps k (slice_get ps k)) (merged_lies ps k) (completed_within ps k (slice_get ps k) refl)
+
+pub all_within : (ps : List Piece) → AreWithin (session_of ps)
+all_within ps = λ k f e. all_get (LiesIn ps) (merged ps) k f (merged_lies ps (length ps)) e

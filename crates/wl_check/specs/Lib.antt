@@ -1,0 +1,8 @@
+pub mod Merged
+pub mod Deeds
+pub mod Places
+pub mod Rules
+pub mod Session
+pub mod Seen
+pub mod Trace
+pub mod Text

@@ -1,0 +1,89 @@
+-- The messages of both directions, in the order in which a recording's pieces complete them.
+use Rattle.std.specs.Prelude.{ℕ, zero, suc, ◌+◌, Bool, true, false, List, [], ◌∷◌, ◌++◌, map, length, drop, take, slice_get, if◌then◌else◌, Option, Some, None}
+use Rattle.wl_recording.specs.declared.piece.Direction.{Direction}
+use Rattle.wl_recording.specs.declared.piece.Direction.TheVariants.{ToServer, ToClient}
+use Rattle.wl_recording.specs.Piece.{Piece}
+use Rattle.wl_message.specs.Cut.{usual_limit, is_size, front, Front, More, Bad, Whole}
+use Rattle.wl_check.specs.declared.frames.Frame.{Frame}
+
+-- where a message begins in its direction, and the size that its header tells
+pub record Mark : Type 0 where
+  pub start : ℕ
+  pub size : ℕ
+
+abbrev pub mark : ℕ → ℕ → Mark
+mark start size = record { start = start; size = size }
+
+-- the messages of a stream from a place on, the place where the cutting stops, and whether a bad size stands there
+pub record Cutting : Type 0 where
+  pub marks : List Mark
+  pub place : ℕ
+  pub is_bad : Bool
+
+abbrev pub stopped : ℕ → Cutting
+stopped place = record { marks = []; place = place; is_bad = false }
+
+abbrev pub bad_at : ℕ → ℕ → Cutting
+bad_at place size = record { marks = mark place size ∷ []; place = place; is_bad = true }
+
+abbrev pub then_cut : Mark → Cutting → Cutting
+then_cut m others = record { marks = m ∷ others.marks; place = others.place; is_bad = others.is_bad }
+
+-- what stands at a place, and then the others
+abbrev pub cut_at : ℕ → Front → (ℕ → Cutting) → Cutting
+cut_at place More others = stopped place
+cut_at place (Bad size) others = bad_at place size
+cut_at place (Whole size) others = then_cut (mark place size) (others (place + size))
+
+-- at most so many messages of a stream, from a place on
+unfoldable pub cutting : ℕ → List ℕ → ℕ → Cutting
+cutting zero stream place = stopped place
+cutting (suc count) stream place = cut_at place (front usual_limit (drop place stream)) (cutting count stream)
+
+-- The messages of a stream: they are cut off by the sizes in their headers, each as soon as it is whole. A message of a bad
+-- size stands there as soon as its header does, and is the last.
+abbrev pub cut : List ℕ → Cutting
+cut stream = cutting (length stream) stream 0
+
+abbrev pub same_direction : Direction → Direction → Bool
+same_direction ToServer ToServer = true
+same_direction ToClient ToClient = true
+same_direction _ _ = false
+
+-- the bytes that pieces bring in one direction
+abbrev pub stream_of : Direction → List Piece → List ℕ
+stream_of direction [] = []
+stream_of direction (piece ∷ pieces) = (if same_direction piece.direction direction then piece.bytes else []) ++ stream_of direction pieces
+
+-- how many tokens they bring in that direction
+abbrev pub tokens_of : Direction → List Piece → ℕ
+tokens_of direction [] = 0
+tokens_of direction (piece ∷ pieces) = (if same_direction piece.direction direction then piece.tokens else 0) + tokens_of direction pieces
+
+-- a message in the merged list: the tokens are those that its direction brought with the pieces up to its own
+abbrev pub framed : Direction → ℕ → Mark → Frame
+framed direction tokens m = record { direction = direction; start = m.start; size = m.size; tokens = tokens }
+
+-- The messages that a piece completes, where these pieces came before it: those of its direction's bytes with it that were
+-- not there without it.
+abbrev pub completed : List Piece → Piece → List Frame
+completed before piece =
+    map (framed piece.direction (tokens_of piece.direction before + piece.tokens))
+    (drop (length (cut (stream_of piece.direction before)).marks) (cut (stream_of piece.direction before ++ piece.bytes)).marks)
+
+abbrev pub completed_at : List Piece → ℕ → Option Piece → List Frame
+completed_at pieces k None = []
+completed_at pieces k (Some piece) = completed (take k pieces) piece
+
+-- the messages that the first pieces complete, in the order of the pieces, and those of one piece in the order of the stream
+unfoldable pub merged_within : List Piece → ℕ → List Frame
+merged_within pieces zero = []
+merged_within pieces (suc k) = merged_within pieces k ++ completed_at pieces k (slice_get pieces k)
+
+-- the merged list
+abbrev pub merged : List Piece → List Frame
+merged pieces = merged_within pieces (length pieces)
+
+-- where the last byte of a message stands, or that of its header where the size is bad
+abbrev pub finish : Mark → ℕ
+finish m = if is_size usual_limit m.size then m.start + m.size else m.start + 8

@@ -1,0 +1,77 @@
+-- The rules that a message of a session keeps, by what is known at its place.
+use Rattle.std.specs.Prelude.{ℕ, ◌+◌, ◌-◌, Bool, false, not, ◌&&◌, nat_le, nat_eq, is_none, List, drop, take, if◌then◌else◌, Option, Some, None}
+use Rattle.std.specs.Option.{option_map_or}
+use Rattle.std.specs.declared.result.Result.{Result}
+use Rattle.std.specs.declared.result.Result.TheVariants.{Ok, Err}
+use Rattle.wl_wire.specs.declared.header.Header.{Header}
+use Rattle.wl_wire.specs.declared.kind.Iface.{Iface}
+use Rattle.wl_wire.specs.Word.{header_at}
+use Rattle.wl_sigs.specs.declared.signature.Side.{Side}
+use Rattle.wl_sigs.specs.Tables.{Interface, interface_at}
+use Rattle.wl_message.specs.Cut.{usual_limit, is_size}
+use Rattle.wl_objects.specs.declared.object.Entry.{Entry}
+use Rattle.wl_objects.specs.declared.error.Fault.{Fault}
+use Rattle.wl_objects.specs.declared.error.Fault.TheVariants.{BadSize, BadBind}
+use Rattle.wl_objects.specs.View.{lives, max_ids}
+use Rattle.wl_objects.specs.Reading.{Reader}
+use Rattle.wl_objects.specs.Messages.{Received, Made, made, received, is_bind, new_id_of}
+use Rattle.wl_recording.specs.declared.piece.Direction.{Direction}
+use Rattle.wl_recording.specs.declared.piece.Direction.TheVariants.{ToServer, ToClient}
+use Rattle.wl_check.specs.declared.frames.Frame.{Frame}
+use Rattle.wl_check.specs.Deeds.{Call, side_of, first_number}
+use Rattle.wl_check.specs.Places.{Known}
+
+-- an object that is open
+abbrev pub if_open : Option Entry → Option Entry
+if_open None = None
+if_open (Some entry) = if lives entry.state then Some entry else None
+
+-- what a message may name: a request an open object, an event a held one
+abbrev pub nameable : Direction → Option Entry → Option Entry
+nameable ToServer entry = if_open entry
+nameable ToClient entry = entry
+
+-- An id for a new object: not 0, of no held object, and used before or the next one.
+abbrev pub is_free : Known → ℕ → Bool
+is_free k id = not (nat_eq id 0) && is_none (k.object id) && nat_le id (k.used + 1)
+
+-- what the reader of a message knows; births play no part
+abbrev pub reader : Known → Direction → Reader
+reader k direction = record {
+  object = λ id. nameable direction (k.object id);
+  new_id = λ id. new_id_of (is_free k id) (nat_le id max_ids);
+  birth = 0;
+  forgives = false;
+}
+
+-- the version of an interface in the tables
+abbrev pub version_of : List Interface → Iface → ℕ
+version_of tables iface = option_map_or (λ (i : Interface). i.version) (interface_at tables iface.0) 0
+
+-- A bind of this name may make this object: its interface is in the tables, its version is at least 1, at most that of the
+-- tables, and at most one of which an event told for this name and interface.
+abbrev pub may_bind : List Interface → Known → Option ℕ → Option Made → Bool
+may_bind tables k (Some name) (Some new) = nat_le 1 new.version && nat_le new.version (version_of tables new.iface) && nat_le new.version (k.told name new.iface.0)
+may_bind tables k _ _ = false
+
+abbrev pub is_bad_bind : List Interface → Known → Side → ℕ → Received → Bool
+is_bad_bind tables k side opcode r =
+    is_bind side r.entry.iface opcode && not (may_bind tables k (first_number r.values) (made tables r.entry.version r.signature.kinds r.values))
+
+-- F9 comes last
+abbrev pub called : List Interface → Known → Direction → ℕ → Result Received Fault → Result Call Fault
+called tables k direction opcode (Err fault) = Err fault
+called tables k direction opcode (Ok r) =
+    if is_bad_bind tables k (side_of direction) opcode r then Err BadBind else Ok (record { direction = direction; opcode = opcode; received = r })
+
+-- the message with this header, and what stands behind it
+abbrev pub judged_as : List Interface → Known → Frame → Header → List ℕ → Result Call Fault
+judged_as tables k frame header body =
+    called tables k frame.direction header.opcode (received tables (side_of frame.direction) (reader k frame.direction) header body (frame.tokens - k.taken frame.direction))
+
+-- A message of a direction's stream, judged by what is known at its place: what it is, or the first rule that it breaks.
+abbrev pub judged : List Interface → Known → List ℕ → Frame → Result Call Fault
+judged tables k stream frame =
+    if is_size usual_limit frame.size
+    then judged_as tables k frame (header_at (drop frame.start stream)) (take (frame.size - 8) (drop (frame.start + 8) stream))
+    else Err BadSize

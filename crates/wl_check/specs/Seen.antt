@@ -1,0 +1,84 @@
+-- What the code's own types stand for.
+use Rattle.std.specs.Prelude.{◌≡◌, ℕ, ◌+◌, List, if◌then◌else◌}
+use Rattle.std.specs.declared.cmp.Ordering.{Ordering}
+use Rattle.std.specs.Ordering.{nat_cmp, ordering_then}
+use Rattle.std.specs.BTreeMap.{get}
+use Rattle.std.specs.Option.{unwrap_or}
+use Rattle.std.specs.declared.result.Result.{Result}
+use Rattle.std.specs.declared.result.Result.TheVariants.{Ok, Err}
+use Rattle.wl_message.specs.Cut as cuts
+use Rattle.wl_objects.specs.declared.error.Fault.{Fault}
+use Rattle.wl_recording.specs.declared.piece.Direction.{Direction}
+use Rattle.wl_recording.specs.declared.piece.Direction.TheVariants.{ToServer, ToClient}
+use Rattle.wl_check.specs.declared.frames.Front.{Front}
+use Rattle.wl_check.specs.declared.frames.Front.TheVariants.{More, Bad, Whole}
+use Rattle.wl_check.specs.declared.frames.Stream.{Stream}
+use Rattle.wl_check.specs.declared.known.Knowledge.{Knowledge}
+use Rattle.wl_check.specs.declared.judging.Said.{Said}
+use Rattle.wl_objects.specs.Messages.{Received}
+use Rattle.wl_objects.specs.declared.reading.Received.{Received as Read}
+use Rattle.wl_check.specs.Deeds.{Call}
+use Rattle.wl_check.specs.Places.{Known}
+use Rattle.wl_check.specs.declared.frames.Merged.{Merged}
+use Rattle.wl_check.specs.declared.frames.Frame.{Frame}
+use Rattle.wl_check.specs.declared.progress.Progress.{Progress}
+use Rattle.wl_check.specs.declared.progress.Tally.{Tally}
+use Rattle.wl_check.specs.Session.{Session}
+use Rattle.wl_check.specs.Merged.{cut, same_direction}
+
+abbrev pub front_in : Front → cuts.Front
+front_in More = cuts.More
+front_in (Bad size) = cuts.Bad size
+front_in (Whole size) = cuts.Whole size
+
+-- how far a stream is cut
+pub record IsCut {A : Type 0} (s : Stream A) : Type 0 where
+  pub place : s.place ≡ (cut s.bytes.items).place
+  pub is_bad : s.is_bad ≡ (cut s.bytes.items).is_bad
+
+-- the order of names and interfaces
+abbrev pub pair_cmp : ℕ × ℕ → ℕ × ℕ → Ordering
+pair_cmp a b = ordering_then (nat_cmp a.0 b.0) (nat_cmp a.1 b.1)
+
+abbrev pub taken_in : {A : Type 0} → Knowledge A → Direction → ℕ
+taken_in k ToServer = k.taken_to_server
+taken_in k ToClient = k.taken_to_client
+
+abbrev pub known_in : {A : Type 0} → Knowledge A → Known
+known_in k = record {
+  object = get nat_cmp k.objects;
+  used = k.used;
+  told = λ name iface. unwrap_or (get pair_cmp k.globals (name, iface)) 0;
+  taken = taken_in k;
+}
+
+-- a message that was read
+abbrev pub read_of : Read → Received
+read_of read = record { target = read.target; entry = read.entry; signature = read.signature.now; values = read.values }
+
+abbrev pub call_of : Said → Call
+call_of said = record { direction = said.direction; opcode = said.opcode; received = read_of said.received }
+
+abbrev pub judged_in : Result Said Fault → Result Call Fault
+judged_in (Err fault) = Err fault
+judged_in (Ok said) = Ok (call_of said)
+
+abbrev pub bytes_in : {A : Type 0} → Merged A → Direction → List ℕ
+bytes_in m ToServer = m.to_server.items
+bytes_in m ToClient = m.to_client.items
+
+-- what was merged
+abbrev pub session_in : {A : Type 0} → Merged A → Session
+session_in m = record { frames = m.frames.items; streams = bytes_in m }
+
+-- what is counted of a direction behind a message
+abbrev pub tally_after : Direction → Frame → Tally → Tally
+tally_after direction frame tally =
+    if same_direction frame.direction direction then record { count = tally.count + 1; end = frame.start + frame.size } else tally
+
+abbrev pub tally_in : {A : Type 0} → Progress A → Direction → Tally
+tally_in p ToServer = p.to_server
+tally_in p ToClient = p.to_client
+
+abbrev pub no_tally : Tally
+no_tally = record { count = 0; end = 0 }

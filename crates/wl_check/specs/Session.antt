@@ -1,0 +1,132 @@
+-- Lawful sessions, and what a checker answers.
+use Rattle.std.specs.Prelude.{◌≡◌, ℕ, zero, suc, ◌+◌, ◌-◌, ◌<◌, ◌≤◌, Bool, true, false, nat_lt, List, [], ◌∷◌, ◌++◌, length, take, slice_get, if◌then◌else◌, Option, Some, None, count_by}
+use Rattle.std.specs.declared.result.Result.{Result}
+use Rattle.std.specs.declared.result.Result.TheVariants.{Ok, Err}
+use Rattle.wl_sigs.specs.Tables.{Interface}
+use Rattle.wl_message.specs.Cut.{usual_limit, is_size}
+use Rattle.wl_objects.specs.declared.error.Fault.{Fault}
+use Rattle.wl_objects.specs.Messages.{is_error}
+use Rattle.wl_recording.specs.declared.piece.Direction.{Direction}
+use Rattle.wl_recording.specs.declared.piece.Direction.TheVariants.{ToServer, ToClient}
+use Rattle.wl_recording.specs.Piece.{Piece}
+use Rattle.wl_check.specs.declared.deed.Deed.{Deed}
+use Rattle.wl_check.specs.declared.frames.Frame.{Frame}
+use Rattle.wl_check.specs.declared.verdict.Verdict.{Verdict}
+use Rattle.wl_check.specs.declared.verdict.Verdict.TheVariants.{Lawful, Broken}
+use Rattle.wl_check.specs.Merged.{merged, stream_of, same_direction}
+use Rattle.wl_check.specs.Deeds.{Call, deed, nothing, beginning, side_of}
+use Rattle.wl_check.specs.Places.{known}
+use Rattle.wl_check.specs.Rules.{judged}
+
+-- the merged list of a recording, and the bytes of each direction
+pub record Session : Type 0 where
+  pub frames : List Frame
+  pub streams : Direction → List ℕ
+
+abbrev pub session_of : List Piece → Session
+session_of pieces = record { frames = merged pieces; streams = λ direction. stream_of direction pieces }
+
+-- a message judged at its place: what it is, or the first rule that it breaks
+abbrev pub Judged : Type 0
+Judged = Result Call Fault
+
+abbrev pub deed_of : List Interface → Option Judged → Deed
+deed_of tables (Some (Ok call)) = deed tables call
+deed_of tables _ = nothing
+
+-- What stands at each place. A message that breaks a rule does nothing.
+abbrev pub deeds : List Interface → List Judged → ℕ → Deed
+deeds tables messages zero = beginning
+deeds tables messages (suc k) = deed_of tables (slice_get messages k)
+
+-- these messages, and behind them those of the frames, each judged by what stands at the places before it
+unfoldable pub judged_after : List Interface → (Direction → List ℕ) → List Judged → List Frame → List Judged
+judged_after tables streams earlier [] = earlier
+judged_after tables streams earlier (frame ∷ frames) =
+    judged_after tables streams (earlier ++ judged tables (known (deeds tables earlier) (suc (length earlier))) (streams frame.direction) frame ∷ []) frames
+
+-- the messages of a session
+abbrev pub messages : List Interface → Session → List Judged
+messages tables session = judged_after tables session.streams [] session.frames
+
+-- wl_display.error
+abbrev pub ends_session : Judged → Bool
+ends_session (Err fault) = false
+ends_session (Ok call) = is_error (side_of call.direction) call.received.entry.iface call.opcode
+
+-- How many messages are examined: those up to the first wl_display.error, itself among them.
+abbrev pub examined : List Judged → ℕ
+examined [] = 0
+examined (message ∷ others) = if ends_session message then 1 else suc (examined others)
+
+abbrev pub fault_of : Option Judged → Option Fault
+fault_of (Some (Err fault)) = Some fault
+fault_of _ = None
+
+-- the first rule that a message breaks, if it is examined and breaks one; the messages are counted from 0
+abbrev pub breaks : List Interface → Session → ℕ → Option Fault
+breaks tables session k = if nat_lt k (examined (messages tables session)) then fault_of (slice_get (messages tables session) k) else None
+
+-- the message at a place of the merged list breaks a rule, and this is the first that it breaks
+abbrev pub Breaks : List Interface → Session → ℕ → Fault → Type 0
+Breaks tables session k fault = breaks tables session k ≡ Some fault
+
+-- A lawful session: no message breaks a rule.
+abbrev pub IsLawful : List Interface → Session → Type 0
+IsLawful tables session = (k : ℕ) → breaks tables session k ≡ None
+
+-- the messages that are counted
+abbrev pub counted : List Interface → Session → List Frame
+counted tables session = take (examined (messages tables session)) session.frames
+
+-- how many messages go in one direction
+abbrev pub count_in : Direction → List Frame → ℕ
+count_in direction frames = count_by (λ (frame : Frame). same_direction frame.direction direction) frames
+
+-- where the last message of a direction ends; without one, at this place
+abbrev pub end_after : Direction → ℕ → List Frame → ℕ
+end_after direction place [] = place
+end_after direction place (frame ∷ frames) = end_after direction (if same_direction frame.direction direction then frame.start + frame.size else place) frames
+
+-- how many bytes of a direction belong to no counted message
+abbrev pub left_in : List Interface → Session → Direction → ℕ
+left_in tables session direction = length (session.streams direction) - end_after direction 0 (counted tables session)
+
+-- The numbers of a lawful session.
+pub record IsCounted (tables : List Interface) (session : Session) (requests events left_to_server left_to_client : ℕ) : Type 0 where
+  pub requests_are : requests ≡ count_in ToServer (counted tables session)
+  pub events_are : events ≡ count_in ToClient (counted tables session)
+  pub to_server : left_to_server ≡ left_in tables session ToServer
+  pub to_client : left_to_client ≡ left_in tables session ToClient
+
+-- This is the least message that breaks a rule: its direction, its number and its place within the direction, and the first
+-- rule that it breaks.
+pub record IsFirstBroken (tables : List Interface) (session : Session) (direction : Direction) (index offset : ℕ) (fault : Fault) : Type 0 where
+  pub place : ℕ
+  pub frame : Frame
+  pub stands : slice_get session.frames place ≡ Some frame
+  pub broken : Breaks tables session place fault
+  pub least : (earlier : ℕ) → earlier < place → breaks tables session earlier ≡ None
+  pub direction_is : direction ≡ frame.direction
+  -- counted from 1
+  pub index_is : index ≡ suc (count_in direction (take place session.frames))
+  -- counted from 0
+  pub offset_is : offset ≡ frame.start
+
+-- What a checker answers: the numbers of a lawful session, or the least message that breaks a rule.
+abbrev pub Answers : List Interface → Session → Verdict → Type 0
+Answers tables session (Lawful requests events left_to_server left_to_client) =
+    IsLawful tables session × IsCounted tables session requests events left_to_server left_to_client
+Answers tables session (Broken direction index offset fault) = IsFirstBroken tables session direction index offset fault
+
+abbrev pub SaysLawful : Verdict → Type 0
+SaysLawful (Lawful requests events left_to_server left_to_client) = Unit {0}
+SaysLawful (Broken direction index offset fault) = ⊥
+
+-- A message lies within its stream; where its size is bad, its header does.
+pub record IsWithin (len : ℕ) (frame : Frame) : Type 0 where
+  pub header : frame.start + 8 ≤ len
+  pub whole : is_size usual_limit frame.size ≡ true → frame.start + frame.size ≤ len
+
+abbrev pub AreWithin : Session → Type 0
+AreWithin session = (k : ℕ) (frame : Frame) → slice_get session.frames k ≡ Some frame → IsWithin (length (session.streams frame.direction)) frame

@@ -1,0 +1,52 @@
+-- What is held, open, used and told at a place of a session, in words: by the messages that stand before it.
+use Rattle.std.specs.Prelude.{◌≡◌, ℕ, ◌<◌, ◌≤◌, true, false, List, length, slice_get, drop, take, Some}
+use Rattle.std.specs.List.{filter, AllByRecursion}
+use Rattle.wl_message.specs.Cut.{usual_limit, is_size}
+use Rattle.wl_check.specs.declared.deed.Advertised.{Advertised}
+use Rattle.wl_check.specs.declared.deed.Deed.{Deed}
+use Rattle.wl_check.specs.Merged.{Mark, finish}
+use Rattle.wl_check.specs.Places.{makes, deletes, destroys}
+use Rattle.wl_check.specs.Session.{Judged, ends_session}
+
+-- The object that was made at a place, its birth, is held at a later one: no delete_id of its id stands between.
+pub record Held (session : ℕ → Deed) (place birth id : ℕ) : Type 0 where
+  pub before : birth < place
+  pub made : makes (session birth) id ≡ true
+  pub kept : (between : ℕ) → birth < between → between < place → deletes (session between) id ≡ false
+
+-- It is open where no message that destroys it stands between.
+abbrev pub IsOpen : (ℕ → Deed) → ℕ → ℕ → ℕ → Type 0
+IsOpen session place birth id = (between : ℕ) → birth < between → between < place → destroys (session between) id ≡ false
+
+-- an id was used before a place
+pub record WasUsed (session : ℕ → Deed) (place id : ℕ) : Type 0 where
+  pub birth : ℕ
+  pub before : birth < place
+  pub made : makes (session birth) id ≡ true
+
+-- one event before a place told of this name, this interface and at least this version
+pub record WasTold (session : ℕ → Deed) (place name iface version : ℕ) : Type 0 where
+  pub event : ℕ
+  pub before : event < place
+  pub global : Advertised
+  pub is : (session event).advertised ≡ Some global
+  pub name_is : global.name ≡ name
+  pub iface_is : global.iface.0 ≡ iface
+  pub version_is : version ≤ global.version
+
+-- the bytes of a message
+abbrev pub part_of : List ℕ → Mark → List ℕ
+part_of stream m = take m.size (drop m.start stream)
+
+-- those that are no bad size
+abbrev pub sound : List Mark → List Mark
+sound marks = filter (λ (m : Mark). is_size usual_limit m.size) marks
+
+-- each of these messages ends behind the first `before` bytes of its direction, and within the first `after`
+abbrev pub Brings : ℕ → ℕ → List Mark → Type 0
+Brings before after marks = AllByRecursion (λ (m : Mark). (before < finish m) × (finish m ≤ after)) marks
+
+-- a message of the session, before which none is wl_display.error
+pub record IsExamined (messages : List Judged) (k : ℕ) : Type 0 where
+  pub within : k < length messages
+  pub goes_on : (earlier : ℕ) (message : Judged) → earlier < k → slice_get messages earlier ≡ Some message → ends_session message ≡ false

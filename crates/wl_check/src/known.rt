@@ -1,0 +1,207 @@
+//! What is known at a place of a session.
+ghost use Rattle.std.specs.Prelude.{◌≡◌, ℕ, ◌+◌, ◌^◌, ◌<◌, OnOk, IfOk, cond, nat_eq, Some, None, option_map};
+ghost use Rattle.std.specs.Ordering.{nat_cmp};
+ghost use Rattle.std.specs.BTreeMap.{get};
+ghost use Rattle.std.specs.Option.{unwrap_or};
+ghost use Rattle.wl_objects.specs.declared.object.State.TheVariants.{Live};
+ghost use Rattle.wl_sigs.specs.Fixed.{display};
+ghost use Rattle.wl_sigs.specs.Valid.{Valid};
+ghost use Rattle.wl_check.specs.Places.{ending, entry_of, frees, is_id, is_made, new_of, used_after, told_once, IsFirst, IsNext};
+ghost use Rattle.wl_check.specs.Rules.{is_free, reader};
+ghost use Rattle.wl_check.specs.Seen.{known_in, pair_cmp, taken_in};
+
+use crate::deed::{Advertised, Deed};
+use std::alloc::{AllocError, Allocator, Global};
+use std::collections::BTreeMap;
+use wl_objects::{DISPLAY, Entry, Lookup, Made, NewId, State};
+use wl_recording::Direction;
+use wl_sigs::Tables;
+use wl_wire::Iface;
+
+/// The most ids that a connection has, id 1 counted.
+const MAX_IDS: u32 = 1_048_576;
+
+/// The id of wl_display.
+const DISPLAY_ID: u32 = 1;
+
+/// What is known at a place: the objects that are held, where those that are ending are zombies;
+/// the greatest id that was used; the globals of which events told; how many tokens were taken.
+#[derive(Drop)]
+pub(crate) struct Knowledge<A: Allocator = Global> {
+    pub objects: BTreeMap<u32, Entry, A>,
+    pub used: u32,
+    /// For each name and each interface of the tables, the greatest version that was told.
+    pub globals: BTreeMap<(u32, u16), u32, A>,
+    pub taken_to_server: u128,
+    pub taken_to_client: u128,
+}
+
+/// Frees an id, unless it is that of wl_display.
+fn delete<A: Allocator + Clone>(objects: &mut BTreeMap<u32, Entry, A>, id: Option<u32>)
+    ensures { (other : ℕ) → get nat_cmp objects.new other ≡ cond (frees id other) None (get nat_cmp objects.old other) }
+{
+    if let Some(id) = id {
+        if id != DISPLAY_ID {
+            let _ = objects.remove(&id);
+        }
+    }
+}
+
+/// Makes a zombie of an object.
+fn destroy<A: Allocator>(objects: &mut BTreeMap<u32, Entry, A>, id: Option<u32>)
+    ensures { (other : ℕ) → get nat_cmp objects.new other ≡ cond (is_id id other) (option_map ending (get nat_cmp objects.old other)) (get nat_cmp objects.old other) }
+{
+    if let Some(id) = id {
+        if let Some(entry) = objects.get_mut(&id) {
+            entry.state = State::Zombie;
+        }
+    }
+}
+
+/// Opens an object that was made at a place.
+fn open<A: Allocator + Clone>(
+    objects: &mut BTreeMap<u32, Entry, A>,
+    place: u64,
+    made: Option<Made>,
+) -> Result<(), AllocError>
+    ensures { OnOk result ((other : ℕ) → get nat_cmp objects.new other ≡ cond (is_made made other) (Some (entry_of place Live (new_of made))) (get nat_cmp objects.old other)) }
+{
+    if let Some(new) = made {
+        let entry = Entry {
+            birth: place,
+            iface: new.iface,
+            version: new.version,
+            state: State::Live,
+        };
+        objects.insert(new.id, entry)?;
+    }
+    Ok(())
+}
+
+/// Remembers what an event tells of a global.
+fn remember<A: Allocator + Clone>(
+    globals: &mut BTreeMap<(u32, u16), u32, A>,
+    told: &Advertised,
+) -> Result<(), AllocError>
+    ensures { OnOk result ((q : ℕ × ℕ) → unwrap_or (get pair_cmp globals.new q) 0 ≡ told_once told.now q.0 q.1 (unwrap_or (get pair_cmp globals.old q) 0)) }
+{
+    let key = (told.name, told.iface.0);
+    let before = globals.get(&key).copied().unwrap_or(0);
+    let version = told.version.max(before);
+    globals.insert(key, version)?;
+    Ok(())
+}
+
+impl<A: Allocator + Clone> Knowledge<A> {
+    /// What is known before the first message: wl_display is there, with id 1.
+    pub(crate) fn new(alloc: &A, tables: &Tables) -> Result<Self, AllocError>
+        ensures valid { OnOk result (Valid tables.now) }
+        ensures known { IfOk result (λ k. IsFirst (known_in k)) }
+        ensures to_server { IfOk result (λ k. k.taken_to_server ≡ 0) }
+        ensures to_client { IfOk result (λ k. k.taken_to_client ≡ 0) }
+    {
+        let mut objects = BTreeMap::new(alloc.clone()?);
+        let entry = Entry {
+            birth: 0,
+            iface: DISPLAY,
+            version: tables.version(DISPLAY).unwrap_or(1),
+            state: State::Live,
+        };
+        objects.insert(DISPLAY_ID, entry)?;
+        Ok(Knowledge {
+            objects,
+            used: DISPLAY_ID,
+            globals: BTreeMap::new(alloc.clone()?),
+            taken_to_server: 0,
+            taken_to_client: 0,
+        })
+    }
+
+    /// What is known behind a message that stands at a place. Without memory, nothing is to be
+    /// read from it any more.
+    pub(crate) fn apply(&mut self, place: u64, deed: &Deed) -> Result<(), AllocError>
+        requires to_server { self.old.taken_to_server + 2 ^ 64 < 2 ^ 128 }
+        requires to_client { self.old.taken_to_client + 2 ^ 64 < 2 ^ 128 }
+        ensures known { OnOk result (IsNext place deed.now (known_in self.old) (known_in self.new)) }
+        ensures few_to_server { OnOk result (self.new.taken_to_server < self.old.taken_to_server + 2 ^ 64) }
+        ensures few_to_client { OnOk result (self.new.taken_to_client < self.old.taken_to_client + 2 ^ 64) }
+    {
+        delete(&mut self.objects, deed.deleted);
+        destroy(&mut self.objects, deed.destroyed);
+        open(&mut self.objects, place, deed.made)?;
+        if let Some(told) = &deed.advertised {
+            remember(&mut self.globals, told)?;
+        }
+        self.used = used_after(self.used, deed);
+        match deed.direction {
+            Direction::ToServer => self.taken_to_server += deed.tokens as u128,
+            Direction::ToClient => self.taken_to_client += deed.tokens as u128,
+        }
+        Ok(())
+    }
+}
+
+fn used_after(used: u32, deed: &Deed) -> u32
+    ensures { result ≡ used_after deed.now used }
+{
+    match deed.made {
+        Some(new) => new.id.max(used),
+        None => used,
+    }
+}
+
+impl<A: Allocator> Knowledge<A> {
+    /// How many tokens the messages of a direction took.
+    pub(crate) fn taken(&self, direction: Direction) -> u128
+        ensures { result ≡ taken_in self.now direction }
+    {
+        match direction {
+            Direction::ToServer => self.taken_to_server,
+            Direction::ToClient => self.taken_to_client,
+        }
+    }
+
+    /// The greatest version of which an event told for this name and this interface, or 0.
+    pub(crate) fn told(&self, name: u32, iface: Iface) -> u32
+        ensures { result ≡ (known_in self.now).told name iface.0 }
+    {
+        self.globals.get(&(name, iface.0)).copied().unwrap_or(0)
+    }
+
+    /// Whether an id can be that of a new object: it is not 0, no object holds it, and it was used
+    /// before or is the next one.
+    fn is_free(&self, id: u32) -> bool
+        ensures { result ≡ is_free (known_in self.now) id }
+    {
+        id != 0 && self.objects.get(&id).is_none() && u64::from(id) <= u64::from(self.used) + 1
+    }
+}
+
+/// What the reader of a message knows: of a request, only the open objects.
+#[derive(Drop)]
+pub(crate) struct Looker<'a, A: Allocator = Global> {
+    pub known: &'a Knowledge<A>,
+    pub direction: Direction,
+}
+
+impl<'a, A: Allocator> Lookup for Looker<'a, A> {
+    ghost reader = { λ looker. reader (known_in looker.known.now) looker.direction };
+
+    fn object(&self, id: u32) -> Option<Entry> {
+        let entry = *self.known.objects.get(&id)?;
+        match (self.direction, entry.state) {
+            (Direction::ToServer, State::Zombie) => None,
+            _ => Some(entry),
+        }
+    }
+
+    fn new_id(&self, id: u32) -> NewId {
+        if !self.known.is_free(id) {
+            NewId::Wrong
+        } else if id > MAX_IDS {
+            NewId::TooMany
+        } else {
+            NewId::Free
+        }
+    }
+}

@@ -1,0 +1,52 @@
+//! Laws of sessions. Each is the contract of a function that does nothing: it says in words over
+//! places what the definitions compute.
+ghost use Rattle.std.specs.Prelude.{◌≡◌, ◌↔◌, ◌<◌, ◌≤◌, ◌++◌, ℕ, List, Some, false, length, drop, map};
+ghost use Rattle.wl_sigs.specs.Tables.{Interface};
+ghost use Rattle.wl_message.specs.Cut.{usual_limit, messages_of};
+ghost use Rattle.wl_check.specs.Merged.{cut};
+ghost use Rattle.wl_check.specs.Places.{holder, is_ending, used, told};
+ghost use Rattle.wl_check.specs.Session.{Session, deeds, examined, messages};
+ghost use Rattle.wl_check.specs.Text.{part_of, sound, Brings, Held, IsExamined, IsOpen, WasTold, WasUsed};
+
+/// The messages of a stream are those that its sizes cut off, and then a bad size, if one follows.
+pub fn a_stream_has_its_messages()
+    ensures { (stream : List ℕ) → map (part_of stream) (sound (cut stream).marks) ≡ messages_of usual_limit stream }
+{}
+
+/// A piece brings the last byte of each message that it completes, and of a bad size the last byte
+/// of its header.
+pub fn a_piece_brings_last_bytes()
+    ensures { (before piece : List ℕ)
+        → Brings (length before) (length (before ++ piece)) (drop (length (cut before).marks) (cut (before ++ piece)).marks) }
+{}
+
+/// An id names the object that was made with it, until its delete_id.
+pub fn an_id_names_what_is_held()
+    ensures { (tables : List Interface) (session : Session) (place birth id : ℕ)
+        → (holder (deeds tables (messages tables session)) place id ≡ Some birth) ↔ Held (deeds tables (messages tables session)) place birth id }
+{}
+
+/// An object is ending where a message destroyed it.
+pub fn an_object_is_open_until_destroyed()
+    ensures { (tables : List Interface) (session : Session) (place birth id : ℕ)
+        → (is_ending (deeds tables (messages tables session)) birth place id ≡ false) ↔ IsOpen (deeds tables (messages tables session)) place birth id }
+{}
+
+/// The ids used before a place are those from 1 to the greatest.
+pub fn ids_are_used_in_order()
+    ensures { (tables : List Interface) (session : Session) (place id : ℕ)
+        → ((0 < id) × (id ≤ used (deeds tables (messages tables session)) place)) ↔ WasUsed (deeds tables (messages tables session)) place id }
+{}
+
+/// A version of a global was told where one event told of the name, the interface and at least
+/// this version.
+pub fn one_event_tells_of_a_global()
+    ensures { (tables : List Interface) (session : Session) (place name iface version : ℕ) → 0 < version
+        → (version ≤ told (deeds tables (messages tables session)) place name iface) ↔ WasTold (deeds tables (messages tables session)) place name iface version }
+{}
+
+/// A message is examined where no wl_display.error stands before it.
+pub fn an_error_ends_a_session()
+    ensures { (tables : List Interface) (session : Session) (k : ℕ)
+        → (k < examined (messages tables session)) ↔ IsExamined (messages tables session) k }
+{}

@@ -1,0 +1,123 @@
+//! How far a session was gone through.
+ghost use Rattle.std.specs.Prelude.{◌≡◌, ◌+◌, ◌-◌, ◌^◌, ◌<◌, ◌≤◌, length, OnOk, IfOk};
+ghost use Rattle.wl_recording.specs.declared.piece.Direction.TheVariants.{ToServer, ToClient};
+ghost use Rattle.wl_check.specs.declared.verdict.Verdict.TheVariants.{Broken, Lawful};
+ghost use Rattle.wl_check.specs.Places.{IsFirst, IsNext};
+ghost use Rattle.wl_sigs.specs.Valid.{Valid};
+ghost use Rattle.wl_check.specs.Seen.{known_in, no_tally, tally_after, tally_in};
+
+use crate::deed::Deed;
+use crate::frames::{Frame, Merged};
+use crate::known::Knowledge;
+use crate::verdict::Verdict;
+use std::alloc::{AllocError, Allocator, Global};
+use wl_objects::Fault;
+use wl_recording::Direction;
+use wl_sigs::Tables;
+
+/// What was counted of one direction.
+#[derive(Clone, Copy, Debug)]
+pub(crate) struct Tally {
+    /// How many messages.
+    pub count: usize,
+    /// Where the last of them ends.
+    pub end: usize,
+}
+
+/// What is known at a place, and what was counted before it.
+#[derive(Drop)]
+pub(crate) struct Progress<A: Allocator = Global> {
+    pub known: Knowledge<A>,
+    pub to_server: Tally,
+    pub to_client: Tally,
+}
+
+fn tally_after(direction: Direction, frame: &Frame, tally: Tally) -> Tally
+    requires count { tally.count + 1 < 2 ^ 64 }
+    requires end { frame.now.start + frame.now.size < 2 ^ 64 }
+    ensures { result ≡ tally_after direction frame.now tally }
+{
+    if frame.direction != direction {
+        return tally;
+    }
+    Tally {
+        count: tally.count + 1,
+        end: frame.start + frame.size as usize,
+    }
+}
+
+impl<A: Allocator + Clone> Progress<A> {
+    /// Before the first message.
+    pub(crate) fn new(alloc: &A, tables: &Tables) -> Result<Self, AllocError>
+        ensures valid { OnOk result (Valid tables.now) }
+        ensures known { IfOk result (λ p. IsFirst (known_in p.known)) }
+        ensures to_server { IfOk result (λ p. p.to_server ≡ no_tally) }
+        ensures to_client { IfOk result (λ p. p.to_client ≡ no_tally) }
+        ensures taken_to_server { IfOk result (λ p. p.known.taken_to_server ≡ 0) }
+        ensures taken_to_client { IfOk result (λ p. p.known.taken_to_client ≡ 0) }
+    {
+        let none = Tally { count: 0, end: 0 };
+        Ok(Progress {
+            known: Knowledge::new(alloc, tables)?,
+            to_server: none,
+            to_client: none,
+        })
+    }
+
+    /// Goes past a message that stands at a place.
+    pub(crate) fn advance(
+        &mut self,
+        place: u64,
+        frame: &Frame,
+        deed: &Deed,
+    ) -> Result<(), AllocError>
+        requires taken_to_server { self.old.known.taken_to_server + 2 ^ 64 < 2 ^ 128 }
+        requires taken_to_client { self.old.known.taken_to_client + 2 ^ 64 < 2 ^ 128 }
+        requires to_server { self.old.to_server.count + 1 < 2 ^ 64 }
+        requires to_client { self.old.to_client.count + 1 < 2 ^ 64 }
+        requires end { frame.now.start + frame.now.size < 2 ^ 64 }
+        ensures known { OnOk result (IsNext place deed.now (known_in self.old.known) (known_in self.new.known)) }
+        ensures to_server { OnOk result (self.new.to_server ≡ tally_after ToServer frame.now self.old.to_server) }
+        ensures to_client { OnOk result (self.new.to_client ≡ tally_after ToClient frame.now self.old.to_client) }
+        ensures few_to_server { OnOk result (self.new.known.taken_to_server < self.old.known.taken_to_server + 2 ^ 64) }
+        ensures few_to_client { OnOk result (self.new.known.taken_to_client < self.old.known.taken_to_client + 2 ^ 64) }
+    {
+        self.known.apply(place, deed)?;
+        self.to_server = tally_after(Direction::ToServer, frame, self.to_server);
+        self.to_client = tally_after(Direction::ToClient, frame, self.to_client);
+        Ok(())
+    }
+}
+
+impl<A: Allocator> Progress<A> {
+    /// The verdict where no message broke a rule.
+    pub(crate) fn lawful(&self, merged: &Merged<A>) -> Verdict
+        requires to_server { self.now.to_server.end ≤ length merged.now.to_server.items }
+        requires to_client { self.now.to_client.end ≤ length merged.now.to_client.items }
+        ensures { result ≡ Lawful self.now.to_server.count self.now.to_client.count (length merged.now.to_server.items - self.now.to_server.end) (length merged.now.to_client.items - self.now.to_client.end) }
+    {
+        Verdict::Lawful {
+            requests: self.to_server.count,
+            events: self.to_client.count,
+            left_to_server: merged.to_server.len() - self.to_server.end,
+            left_to_client: merged.to_client.len() - self.to_client.end,
+        }
+    }
+
+    /// The verdict where this message breaks a rule.
+    pub(crate) fn broken(&self, frame: &Frame, fault: Fault) -> Verdict
+        requires { (tally_in self.now frame.now.direction).count + 1 < 2 ^ 64 }
+        ensures { result ≡ Broken frame.now.direction ((tally_in self.now frame.now.direction).count + 1) frame.now.start fault }
+    {
+        let tally = match frame.direction {
+            Direction::ToServer => self.to_server,
+            Direction::ToClient => self.to_client,
+        };
+        Verdict::Broken {
+            direction: frame.direction,
+            index: tally.count + 1,
+            offset: frame.start,
+            fault,
+        }
+    }
+}

@@ -1,0 +1,184 @@
+-- What a client does as it goes on reading.
+use Rattle.std.proofs.Common.{◌≡◌, ◌≢◌, ℕ, ◌+◌, ◌<◌, ◌≤◌, ◌⊎◌, inl, inr, Bool, true, false, cond, List, [], ◌∷◌, ◌++◌, length, map, take, drop, refl, sym, ap, subst, ◌∙◌, arith}
+use Rattle.std.specs.Prelude.{IsOk}
+use Rattle.std.specs.declared.option.Option.{Option}
+use Rattle.std.specs.declared.option.Option.TheVariants.{None, Some}
+use Rattle.std.specs.declared.result.Result.{Result}
+use Rattle.std.specs.declared.result.Result.TheVariants.{Ok, Err}
+use Rattle.std.proofs.lemmas.List.{append-nil}
+use Rattle.wl_sigs.specs.declared.signature.Side.TheVariants.{Event as event_side}
+use Rattle.wl_objects.specs.declared.object.Entry.{Entry}
+use Rattle.wl_objects.specs.declared.object.State.{State as ObjectState}
+use Rattle.wl_objects.specs.declared.object.State.TheVariants.{Live, Zombie}
+use Rattle.wl_objects.specs.declared.error.Fault.{Fault}
+use Rattle.wl_objects.specs.declared.error.NextError.{NextError}
+use Rattle.wl_objects.specs.declared.error.NextError.TheVariants as errors
+use Rattle.wl_objects.specs.View.{look}
+use Rattle.wl_end.specs.Core.{Core}
+use Rattle.wl_end.specs.Receiving.{Found, found}
+use Rattle.wl_end.specs.Outcomes.{Gives, left}
+use Rattle.wl_end.proofs.Coming.{is_found, past_shorter, none_short}
+use Rattle.wl_end.proofs.Appended.{kept_again, kept_more, behind_again, more_behind}
+use Rattle.wl_client.specs.declared.incoming.Incoming.{Incoming}
+use Rattle.wl_client.specs.Seen.{report_of, report_in}
+use Rattle.wl_client.specs.State.{State}
+use Rattle.wl_client.specs.Reports.{Report, Event, Discarded, Deleted, Stray, Error, report, plain_report, error_report, delete_report, deleted, deleted_id, is_error_event, is_delete_event, answer_found, next_answer, state_found, after_next}
+use Rattle.wl_client.specs.Streams.{is_last, Reads, none, fault, error, next, ReadsSome, nothing, more, ReadsUntil, WaitingIsRead, appended}
+use Rattle.wl_client.proofs.Comings.{Read, read, answers, leaves, failed_answer, not_failed, some_then, some_reads, some_one}
+
+-- ---- which report is the last
+
+plain_not_last : (core : Core) (f : Found) (state : ObjectState) → is_last (plain_report core f.opcode f.message state) ≡ false
+plain_not_last core f Live = refl
+plain_not_last core f Zombie = refl
+
+deleted_not_last : (id : ℕ) (entry : Option Entry) → is_last (deleted id entry) ≡ false
+deleted_not_last id None = refl
+deleted_not_last id (Some entry) = refl
+
+delete_not_last : (id : ℕ) (b : Bool) (r : Report) → is_last r ≡ false → is_last (cond b (Stray 1) r) ≡ false
+delete_not_last id true r h = refl
+delete_not_last id false r h = h
+
+either_not_last : (b : Bool) (r q : Report) → is_last r ≡ false → is_last q ≡ false → is_last (cond b r q) ≡ false
+either_not_last true r q h g = h
+either_not_last false r q h g = g
+
+last_by : (b : Bool) (core : Core) (f : Found) → is_last (cond b (error_report core f.message.values) (cond (is_delete_event f) (delete_report core (deleted_id f)) (plain_report core f.opcode f.message f.message.entry.state))) ≡ b
+last_by true core f = refl
+last_by false core f =
+    either_not_last (is_delete_event f) (delete_report core (deleted_id f)) (plain_report core f.opcode f.message f.message.entry.state)
+    (either_not_last _ (Stray 1) (deleted (deleted_id f) (look core.view (deleted_id f))) refl (deleted_not_last (deleted_id f) (look core.view (deleted_id f))))
+    (plain_not_last core f f.message.entry.state)
+
+-- the client has failed just after that
+pub failed_after : (state : State) (r : Report) → next_answer state ≡ Ok (Some r) → (after_next state).core.failed ≡ is_last r
+failed_after state r e =
+    let m = read state r e in
+    ap (λ (s : State). s.core.failed) m.leaves ∙ sym (last_by (is_error_event m.message) state.core m.message) ∙ ap is_last m.is
+
+-- ---- what is read next
+
+pub sound_none : (state : State) → next_answer state ≡ Ok None → state.core.failed ≡ false
+sound_none state e = not_failed state state.core.failed refl (λ h. cc (h, e))
+
+pub sound_some : (state : State) (r : Report) → next_answer state ≡ Ok (Some r) → state.core.failed ≡ false
+sound_some state r e = (read state r e).sound
+
+nothing_by : (state : State) (x : Result (Option Found) Fault) → found state.core event_side ≡ x → answer_found state.core x ≡ Ok None → found state.core event_side ≡ Ok None
+nothing_by state (Err what) e a = absurd (cc a)
+nothing_by state (Ok None) e a = e
+nothing_by state (Ok (Some f)) e a = absurd (cc a)
+
+nothing_there : (state : State) → next_answer state ≡ Ok None → found state.core event_side ≡ Ok None
+nothing_there state e = nothing_by state (found state.core event_side) refl (sym (answers state (sound_none state e)) ∙ e)
+
+pub none_leaves : (state : State) → next_answer state ≡ Ok None → after_next state ≡ state
+none_leaves state e = leaves state (sound_none state e) ∙ ap (state_found state) (nothing_there state e)
+
+-- where no whole message waits, less waits than the longest one has
+pub none_waits : (state : State) → next_answer state ≡ Ok None → length state.core.inbox.bytes < 4096
+none_waits state e = none_short state.core event_side (nothing_there state e)
+
+-- a message that is read has bytes
+pub fewer_wait : (state : State) (r : Report) → next_answer state ≡ Ok (Some r) → length (after_next state).core.inbox.bytes < length state.core.inbox.bytes
+fewer_wait state r e =
+    let m = read state r e in
+    subst (λ (s : State). length s.core.inbox.bytes < length state.core.inbox.bytes) (sym m.leaves)
+    (past_shorter state.core event_side m.message (is_found state.core event_side m.message m.there))
+
+-- ---- what `next` tells
+
+abbrev pub Told : State → Bool → Result (Option Report) NextError → Type 0
+Told state wants answer = Gives errors.Memory wants (next_answer state) answer
+
+pub told_report : (state new : State) (wants : Bool) (r : Report) → Told state wants (Ok (Some r)) → next_answer state ≡ Ok (Some r)
+told_report state new wants r (inl e) = sym e
+told_report state new wants r (inr e) = absurd (cc e.0)
+
+pub told_none : (state new : State) (wants : Bool) → Told state wants (Ok None) → next_answer state ≡ Ok None
+told_none state new wants (inl e) = sym e
+told_none state new wants (inr e) = absurd (cc e.0)
+
+never_by : (state : State) (why : NextError) (x : Result (Option Found) Fault) → ((what : Fault) (offset : ℕ) → why ≢ errors.Fault what offset) → answer_found state.core x ≢ Err why
+never_by state why (Err what) n e = n what state.core.read (cc e)
+never_by state why (Ok None) n e = cc e
+never_by state why (Ok (Some f)) n e = cc e
+
+-- a client that has not failed answers no error but a fault
+never : (state : State) (why : NextError) → state.core.failed ≡ false → ((what : Fault) (offset : ℕ) → why ≢ errors.Fault what offset) → next_answer state ≢ Err why
+never state why s n e = never_by state why (found state.core event_side) n (sym (answers state s) ∙ e)
+
+pub told_error : (state new : State) (wants : Bool) (why : NextError) → state.core.failed ≡ false → Told state wants (Err why) → new ≡ left {R = Option Report} state (after_next state) (Err why) → ReadsUntil state [] (Some why) new
+told_error state new wants (errors.Fault what offset) s (inl e) l = subst (λ (x : State). Reads state [] (Some (errors.Fault what offset)) x) (sym l) (fault (sym e))
+told_error state new wants (errors.Fault what offset) s (inr e) l = absurd (cc e.0)
+told_error state new wants errors.Failed s (inl e) l = absurd (never state errors.Failed s (λ what offset h. cc h) (sym e))
+told_error state new wants errors.Failed s (inr e) l = absurd (cc e.0)
+told_error state new wants errors.Memory s t l = subst (λ (x : State). ReadsSome state [] x) (sym l) nothing
+told_error state new wants errors.OutFull s (inl e) l = absurd (never state errors.OutFull s (λ what offset h. cc h) (sym e))
+told_error state new wants errors.OutFull s (inr e) l = absurd (cc e.0)
+
+-- ---- going on
+
+pub until_then : (state middle last : State) (reports others : List Report) (stop : Option NextError) → ReadsSome state reports middle → ReadsUntil middle others stop last → ReadsUntil state (reports ++ others) stop last
+until_then state middle last reports others None h g = some_reads h g
+until_then state middle last reports others (Some (errors.Fault what offset)) h g = some_reads h g
+until_then state middle last reports others (Some errors.Failed) h g = some_reads h g
+until_then state middle last reports others (Some errors.Memory) h g = some_then h g
+until_then state middle last reports others (Some errors.OutFull) h g = some_reads h g
+
+-- a stop, where nothing more was read
+pub stopped : (state middle last : State) (reports : List Report) (why : NextError) → ReadsSome state reports middle → ReadsUntil middle [] (Some why) last → ReadsUntil state reports (Some why) last
+stopped state middle last reports why h g = subst (λ (l : List Report). ReadsUntil state l (Some why) last) (append-nil reports) (until_then state middle last reports [] (Some why) h g)
+
+-- one report more
+pub one_more : (state middle : State) (reports : List Report) (r : Report) → ReadsSome state reports middle → next_answer middle ≡ Ok (Some r) → is_last r ≡ false → ReadsSome state (reports ++ r ∷ []) (after_next middle)
+one_more state middle reports r h e n = some_then h (some_one e n)
+
+pub last_one : (state middle : State) (reports : List Report) (r : Report) → ReadsSome state reports middle → next_answer middle ≡ Ok (Some r) → is_last r ≡ true → Reads state (reports ++ r ∷ []) None (after_next middle)
+last_one state middle reports r h e n = some_reads h (error e n)
+
+-- ---- reports that are appended
+
+pub pushed_kept : {A : Type 0} (xs before reserved after : List (Incoming A)) (x : Incoming A) → take (length xs) before ≡ xs → reserved ≡ before → after ≡ reserved ++ x ∷ [] → take (length xs) after ≡ xs
+pushed_kept xs before reserved after x k r e =
+    let same : after ≡ before ++ x ∷ [] = e ∙ ap (λ l. l ++ x ∷ []) r in
+    kept_again xs before after k (ap (take (length before)) same ∙ kept_more before (x ∷ []))
+
+pub pushed_appended : {A : Type 0} (xs before reserved after : List (Incoming A)) (x : Incoming A) → take (length xs) before ≡ xs → reserved ≡ before → after ≡ reserved ++ x ∷ []
+    → appended xs after ≡ appended xs before ++ report_of x ∷ []
+pushed_appended xs before reserved after x k r e =
+    let same : after ≡ before ++ x ∷ [] = e ∙ ap (λ l. l ++ x ∷ []) r in
+    let kept : take (length before) after ≡ before = ap (take (length before)) same ∙ kept_more before (x ∷ []) in
+    behind_again report_of xs before after k kept
+    ∙ ap (λ l. appended xs before ++ l) (ap (appended before) same ∙ more_behind report_of before (x ∷ []))
+
+-- the report that is read, and what is left
+pub told_read : {A : Type 0} (state new : State) (wants : Bool) (some : Option (Incoming A)) (x : Incoming A) → some ≡ Some x → Told state wants (report_in (Ok some)) → next_answer state ≡ Ok (Some (report_of x))
+told_read state new wants some x e t = told_report state new wants (report_of x) (subst (λ (o : Option (Incoming _)). Told state wants (report_in (Ok o))) e t)
+
+pub told_left : {A : Type 0} (state new : State) (some : Option (Incoming A)) (x : Incoming A) → some ≡ Some x → new ≡ left state (after_next state) (report_in (Ok some)) → new ≡ after_next state
+told_left state new some x e l = l ∙ ap (λ (o : Option (Incoming _)). left state (after_next state) (report_in (Ok o))) e
+
+-- a message more
+pub reads_more : {A : Type 0} (state middle new : State) (xs before reserved after : List (Incoming A)) (x : Incoming A) → ReadsSome state (appended xs before) middle → next_answer middle ≡ Ok (Some (report_of x))
+    → new ≡ after_next middle → is_last (report_of x) ≡ false → take (length xs) before ≡ xs → reserved ≡ before → after ≡ reserved ++ x ∷ [] → ReadsSome state (appended xs after) new
+reads_more state middle new xs before reserved after x h e l n k r p =
+    let reports = pushed_appended xs before reserved after x k r p in
+    subst (λ (s : State). ReadsSome state (appended xs after) s) (sym l)
+    (subst (λ (rs : List Report). ReadsSome state rs (after_next middle)) (sym reports) (one_more state middle (appended xs before) (report_of x) h e n))
+
+-- wl_display.error
+pub reads_last : {A : Type 0} (state middle new : State) (xs before reserved after : List (Incoming A)) (x : Incoming A) → ReadsSome state (appended xs before) middle → next_answer middle ≡ Ok (Some (report_of x))
+    → new ≡ after_next middle → is_last (report_of x) ≡ true → take (length xs) before ≡ xs → reserved ≡ before → after ≡ reserved ++ x ∷ [] → Reads state (appended xs after) None new
+reads_last state middle new xs before reserved after x h e l n k r p =
+    let reports = pushed_appended xs before reserved after x k r p in
+    subst (λ (s : State). Reads state (appended xs after) None s) (sym l)
+    (subst (λ (rs : List Report). Reads state rs None (after_next middle)) (sym reports) (last_one state middle (appended xs before) (report_of x) h e n))
+
+-- a stop
+pub reads_stop : {A : Type 0} (state middle new : State) (xs before reserved : List (Incoming A)) (wants : Bool) (why : NextError) → ReadsSome state (appended xs before) middle → middle.core.failed ≡ false
+    → Told middle wants (Err why) → new ≡ left {R = Option Report} middle (after_next middle) (Err why) → reserved ≡ before → ReadsUntil state (appended xs reserved) (Some why) new
+reads_stop state middle new xs before reserved wants why h s t l r =
+    let until = stopped state middle new (appended xs before) why h (told_error middle new wants why s t l) in
+    subst (λ rs. ReadsUntil state (appended xs rs) (Some why) new) (sym r) until

@@ -1,0 +1,126 @@
+//! Whole streams at a client, in pieces.
+ghost use Rattle.std.specs.Prelude.{◌≡◌, ◌≤◌, true, false, [], length, map, take, Some};
+ghost use Rattle.wl_message.specs.Arrived.{free_tokens};
+ghost use Rattle.wl_message.specs.InStep.{part};
+ghost use Rattle.wl_end.specs.Core.{no_room};
+ghost use Rattle.wl_client.specs.Seen.{report_of};
+ghost use Rattle.wl_client.specs.Streams.{is_last, appended, WaitingIsRead, PieceIsRead, ReadsAll};
+
+use crate::client::Client;
+use crate::incoming::Incoming;
+use std::alloc::Allocator;
+use wl_end::ReadAll;
+use wl_message::Piece;
+use wl_objects::{NextError, Table};
+
+impl<'t, T: Table> Client<'t, T> {
+    /// Reads pieces of a stream, in order, and appends what was read to the reports.
+    ///
+    /// All that waits is read before each piece and at the end. A piece is taken in as far as it
+    /// fits, and the rest of it after what waits was read again. Room for a report is made before
+    /// its message is read, and where that is refused `stop` is `Memory`. It ends early where no
+    /// message can be read, after wl_display.error, and before a piece whose tokens do not all fit;
+    /// what was read before stays read.
+    pub fn read_all(
+        &mut self,
+        pieces: &[Piece<'_>],
+        reports: &mut Vec<Incoming<T::Alloc>, T::Alloc>,
+    ) -> ReadAll
+        ensures reports { take (length reports.old.items) reports.new.items ≡ reports.old.items }
+        ensures reads { self.old.core.failed ≡ false → ReadsAll self.old (map part pieces.now) (appended reports.old.items reports.new.items) result self.new }
+
+        // A client that has failed reads nothing, not even where there are no pieces.
+        ensures answer { self.old.core.failed ≡ true → result ≡ record { pieces = 0; part = no_room; stop = Some NextError.Failed } }
+        ensures failed { self.old.core.failed ≡ true → self.new ≡ self.old }
+        ensures nothing { self.old.core.failed ≡ true → reports.new.items ≡ reports.old.items }
+    {
+        if self.has_failed() {
+            return ReadAll::ended(0, Some(NextError::Failed));
+        }
+        for (taken, piece) in pieces.iter().enumerate() {
+            if let Err(stop) = self.read_waiting(reports) {
+                return ReadAll::ended(taken, stop);
+            }
+            if self.in_room().tokens < piece.tokens.len() {
+                return ReadAll::ended(taken, None);
+            }
+            if let Err(end) = self.read_piece(*piece, reports) {
+                return ReadAll {
+                    pieces: taken,
+                    ..end
+                };
+            }
+        }
+        if let Err(stop) = self.read_waiting(reports) {
+            return ReadAll::ended(pieces.len(), stop);
+        }
+        ReadAll::ended(pieces.len(), None)
+    }
+
+    /// Whether the client has failed.
+    fn has_failed(&self) -> bool
+        ensures { result ≡ self.now.core.failed }
+    {
+        self.core.failed
+    }
+
+    /// Reads all that waits; or up to what stops it, or up to wl_display.error, which is no stop.
+    fn read_waiting(
+        &mut self,
+        reports: &mut Vec<Incoming<T::Alloc>, T::Alloc>,
+    ) -> Result<(), Option<NextError>>
+        requires { self.old.core.failed ≡ false }
+        ensures reports { take (length reports.old.items) reports.new.items ≡ reports.old.items }
+        ensures reads { WaitingIsRead self.old (appended reports.old.items reports.new.items) result self.new }
+    {
+        'messages: loop {
+            if reports.reserve(1).is_err() {
+                return Err(Some(NextError::Memory));
+            }
+            match self.next() {
+                Err(why) => return Err(Some(why)),
+                Ok(None) => return Ok(()),
+                Ok(Some(report)) => {
+                    let last = is_last(&report);
+                    reports.push_reserved(report);
+                    if last {
+                        return Err(None);
+                    }
+                }
+            }
+        }
+    }
+
+    /// Takes in a piece whose tokens find room, and reads what waits as often as there is no room
+    /// for the rest of its bytes. The end of an early stop has no whole pieces.
+    fn read_piece(
+        &mut self,
+        piece: Piece<'_>,
+        reports: &mut Vec<Incoming<T::Alloc>, T::Alloc>,
+    ) -> Result<(), ReadAll>
+        requires open { self.old.core.failed ≡ false }
+        requires room { length piece.tokens.now ≤ free_tokens self.old.core.inbox }
+        ensures reports { take (length reports.old.items) reports.new.items ≡ reports.old.items }
+        ensures reads { PieceIsRead self.old (part piece.entry) (appended reports.old.items reports.new.items) result self.new }
+    {
+        let mut part = self.feed(piece.bytes, piece.tokens);
+        'rest: while part.bytes < piece.bytes.len() {
+            if let Err(stop) = self.read_waiting(reports) {
+                return Err(ReadAll {
+                    pieces: 0,
+                    part,
+                    stop,
+                });
+            }
+            part.bytes += self.feed(&piece.bytes[part.bytes..], &[]).bytes;
+        }
+        Ok(())
+    }
+}
+
+/// Whether this is the report of wl_display.error.
+fn is_last<A: Allocator>(report: &Incoming<A>) -> bool
+    ensures { result ≡ is_last (report_of report.now) }
+{
+    matches!(report, Incoming::Error { .. })
+}

@@ -1,0 +1,32 @@
+//! What holds of what an end reads. These functions do nothing: each is called for what it ensures.
+ghost use Rattle.std.specs.Prelude.{◌≡◌, ◌<◌, ℕ, List, [], ◌∷◌, ◌++◌, length};
+ghost use Rattle.std.specs.declared.option.Option.TheVariants.{None, Some};
+ghost use Rattle.std.specs.declared.result.Result.TheVariants.{Ok, Err};
+ghost use Rattle.wl_sigs.specs.declared.signature.Side.{Side};
+ghost use Rattle.wl_message.specs.declared.amounts.Fed.{Fed};
+ghost use Rattle.wl_message.specs.InStep.{Part, Need, part_bytes, part_tokens, InStep};
+ghost use Rattle.wl_objects.specs.declared.error.Fault.{Fault};
+ghost use Rattle.wl_objects.specs.declared.error.Fault.TheVariants as faults;
+ghost use Rattle.wl_end.specs.Core.{Core, with_arrived};
+ghost use Rattle.wl_end.specs.Receiving.{Found, found, reported, past_found};
+ghost use Rattle.wl_end.specs.Streams.{IsTaken, taken_bytes, taken_tokens, untaken, longer};
+
+/// A message that stands in front is found there whatever comes behind it: it is reported by the
+/// same tokens, and what comes stays behind it. So is a fault, but for missing descriptors, which
+/// may still come.
+pub fn found_stays()
+    ensures message { (core : Core) (side : Side) (f : Found) (bytes tokens : List ℕ) → found core side ≡ Ok (Some f) → found (with_arrived core bytes tokens) side ≡ Ok (Some f) }
+    ensures report { (core : Core) (side : Side) (f : Found) (bytes tokens : List ℕ) → found core side ≡ Ok (Some f) → reported (with_arrived core bytes tokens) f.message ≡ reported core f.message }
+    ensures behind { (core : Core) (side : Side) (f : Found) (bytes tokens : List ℕ) → found core side ≡ Ok (Some f) → past_found (with_arrived core bytes tokens) f ≡ with_arrived (past_found core f) bytes tokens }
+    ensures fault { (core : Core) (side : Side) (what : Fault) (bytes tokens : List ℕ) → found core side ≡ Err what → (what ≡ faults.MissingDescriptor → tokens ≡ []) → found (with_arrived core bytes tokens) side ≡ Err what }
+    ensures short { (core : Core) (side : Side) → found core side ≡ Ok None → length core.inbox.bytes < 4096 }
+{}
+
+/// What was taken of pieces, and what was not, are all; and pieces in step stay so when what was
+/// taken of them joins what waits.
+pub fn taking_keeps_pieces()
+    ensures bytes { (pieces : List Part) (count : ℕ) (some : Fed) → taken_bytes pieces count some ++ part_bytes (untaken pieces count some) ≡ part_bytes pieces }
+    ensures tokens { (pieces : List Part) (count : ℕ) (some : Fed) → taken_tokens pieces count some ++ part_tokens (untaken pieces count some) ≡ part_tokens pieces }
+    ensures step { (needs : List Need) (waits : Part) (pieces : List Part) (count : ℕ) (some : Fed) → IsTaken pieces count some → InStep needs (waits ∷ pieces)
+        → InStep needs (longer waits (taken_bytes pieces count some) (taken_tokens pieces count some) ∷ untaken pieces count some) }
+{}

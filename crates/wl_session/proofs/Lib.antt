@@ -1,0 +1,5 @@
+pub mod Outcomes
+pub mod Boxes
+pub mod Moving
+pub mod Lists
+pub mod Same

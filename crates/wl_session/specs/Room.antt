@@ -1,0 +1,21 @@
+-- How much a pair can carry at once.
+use Rattle.std.specs.Prelude.{◌≡◌, ℕ, ◌≤◌, List, [], ◌∷◌, Option, Some}
+use Rattle.wl_objects.specs.declared.object.Entry.{Entry}
+use Rattle.wl_objects.specs.declared.object.State.TheVariants as states
+use Rattle.wl_recording.specs.Piece.{Piece, with_last_bytes}
+use Rattle.wl_message.specs.Arrived.{Arrived}
+
+-- whatever fits into an inbox fits into so many bytes and tokens
+pub record Holds (bytes tokens : ℕ) (inbox : Arrived) : Type 0 where
+  pub bytes_fit : inbox.capacity ≤ bytes
+  pub tokens_fit : inbox.token_capacity ≤ tokens
+
+-- the pieces with these bytes in the last, if they are any
+abbrev pub filled : List Piece → List ℕ → List Piece
+filled pieces [] = pieces
+filled pieces (byte ∷ bytes) = with_last_bytes pieces (byte ∷ bytes)
+
+-- these are the same live object, or none
+pub record AreSame (client server : Option Entry) : Type 0 where
+  pub same : client ≡ server
+  pub live : (e : Entry) → client ≡ Some e → e.state ≡ states.Live

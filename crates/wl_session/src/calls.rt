@@ -1,0 +1,99 @@
+//! The calls of the two ends, as the pair does them.
+ghost use Rattle.wl_objects.specs.Writing.{given};
+ghost use Rattle.wl_client.specs.Seen as client_seen;
+ghost use Rattle.wl_server.specs.Seen as server_seen;
+ghost use Rattle.wl_world.specs.Pair.{Does, ClientSend, ClientBind, ServerSend, ServerDrop, PostError, AddGlobal, Withdraw, Announce, ClientNext, ServerNext};
+
+use crate::pair::Pair;
+use wl_client::Incoming;
+use wl_objects::{Arg, NextError, Object, SendError, Table};
+use wl_server::{GlobalError, Request};
+use wl_wire::Iface;
+
+impl<'t, T: Table> Pair<'t, T> {
+    pub(crate) fn client_send(
+        &mut self,
+        target: Object,
+        opcode: u16,
+        args: &[Arg<'_>],
+    ) -> Result<Option<Object>, SendError>
+        ensures { Does self.old (ClientSend target opcode (given args.now)) (ClientSend result) self.new }
+    {
+        self.client.send(target, opcode, args)
+    }
+
+    pub(crate) fn client_bind(
+        &mut self,
+        registry: Object,
+        name: u32,
+        iface: &[u8],
+        version: u32,
+    ) -> Result<Object, SendError>
+        ensures { Does self.old (ClientBind registry name iface.now version) (ClientBind (client_seen.new_in result)) self.new }
+    {
+        self.client.bind(registry, name, iface, version)
+    }
+
+    pub(crate) fn server_send(
+        &mut self,
+        target: Object,
+        opcode: u16,
+        args: &[Arg<'_>],
+    ) -> Result<Option<Object>, SendError>
+        ensures { Does self.old (ServerSend target opcode (given args.now)) (ServerSend result) self.new }
+    {
+        self.server.send(target, opcode, args)
+    }
+
+    pub(crate) fn server_drop(&mut self, object: Object) -> Result<(), SendError>
+        ensures { Does self.old (ServerDrop object) (ServerDrop result) self.new }
+    {
+        self.server.drop_object(object)
+    }
+
+    /// The first error that is accepted sets the mark.
+    pub(crate) fn post_error(
+        &mut self,
+        object: Object,
+        code: u32,
+        text: &[u8],
+    ) -> Result<(), SendError>
+        ensures { Does self.old (PostError object code text.now) (PostError result) self.new }
+    {
+        self.server.post_error(object, code, text)?;
+        if self.ended_at.is_none() {
+            self.ended_at = Some(self.recording.pieces().len());
+        }
+        Ok(())
+    }
+
+    pub(crate) fn add_global(&mut self, iface: Iface, version: u32) -> Result<u32, GlobalError>
+        ensures { Does self.old (AddGlobal iface version) (AddGlobal result) self.new }
+    {
+        self.server.add_global(iface, version)
+    }
+
+    pub(crate) fn withdraw(&mut self, name: u32) -> Result<(), GlobalError>
+        ensures { Does self.old (Withdraw name) (Withdraw result) self.new }
+    {
+        self.server.withdraw(name)
+    }
+
+    pub(crate) fn announce(&mut self) -> Result<usize, SendError>
+        ensures { Does self.old Announce (Announce result) self.new }
+    {
+        self.server.announce()
+    }
+
+    pub(crate) fn client_next(&mut self) -> Result<Option<Incoming<T::Alloc>>, NextError>
+        ensures { Does self.old ClientNext (ClientNext (client_seen.report_in result)) self.new }
+    {
+        self.client.next()
+    }
+
+    pub(crate) fn server_next(&mut self) -> Result<Option<Request<T::Alloc>>, NextError>
+        ensures { Does self.old ServerNext (ServerNext (server_seen.report_in result)) self.new }
+    {
+        self.server.next()
+    }
+}

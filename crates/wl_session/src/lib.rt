@@ -1,0 +1,16 @@
+//! Both ends of a Wayland connection together, with nothing between: what they are told to do, and
+//! what they answer.
+#![tactic(auto)]
+
+mod agreeing;
+mod calls;
+mod carrying;
+mod lending;
+mod moves;
+mod pair;
+mod running;
+#[cfg(test)]
+mod tests;
+
+pub use moves::{Carried, Move, Reply, SendArg};
+pub use pair::Pair;

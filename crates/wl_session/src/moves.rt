@@ -1,0 +1,109 @@
+//! What can be done with a pair, and what it answers.
+
+use std::alloc::{Allocator, Global};
+use wl_client::Incoming;
+use wl_message::Fed;
+use wl_objects::{NextError, Object, SendError};
+use wl_server::{GlobalError, Request};
+use wl_wire::{Fixed, Iface};
+
+/// One argument of a message that is to be written, in memory of its own.
+#[derive(Debug, Drop)]
+pub enum SendArg<A: Allocator = Global> {
+    Int(i32),
+    Uint(u32),
+    Fixed(Fixed),
+    /// A string without a NUL, or none for the null string.
+    Str(Option<Vec<u8, A>>),
+    /// A live object, or none for the null object.
+    Obj(Option<Object>),
+    /// The place of the new object, which the call makes.
+    New,
+    Array(Vec<u8, A>),
+    /// The token that stands for a descriptor.
+    Fd(u32),
+}
+
+/// One thing to do with a pair: a call of one of its ends, or a carry between them.
+#[derive(Debug, Drop)]
+pub enum Move<A: Allocator = Global> {
+    /// The client sends a request.
+    ClientSend {
+        target: Object,
+        opcode: u16,
+        args: Vec<SendArg<A>, A>,
+    },
+    /// The client binds a global.
+    ClientBind {
+        registry: Object,
+        name: u32,
+        iface: Vec<u8, A>,
+        version: u32,
+    },
+    /// The server sends an event.
+    ServerSend {
+        target: Object,
+        opcode: u16,
+        args: Vec<SendArg<A>, A>,
+    },
+    /// The server ends an object without an event.
+    ServerDrop {
+        object: Object,
+    },
+    /// The server posts an error, which ends the session.
+    PostError {
+        object: Object,
+        code: u32,
+        text: Vec<u8, A>,
+    },
+    /// The server gives a global.
+    AddGlobal {
+        iface: Iface,
+        version: u32,
+    },
+    /// The server withdraws a global.
+    Withdraw {
+        name: u32,
+    },
+    /// The server tells its registries of globals.
+    Announce,
+    /// At most so many bytes go from the client to the server, and at most what its inbox has room for.
+    CarryToServer {
+        most: usize,
+    },
+    /// At most so many bytes go from the server to the client, and at most what its inbox has room for.
+    CarryToClient {
+        most: usize,
+    },
+    /// The client reads a message.
+    ClientNext,
+    /// The server reads a message.
+    ServerNext,
+}
+
+/// What a carry did.
+#[derive(Clone, Copy, Debug, PartialEq, Eq)]
+pub enum Carried {
+    /// So much went.
+    Moved(Fed),
+    /// There is no memory to record what would go, and nothing went.
+    Memory,
+}
+
+/// What a move is answered: what its call answered, under the move's name.
+#[derive(Debug, Drop)]
+pub enum Reply<A: Allocator = Global> {
+    ClientSend(Result<Option<Object>, SendError>),
+    ClientBind(Result<Object, SendError>),
+    ServerSend(Result<Option<Object>, SendError>),
+    ServerDrop(Result<(), SendError>),
+    PostError(Result<(), SendError>),
+    AddGlobal(Result<u32, GlobalError>),
+    Withdraw(Result<(), GlobalError>),
+    /// How many events were written.
+    Announce(Result<usize, SendError>),
+    CarryToServer(Carried),
+    CarryToClient(Carried),
+    ClientNext(Result<Option<Incoming<A>>, NextError>),
+    ServerNext(Result<Option<Request<A>>, NextError>),
+}

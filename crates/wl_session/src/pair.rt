@@ -1,0 +1,124 @@
+//! A client and a server.
+ghost use Rattle.std.specs.Prelude.{◌≡◌, ◌↔◌, ◌≤◌, IfOk, IsTrue};
+ghost use Rattle.std.specs.FinMap.{len as row_count};
+ghost use Rattle.wl_sigs.specs.Valid.{Valid};
+ghost use Rattle.wl_message.specs.Arrived.{AreSizes};
+ghost use Rattle.wl_world.specs.World.{opening};
+ghost use Rattle.wl_world.specs.Pair.{new_pair, drained};
+ghost use Rattle.wl_world.specs.Stands.{Stands};
+
+use std::alloc::AllocError;
+use std::marker::Model;
+use wl_client::Client;
+use wl_message::Sizes;
+use wl_objects::{DISPLAY, Table};
+use wl_recording::Recording;
+use wl_server::Server;
+use wl_sigs::Tables;
+
+/// The most tokens that an inbox holds, and so the most that a carry moves.
+const MOST_TOKENS: usize = 65_536;
+
+/// A client and a server with nothing between, and what was carried from one to the other.
+#[derive(Drop)]
+pub struct Pair<'t, T: Table> {
+    pub(crate) client: Client<'t, T>,
+    pub(crate) server: Server<'t, T>,
+    pub(crate) recording: Recording<T::Alloc>,
+    pub(crate) ended_at: Option<usize>,
+    // What is on its way in a carry.
+    pub(crate) bytes: Vec<u8, T::Alloc>,
+    pub(crate) tokens: Vec<u32, T::Alloc>,
+    // What gives lists of replies their memory.
+    pub(crate) alloc: T::Alloc,
+}
+
+impl<'t, T: Table> Model for Pair<'t, T> {
+    ghost use Rattle.std.specs.Prelude.{◌≤◌, length};
+    ghost use Rattle.std.specs.Coded.{codes};
+    ghost use Rattle.wl_objects.specs.View.{view_code};
+    ghost use Rattle.wl_world.specs.Pair.{PairState};
+    ghost use Rattle.wl_session.specs.Room.{Holds};
+
+    ghost Value = { PairState };
+
+    ghost coded = { Prim.hlevel (codes, view_code) };
+
+    ghost view = { λ p. record { client = p.client; server = p.server; recording = p.recording; ended_at = p.ended_at } };
+
+    ghost invariant = { λ p. record {
+      client_fits : Holds (length p.bytes.items) (length p.tokens.items) p.client.core.inbox;
+      server_fits : Holds (length p.bytes.items) (length p.tokens.items) p.server.core.inbox;
+      few_tokens : length p.tokens.items ≤ 65536;
+    } };
+}
+
+impl<'t, T: Table + Drop> Pair<'t, T> {
+    /// Both ends as they begin: wl_display at each, empty boxes of these sizes, no globals. What a
+    /// carry needs beside the recording is made here.
+    pub fn new(
+        alloc: T::Alloc,
+        tables: &'t Tables,
+        client: Sizes,
+        server: Sizes,
+    ) -> Result<Self, AllocError>
+        requires client { AreSizes client }
+        requires server { AreSizes server }
+        ensures begins { IfOk result (λ pair. pair ≡ new_pair tables.now client server) }
+        ensures stands { IfOk result (λ pair. Stands pair opening) }
+    {
+        know_valid(tables);
+        let most_bytes = client.in_bytes.max(server.in_bytes);
+        let bytes = vec![in alloc.clone()?; 0u8; most_bytes]?;
+        let tokens = vec![in alloc.clone()?; 0u32; MOST_TOKENS]?;
+        let recording = Recording::new(alloc.clone()?);
+        let client = Client::new(alloc.clone()?, tables, client)?;
+        let server = Server::new(alloc.clone()?, tables, server)?;
+        Ok(Pair {
+            client,
+            server,
+            recording,
+            ended_at: None,
+            bytes,
+            tokens,
+            alloc,
+        })
+    }
+}
+
+impl<'t, T: Table> Pair<'t, T> {
+    /// Whether nothing waits in any of the four boxes.
+    pub fn drained(&self) -> bool
+        ensures { IsTrue result ↔ drained self.now }
+    {
+        self.client.is_drained() && self.server.is_drained()
+    }
+
+    /// How many objects the client has, those among them that it has destroyed.
+    pub fn len(&self) -> usize
+        ensures { result ≡ row_count self.now.client.core.view.rows }
+    {
+        self.client.table().len() as usize
+    }
+
+    /// What was carried, piece by piece.
+    pub fn recording(&self) -> &Recording<T::Alloc>
+        ensures { result.now ≡ self.now.recording }
+    {
+        &self.recording
+    }
+
+    /// How many pieces were recorded when the first error was posted.
+    pub fn ended_at(&self) -> Option<usize>
+        ensures { result ≡ self.now.ended_at }
+    {
+        self.ended_at
+    }
+}
+
+// All tables are valid.
+fn know_valid(tables: &Tables)
+    ensures { Valid tables.now }
+{
+    let _version = tables.version(DISPLAY);
+}
