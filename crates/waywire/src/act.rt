@@ -7,6 +7,7 @@ ghost use Rattle.waywire.specs.Failing.{IsReadFailure, IsRefusal};
 ghost use Rattle.waywire.specs.Output.{IsChecked, IsTraced, IsDone, ReadsFile};
 ghost use Rattle.wl_recording.specs.Text.{IsFirstBad};
 
+use crate::demo::demo;
 use crate::failure::Failure;
 use crate::job::Job;
 use crate::verdict::{status_of, write_broken, write_verdict};
@@ -108,8 +109,8 @@ fn output<'a, 'b, A: Allocator, R: Read>(
             let text = contents(alloc, name.as_str(), file)?;
             checked(alloc, &Tables::core(global)?, &text)
         }
-        Job::Demo { .. } => Ok(Printed {
-            text: Vec::new(alloc),
+        Job::Demo { piece } => Ok(Printed {
+            text: demo(alloc, &Tables::core(global)?, *piece)?,
             status: 0,
         }),
     }

@@ -2,6 +2,7 @@
 #![tactic(auto)]
 
 mod act;
+mod demo;
 mod failure;
 mod job;
 mod verdict;
