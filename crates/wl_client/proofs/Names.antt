@@ -1,0 +1,24 @@
+-- The names of interfaces can be written.
+use Rattle.std.proofs.Common.{◌≡◌, ◌≢◌, ℕ, ◌+◌, ◌<◌, ◌≤◌, ◌⊎◌, List, length, arith, inl, inr}
+use Rattle.std.proofs.lemmas.List.Elements.{All-weaker}
+use Rattle.std.specs.Prelude.{option_map}
+use Rattle.std.specs.declared.option.Option.{Option}
+use Rattle.std.specs.declared.option.Option.TheVariants.{None, Some}
+use Rattle.wl_wire.specs.Spelling.{IsText}
+use Rattle.wl_sigs.specs.Tables.{Interface, interface_at}
+use Rattle.wl_sigs.specs.Valid.{Valid, IsName, IsNameByte}
+use Rattle.wl_client.specs.Binding.{FitsBind}
+
+not_zero : (b : ℕ) → IsNameByte b → b ≢ 0
+not_zero b (inl h) e = omega arith
+not_zero b (inr (inl h)) e = omega arith
+not_zero b (inr (inr h)) e = omega arith
+
+text : (name : List ℕ) → IsName name → IsText name
+text name h = record { no_nul = All-weaker IsNameByte (λ b. b ≢ 0) not_zero name h.bytes; len = omega (arith, h.few) }
+
+pub name_fits : (name : List ℕ) → IsName name → FitsBind name
+name_fits name h = record {
+  fits = λ n version id. (tt, (text name h, tt));
+  len = λ n version id. omega (arith, h.few);
+}
