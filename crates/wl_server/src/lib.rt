@@ -10,6 +10,8 @@ mod receiving;
 mod request;
 mod server;
 mod step;
+#[cfg(test)]
+mod tests;
 
 pub use request::{GlobalError, Request};
 pub use server::Server;
