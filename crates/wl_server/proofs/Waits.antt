@@ -181,3 +181,12 @@ pub reads_stop : {A : Type 0} (state middle new : State) (xs before reserved : L
 reads_stop state middle new xs before reserved wants why h s t l r =
     let until = stopped state middle new (appended xs before) why h (told_error middle new wants why s t l) in
     subst (λ rs. ReadsUntil state (appended xs rs) (Some why) new) (sym r) until
+
+-- nothing more
+pub reads_end : {A : Type 0} (state middle new : State) (xs before reserved : List (Request A)) (wants : Bool) (some : Option (Request A)) → ReadsSome state (appended xs before) middle → some ≡ None
+    → Told middle wants (report_in (Ok some)) → new ≡ left middle (after_next middle) (report_in (Ok some)) → reserved ≡ before → ReadsSome state (appended xs reserved) new × (next_answer new ≡ Ok None)
+reads_end state middle new xs before reserved wants some h n t l r =
+    let e : next_answer middle ≡ Ok None = told_none middle new wants (subst (λ (o : Option (Request _)). Told middle wants (report_in (Ok o))) n t) in
+    let same : new ≡ middle = l ∙ ap (λ (o : Option (Request _)). left middle (after_next middle) (report_in (Ok o))) n ∙ none_leaves middle e in
+    let both : State → Type 0 = λ (s : State). ReadsSome state (appended xs reserved) s × (next_answer s ≡ Ok None) in
+    subst both (sym same) (subst (λ rs. ReadsSome state (appended xs rs) middle) (sym r) h, e)

@@ -5,8 +5,8 @@ ghost use Rattle.wl_message.specs.InStep.{part};
 ghost use Rattle.wl_end.specs.Core.{no_room};
 ghost use Rattle.wl_server.specs.Streams.{appended, WaitingIsRead, PieceIsRead, ReadsAll};
 
-use crate::server::Server;
 use crate::request::Request;
+use crate::server::Server;
 use wl_end::ReadAll;
 use wl_message::Piece;
 use wl_objects::{NextError, Table};
@@ -75,9 +75,10 @@ impl<'t, T: Table> Server<'t, T> {
             if reports.reserve(1).is_err() {
                 return Err(NextError::Memory);
             }
-            match self.next()? {
-                None => return Ok(()),
-                Some(report) => reports.push_reserved(report),
+            match self.next() {
+                Err(why) => return Err(why),
+                Ok(None) => return Ok(()),
+                Ok(Some(report)) => reports.push_reserved(report),
             }
         }
     }

@@ -2,8 +2,10 @@
 use crate::{Move, Pair, Reply, SendArg};
 use std::alloc::{AllocError, Global};
 use std::test::Fail;
+use wl_check::{Verdict, check};
 use wl_message::Sizes;
 use wl_objects::{MapTable, Object};
+use wl_recording::Recording;
 use wl_sigs::Tables;
 
 mod endings;
@@ -94,6 +96,14 @@ fn turn(alloc: Global, pair: &mut Plain<'_>) -> Result<(), AllocError> {
     }
     let _ = pair.run(moves.as_slice())?;
     Ok(())
+}
+
+/// Whether a recording breaks no rule.
+fn is_lawful(alloc: Global, tables: &Tables, recording: &Recording) -> Result<bool, AllocError> {
+    match check(alloc, recording, tables)? {
+        Verdict::Lawful { .. } => Ok(true),
+        Verdict::Broken { .. } => Ok(false),
+    }
 }
 
 /// A pair whose client has bound wl_compositor (name 1) and wl_seat (name 2), and has a surface, a

@@ -1,10 +1,11 @@
 //! An error, and what is recorded up to it.
-use super::{DISPLAY, answer, making, set_up, turn};
+use super::{DISPLAY, answer, is_lawful, making, set_up, turn};
 use crate::{Carried, Move, Reply};
 use std::test::Fail;
 use wl_client::Incoming;
 use wl_message::Fed;
 use wl_objects::SendError;
+use wl_recording::Recording;
 use wl_sigs::Tables;
 
 #[test]
@@ -44,6 +45,12 @@ fn the_first_error_sets_the_mark(rt: HostRuntime) -> Result<(), Fail> {
     }
     assert_eq!(rt; pair.ended_at(), Some(before));
     assert_eq!(rt; pair.recording().pieces().len(), before + 1);
+    let mut kept = Recording::new(rt.alloc());
+    for piece in pair.recording().pieces().iter().take(before) {
+        assert!(rt; piece.tokens < 65_536);
+        kept.add(piece.direction, piece.bytes.as_slice(), piece.tokens)?;
+    }
+    assert!(rt; is_lawful(rt.alloc(), &tables, &kept)?);
     let _ = answer(&mut pair, Move::CarryToClient { most: 100 })?;
     match answer(&mut pair, Move::ClientNext)? {
         Reply::ClientNext(Ok(Some(Incoming::Error { code, .. }))) => assert_eq!(rt; code, 3),

@@ -1,5 +1,5 @@
 //! Some thousand moves by a fixed list of numbers, over small boxes.
-use super::{DISPLAY, Plain, REGISTRY, answer};
+use super::{DISPLAY, Plain, REGISTRY, answer, is_lawful};
 use crate::{Move, Reply, SendArg};
 use std::alloc::{AllocError, Global};
 use std::test::Fail;
@@ -192,6 +192,10 @@ fn whatever_is_done_both_ends_agree_in_the_end(rt: HostRuntime) -> Result<(), Fa
         assert!(rt; pair.agree(), "seed {seed}");
         assert!(rt; 3 < pair.len(), "seed {seed}");
         assert!(rt; 100 < pair.recording().pieces().len(), "seed {seed}");
+        assert!(rt;
+            is_lawful(rt.alloc(), &tables, pair.recording())?,
+            "seed {seed}"
+        );
     }
     Ok(())
 }

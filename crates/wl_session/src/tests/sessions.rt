@@ -1,7 +1,7 @@
 //! Objects that one end has destroyed and the other still names, and ids that are used again.
 use super::{
     COMPOSITOR, DISPLAY, KEYBOARD, OTHER_KEYBOARD, POINTER, Plain, SIZES, SURFACE, answer, binding,
-    made, making, set_up, telling, turn,
+    is_lawful, made, making, set_up, telling, turn,
 };
 use crate::{Move, Reply, SendArg};
 use std::test::Fail;
@@ -18,6 +18,7 @@ fn a_pair_is_set_up(rt: HostRuntime) -> Result<(), Fail> {
     assert!(rt; pair.agree());
     assert_eq!(rt; pair.len(), 8);
     assert_eq!(rt; pair.ended_at(), None);
+    assert!(rt; is_lawful(rt.alloc(), &tables, pair.recording())?);
     Ok(())
 }
 
@@ -87,6 +88,7 @@ fn an_event_names_an_object_that_is_destroyed(rt: HostRuntime) -> Result<(), Fai
     assert!(rt; pair.agree());
     let next = made(&mut pair, making(rt.alloc(), COMPOSITOR, 0)?)?;
     assert_eq!(rt; next, Object { id: 4, birth: 8 });
+    assert!(rt; is_lawful(rt.alloc(), &tables, pair.recording())?);
     Ok(())
 }
 
@@ -143,6 +145,7 @@ fn an_event_for_a_destroyed_object_gives_its_token(rt: HostRuntime) -> Result<()
     assert!(rt; pair.drained());
     assert!(rt; pair.agree());
     assert_eq!(rt; pair.len(), 7);
+    assert!(rt; is_lawful(rt.alloc(), &tables, pair.recording())?);
     Ok(())
 }
 
@@ -181,6 +184,7 @@ fn an_id_is_used_again(rt: HostRuntime) -> Result<(), Fail> {
     }
     let again = made(&mut pair, making(rt.alloc(), DISPLAY, 0)?)?;
     assert_eq!(rt; again, Object { id: 2, birth: 2 });
+    assert!(rt; is_lawful(rt.alloc(), &tables, pair.recording())?);
     Ok(())
 }
 
@@ -210,6 +214,7 @@ fn a_callback_ends_without_its_event(rt: HostRuntime) -> Result<(), Fail> {
     assert!(rt; pair.drained());
     assert!(rt; pair.agree());
     assert_eq!(rt; pair.len(), 8);
+    assert!(rt; is_lawful(rt.alloc(), &tables, pair.recording())?);
     Ok(())
 }
 
@@ -231,5 +236,6 @@ fn a_withdrawn_global_is_still_bound(rt: HostRuntime) -> Result<(), Fail> {
     assert!(rt; pair.drained());
     assert!(rt; pair.agree());
     assert_eq!(rt; pair.len(), 9);
+    assert!(rt; is_lawful(rt.alloc(), &tables, pair.recording())?);
     Ok(())
 }

@@ -25,8 +25,8 @@ returns-in-Err-clause-reads g c =
     let all : take c.rest.part.tokens c.args.piece.tokens.now ≡ c.args.piece.tokens.now = take_all c.rest.part.tokens c.args.piece.tokens.now (omega (arith, c.rest.invariant.tokens)) in (
       subst (λ (t : List ℕ). ReadsUntil (arrived c.args.self.now (take c.rest.part.bytes c.args.piece.bytes.now) t) (appended c.args.reports.now.items c.read_waiting.new.reports.items) (Some c.in-Err.why) c.read_waiting.new.self) (sym all)
           (until_again (arrived c.args.self.now (take c.rest.part.bytes c.args.piece.bytes.now) c.args.piece.tokens.now) c.rest.self c.read_waiting.new.self c.args.reports.now.items c.rest.reports.items c.read_waiting.new.reports.items (Some c.in-Err.why)
-          c.rest.invariant.some c.rest.invariant.kept c.in-Err.ensures.reports c.in-Err.ensures.reads.0),
-      c.in-Err.ensures.reads.1,
+          c.rest.invariant.some c.rest.invariant.kept c.in-Err.ensures.reports c.in-Err.ensures.reads),
+      λ e. absurd (cc e),
       c.rest-test.true,
       c.rest.invariant.tokens,
       refl,
