@@ -1,5 +1,5 @@
 //! Some thousand moves by a fixed list of numbers, over small boxes.
-use super::{DISPLAY, Plain, REGISTRY, answer, is_lawful};
+use super::{DISPLAY, Plain, REGISTRY, answer, is_lawful, made, making, telling};
 use crate::{Move, Reply, SendArg};
 use std::alloc::{AllocError, Global};
 use std::test::Fail;
@@ -76,12 +76,29 @@ fn by_client(alloc: Global, numbers: &mut Numbers, objects: &[Object]) -> Result
             },
             version: 1 + numbers.below(3) as u32,
         }),
+        1 => telling_any(alloc, numbers, objects),
+        2 | 3 => making(alloc, any(numbers, objects), numbers.below(4) as u16),
         _ => Ok(Move::ClientSend {
             target: any(numbers, objects),
             opcode: numbers.below(8) as u16,
             args: arguments(alloc, numbers, objects)?,
         }),
     }
+}
+
+/// A request without arguments, as those that destroy an object are.
+fn telling_any(
+    alloc: Global,
+    numbers: &mut Numbers,
+    objects: &[Object],
+) -> Result<Move, AllocError> {
+    let target = any(numbers, objects);
+    Ok(match numbers.below(4) {
+        0 => telling(alloc, target, 0),
+        1 => telling(alloc, target, 3),
+        2 => telling(alloc, target, 6),
+        _ => telling(alloc, target, 1),
+    })
 }
 
 /// A move that the server makes.
@@ -109,6 +126,11 @@ fn by_server(
             object: any(numbers, objects),
         }),
         3 | 4 => Ok(Move::Announce),
+        5 | 6 | 7 => Ok(Move::ServerSend {
+            target: any(numbers, objects),
+            opcode: 0,
+            args: vec![in alloc; SendArg::Uint(7)]?,
+        }),
         _ => Ok(Move::ServerSend {
             target: any(numbers, objects),
             opcode: numbers.below(4) as u16,
@@ -181,7 +203,7 @@ fn whatever_is_done_both_ends_agree_in_the_end(rt: HostRuntime) -> Result<(), Fa
         let mut pair = Plain::new(rt.alloc(), &tables, SMALL, SMALL)?;
         let mut objects = Vec::new(rt.alloc());
         objects.push(DISPLAY)?;
-        objects.push(REGISTRY)?;
+        objects.push(made(&mut pair, making(rt.alloc(), DISPLAY, 1)?)?)?;
         for _ in 0..1500 {
             let action = any_move(rt.alloc(), &tables, &mut numbers, objects.as_slice())?;
             let reply = answer(&mut pair, action)?;
