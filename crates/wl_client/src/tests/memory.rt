@@ -179,7 +179,7 @@ fn some_reports_take_no_memory(rt: HostRuntime) -> Result<(), Fail> {
     let tables = Tables::core(rt.alloc())?;
     let memory = RefusingAllocator::new(rt.alloc())?;
     let mut client = Refused::new(memory.clone()?, &tables, SIZES)?;
-    let pointer = client.core.table.open_next(wl_wire::Iface(10), 9)?;
+    let pointer = open(&mut client, Iface(10), 9)?;
     memory.refuse_nth(0);
     // wl_pointer.frame
     match read(&mut client, b"\x02\0\0\0\x05\0\x08\0", &[])? {
