@@ -150,7 +150,7 @@ fn a_bind_is_of_what_was_advertised(rt: HostRuntime) -> Result<(), Fail> {
         client.bind(REGISTRY, 1, b"wl_compositor", 6),
         Ok(COMPOSITOR)
     );
-    let mut bytes = [0; 64];
+    let mut bytes = [0; 52];
     assert_eq!(rt;
         client.goes(64, 0),
         Taken {
@@ -166,7 +166,7 @@ fn a_bind_is_of_what_was_advertised(rt: HostRuntime) -> Result<(), Fail> {
         }
     );
     assert_eq!(rt;
-        &bytes[..52],
+        bytes.as_slice(),
         b"\x01\0\0\0\x01\0\x0c\0\x02\0\0\0\x02\0\0\0\0\0\x28\0\x01\0\0\0\x0e\0\0\0wl_compositor\0\0\0\x06\0\0\0\x03\0\0\0".as_slice()
     );
     Ok(())
