@@ -57,7 +57,13 @@ fn the_tokens_of_a_zombie_are_handed_out(rt: HostRuntime) -> Result<(), Fail> {
         b"\x06\0\0\0\0\0\x10\0\x01\0\0\0\x0a\0\0\0\x07\0\0\0\0\0\x10\0\x01\0\0\0\x0a\0\0\0";
     let report = read(&mut client, keymaps, &[7, 8])?;
     match &report {
-        Some(Incoming::Discarded { target, opcode, tokens }) => {
+        Some(
+            Incoming::Discarded {
+                target,
+                opcode,
+                tokens,
+            },
+        ) => {
             assert_eq!(rt; *target, first);
             assert_eq!(rt; *opcode, 0);
             assert_eq!(rt; tokens.as_slice(), [7].as_slice());
@@ -66,7 +72,13 @@ fn the_tokens_of_a_zombie_are_handed_out(rt: HostRuntime) -> Result<(), Fail> {
     }
     let report = client.next()?;
     match &report {
-        Some(Incoming::Event { target, opcode, args }) => {
+        Some(
+            Incoming::Event {
+                target,
+                opcode,
+                args,
+            },
+        ) => {
             assert_eq!(rt; *target, second);
             assert_eq!(rt; *opcode, 0);
             match args.as_slice() {
@@ -100,7 +112,13 @@ fn an_event_can_name_a_zombie(rt: HostRuntime) -> Result<(), Fail> {
     let enter = b"\x06\0\0\0\0\0\x18\0\x01\0\0\0\x04\0\0\0\0\x01\0\0\0\0\0\0";
     let report = read(&mut client, enter, &[])?;
     match &report {
-        Some(Incoming::Event { target, opcode, args }) => {
+        Some(
+            Incoming::Event {
+                target,
+                opcode,
+                args,
+            },
+        ) => {
             assert_eq!(rt; *target, Object { id: 6, birth: 5 });
             assert_eq!(rt; *opcode, 0);
             match args.as_slice() {
@@ -125,7 +143,13 @@ fn the_registry_teaches_globals(rt: HostRuntime) -> Result<(), Fail> {
     let unknown = b"\x02\0\0\0\0\0\x18\0\x01\0\0\0\x04\0\0\0xyz\0\x06\0\0\0";
     let report = read(&mut client, unknown, &[])?;
     match &report {
-        Some(Incoming::Event { target, opcode, args }) => {
+        Some(
+            Incoming::Event {
+                target,
+                opcode,
+                args,
+            },
+        ) => {
             assert_eq!(rt; *target, REGISTRY);
             assert_eq!(rt; *opcode, 0);
             assert_eq!(rt; args.as_slice().len(), 3);
@@ -159,7 +183,14 @@ fn an_error_may_name_an_unknown_object(rt: HostRuntime) -> Result<(), Fail> {
     let error = b"\x01\0\0\0\0\0\x18\0\x09\0\0\0\x02\0\0\0\x04\0\0\0bad\0";
     let report = read(&mut client, error, &[])?;
     match &report {
-        Some(Incoming::Error { id, named, code, text }) => {
+        Some(
+            Incoming::Error {
+                id,
+                named,
+                code,
+                text,
+            },
+        ) => {
             assert_eq!(rt; *id, 9);
             assert_eq!(rt; *named, Named::Null);
             assert_eq!(rt; *code, 2);

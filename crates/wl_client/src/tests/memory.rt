@@ -156,7 +156,14 @@ fn an_error_that_finds_no_memory_stays(rt: HostRuntime) -> Result<(), Fail> {
     }
     let report = client.next()?;
     match &report {
-        Some(Incoming::Error { id, named, code, text }) => {
+        Some(
+            Incoming::Error {
+                id,
+                named,
+                code,
+                text,
+            },
+        ) => {
             assert_eq!(rt; *id, 1);
             assert_eq!(rt; *named, Named::Live(Object { id: 1, birth: 0 }));
             assert_eq!(rt; *code, 2);
@@ -178,7 +185,13 @@ fn some_reports_take_no_memory(rt: HostRuntime) -> Result<(), Fail> {
     // wl_pointer.frame
     let report = read(&mut client, b"\x02\0\0\0\x05\0\x08\0", &[])?;
     match &report {
-        Some(Incoming::Event { target, opcode, args }) => {
+        Some(
+            Incoming::Event {
+                target,
+                opcode,
+                args,
+            },
+        ) => {
             assert_eq!(rt; *target, pointer);
             assert_eq!(rt; *opcode, 5);
             assert_eq!(rt; args.as_slice().len(), 0);
