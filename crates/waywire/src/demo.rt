@@ -139,10 +139,10 @@ fn play_turn<A: Allocator + Clone + Drop>(
     answers: &[Move<A>],
 ) -> Result<(), AllocError> {
     run_all(pair, writes)?;
-    repeat(pair, Move::CarryToServer { most: piece }, MOST_CARRIES)?;
+    repeat(pair, Move::CarryToServer(piece), MOST_CARRIES)?;
     repeat(pair, Move::ServerNext, MOST_READS)?;
     run_all(pair, answers)?;
-    repeat(pair, Move::CarryToClient { most: piece }, MOST_CARRIES)?;
+    repeat(pair, Move::CarryToClient(piece), MOST_CARRIES)?;
     repeat(pair, Move::ClientNext, MOST_READS)
 }
 

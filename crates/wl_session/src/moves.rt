@@ -68,13 +68,9 @@ pub enum Move<A: Allocator = Global> {
     /// The server tells its registries of globals.
     Announce,
     /// At most so many bytes go from the client to the server, and at most what its inbox has room for.
-    CarryToServer {
-        most: usize,
-    },
+    CarryToServer(usize),
     /// At most so many bytes go from the server to the client, and at most what its inbox has room for.
-    CarryToClient {
-        most: usize,
-    },
+    CarryToClient(usize),
     /// The client reads a message.
     ClientNext,
     /// The server reads a message.

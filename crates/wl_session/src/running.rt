@@ -67,8 +67,8 @@ impl<'t, T: Table> Pair<'t, T> {
                 lend(args.as_slice(), list);
                 Reply::ServerSend(self.server_send(*target, *opcode, list.as_slice()))
             }
-            Move::CarryToServer { most } => Reply::CarryToServer(self.carry_to_server(*most)),
-            Move::CarryToClient { most } => Reply::CarryToClient(self.carry_to_client(*most)),
+            Move::CarryToServer(most) => Reply::CarryToServer(self.carry_to_server(*most)),
+            Move::CarryToClient(most) => Reply::CarryToClient(self.carry_to_client(*most)),
             Move::ClientNext => Reply::ClientNext(self.client_next()),
             Move::ServerNext => Reply::ServerNext(self.server_next()),
             Move::ClientBind {

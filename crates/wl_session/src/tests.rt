@@ -86,11 +86,11 @@ fn binding(alloc: Global, name: u32, iface: &[u8], version: u32) -> Result<Move,
 /// All is carried to the server and read there, and then all is carried to the client and read.
 fn turn(alloc: Global, pair: &mut Plain<'_>) -> Result<(), AllocError> {
     let mut moves = Vec::new(alloc);
-    moves.push(Move::CarryToServer { most: 65_536 })?;
+    moves.push(Move::CarryToServer(65_536))?;
     for _ in 0..16 {
         moves.push(Move::ServerNext)?;
     }
-    moves.push(Move::CarryToClient { most: 65_536 })?;
+    moves.push(Move::CarryToClient(65_536))?;
     for _ in 0..16 {
         moves.push(Move::ClientNext)?;
     }

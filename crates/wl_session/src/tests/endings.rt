@@ -33,7 +33,7 @@ fn the_first_error_sets_the_mark(rt: HostRuntime) -> Result<(), Fail> {
         _ => assert!(rt; false),
     }
     assert_eq!(rt; pair.ended_at(), Some(before));
-    let _ = answer(&mut pair, Move::CarryToClient { most: 10 })?;
+    let _ = answer(&mut pair, Move::CarryToClient(10))?;
     let again = Move::PostError {
         object: DISPLAY,
         code: 3,
@@ -51,7 +51,7 @@ fn the_first_error_sets_the_mark(rt: HostRuntime) -> Result<(), Fail> {
         kept.add(piece.direction, piece.bytes.as_slice(), piece.tokens)?;
     }
     assert!(rt; is_lawful(rt.alloc(), &tables, &kept)?);
-    let _ = answer(&mut pair, Move::CarryToClient { most: 100 })?;
+    let _ = answer(&mut pair, Move::CarryToClient(100))?;
     match answer(&mut pair, Move::ClientNext)? {
         Reply::ClientNext(Ok(Some(Incoming::Error { code, .. }))) => assert_eq!(rt; code, 3),
         _ => assert!(rt; false),
@@ -68,13 +68,13 @@ fn only_what_moves_is_recorded(rt: HostRuntime) -> Result<(), Fail> {
         bytes: 0,
         tokens: 0,
     };
-    match answer(&mut pair, Move::CarryToServer { most: 9 })? {
+    match answer(&mut pair, Move::CarryToServer(9))? {
         Reply::CarryToServer(carried) => assert_eq!(rt; carried, Carried::Moved(nothing)),
         _ => assert!(rt; false),
     }
     assert_eq!(rt; pair.recording().pieces().len(), before);
     let _ = answer(&mut pair, making(rt.alloc(), DISPLAY, 0)?)?;
-    match answer(&mut pair, Move::CarryToServer { most: 9 })? {
+    match answer(&mut pair, Move::CarryToServer(9))? {
         Reply::CarryToServer(carried) => assert_eq!(rt;
             carried,
             Carried::Moved(Fed {

@@ -42,7 +42,7 @@ fn a_carry_waits_for_memory(rt: HostRuntime) -> Result<(), Fail> {
         args: vec![in memory.clone()?; SendArg::New]?,
     }];
     let _ = pair.run(&sync)?;
-    let carry = [Move::CarryToServer { most: 5 }];
+    let carry = [Move::CarryToServer(5)];
     let all = Fed {
         bytes: 5,
         tokens: 0,

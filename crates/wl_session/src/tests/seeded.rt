@@ -48,19 +48,19 @@ fn arguments(
     numbers: &mut Numbers,
     objects: &[Object],
 ) -> Result<Vec<SendArg>, AllocError> {
-    match numbers.below(7) {
-        0 => vec![in alloc; SendArg::New],
-        1 => vec![in alloc; SendArg::Uint(7)],
-        2 => vec![in alloc; SendArg::New, SendArg::Obj(Some(any(numbers, objects)))],
-        3 => vec![in alloc; SendArg::Uint(1), SendArg::Fd(9), SendArg::Uint(10)],
+    Ok(match numbers.below(7) {
+        0 => vec![in alloc; SendArg::New]?,
+        1 => vec![in alloc; SendArg::Uint(7)]?,
+        2 => vec![in alloc; SendArg::New, SendArg::Obj(Some(any(numbers, objects)))]?,
+        3 => vec![in alloc; SendArg::Uint(1), SendArg::Fd(9), SendArg::Uint(10)]?,
         4 => vec![in alloc;
             SendArg::Obj(Some(any(numbers, objects))),
             SendArg::Int(-1),
-            SendArg::Int(2),
-        ],
-        5 => vec![in alloc; SendArg::New, SendArg::Fd(3), SendArg::Int(64)],
-        _ => Ok(Vec::new(alloc)),
-    }
+            SendArg::Int(2)
+        ]?,
+        5 => vec![in alloc; SendArg::New, SendArg::Fd(3), SendArg::Int(64)]?,
+        _ => Vec::new(alloc),
+    })
 }
 
 /// A move that the client makes.
@@ -149,12 +149,8 @@ fn any_move(
     match numbers.below(8) {
         0 | 1 => by_client(alloc, numbers, objects),
         2 => by_server(alloc, tables, numbers, objects),
-        3 => Ok(Move::CarryToServer {
-            most: numbers.below(60),
-        }),
-        4 => Ok(Move::CarryToClient {
-            most: numbers.below(60),
-        }),
+        3 => Ok(Move::CarryToServer(numbers.below(60))),
+        4 => Ok(Move::CarryToClient(numbers.below(60))),
         5 => Ok(Move::ClientNext),
         _ => Ok(Move::ServerNext),
     }
@@ -178,10 +174,10 @@ fn note(objects: &mut Vec<Object>, reply: &Reply) -> Result<(), Fail> {
 fn settle(pair: &mut Plain<'_>) -> Result<(), Fail> {
     for _ in 0..400 {
         let moves = [
-            Move::CarryToServer { most: 4096 },
+            Move::CarryToServer(4096),
             Move::ServerNext,
             Move::ServerNext,
-            Move::CarryToClient { most: 4096 },
+            Move::CarryToClient(4096),
             Move::ClientNext,
             Move::ClientNext,
             Move::ClientNext,

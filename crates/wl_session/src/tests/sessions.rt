@@ -39,7 +39,7 @@ fn an_event_names_an_object_that_is_destroyed(rt: HostRuntime) -> Result<(), Fai
     let _ = answer(&mut pair, enter)?;
     let _ = answer(&mut pair, telling(rt.alloc(), SURFACE, 0))?;
     assert!(rt; !pair.agree());
-    let _ = answer(&mut pair, Move::CarryToClient { most: 65_536 })?;
+    let _ = answer(&mut pair, Move::CarryToClient(65_536))?;
     match answer(&mut pair, Move::ClientNext)? {
         Reply::ClientNext(
             Ok(
@@ -69,9 +69,9 @@ fn an_event_names_an_object_that_is_destroyed(rt: HostRuntime) -> Result<(), Fai
         }
         _ => assert!(rt; false),
     }
-    let _ = answer(&mut pair, Move::CarryToServer { most: 65_536 })?;
+    let _ = answer(&mut pair, Move::CarryToServer(65_536))?;
     let _ = answer(&mut pair, Move::ServerNext)?;
-    let _ = answer(&mut pair, Move::CarryToClient { most: 65_536 })?;
+    let _ = answer(&mut pair, Move::CarryToClient(65_536))?;
     match pair.recording().pieces().last() {
         Some(piece) => assert_eq!(rt;
             piece.bytes.as_slice(),
@@ -108,7 +108,7 @@ fn an_event_for_a_destroyed_object_gives_its_token(rt: HostRuntime) -> Result<()
     let _ = answer(&mut pair, keymap(rt.alloc(), KEYBOARD, 7)?)?;
     let _ = answer(&mut pair, keymap(rt.alloc(), OTHER_KEYBOARD, 8)?)?;
     let _ = answer(&mut pair, telling(rt.alloc(), KEYBOARD, 0))?;
-    let _ = answer(&mut pair, Move::CarryToClient { most: 65_536 })?;
+    let _ = answer(&mut pair, Move::CarryToClient(65_536))?;
     match answer(&mut pair, Move::ClientNext)? {
         Reply::ClientNext(
             Ok(
@@ -162,7 +162,7 @@ fn an_id_is_used_again(rt: HostRuntime) -> Result<(), Fail> {
         args: vec![in rt.alloc(); SendArg::Uint(7)]?,
     };
     let _ = answer(&mut pair, done)?;
-    let _ = answer(&mut pair, Move::CarryToClient { most: 65_536 })?;
+    let _ = answer(&mut pair, Move::CarryToClient(65_536))?;
     match pair.recording().pieces().last() {
         Some(piece) => assert_eq!(rt;
             piece.bytes.as_slice(),
@@ -194,13 +194,13 @@ fn a_callback_ends_without_its_event(rt: HostRuntime) -> Result<(), Fail> {
     let mut pair = set_up(rt.alloc(), &tables)?;
     let frame = made(&mut pair, making(rt.alloc(), SURFACE, 3)?)?;
     assert_eq!(rt; frame, Object { id: 9, birth: 8 });
-    let _ = answer(&mut pair, Move::CarryToServer { most: 65_536 })?;
+    let _ = answer(&mut pair, Move::CarryToServer(65_536))?;
     let _ = answer(&mut pair, Move::ServerNext)?;
     match answer(&mut pair, Move::ServerDrop { object: frame })? {
         Reply::ServerDrop(dropped) => assert_eq!(rt; dropped, Ok(())),
         _ => assert!(rt; false),
     }
-    let _ = answer(&mut pair, Move::CarryToClient { most: 65_536 })?;
+    let _ = answer(&mut pair, Move::CarryToClient(65_536))?;
     match answer(&mut pair, Move::ClientNext)? {
         Reply::ClientNext(Ok(Some(Incoming::Deleted { object }))) => {
             assert_eq!(rt; object, frame);
