@@ -4,7 +4,8 @@ use Rattle.std.specs.List.{list_any}
 use Rattle.std.specs.declared.result.Result.{Result}
 use Rattle.std.specs.declared.result.Result.TheVariants.{Ok, Err}
 use Rattle.wl_wire.specs.declared.kind.Iface.{Iface}
-use Rattle.wl_sigs.specs.Tables.{Interface, interface_at, has_destroying_event}
+use Rattle.wl_sigs.specs.Tables.{Interface, interface_at}
+use Rattle.wl_sigs.specs.Rules.{is_ended_by_event}
 use Rattle.wl_sigs.specs.Fixed.{display, registry}
 use Rattle.wl_objects.specs.declared.object.Object.{Object}
 use Rattle.wl_objects.specs.declared.object.Entry.{Entry}
@@ -21,8 +22,7 @@ use Rattle.wl_server.specs.State.{State, Global, global_of, max_globals}
 -- ---- ending an object without an event
 
 abbrev pub ends_by_event : Option Interface → Bool
-ends_by_event None = false
-ends_by_event (Some i) = has_destroying_event i
+ends_by_event interface = is_ended_by_event interface
 
 -- a refusal, or none
 abbrev pub drop_at : Core → Option Entry → Option SendError
