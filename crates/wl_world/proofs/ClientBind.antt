@@ -29,6 +29,7 @@ use Rattle.wl_objects.specs.View.{View, look, next_id, can_open, opened_at}
 use Rattle.wl_objects.specs.Writing.{is_live_as, message_bytes}
 use Rattle.wl_objects.specs.Messages.{live_row, same_iface}
 use Rattle.wl_end.specs.Sending.{opening_answer}
+use Rattle.wl_client.specs.declared.globals.Global.{Global as Remembered}
 use Rattle.wl_client.specs.State as client
 use Rattle.wl_client.specs.State.{is_named}
 use Rattle.wl_client.specs.Calls.{version_fits, can_bind, bind_values, iface_or, bound, bind_at, bind_answer, after_bind}
@@ -90,8 +91,8 @@ is_bound st target name iface version new l h =
 
 -- ---- the global
 
-pub record Names (tables : List Interface) (gs : List client.Global) (iface : List ℕ) (version name : ℕ) : Type 0 where
-  pub global : client.Global
+pub record Names (tables : List Interface) (gs : List Remembered) (iface : List ℕ) (version name : ℕ) : Type 0 where
+  pub global : Remembered
   pub there : client.global_of gs name ≡ Some global
   pub interface : Interface
   pub place : interface_at tables global.iface.0 ≡ Some interface
@@ -105,23 +106,23 @@ and_all true true false d h = absurd (cc h)
 and_all true false c d h = absurd (cc h)
 and_all false b c d h = absurd (cc h)
 
-names_in : (tables : List Interface) (gs : List client.Global) (iface : List ℕ) (version name : ℕ) (g : client.Global) (o : Option Interface) → client.global_of gs name ≡ Some g → interface_at tables g.iface.0 ≡ o
+names_in : (tables : List Interface) (gs : List Remembered) (iface : List ℕ) (version name : ℕ) (g : Remembered) (o : Option Interface) → client.global_of gs name ≡ Some g → interface_at tables g.iface.0 ≡ o
     → version_fits version g.version o iface ≡ true → Names tables gs iface version name
 names_in tables gs iface version name g None e p h = absurd (cc h)
 names_in tables gs iface version name g (Some i) e p h =
     let a = and_all (bytes_eq i.name iface) (nat_le 1 version) (nat_le version g.version) _ h in
     record { global = g; there = e; interface = i; place = p; named = bytes_same i.name iface a.0; some = let q = a.1 in grind (arith, nat_tests, q); most = let q = a.2 in grind (arith, nat_tests, q) }
 
-names_at : (tables : List Interface) (gs : List client.Global) (iface : List ℕ) (version name : ℕ) (o : Option client.Global) → client.global_of gs name ≡ o → can_bind tables iface version o ≡ true → Names tables gs iface version name
+names_at : (tables : List Interface) (gs : List Remembered) (iface : List ℕ) (version name : ℕ) (o : Option Remembered) → client.global_of gs name ≡ o → can_bind tables iface version o ≡ true → Names tables gs iface version name
 names_at tables gs iface version name None e h = absurd (cc h)
 names_at tables gs iface version name (Some g) e h = names_in tables gs iface version name g (interface_at tables g.iface.0) e refl h
 
-found_if : (P : client.Global → Type 0) (test : client.Global → Bool) (x g : client.Global) (rest : Option client.Global) (b : Bool) → test x ≡ b → P x → (rest ≡ Some g → P g × (test g ≡ true)) → cond b (Some x) rest ≡ Some g
+found_if : (P : Remembered → Type 0) (test : Remembered → Bool) (x g : Remembered) (rest : Option Remembered) (b : Bool) → test x ≡ b → P x → (rest ≡ Some g → P g × (test g ≡ true)) → cond b (Some x) rest ≡ Some g
     → P g × (test g ≡ true)
 found_if P test x g rest true t p f k = let q : x ≡ g = cc k in (subst P q p, ap test (sym q) ∙ t)
 found_if P test x g rest false t p f k = f k
 
-find_at : (P : client.Global → Type 0) (test : client.Global → Bool) (gs : List client.Global) (g : client.Global) → Each P gs → find test gs ≡ Some g → P g × (test g ≡ true)
+find_at : (P : Remembered → Type 0) (test : Remembered → Bool) (gs : List Remembered) (g : Remembered) → Each P gs → find test gs ≡ Some g → P g × (test g ≡ true)
 find_at P test [] g h e = absurd (cc e)
 find_at P test (x ∷ gs) g h e = found_if P test x g (find test gs) (test x) refl h.0 (λ k. find_at P test gs g h.1 k) e
 
@@ -155,7 +156,7 @@ pub bind_can : (p : PairState) (w : World) (asked : List (Message Known)) (told 
 bind_can p w asked told s target name iface version new b n can =
     let v = p.client.core.view in
     let tables = p.server.core.tables in
-    let f = find_at (λ (g : client.Global). WasGiven p.server.globals g.name g.iface g.version) (is_named name) p.client.globals n.global s.remembers n.there in
+    let f = find_at (λ (g : Remembered). WasGiven p.server.globals g.name g.iface g.version) (is_named name) p.client.globals n.global s.remembers n.there in
     let same_name : n.global.name ≡ name = eqb-true n.global.name name f.1 in
     let given : WasGiven p.server.globals name n.global.iface n.global.version = subst (λ (k : ℕ). WasGiven p.server.globals k n.global.iface n.global.version) same_name f.0 in
     let few = name_low p.server.globals name given.global given.there in
@@ -208,7 +209,7 @@ bind_can p w asked told s target name iface version new b n can =
         → bind_fits tables iface version o ≡ true
     bind_is tables iface version o g e a b c = ap (bind_fits tables iface version) e ∙ rw a (let x : (nat_le 1 version && nat_le version g.version) ≡ true = grind (arith, nat_tests, b, c) in x)
 
-left_by : (st : client.State) (entry : Entry) (target : Object) (name : ℕ) (iface : List ℕ) (version : ℕ) (g : client.Global) (what : Destroys) → client.global_of st.globals name ≡ Some g → destroys_target what ≡ false
+left_by : (st : client.State) (entry : Entry) (target : Object) (name : ℕ) (iface : List ℕ) (version : ℕ) (g : Remembered) (what : Destroys) → client.global_of st.globals name ≡ Some g → destroys_target what ≡ false
     → after_bind st target name iface version ≡ client.with_core st (asked_core st.core (bind_message st.core.view entry target name iface version g.iface) what)
 left_by st entry target name iface version g what e d =
     (λ i. record st {

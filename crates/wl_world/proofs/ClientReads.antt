@@ -26,6 +26,7 @@ use Rattle.wl_objects.specs.Reading.{descriptors}
 use Rattle.wl_objects.specs.Messages.{is_error, is_delete_id, same_iface, Client as client_end, after, after_delete_id}
 use Rattle.wl_end.specs.Core.{Core}
 use Rattle.wl_end.specs.Receiving.{found, is_none}
+use Rattle.wl_client.specs.declared.globals.Global.{Global as Remembered}
 use Rattle.wl_client.specs.State as client
 use Rattle.wl_client.specs.Reports.{Report, state_past, core_after, view_after, globals_after, globals_told, report}
 use Rattle.wl_client.specs.Reports as reports
@@ -170,7 +171,7 @@ learned_is p w m asked told s t =
     let same : globals_told p.client.core.tables p.client.globals m.opcode (map nameless (map (rearg born_of) m.args)) ≡ globals_told p.client.core.tables p.client.globals m.opcode (map wire m.args) =
     sym (told_same p.client.core.tables p.client.globals m.opcode m.args) in
     (λ i. cond (is_registry m.target.born && live i) (globals_told p.client.core.tables (s.remembered i) m.opcode (map nameless (map (rearg born_of) m.args))) (s.remembered i))
-    ∙ ap (λ (l : List client.Global). cond (teaches m t.entry) l p.client.globals) same
+    ∙ ap (λ (l : List Remembered). cond (teaches m t.entry) l p.client.globals) same
 
 both_true : (a b : Bool) → (a && b) ≡ true → a ≡ true
 both_true true b h = refl

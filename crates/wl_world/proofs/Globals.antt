@@ -11,6 +11,7 @@ use Rattle.wl_server.specs.State as server
 use Rattle.wl_server.specs.State.{Global, global_of, max_globals}
 use Rattle.wl_server.specs.Requests.{bind_fits}
 use Rattle.wl_server.specs.Calls.{can_be_global, add_refusal, withdraw_refusal, with_global, next_name, withdrawn, without_at, after_withdraw}
+use Rattle.wl_client.specs.declared.globals.Global.{Global as Remembered}
 use Rattle.wl_client.specs.State as client
 use Rattle.wl_world.specs.Meant.{Known, Message, Coming, Event, Delete}
 use Rattle.wl_world.specs.World.{World, Each}
@@ -93,7 +94,7 @@ given_stands p w asked told s more g e l = record {
   remembered = s.remembered;
   given = refl;
   registries = s.registries;
-  remembers = each_by (λ (x : client.Global). WasGiven p.server.globals x.name x.iface x.version) (λ (x : client.Global). WasGiven more x.name x.iface x.version)
+  remembers = each_by (λ (x : Remembered). WasGiven p.server.globals x.name x.iface x.version) (λ (x : Remembered). WasGiven more x.name x.iface x.version)
       (λ x h. was_given p.server.globals more g x.name x.iface x.version h) p.client.globals s.remembers;
   globals = e;
   few_globals = l;
