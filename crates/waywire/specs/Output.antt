@@ -29,7 +29,7 @@ pub record IsTraced (text output : List ℕ) (status : ℕ) : Type 0 where
   pub whole : output ≡ trace_of core_tables (session_of pieces) ++ last_line verdict
   pub status_is : status ≡ verdict_status verdict
 
--- what a job prints of the text of its file, and the status that goes with it
+-- What a job prints of the text of its file, and the status that goes with it. What a demonstration prints is shown by tests.
 abbrev pub IsDone : Job → List ℕ → List ℕ → ℕ → Type 0
 IsDone (Trace file) text output status = IsTraced text output status
 IsDone (Check file) text output status = IsChecked text output status

@@ -1,5 +1,5 @@
 -- Why there is no job.
-use Rattle.std.specs.Prelude.{◌≡◌, ℕ, ◌⊎◌, [], string_bytes}
+use Rattle.std.specs.Prelude.{◌≡◌, ◌⊎◌, [], string_bytes}
 use Rattle.waywire.specs.declared.job.Stop.{Stop}
 
 -- help, a fault of usage, or want of memory, which has no text

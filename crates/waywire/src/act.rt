@@ -109,10 +109,10 @@ fn output<'a, 'b, A: Allocator, R: Read>(
             let text = contents(alloc, name.as_str(), file)?;
             checked(alloc, &Tables::core(global)?, &text)
         }
-        Job::Demo { piece } => Ok(Printed {
-            text: demo(alloc, &Tables::core(global)?, *piece)?,
-            status: 0,
-        }),
+        Job::Demo { piece } => {
+            let text = demo(alloc, &Tables::core(global)?, *piece)?;
+            Ok(Printed { text, status: 0 })
+        }
     }
 }
 
@@ -128,7 +128,7 @@ fn write_through<O: Write>(out: &mut O, bytes: &[u8]) -> io::Result<()>
 /// it tells of a broken rule; else the status of a `Failure`, whose line goes to `err`.
 ///
 /// Nothing is written to `out` before the whole output is there. `file` is what the job's file
-/// has; at most 16,777,217 bytes of it are read. The signature tables lie in the global memory.
+/// has, if it reads one; at most 16,777,217 bytes of it are read. The signature tables lie in the global memory.
 pub fn act<A: Allocator, R: Read, O: Write, E: Write>(
     alloc: A,
     global: Global,

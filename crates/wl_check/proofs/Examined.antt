@@ -137,7 +137,7 @@ tallied_step s k d t f false e same h i = record {
   within = i.within;
 }
 
-same_is : (f d : Direction) → same_direction f d ≡ true → f ≡ d
+pub same_is : (f d : Direction) → same_direction f d ≡ true → f ≡ d
 same_is ToServer ToServer e = refl
 same_is ToClient ToClient e = refl
 same_is ToServer ToClient e = absurd (cc)

@@ -9,3 +9,4 @@ pub mod Lines
 pub mod Holding
 pub mod Fresh
 pub mod Bringing
+pub mod Once

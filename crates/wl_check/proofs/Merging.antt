@@ -18,13 +18,13 @@ read_mapped f [] k d x h e = absurd (omega arith)
 read_mapped f (y ∷ ys) zero d x h e = ap (λ z. Some (f z)) (sym e)
 read_mapped f (y ∷ ys) (suc k) d x h e = read_mapped f ys k d x (omega arith) e
 
-abbrev own : Direction → Piece → List ℕ
+abbrev pub own : Direction → Piece → List ℕ
 own d p = cond (same_direction p.direction d) p.bytes []
 
 abbrev own_tokens : Direction → Piece → ℕ
 own_tokens d p = cond (same_direction p.direction d) p.tokens 0
 
-stream_more : (d : Direction) (ps : List Piece) (k : ℕ) (p : Piece) → slice_get ps k ≡ Some p → stream_of d (take (suc k) ps) ≡ stream_of d (take k ps) ++ own d p
+pub stream_more : (d : Direction) (ps : List Piece) (k : ℕ) (p : Piece) → slice_get ps k ≡ Some p → stream_of d (take (suc k) ps) ≡ stream_of d (take k ps) ++ own d p
 stream_more d [] k p e = absurd (cc)
 stream_more d (x ∷ xs) zero p e = let same : x ≡ p = cc in append-nil (own d x) ∙ ap (own d) same
 stream_more d (x ∷ xs) (suc k) p e = ap (λ (l : List ℕ). own d x ++ l) (stream_more d xs k p e) ∙ sym (append_assoc (own d x) (stream_of d (take k xs)) (own d p))

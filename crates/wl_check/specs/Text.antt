@@ -1,10 +1,12 @@
 -- What is held, open, used and told at a place of a session, in words: by the messages that stand before it.
-use Rattle.std.specs.Prelude.{◌≡◌, ℕ, ◌<◌, ◌≤◌, true, false, List, length, slice_get, drop, take, Some}
+use Rattle.std.specs.Prelude.{◌≡◌, ℕ, ◌<◌, ◌≤◌, true, false, List, [], ◌∷◌, ◌++◌, if◌then◌else◌, length, slice_get, drop, take, Some}
 use Rattle.std.specs.List.{filter, AllByRecursion}
 use Rattle.wl_message.specs.Cut.{usual_limit, is_size}
 use Rattle.wl_check.specs.declared.deed.Advertised.{Advertised}
+use Rattle.wl_recording.specs.declared.piece.Direction.{Direction}
+use Rattle.wl_check.specs.declared.frames.Frame.{Frame}
 use Rattle.wl_check.specs.declared.deed.Deed.{Deed}
-use Rattle.wl_check.specs.Merged.{Mark, finish}
+use Rattle.wl_check.specs.Merged.{Mark, mark, finish, same_direction}
 use Rattle.wl_check.specs.Places.{makes, deletes, destroys}
 use Rattle.wl_check.specs.Session.{Judged, ends_session}
 
@@ -50,3 +52,8 @@ Brings before after marks = AllByRecursion (λ (m : Mark). (before < finish m) �
 pub record IsExamined (messages : List Judged) (k : ℕ) : Type 0 where
   pub within : k < length messages
   pub goes_on : (earlier : ℕ) (message : Judged) → earlier < k → slice_get messages earlier ≡ Some message → ends_session message ≡ false
+
+-- the messages of one direction in a merged list, in its order
+abbrev pub marks_in : Direction → List Frame → List Mark
+marks_in direction [] = []
+marks_in direction (frame ∷ frames) = (if same_direction frame.direction direction then mark frame.start frame.size ∷ [] else []) ++ marks_in direction frames

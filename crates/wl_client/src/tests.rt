@@ -5,6 +5,7 @@ use std::test::Fail;
 use wl_message::{Fed, Sizes};
 use wl_objects::{Arg, MapTable, NextError, Object, SendError, Table};
 use wl_sigs::Tables;
+use wl_wire::Iface;
 
 mod calls;
 mod events;
@@ -52,6 +53,18 @@ fn told<T: Table>(client: &mut Client<'_, T>) -> Result<(), Fail> {
     let _ = read(client, GLOBAL_COMPOSITOR, &[])?;
     let _ = read(client, GLOBAL_SEAT, &[])?;
     Ok(())
+}
+
+/// Opens an object at the next id.
+fn open<T: Table>(
+    client: &mut Client<'_, T>,
+    iface: Iface,
+    version: u32,
+) -> Result<Object, SendError> {
+    let core = &mut client.core;
+    // That the table is looked at shows that it is sound.
+    let _ = core.table.look(1);
+    core.open_new(Some(iface), version)?.ok_or(SendError::NoIds)
 }
 
 /// A client that has bound a compositor of this version and made a surface, and has bound a seat.

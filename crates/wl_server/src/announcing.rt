@@ -69,7 +69,7 @@ impl<A: Allocator> OpenRegistry<A> {
 }
 
 /// The name of an interface; none past the tables, where no global is.
-fn name_at<'t>(tables: &'t Tables, iface: Iface) -> &'t [u8]
+fn name_at(tables: &Tables, iface: Iface) -> &[u8]
     ensures name { result.now ≡ name_at tables.now iface }
     ensures text { IsText result.now }
     ensures short { length result.now ≤ 256 }

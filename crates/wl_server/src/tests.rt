@@ -373,42 +373,6 @@ fn f9_bad_bind(rt: HostRuntime) -> Result<(), Fail> {
     Ok(())
 }
 
-/// Reads surfaces until each id up to the last one is in use.
-fn fills(server: &mut TestServer<'_>) -> bool {
-    for id in 5..1_048_577u32 {
-        let [a, b, c, d] = id.to_le_bytes();
-        server.feed(&[4, 0, 0, 0, 0, 0, 12, 0, a, b, c, d], &[]);
-        match server.next() {
-            Ok(Some(_)) => {}
-            _ => return false,
-        }
-    }
-    true
-}
-
-#[test]
-fn f10_too_many_objects(rt: HostRuntime) -> Result<(), Fail> {
-    let tables = Tables::core(rt.alloc())?;
-    let mut server = begun(rt.alloc(), &tables, 65_536)?;
-    server.feed(&bind(14, 0, 6), &[]);
-    read(&mut server, 1)?;
-    assert!(rt; fills(&mut server));
-    // 24 bytes, the bind's 40, and 12 for each surface
-    let sync = [1, 0, 0, 0, 0, 0, 12, 0, 1, 0, 16, 0];
-    assert!(rt; is_at_fault(&mut server, &sync, Fault::TooManyObjects, 12_582_928));
-    assert!(rt;
-        writes(
-            &mut server,
-            [
-                1, 0, 0, 0, 0, 0, 40, 0, 1, 0, 0, 0, 2, 0, 0, 0, 17, 0, 0, 0, b't', b'o', b'o',
-                b' ', b'm', b'a', b'n', b'y', b' ', b'o', b'b', b'j', b'e', b'c', b't', b's', 0, 0,
-                0, 0
-            ]
-        )
-    );
-    Ok(())
-}
-
 #[test]
 fn a_request_that_destroys_is_answered_at_once(rt: HostRuntime) -> Result<(), Fail> {
     let tables = Tables::core(rt.alloc())?;

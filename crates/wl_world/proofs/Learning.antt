@@ -7,7 +7,8 @@ use Rattle.std.proofs.lemmas.Option.{slice_get-map}
 use Rattle.std.proofs.lemmas.Bool.{eqb-true}
 use Rattle.wl_wire.specs.Argument.{Argument, Int, Uint, Fixed, Str, Obj, New, NewNamed, Array, Fd}
 use Rattle.wl_sigs.specs.Tables.{Interface, place_of}
-use Rattle.wl_client.specs.State.{Global, is_named, global_of, max_globals}
+use Rattle.wl_client.specs.declared.globals.Global.{Global}
+use Rattle.wl_client.specs.State.{is_named, global_of, max_globals}
 use Rattle.wl_client.specs.Reports.{argument, number_in, text_in, forgotten, replaced, remembered, remembered_as, globals_told}
 use Rattle.wl_server.specs.State as server
 use Rattle.wl_world.specs.Meant.{Known, Arg, rearg, born_of, wire}

@@ -4,7 +4,7 @@ use Rattle.wl_wire.specs.Argument.{Argument, reshaped}
 use Rattle.wl_sigs.specs.Tables.{Interface, interface_at}
 use Rattle.wl_sigs.specs.Fixed.{display, registry}
 use Rattle.wl_objects.specs.Messages.{same_iface}
-use Rattle.wl_client.specs.State.{Global as Remembered}
+use Rattle.wl_client.specs.declared.globals.Global.{Global as Remembered}
 use Rattle.wl_client.specs.Reports.{globals_told}
 use Rattle.wl_server.specs.State.{Global, max_globals}
 use Rattle.wl_server.specs.Calls.{ends_by_event}

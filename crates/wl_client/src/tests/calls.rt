@@ -23,7 +23,7 @@ fn the_target_and_its_message_are_judged_first(rt: HostRuntime) -> Result<(), Fa
         Err(SendError::NoSuchMessage)
     );
     // S4: set_buffer_scale came with version 3, and this surface is of version 2
-    assert_eq!(rt; client.live(SURFACE), Some((wl_wire::Iface(7), 2)));
+    assert_eq!(rt; client.live(SURFACE), Some((Iface(7), 2)));
     assert_eq!(rt;
         client.send(SURFACE, 8, &[Arg::Int(2)]),
         Err(SendError::TooOld)
@@ -68,7 +68,7 @@ fn a_message_has_to_be_short_and_to_fit(rt: HostRuntime) -> Result<(), Fail> {
     let tables = Tables::core(rt.alloc())?;
     let mut client = Plain::new(rt.alloc(), &tables, SIZES)?;
     // a wl_shell_surface, which no registry of this test tells
-    let opened = client.core.table.open_next(wl_wire::Iface(17), 1)?;
+    let opened = open(&mut client, Iface(17), 1)?;
     let title = [b'x'; 4084];
     // S8
     assert_eq!(rt;
@@ -91,7 +91,7 @@ fn the_last_id_is_used_once(rt: HostRuntime) -> Result<(), Fail> {
     let mut client = Plain::new(rt.alloc(), &tables, SIZES)?;
     told(&mut client)?;
     for _ in 3u32..1_048_576 {
-        let _ = client.core.table.open_next(wl_wire::Iface(7), 1)?;
+        let _ = open(&mut client, Iface(7), 1)?;
     }
     let display = client.display();
     assert_eq!(rt;
@@ -150,7 +150,7 @@ fn a_bind_is_of_what_was_advertised(rt: HostRuntime) -> Result<(), Fail> {
         client.bind(REGISTRY, 1, b"wl_compositor", 6),
         Ok(COMPOSITOR)
     );
-    let mut bytes = [0; 64];
+    let mut bytes = [0; 52];
     assert_eq!(rt;
         client.goes(64, 0),
         Taken {
@@ -166,7 +166,7 @@ fn a_bind_is_of_what_was_advertised(rt: HostRuntime) -> Result<(), Fail> {
         }
     );
     assert_eq!(rt;
-        &bytes[..52],
+        bytes.as_slice(),
         b"\x01\0\0\0\x01\0\x0c\0\x02\0\0\0\x02\0\0\0\0\0\x28\0\x01\0\0\0\x0e\0\0\0wl_compositor\0\0\0\x06\0\0\0\x03\0\0\0".as_slice()
     );
     Ok(())

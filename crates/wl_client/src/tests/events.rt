@@ -20,7 +20,8 @@ fn delete_id_of_a_free_id_is_stray(rt: HostRuntime) -> Result<(), Fail> {
         _ => assert!(rt; false),
     }
     assert!(rt; client.next()?.is_none());
-    assert!(rt; client.live(client.display()).is_some());
+    let display = client.display();
+    assert!(rt; client.live(display).is_some());
     Ok(())
 }
 
@@ -54,7 +55,8 @@ fn the_tokens_of_a_zombie_are_handed_out(rt: HostRuntime) -> Result<(), Fail> {
     let _ = client.send(first, 0, &[])?;
     let keymaps =
         b"\x06\0\0\0\0\0\x10\0\x01\0\0\0\x0a\0\0\0\x07\0\0\0\0\0\x10\0\x01\0\0\0\x0a\0\0\0";
-    match read(&mut client, keymaps, &[7, 8])? {
+    let report = read(&mut client, keymaps, &[7, 8])?;
+    match &report {
         Some(
             Incoming::Discarded {
                 target,
@@ -62,13 +64,14 @@ fn the_tokens_of_a_zombie_are_handed_out(rt: HostRuntime) -> Result<(), Fail> {
                 tokens,
             },
         ) => {
-            assert_eq!(rt; target, first);
-            assert_eq!(rt; opcode, 0);
+            assert_eq!(rt; *target, first);
+            assert_eq!(rt; *opcode, 0);
             assert_eq!(rt; tokens.as_slice(), [7].as_slice());
         }
         _ => assert!(rt; false),
     }
-    match client.next()? {
+    let report = client.next()?;
+    match &report {
         Some(
             Incoming::Event {
                 target,
@@ -76,8 +79,8 @@ fn the_tokens_of_a_zombie_are_handed_out(rt: HostRuntime) -> Result<(), Fail> {
                 args,
             },
         ) => {
-            assert_eq!(rt; target, second);
-            assert_eq!(rt; opcode, 0);
+            assert_eq!(rt; *target, second);
+            assert_eq!(rt; *opcode, 0);
             match args.as_slice() {
                 [Got::Uint(format), Got::Fd(token), Got::Uint(size)] => {
                     assert_eq!(rt; *format, 1);
@@ -107,7 +110,8 @@ fn an_event_can_name_a_zombie(rt: HostRuntime) -> Result<(), Fail> {
     let _ = client.send(SEAT, 0, &[Arg::New])?;
     let _ = client.send(SURFACE, 0, &[])?;
     let enter = b"\x06\0\0\0\0\0\x18\0\x01\0\0\0\x04\0\0\0\0\x01\0\0\0\0\0\0";
-    match read(&mut client, enter, &[])? {
+    let report = read(&mut client, enter, &[])?;
+    match &report {
         Some(
             Incoming::Event {
                 target,
@@ -115,8 +119,8 @@ fn an_event_can_name_a_zombie(rt: HostRuntime) -> Result<(), Fail> {
                 args,
             },
         ) => {
-            assert_eq!(rt; target, Object { id: 6, birth: 5 });
-            assert_eq!(rt; opcode, 0);
+            assert_eq!(rt; *target, Object { id: 6, birth: 5 });
+            assert_eq!(rt; *opcode, 0);
             match args.as_slice() {
                 [Got::Uint(_), Got::Obj(named), Got::Fixed(x), Got::Fixed(_)] => {
                     assert_eq!(rt; *named, Named::Dead(SURFACE));
@@ -137,7 +141,8 @@ fn the_registry_teaches_globals(rt: HostRuntime) -> Result<(), Fail> {
     told(&mut client)?;
     // an interface that is not in the tables has the name 1 now
     let unknown = b"\x02\0\0\0\0\0\x18\0\x01\0\0\0\x04\0\0\0xyz\0\x06\0\0\0";
-    match read(&mut client, unknown, &[])? {
+    let report = read(&mut client, unknown, &[])?;
+    match &report {
         Some(
             Incoming::Event {
                 target,
@@ -145,8 +150,8 @@ fn the_registry_teaches_globals(rt: HostRuntime) -> Result<(), Fail> {
                 args,
             },
         ) => {
-            assert_eq!(rt; target, REGISTRY);
-            assert_eq!(rt; opcode, 0);
+            assert_eq!(rt; *target, REGISTRY);
+            assert_eq!(rt; *opcode, 0);
             assert_eq!(rt; args.as_slice().len(), 3);
         }
         _ => assert!(rt; false),
@@ -173,9 +178,11 @@ fn the_registry_teaches_globals(rt: HostRuntime) -> Result<(), Fail> {
 fn an_error_may_name_an_unknown_object(rt: HostRuntime) -> Result<(), Fail> {
     let tables = Tables::core(rt.alloc())?;
     let mut client = Plain::new(rt.alloc(), &tables, SIZES)?;
-    let _ = client.send(client.display(), 1, &[Arg::New])?;
+    let display = client.display();
+    let _ = client.send(display, 1, &[Arg::New])?;
     let error = b"\x01\0\0\0\0\0\x18\0\x09\0\0\0\x02\0\0\0\x04\0\0\0bad\0";
-    match read(&mut client, error, &[])? {
+    let report = read(&mut client, error, &[])?;
+    match &report {
         Some(
             Incoming::Error {
                 id,
@@ -184,9 +191,9 @@ fn an_error_may_name_an_unknown_object(rt: HostRuntime) -> Result<(), Fail> {
                 text,
             },
         ) => {
-            assert_eq!(rt; id, 9);
-            assert_eq!(rt; named, Named::Null);
-            assert_eq!(rt; code, 2);
+            assert_eq!(rt; *id, 9);
+            assert_eq!(rt; *named, Named::Null);
+            assert_eq!(rt; *code, 2);
             assert_eq!(rt; text.as_slice(), b"bad".as_slice());
         }
         _ => assert!(rt; false),

@@ -154,7 +154,8 @@ fn an_error_that_finds_no_memory_stays(rt: HostRuntime) -> Result<(), Fail> {
         Err(why) => assert_eq!(rt; why, NextError::Memory),
         Ok(_) => assert!(rt; false),
     }
-    match client.next()? {
+    let report = client.next()?;
+    match &report {
         Some(
             Incoming::Error {
                 id,
@@ -163,9 +164,9 @@ fn an_error_that_finds_no_memory_stays(rt: HostRuntime) -> Result<(), Fail> {
                 text,
             },
         ) => {
-            assert_eq!(rt; id, 1);
-            assert_eq!(rt; named, Named::Live(Object { id: 1, birth: 0 }));
-            assert_eq!(rt; code, 2);
+            assert_eq!(rt; *id, 1);
+            assert_eq!(rt; *named, Named::Live(Object { id: 1, birth: 0 }));
+            assert_eq!(rt; *code, 2);
             assert_eq!(rt; text.as_slice(), b"bad".as_slice());
         }
         _ => assert!(rt; false),
@@ -179,10 +180,11 @@ fn some_reports_take_no_memory(rt: HostRuntime) -> Result<(), Fail> {
     let tables = Tables::core(rt.alloc())?;
     let memory = RefusingAllocator::new(rt.alloc())?;
     let mut client = Refused::new(memory.clone()?, &tables, SIZES)?;
-    let pointer = client.core.table.open_next(wl_wire::Iface(10), 9)?;
+    let pointer = open(&mut client, Iface(10), 9)?;
     memory.refuse_nth(0);
     // wl_pointer.frame
-    match read(&mut client, b"\x02\0\0\0\x05\0\x08\0", &[])? {
+    let report = read(&mut client, b"\x02\0\0\0\x05\0\x08\0", &[])?;
+    match &report {
         Some(
             Incoming::Event {
                 target,
@@ -190,8 +192,8 @@ fn some_reports_take_no_memory(rt: HostRuntime) -> Result<(), Fail> {
                 args,
             },
         ) => {
-            assert_eq!(rt; target, pointer);
-            assert_eq!(rt; opcode, 5);
+            assert_eq!(rt; *target, pointer);
+            assert_eq!(rt; *opcode, 5);
             assert_eq!(rt; args.as_slice().len(), 0);
         }
         _ => assert!(rt; false),

@@ -1,0 +1,85 @@
+#!/usr/bin/env python3
+"""Writes a recording of just under 16 MiB to standard output: one long lawful session, of the kind
+that the one word names.
+
+surfaces: a client makes a surface, attaches nothing, commits and destroys it, again and again; each
+time the server frees its id. callbacks: one request, its event and the freeing of its id, again and
+again. objects: callbacks that are never answered, so that all stay. bytes: as callbacks, but each byte
+is a piece of its own.
+"""
+import struct
+import sys
+
+MOST = 16 * 1024 * 1024
+
+
+def word(number):
+    return struct.pack("<I", number)
+
+
+def string(text):
+    text = text.encode() + b"\0"
+    return word(len(text)) + text + b"\0" * (-len(text) % 4)
+
+
+def message(target, opcode, *arguments):
+    body = b"".join(arguments)
+    return word(target) + word((8 + len(body)) << 16 | opcode) + body
+
+
+def line(sign, *messages):
+    return f"{sign} {b''.join(messages).hex()}\n"
+
+
+def surfaces():
+    yield line(">", message(1, 1, word(2)))
+    yield line("<", message(2, 0, word(1), string("wl_compositor"), word(6)))
+    yield line(">", message(2, 0, word(1), string("wl_compositor"), word(6), word(3)))
+    requests = line(
+        ">",
+        message(3, 0, word(4)),
+        message(4, 1, word(0), word(0), word(0)),
+        message(4, 2, word(0), word(0), word(640), word(480)),
+        message(4, 6),
+        message(4, 0),
+    )
+    answer = line("<", message(1, 1, word(4)))
+    while True:
+        yield requests + answer
+
+
+def callbacks():
+    request = line(">", message(1, 0, word(2)))
+    answers = line("<", message(2, 0, word(7)), message(1, 1, word(2)))
+    while True:
+        yield request
+        yield answers
+
+
+def objects():
+    number = 2
+    while True:
+        yield line(">", message(1, 0, word(number)))
+        number += 1
+
+
+def bytes_alone():
+    for part in callbacks():
+        sign, digits = part.split()
+        for place in range(0, len(digits), 2):
+            yield f"{sign} {digits[place:place + 2]}\n"
+
+
+KINDS = {"surfaces": surfaces, "callbacks": callbacks, "objects": objects, "bytes": bytes_alone}
+
+
+def main():
+    size = 0
+    for part in KINDS[sys.argv[1]]():
+        if size + len(part) > MOST:
+            break
+        sys.stdout.write(part)
+        size += len(part)
+
+
+main()
