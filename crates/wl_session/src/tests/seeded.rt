@@ -15,6 +15,7 @@ const SMALL: Sizes = Sizes {
 };
 
 /// A list of numbers that look like chance, the same at each run.
+#[derive(Drop)]
 struct Numbers {
     state: u64,
 }
@@ -56,7 +57,7 @@ fn arguments(
         4 => vec![in alloc;
             SendArg::Obj(Some(any(numbers, objects))),
             SendArg::Int(-1),
-            SendArg::Int(2)
+            SendArg::Int(2),
         ]?,
         5 => vec![in alloc; SendArg::New, SendArg::Fd(3), SendArg::Int(64)]?,
         _ => Vec::new(alloc),
