@@ -170,22 +170,6 @@ const REFUSED: [(&[u8], &[u8]); 3] = [
     ),
 ];
 
-/// What a demonstration prints.
-const DEMO: &[u8] = b"-> wl_display@1.get_registry(new id wl_registry@2)
-<- wl_registry@2.global(1, \"wl_compositor\", 6)
-<- wl_registry@2.global(2, \"wl_seat\", 9)
--> wl_registry@2.bind(1, \"wl_compositor\", 6, new id wl_compositor@3)
--> wl_registry@2.bind(2, \"wl_seat\", 9, new id wl_seat@4)
--> wl_display@1.sync(new id wl_callback@5)
-<- wl_callback@5.done(1)
-<- wl_display@1.delete_id(5)
--> wl_compositor@3.create_surface(new id wl_surface@5)
--> wl_surface@5.commit()
--> wl_surface@5.destroy()
-<- wl_display@1.delete_id(5)
-agree: 4 objects
-";
-
 /// Whether a job answers this status and writes this output, its last part behind the first, and
 /// nothing to standard error.
 fn prints(alloc: Global, job: &Job, text: &[u8], status: u8, first: &[u8], last: &[u8]) -> bool {
@@ -214,15 +198,6 @@ fn traces_and_checks_broken_sessions(rt: HostRuntime) -> Result<(), Fail> {
     for (text, lines, verdict) in BROKEN {
         assert!(rt; prints(alloc, &trace, text, 1, lines, verdict));
         assert!(rt; prints(alloc, &check, text, 1, b"", verdict));
-    }
-    Ok(())
-}
-
-#[test]
-fn shows_the_same_session_however_it_is_carried(rt: HostRuntime) -> Result<(), Fail> {
-    for piece in [1, 3, 7, 12, 100, 4096] {
-        let job = Job::Demo { piece };
-        assert!(rt; prints(rt.alloc(), &job, b"", 0, b"", DEMO));
     }
     Ok(())
 }
