@@ -12,6 +12,8 @@ mod request;
 mod server;
 mod step;
 mod streams;
+#[cfg(test)]
+mod tests;
 
 pub use laws::{any_cut_reads, one_reading};
 pub use request::{GlobalError, Request};

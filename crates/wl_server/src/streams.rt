@@ -109,3 +109,6 @@ impl<'t, T: Table> Server<'t, T> {
         Ok(())
     }
 }
+
+#[cfg(test)]
+mod tests;
