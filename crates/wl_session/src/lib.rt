@@ -12,3 +12,5 @@ mod running;
 
 pub use moves::{Carried, Move, Reply, SendArg};
 pub use pair::Pair;
+pub use wl_check::{Verdict, check, trace};
+pub use wl_recording::{Direction, Passed, Recording, RecordingError};
