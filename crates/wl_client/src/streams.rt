@@ -124,3 +124,6 @@ fn is_last<A: Allocator>(report: &Incoming<A>) -> bool
 {
     matches!(report, Incoming::Error { .. })
 }
+
+#[cfg(test)]
+mod tests;

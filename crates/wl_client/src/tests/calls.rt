@@ -1,0 +1,134 @@
+//! What a client's calls are answered, and the bytes that they write.
+use super::*;
+
+#[test]
+fn the_target_and_its_message_are_judged_first(rt: HostRuntime) -> Result<(), Fail> {
+    let tables = Tables::core(rt.alloc())?;
+    let mut client = bound(rt.alloc(), &tables, 2)?;
+    let display = client.display();
+    // S2: an id that is not held, and a held one of another birth
+    assert_eq!(rt;
+        client.send(Object { id: 9, birth: 9 }, 0, &[]),
+        Err(SendError::Stale)
+    );
+    assert_eq!(rt;
+        client.send(Object { id: 4, birth: 9 }, 0, &[]),
+        Err(SendError::Stale)
+    );
+    // S3: no such opcode, and bind, which has a call of its own
+    assert_eq!(rt; client.send(display, 2, &[]), Err(SendError::NoSuchMessage));
+    assert_eq!(rt;
+        client.send(REGISTRY, 0, &[]),
+        Err(SendError::NoSuchMessage)
+    );
+    // S4: set_buffer_scale came with version 3, and this surface is of version 2
+    assert_eq!(rt; client.live(SURFACE), Some((Iface(7), 2)));
+    assert_eq!(rt;
+        client.send(SURFACE, 8, &[Arg::Int(2)]),
+        Err(SendError::TooOld)
+    );
+    // also where the argument is wrong
+    assert_eq!(rt;
+        client.send(SURFACE, 8, &[Arg::Uint(2)]),
+        Err(SendError::TooOld)
+    );
+    Ok(())
+}
+
+#[test]
+fn arguments_are_judged_before_objects_and_length(rt: HostRuntime) -> Result<(), Fail> {
+    let tables = Tables::core(rt.alloc())?;
+    let mut client = bound(rt.alloc(), &tables, 6)?;
+    let display = client.display();
+    // S5
+    assert_eq!(rt; client.send(display, 0, &[]), Err(SendError::WrongArgs(0)));
+    assert_eq!(rt;
+        client.send(
+            SURFACE,
+            1,
+            &[Arg::Obj(Some(SURFACE)), Arg::Int(0), Arg::Uint(0)]
+        ),
+        Err(SendError::WrongArgs(2))
+    );
+    // S6: a surface is no buffer
+    assert_eq!(rt;
+        client.send(
+            SURFACE,
+            1,
+            &[Arg::Obj(Some(SURFACE)), Arg::Int(0), Arg::Int(0)]
+        ),
+        Err(SendError::BadObject(0))
+    );
+    Ok(())
+}
+
+#[test]
+fn a_message_has_to_be_short_and_to_fit(rt: HostRuntime) -> Result<(), Fail> {
+    let tables = Tables::core(rt.alloc())?;
+    let mut client = Plain::new(rt.alloc(), &tables, SIZES)?;
+    // a wl_shell_surface, which no registry of this test tells
+    let opened = open(&mut client, Iface(17), 1)?;
+    let title = [b'x'; 4084];
+    // S8
+    assert_eq!(rt;
+        client.send(opened, 8, &[Arg::Str(Some(&title))]),
+        Err(SendError::TooLong)
+    );
+    // 4096 bytes, which are just free
+    assert_eq!(rt;
+        client.send(opened, 8, &[Arg::Str(Some(&title[..4083]))]),
+        Ok(None)
+    );
+    // S9
+    assert_eq!(rt; client.send(opened, 3, &[]), Err(SendError::Full));
+    Ok(())
+}
+
+#[test]
+fn the_last_id_is_used_once(rt: HostRuntime) -> Result<(), Fail> {
+    let tables = Tables::core(rt.alloc())?;
+    let mut client = Plain::new(rt.alloc(), &tables, SIZES)?;
+    told(&mut client)?;
+    for _ in 3u32..1_048_576 {
+        let _ = open(&mut client, Iface(7), 1)?;
+    }
+    let display = client.display();
+    assert_eq!(rt;
+        client.bind(REGISTRY, 1, b"wl_compositor", 6),
+        Ok(Object {
+            id: 1_048_576,
+            birth: 1_048_575
+        })
+    );
+    // S10
+    assert_eq!(rt; client.send(display, 0, &[Arg::New]), Err(SendError::NoIds));
+    assert_eq!(rt;
+        client.bind(REGISTRY, 1, b"wl_compositor", 6),
+        Err(SendError::NoIds)
+    );
+    Ok(())
+}
+
+#[test]
+fn a_bind_has_to_fit(rt: HostRuntime) -> Result<(), Fail> {
+    let tables = Tables::core(rt.alloc())?;
+    let sizes = Sizes {
+        out_bytes: 51,
+        out_tokens: 0,
+        in_bytes: 4096,
+        in_tokens: 20,
+    };
+    let mut client = Plain::new(rt.alloc(), &tables, sizes)?;
+    told(&mut client)?;
+    // 39 bytes are free. S7 stands before S9.
+    assert_eq!(rt;
+        client.bind(REGISTRY, 1, b"wl_compositor", 7),
+        Err(SendError::BadBind)
+    );
+    assert_eq!(rt;
+        client.bind(REGISTRY, 1, b"wl_compositor", 6),
+        Err(SendError::Full)
+    );
+    assert_eq!(rt; client.bind(REGISTRY, 2, b"wl_seat", 6), Ok(COMPOSITOR));
+    Ok(())
+}
