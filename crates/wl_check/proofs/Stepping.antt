@@ -3,8 +3,8 @@ use Rattle.std.proofs.Common.{◌≡◌, ℕ, zero, suc, ◌<◌, ◌≤◌, Boo
 use Rattle.std.specs.Prelude.{Option, option_map}
 use Rattle.std.proofs.Math.Path.{fun_ext}
 use Rattle.std.proofs.lemmas.Bool.{lt-ltb, le-ltb}
-use Rattle.wl_objects.specs.declared.object.Entry.{Entry}
-use Rattle.wl_objects.specs.declared.object.State.TheVariants.{Live}
+use Rattle.wl_table.specs.declared.object.Entry.{Entry}
+use Rattle.wl_table.specs.declared.object.State.TheVariants.{Live}
 use Rattle.wl_check.specs.declared.deed.Deed.{Deed}
 use Rattle.wl_check.specs.Places.{makes, deletes, destroys, holder, is_ending, state_of, entry_of, new_of, object_of, named, unless_deleted, object_after, used_after, told_after, taken_after, used, told, taken, Known, known, IsNext}
 

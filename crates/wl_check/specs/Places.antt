@@ -1,9 +1,9 @@
 -- What is known at a place of a session, told by what stands at the places before it. wl_display stands at place 0, and the
 -- messages of the merged list at 1, 2, ..; an object is told by the place of the request that made it, which is its birth.
 use Rattle.std.specs.Prelude.{◌≡◌, ℕ, zero, suc, ◌+◌, max, Bool, true, false, not, ◌&&◌, ◌||◌, nat_lt, nat_eq, if◌then◌else◌, Option, Some, None, option_map}
-use Rattle.wl_objects.specs.declared.object.Entry.{Entry}
-use Rattle.wl_objects.specs.declared.object.State.{State}
-use Rattle.wl_objects.specs.declared.object.State.TheVariants.{Live, Zombie}
+use Rattle.wl_table.specs.declared.object.Entry.{Entry}
+use Rattle.wl_table.specs.declared.object.State.{State}
+use Rattle.wl_table.specs.declared.object.State.TheVariants.{Live, Zombie}
 use Rattle.wl_objects.specs.Messages.{Made}
 use Rattle.wl_sigs.specs.Fixed.{display}
 use Rattle.wl_recording.specs.declared.piece.Direction.{Direction}

@@ -3,7 +3,7 @@ ghost use Rattle.std.specs.Prelude.{◌≡◌, ℕ, ◌+◌, ◌^◌, ◌<◌, O
 ghost use Rattle.std.specs.Ordering.{nat_cmp};
 ghost use Rattle.std.specs.BTreeMap.{get};
 ghost use Rattle.std.specs.Option.{unwrap_or};
-ghost use Rattle.wl_objects.specs.declared.object.State.TheVariants.{Live};
+ghost use Rattle.wl_table.specs.declared.object.State.TheVariants.{Live};
 ghost use Rattle.wl_sigs.specs.Fixed.{display};
 ghost use Rattle.wl_sigs.specs.Valid.{Valid};
 ghost use Rattle.wl_check.specs.Places.{ending, entry_of, frees, is_id, is_made, new_of, used_after, told_once, IsFirst, IsNext};

@@ -16,9 +16,9 @@ use Rattle.wl_sigs.specs.Valid.{Valid}
 use Rattle.wl_message.specs.declared.inbox.Frame.{Frame}
 use Rattle.wl_message.specs.Arrived.{Tells}
 use Rattle.wl_message.specs.Cut.{usual_limit, front, Whole, HasMessage, message_size}
-use Rattle.wl_objects.specs.declared.object.State.{State as ObjectState}
-use Rattle.wl_objects.specs.declared.object.State.TheVariants.{Live, Zombie}
-use Rattle.wl_objects.specs.View.{View}
+use Rattle.wl_table.specs.declared.object.State.{State as ObjectState}
+use Rattle.wl_table.specs.declared.object.State.TheVariants.{Live, Zombie}
+use Rattle.wl_table.specs.View.{View}
 use Rattle.wl_objects.specs.Reading.{descriptors, is_descriptor_kind}
 use Rattle.wl_objects.specs.Messages.{Received, received, reader_of}
 use Rattle.wl_end.specs.Core.{Core}

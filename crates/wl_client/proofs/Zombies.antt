@@ -5,10 +5,10 @@ use Rattle.std.specs.Ordering.{nat_cmp}
 use Rattle.std.specs.Cmp.{nat_cmp_total}
 use Rattle.std.specs.FinMap.{FinMap, get, insert, same_map, nat_cmp-IsAntisymmetric}
 use Rattle.std.specs.declared.option.Option.TheVariants.{Some}
-use Rattle.wl_objects.specs.declared.object.Entry.{Entry}
-use Rattle.wl_objects.specs.declared.object.State.TheVariants.{Zombie}
-use Rattle.wl_objects.specs.View.{View, look, zombie, with_zombie, zombied}
-use Rattle.wl_objects.specs.Views.{get_put}
+use Rattle.wl_table.specs.declared.object.Entry.{Entry}
+use Rattle.wl_table.specs.declared.object.State.TheVariants.{Zombie}
+use Rattle.wl_table.specs.View.{View, look, zombie, with_zombie, zombied}
+use Rattle.wl_table.specs.Views.{get_put}
 
 at_key : (rows : FinMap nat_cmp Entry) (id q : ℕ) (e : Entry) (b : Bool) → eqb q id ≡ b → get rows id ≡ Some e → cond b (Some e) (get rows q) ≡ get rows q
 at_key rows id q e false t h = refl

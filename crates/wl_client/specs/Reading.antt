@@ -6,7 +6,7 @@ use Rattle.wl_wire.specs.declared.header.Header.{Header}
 use Rattle.wl_sigs.specs.Tables.{Interface}
 use Rattle.wl_objects.specs.declared.error.Fault.{Fault}
 use Rattle.wl_objects.specs.declared.error.NextError.{NextError}
-use Rattle.wl_objects.specs.View.{View}
+use Rattle.wl_table.specs.View.{View}
 use Rattle.wl_objects.specs.Messages.{Received}
 use Rattle.wl_message.specs.Cut.{Whole, front, usual_limit}
 use Rattle.wl_end.specs.Core.{Core}

@@ -4,7 +4,7 @@ use Rattle.wl_sigs.specs.Tables.{Interface}
 use Rattle.wl_message.specs.Outgoing.{no_messages}
 use Rattle.wl_objects.specs.declared.reading.Received.{Received as Read}
 use Rattle.wl_sigs.specs.Fixed.{display}
-use Rattle.wl_objects.specs.View.{View, opening, is_held, is_live, closed, zombied}
+use Rattle.wl_table.specs.View.{View, opening, is_held, is_live, closed, zombied}
 use Rattle.wl_objects.specs.Messages.{Received}
 use Rattle.wl_end.specs.Core.{Core, past, with_view}
 use Rattle.wl_end.specs.Receiving.{Found}

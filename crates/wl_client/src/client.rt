@@ -27,7 +27,7 @@ pub struct Client<'t, T: Table> {
 
 impl<'t, T: Table> Model for Client<'t, T> {
     ghost use Rattle.std.specs.Coded.{codes};
-    ghost use Rattle.wl_objects.specs.View.{view_code};
+    ghost use Rattle.wl_table.specs.View.{view_code};
     ghost use Rattle.wl_client.specs.State.{State};
 
     ghost Value = { State };

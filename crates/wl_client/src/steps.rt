@@ -1,7 +1,7 @@
 //! The steps in which a client reads a message.
 ghost use Rattle.std.specs.Prelude.{◌≡◌, ◌≢◌, List, [], true, false, IfOk, OnErr, Some};
 ghost use Rattle.wl_sigs.specs.declared.signature.Side.TheVariants.{Event as event_side};
-ghost use Rattle.wl_objects.specs.View.{look};
+ghost use Rattle.wl_table.specs.View.{look};
 ghost use Rattle.wl_objects.specs.Reading.{reports_of};
 ghost use Rattle.wl_objects.specs.Messages.{is_error, reader_of};
 ghost use Rattle.wl_end.specs.Core.{HasDisplay, with_view};

@@ -17,7 +17,7 @@ use Rattle.wl_message.specs.Cut.{usual_limit, front, Front, More, Bad, Whole}
 use Rattle.wl_message.specs.InStep.{Need}
 use Rattle.wl_message.proofs.Fronts.{Seen, short, long, whole, bad, seen, front_stands}
 use Rattle.wl_message.proofs.Cuts.{whole_stays, bad_stays}
-use Rattle.wl_objects.specs.declared.object.Entry.{Entry}
+use Rattle.wl_table.specs.declared.object.Entry.{Entry}
 use Rattle.wl_objects.specs.declared.error.Fault.{Fault}
 use Rattle.wl_objects.specs.declared.error.Fault.TheVariants as faults
 use Rattle.wl_objects.specs.Reading.{Reader, forgiving, arguments_at, descriptors}

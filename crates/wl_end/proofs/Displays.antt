@@ -11,13 +11,13 @@ use Rattle.wl_sigs.specs.declared.signature.Destroys.TheVariants.{Nothing, Targe
 use Rattle.wl_sigs.specs.Tables.{Interface, Message, signature_at, messages_of}
 use Rattle.wl_sigs.specs.Fixed.{wl_display, display}
 use Rattle.wl_sigs.specs.Valid.{Valid}
-use Rattle.wl_objects.specs.declared.object.Entry.{Entry}
-use Rattle.wl_objects.specs.declared.object.State.TheVariants.{Live}
-use Rattle.wl_objects.specs.declared.object.Object.{Object}
-use Rattle.wl_objects.specs.declared.object.TableError.{TableError}
-use Rattle.wl_objects.specs.declared.object.TableError.TheVariants as refusals
-use Rattle.wl_objects.specs.View.{View, Sound, look, is_held, free_or_next, next_id, opening, opened_at, opened, closed, zombied, zombie}
-use Rattle.wl_objects.specs.Views.{look-opening, look-opened_at, look-closed, look-zombied, free_is, free_or_next-next_id}
+use Rattle.wl_table.specs.declared.object.Entry.{Entry}
+use Rattle.wl_table.specs.declared.object.State.TheVariants.{Live}
+use Rattle.wl_table.specs.declared.object.Object.{Object}
+use Rattle.wl_table.specs.declared.object.TableError.{TableError}
+use Rattle.wl_table.specs.declared.object.TableError.TheVariants as refusals
+use Rattle.wl_table.specs.View.{View, Sound, look, is_held, free_or_next, next_id, opening, opened_at, opened, closed, zombied, zombie}
+use Rattle.wl_table.specs.Views.{look-opening, look-opened_at, look-closed, look-zombied, free_is, free_or_next-next_id}
 use Rattle.wl_end.specs.Core.{HasDisplay}
 
 pub HasDisplay-opening : HasDisplay (opening display)

@@ -18,14 +18,14 @@ use Rattle.wl_sigs.specs.Valid.{Valid}
 use Rattle.wl_message.specs.Outgoing.{Outgoing}
 use Rattle.wl_objects.specs.declared.argument.Arg.{Arg}
 use Rattle.wl_objects.specs.declared.argument.Arg.TheVariants as args
-use Rattle.wl_objects.specs.declared.object.Object.{Object}
-use Rattle.wl_objects.specs.declared.object.Entry.{Entry}
-use Rattle.wl_objects.specs.declared.object.State.{State}
-use Rattle.wl_objects.specs.declared.object.State.TheVariants.{Live, Zombie}
+use Rattle.wl_table.specs.declared.object.Object.{Object}
+use Rattle.wl_table.specs.declared.object.Entry.{Entry}
+use Rattle.wl_table.specs.declared.object.State.{State}
+use Rattle.wl_table.specs.declared.object.State.TheVariants.{Live, Zombie}
 use Rattle.wl_objects.specs.declared.error.SendError.{SendError}
 use Rattle.wl_objects.specs.declared.error.SendError.TheVariants as refusals
-use Rattle.wl_objects.specs.View.{View, look, is_live, lives, lives_in, next_id}
-use Rattle.wl_objects.specs.Views.{look-opened_at}
+use Rattle.wl_table.specs.View.{View, look, is_live, lives, lives_in, next_id}
+use Rattle.wl_table.specs.Views.{look-opened_at}
 use Rattle.wl_objects.specs.Writing.{Given, given, given_of, wired, on_wire, suits, wrong_place, call_makes, id_of, message_len, len_in_limit, message_bytes, tokens_of}
 use Rattle.wl_objects.specs.Writing as writing
 use Rattle.wl_objects.specs.Messages.{Made, opens, checked, destroys}

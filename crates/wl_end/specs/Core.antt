@@ -7,10 +7,10 @@ use Rattle.wl_message.specs.declared.amounts.Fed.{Fed}
 use Rattle.wl_message.specs.declared.amounts.Sizes.{Sizes}
 use Rattle.wl_message.specs.Arrived.{Arrived, nothing_arrived, free_bytes, free_tokens, fed, with_more, without_first}
 use Rattle.wl_message.specs.Outgoing.{Outgoing, no_messages, waiting_bytes, waiting_tokens, after_taking}
-use Rattle.wl_objects.specs.declared.object.Object.{Object}
-use Rattle.wl_objects.specs.declared.object.Entry.{Entry}
-use Rattle.wl_objects.specs.declared.object.State.TheVariants.{Live}
-use Rattle.wl_objects.specs.View.{View, opening, look}
+use Rattle.wl_table.specs.declared.object.Object.{Object}
+use Rattle.wl_table.specs.declared.object.Entry.{Entry}
+use Rattle.wl_table.specs.declared.object.State.TheVariants.{Live}
+use Rattle.wl_table.specs.View.{View, opening, look}
 use Rattle.wl_objects.specs.Messages.{live_row, is_empty}
 
 pub record Core : Type 0 where

@@ -5,7 +5,7 @@ ghost use Rattle.wl_message.specs.Outgoing.{with_message};
 ghost use Rattle.wl_sigs.specs.Tables.{makes};
 ghost use Rattle.wl_sigs.specs.Valid.{Valid};
 ghost use Rattle.wl_objects.specs.Messages.{checked, destroys, opens};
-ghost use Rattle.wl_objects.specs.View.{Sound, is_live, look, next_id};
+ghost use Rattle.wl_table.specs.View.{Sound, is_live, look, next_id};
 ghost use Rattle.wl_objects.specs.Writing.{EachFits, bind_values, given, has_no_nul, id_of, message_len, on_wire, tokens_of};
 ghost use Rattle.wl_end.specs.Core.{HasDisplay, with_view};
 ghost use Rattle.wl_end.specs.Outcomes.{Gives};

@@ -38,7 +38,7 @@ pub struct Core<'t, T: Table> {
 impl<'t, T: Table> Model for Core<'t, T> {
     ghost use Rattle.std.specs.Prelude.{◌≡◌, ◌≤◌, false, vec_capacity};
     ghost use Rattle.std.specs.Coded.{codes};
-    ghost use Rattle.wl_objects.specs.View.{view_code};
+    ghost use Rattle.wl_table.specs.View.{view_code};
     ghost use Rattle.wl_end.specs.Core.{Core as CoreState, HasDisplay, IsOrdinary};
 
     ghost Value = { CoreState };

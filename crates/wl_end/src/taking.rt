@@ -1,7 +1,7 @@
 //! What an end does with a message in front, and with its objects.
 ghost use Rattle.std.specs.Prelude.{◌≡◌, ◌≢◌, ◌≤◌, ◌<◌, ℕ, IsTrue, IfOk, OnOk, OnErr, length, take, slice_index_or};
 ghost use Rattle.wl_message.specs.Cut.{usual_limit, front, Whole};
-ghost use Rattle.wl_objects.specs.View.{is_held, is_live, opened_at, closed, zombied};
+ghost use Rattle.wl_table.specs.View.{is_held, is_live, opened_at, closed, zombied};
 ghost use Rattle.wl_end.specs.Core.{past, with_view};
 
 use crate::shared::Core;

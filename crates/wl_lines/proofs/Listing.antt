@@ -5,7 +5,7 @@ use Rattle.std.specs.List.{flat_map}
 use Rattle.wl_wire.specs.declared.kind.Kind.{Kind}
 use Rattle.wl_wire.specs.Argument.{Argument, Int, Uint, Fixed, Str, Obj, New, NewNamed, Array, Fd}
 use Rattle.wl_sigs.specs.Tables.{Interface}
-use Rattle.wl_objects.specs.declared.object.Entry.{Entry}
+use Rattle.wl_table.specs.declared.object.Entry.{Entry}
 use Rattle.std.specs.Prelude.{Option}
 use Rattle.wl_objects.specs.Reading.{is_descriptor}
 use Rattle.wl_lines.specs.Text.{listed}

@@ -7,7 +7,7 @@ use Rattle.wl_wire.specs.Argument.{Argument, Int, Uint, Fixed, Str, Obj, New, Ne
 use Rattle.wl_wire.specs.Units.{fixed_text}
 use Rattle.wl_sigs.specs.declared.signature.Side.{Side}
 use Rattle.wl_sigs.specs.Tables.{Interface}
-use Rattle.wl_objects.specs.declared.object.Entry.{Entry}
+use Rattle.wl_table.specs.declared.object.Entry.{Entry}
 use Rattle.wl_objects.specs.Reading.{is_descriptor}
 use Rattle.wl_objects.specs.Messages.{Received}
 use Rattle.wl_lines.specs.Text.{arrow, object_text, new_text, name_of, string_text, listed}

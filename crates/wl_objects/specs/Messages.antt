@@ -13,15 +13,15 @@ use Rattle.wl_sigs.specs.declared.signature.Destroys.{Destroys}
 use Rattle.wl_sigs.specs.declared.signature.Destroys.TheVariants.{Nothing, Target}
 use Rattle.wl_sigs.specs.Tables.{Message, Interface, signature_at, place_of}
 use Rattle.wl_sigs.specs.Fixed.{display, registry}
-use Rattle.wl_objects.specs.declared.object.Object.{Object}
-use Rattle.wl_objects.specs.declared.object.Entry.{Entry}
+use Rattle.wl_table.specs.declared.object.Object.{Object}
+use Rattle.wl_table.specs.declared.object.Entry.{Entry}
 use Rattle.wl_objects.specs.declared.error.Fault.{Fault}
 use Rattle.wl_objects.specs.declared.error.Fault.TheVariants as faults
 use Rattle.wl_objects.specs.declared.error.SendError.{SendError}
 use Rattle.wl_objects.specs.declared.error.SendError.TheVariants as refusals
-use Rattle.wl_objects.specs.View.{View, look, free_or_next, has_room, opened_at, closed, zombied, is_held}
-use Rattle.wl_objects.specs.declared.object.NewId.{NewId}
-use Rattle.wl_objects.specs.declared.object.NewId.TheVariants.{Free, Wrong, TooMany}
+use Rattle.wl_table.specs.View.{View, look, free_or_next, has_room, opened_at, closed, zombied, is_held}
+use Rattle.wl_objects.specs.declared.lookup.NewId.{NewId}
+use Rattle.wl_objects.specs.declared.lookup.NewId.TheVariants.{Free, Wrong, TooMany}
 use Rattle.wl_objects.specs.Reading.{Reader, forgiving, arguments_at, descriptors}
 use Rattle.wl_objects.specs.Writing.{Given, wrong_place, lost_place, is_live_as, wired, message_len}
 use Rattle.wl_objects.specs.declared.made.Made.{Made as NewObject}

@@ -7,7 +7,7 @@ use Rattle.wl_wire.specs.Argument.{Argument, units, Int, Uint, Fixed, Str, Obj, 
 use Rattle.wl_sigs.specs.Tables.{Message}
 use Rattle.wl_objects.specs.declared.argument.Got.{Got}
 use Rattle.wl_objects.specs.declared.argument.Got.TheVariants as values
-use Rattle.wl_objects.specs.declared.object.Entry.{Entry}
+use Rattle.wl_table.specs.declared.object.Entry.{Entry}
 use Rattle.wl_objects.specs.declared.error.Fault.{Fault}
 use Rattle.wl_objects.specs.declared.error.SendError.{SendError}
 use Rattle.wl_objects.specs.declared.reading.Received.{Received as Read}

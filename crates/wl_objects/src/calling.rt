@@ -2,7 +2,7 @@
 ghost use Rattle.std.specs.Prelude.{◌≡◌, ◌≤◌, ℕ, suc, ◌<◌, ◌≤◌, ◌+◌, IfOk, IfSome, length, Some};
 ghost use Rattle.std.specs.List.{All};
 ghost use Rattle.wl_sigs.specs.Valid.{Valid};
-ghost use Rattle.wl_objects.specs.View.{look, Sound};
+ghost use Rattle.wl_table.specs.View.{look, Sound};
 ghost use Rattle.wl_objects.specs.Reading.{is_of, iface_of};
 ghost use Rattle.wl_objects.specs.Messages.{checked, live_row};
 ghost use Rattle.wl_objects.specs.Carried.{InRange, IsTyped};
@@ -12,10 +12,9 @@ ghost use Rattle.wl_objects.specs.Writing.{EachFits, can_name, given, given_of, 
 use crate::argument::Arg;
 use crate::error::SendError;
 use crate::messages::is_hidden;
-use crate::object::{Entry, Object, State};
-use crate::table::Table;
 use crate::writing::message_len;
 use wl_sigs::{Side, Signature, Tables};
+use wl_table::{Entry, Object, State, Table};
 use wl_wire::{Iface, Kind};
 
 /// Checks a call before its room is looked at: the first of S2, S3, S4, S5, S6 and S8, else the

@@ -1,9 +1,8 @@
-//! The objects of one end of a Wayland connection, by id, and what both ends do with the arguments
-//! of a message.
+//! What both ends of a Wayland connection do with the arguments of a message: they are read and
+//! written against the objects of one end. (Chapter "Wayland Protocol and Model of Operation",
+//! sections "Wire Format" and "Creating Objects".)
 //!
-//! Ids are made by the client, from 1 on, and used again after they were freed. A birth is the
-//! number of an object, counted by each end for itself and never used again. (Chapter "Wayland
-//! Protocol and Model of Operation", section "Creating Objects".)
+//! The table of objects stands in `wl_table`, and is given out here too.
 #![tactic(auto)]
 
 mod argument;
@@ -12,13 +11,10 @@ mod error;
 pub mod laws;
 mod lookup;
 mod made;
-mod map_table;
 mod messages;
-mod object;
 mod reading;
 mod reporting;
 pub mod samples;
-mod table;
 #[cfg(test)]
 mod tests;
 mod values;
@@ -27,15 +23,13 @@ mod writing;
 pub use argument::{Arg, Got, GotRef, Named};
 pub use calling::check_call;
 pub use error::{Fault, NextError, SendError};
-pub use lookup::{Held, Lookup};
+pub use lookup::{Held, Lookup, NewId};
 pub use made::{Made, call_makes, made_by_message};
-pub use map_table::MapTable;
 pub use messages::{DISPLAY, REGISTRY, is_bind, is_delete_id, is_error, is_hidden};
-pub use object::{Entry, NewId, Object, State, TableError};
 pub use reading::{Received, descriptors, receive, receive_by};
 pub use reporting::{Gots, named, report_arguments};
-pub use table::Table;
 pub use values::Values;
+pub use wl_table::{Entry, MapTable, Object, State, Table, TableError};
 pub use writing::{
     encode_bind, encode_call, encode_error, encode_global, encode_number, message_len, tokens_of,
 };

@@ -3,8 +3,18 @@ ghost use Rattle.std.specs.Prelude.{◌≡◌};
 ghost use Rattle.wl_objects.specs.Reading.{Reader};
 ghost use Rattle.wl_objects.specs.Messages.{reader_of};
 
-use crate::object::{Entry, NewId};
-use crate::table::Table;
+use wl_table::{Entry, Table};
+
+/// What an id is to a reader that finds it as a new object's.
+#[derive(Clone, Copy, Debug, PartialEq, Eq)]
+pub enum NewId {
+    /// A freed id or the next one, and the object can be opened.
+    Free,
+    /// 0, in use, or neither freed nor the next.
+    Wrong,
+    /// As `Free`, but the connection has no more room.
+    TooMany,
+}
 
 /// What the reading of a message asks: the object that an id names, and what an id is as a new
 /// object's.

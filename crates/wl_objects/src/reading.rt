@@ -3,18 +3,17 @@ ghost use Rattle.std.specs.Prelude.{◌≡◌, IfOk};
 ghost use Rattle.wl_wire.specs.Argument.{lent};
 ghost use Rattle.wl_wire.specs.Word.{IsHeader};
 ghost use Rattle.wl_sigs.specs.Valid.{Valid};
-ghost use Rattle.wl_objects.specs.View.{look};
+ghost use Rattle.wl_table.specs.View.{look};
 ghost use Rattle.wl_objects.specs.Reading.{arguments_at, descriptors, forgiving, value_fault, object_fault, new_fault, iface_of, values_at};
 ghost use Rattle.wl_objects.specs.Messages.{reader_of, received};
 ghost use Rattle.wl_objects.specs.Seen.{received_in, with_rest};
 
 use crate::error::Fault;
-use crate::lookup::{Held, Lookup};
+use crate::lookup::{Held, Lookup, NewId};
 use crate::messages::is_error;
-use crate::object::{Entry, NewId, Object};
-use crate::table::Table;
 use crate::values::{Values, kind_at};
 use wl_sigs::{Side, Signature, Tables};
+use wl_table::{Entry, Object, Table};
 use wl_wire::{Header, Iface, Kind, ValueRef, read_ref};
 
 /// A message that was read: nothing is wrong with it, and nothing has changed yet.

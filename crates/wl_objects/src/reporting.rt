@@ -2,17 +2,16 @@
 ghost use Rattle.std.specs.Prelude.{◌≡◌, [], ◌∷◌, ◌++◌, IfOk};
 ghost use Rattle.std.specs.Option.{option_map_or};
 ghost use Rattle.wl_wire.specs.Argument.{lent};
-ghost use Rattle.wl_objects.specs.View.{look};
+ghost use Rattle.wl_table.specs.View.{look};
 ghost use Rattle.wl_objects.specs.Reading.{first_or, named_at, report_of, reports_of, tokens_after};
 ghost use Rattle.wl_objects.specs.Messages.{reader_of};
 ghost use Rattle.wl_objects.specs.Seen.{got, gots};
 
 use crate::argument::{Got, Named};
-use crate::object::{Object, State};
-use crate::table::Table;
 use crate::values::Values;
 use std::alloc::{AllocError, Allocator, Global};
 use std::marker::Model;
+use wl_table::{Object, State, Table};
 use wl_wire::{Bytes, ValueRef};
 
 /// The arguments of a report, in memory of their own.

@@ -12,10 +12,10 @@ use Rattle.wl_sigs.specs.Tables.{Interface, Message, interface_at}
 use Rattle.wl_sigs.specs.Rules.{is_ended_by_event}
 use Rattle.wl_sigs.specs.Fixed.{display}
 use Rattle.wl_sigs.specs.Valid.{Valid}
-use Rattle.wl_objects.specs.declared.object.Object.{Object}
-use Rattle.wl_objects.specs.declared.object.Entry.{Entry}
+use Rattle.wl_table.specs.declared.object.Object.{Object}
+use Rattle.wl_table.specs.declared.object.Entry.{Entry}
 use Rattle.wl_objects.specs.declared.error.SendError.{SendError}
-use Rattle.wl_objects.specs.View.{View, look}
+use Rattle.wl_table.specs.View.{View, look}
 use Rattle.wl_objects.specs.Writing.{Given, is_live_as}
 use Rattle.wl_objects.specs.Messages.{Made, End, Client, Server, opens, after, checked, live_row}
 use Rattle.wl_end.specs.Core.{Core, HasDisplay, live, kind_and_version}

@@ -8,7 +8,7 @@ use Rattle.std.proofs.lemmas.List.{get_or-set_same, length-set, set-get_or, set-
 use Rattle.wl_sigs.specs.Tables.{Interface}
 use Rattle.wl_message.specs.Outgoing.{Outgoing, all_bytes, message, room_of, with_message}
 use Rattle.wl_message.proofs.Passing.{bytes_append}
-use Rattle.wl_objects.specs.declared.object.Object.{Object}
+use Rattle.wl_table.specs.declared.object.Object.{Object}
 use Rattle.wl_objects.specs.Writing.{message_len, message_bytes}
 use Rattle.wl_objects.proofs.Calls.{len-least}
 use Rattle.wl_objects.proofs.Wholes.{length-message}

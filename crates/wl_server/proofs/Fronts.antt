@@ -26,8 +26,8 @@ use Rattle.wl_objects.specs.declared.error.Fault.{Fault}
 use Rattle.wl_objects.specs.declared.error.Fault.TheVariants as faults
 use Rattle.wl_objects.specs.declared.error.NextError.{NextError}
 use Rattle.wl_objects.specs.declared.error.NextError.TheVariants as errors
-use Rattle.wl_objects.specs.declared.object.Entry.{Entry}
-use Rattle.wl_objects.specs.View.{View, look, is_held}
+use Rattle.wl_table.specs.declared.object.Entry.{Entry}
+use Rattle.wl_table.specs.View.{View, look, is_held}
 use Rattle.wl_objects.specs.Reading.{descriptors, is_descriptor_kind, reports_of, Reported}
 use Rattle.wl_objects.specs.Messages.{Received, received, reader_of, is_bind}
 use Rattle.wl_end.specs.Core.{Core, HasDisplay}

@@ -5,7 +5,7 @@ use Rattle.std.proofs.Common.{inl, inr}
 use Rattle.std.proofs.lemmas.Bool.{cases_lt}
 use Rattle.std.proofs.lemmas.List.{drop_all, drop-set-lt, take_at}
 use Rattle.wl_message.specs.Outgoing.{room_of}
-use Rattle.wl_objects.specs.View.{View}
+use Rattle.wl_table.specs.View.{View}
 use Rattle.wl_objects.specs.Writing.{message_len}
 use Rattle.wl_end.specs.Core.{Core, IsOrdinary}
 use Rattle.wl_end.specs.Sending.{with_sent}

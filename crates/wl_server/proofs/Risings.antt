@@ -1,7 +1,7 @@
 -- The births of registries go on rising.
 use Rattle.std.proofs.Common.{◌≡◌, ℕ, suc, ◌+◌, ◌≤◌, Bool, true, false, List, [], ◌∷◌, ◌++◌, arith}
 use Rattle.std.specs.Prelude.{nat_eq, if◌then◌else◌}
-use Rattle.wl_objects.specs.declared.object.Object.{Object}
+use Rattle.wl_table.specs.declared.object.Object.{Object}
 use Rattle.wl_server.specs.State.{Registry, RiseFrom, untold}
 use Rattle.wl_server.specs.Requests.{without_registry}
 

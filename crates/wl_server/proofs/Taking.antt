@@ -8,12 +8,12 @@ use Rattle.wl_sigs.specs.declared.signature.Destroys.{Destroys}
 use Rattle.wl_sigs.specs.declared.signature.Destroys.TheVariants.{Nothing, Target}
 use Rattle.wl_sigs.specs.Tables.{destroys_target}
 use Rattle.wl_wire.specs.declared.kind.Kind.{Kind}
-use Rattle.wl_objects.specs.declared.object.Entry.{Entry}
+use Rattle.wl_table.specs.declared.object.Entry.{Entry}
 use Rattle.wl_objects.specs.declared.error.Fault.{Fault}
 use Rattle.wl_objects.specs.declared.error.NextError.{NextError}
 use Rattle.wl_objects.specs.declared.error.NextError.TheVariants as errors
-use Rattle.wl_objects.specs.View.{View, is_held, look, opened_at}
-use Rattle.wl_objects.specs.Views.{look-opened_at}
+use Rattle.wl_table.specs.View.{View, is_held, look, opened_at}
+use Rattle.wl_table.specs.Views.{look-opened_at}
 use Rattle.wl_objects.specs.Messages.{Made, made, opens, same_iface}
 use Rattle.wl_sigs.specs.Fixed.{registry}
 use Rattle.wl_end.specs.Core.{Core}

@@ -4,7 +4,7 @@ use Rattle.std.specs.Prelude.{Result, ◌↔◌, ◌⊎◌, IsErr, OnErr, OnOk, 
 use Rattle.std.specs.declared.result.Result.TheVariants.{Ok, Err}
 use Rattle.std.proofs.lemmas.Bool.{cases_lt}
 use Rattle.wl_message.specs.Outgoing.{Outgoing, room_of, token_room_of, with_message}
-use Rattle.wl_objects.specs.declared.object.Object.{Object}
+use Rattle.wl_table.specs.declared.object.Object.{Object}
 use Rattle.wl_objects.specs.Writing.{message_len, message_bytes}
 use Rattle.wl_objects.proofs.Wholes.{length-message}
 use Rattle.wl_end.specs.Core.{Core, IsOrdinary}

@@ -7,11 +7,11 @@ use Rattle.wl_wire.specs.declared.kind.Iface.{Iface}
 use Rattle.wl_sigs.specs.Tables.{Interface, interface_at}
 use Rattle.wl_sigs.specs.Rules.{is_ended_by_event}
 use Rattle.wl_sigs.specs.Fixed.{display, registry}
-use Rattle.wl_objects.specs.declared.object.Object.{Object}
-use Rattle.wl_objects.specs.declared.object.Entry.{Entry}
+use Rattle.wl_table.specs.declared.object.Object.{Object}
+use Rattle.wl_table.specs.declared.object.Entry.{Entry}
 use Rattle.wl_objects.specs.declared.error.SendError.{SendError}
 use Rattle.wl_objects.specs.declared.error.SendError.TheVariants as refusals
-use Rattle.wl_objects.specs.View.{closed}
+use Rattle.wl_table.specs.View.{closed}
 use Rattle.wl_objects.specs.Messages.{live_row, same_iface}
 use Rattle.wl_end.specs.Core.{Core, with_view}
 use Rattle.wl_end.specs.Sending.{fits, with_delete_id, delete_id_len, with_error_event}

@@ -7,11 +7,11 @@ use Rattle.wl_sigs.specs.declared.signature.Destroys.{Destroys}
 use Rattle.wl_sigs.specs.declared.signature.Destroys.TheVariants.{Nothing, Target}
 use Rattle.wl_sigs.specs.Tables.{Interface, destroys_target}
 use Rattle.wl_message.specs.Cut.{usual_limit, front, Whole}
-use Rattle.wl_objects.specs.declared.object.Object.{Object}
+use Rattle.wl_table.specs.declared.object.Object.{Object}
 use Rattle.wl_objects.specs.declared.error.Fault.{Fault}
 use Rattle.wl_objects.specs.declared.error.NextError.{NextError}
 use Rattle.wl_objects.specs.declared.error.NextError.TheVariants as errors
-use Rattle.wl_objects.specs.View.{View, is_held, closed}
+use Rattle.wl_table.specs.View.{View, is_held, closed}
 use Rattle.wl_objects.specs.declared.reading.Received.{Received as Read}
 use Rattle.wl_objects.specs.Reading.{reports_of, descriptors}
 use Rattle.wl_objects.specs.Messages.{Made, Received, made, reader_of, opens}

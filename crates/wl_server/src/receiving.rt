@@ -4,7 +4,7 @@ ghost use Rattle.wl_sigs.specs.declared.signature.Side.TheVariants.{Request as r
 ghost use Rattle.wl_sigs.specs.Tables.{destroys_target};
 ghost use Rattle.wl_objects.specs.Reading.{reports_of};
 ghost use Rattle.wl_objects.specs.Messages.{is_bind, opens, reader_of};
-ghost use Rattle.wl_objects.specs.View.{is_held};
+ghost use Rattle.wl_table.specs.View.{is_held};
 ghost use Rattle.wl_end.specs.Core.{with_view};
 ghost use Rattle.wl_end.specs.Outcomes.{Gives, left};
 ghost use Rattle.wl_end.specs.Receiving.{has_arguments, is_none};

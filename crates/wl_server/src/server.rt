@@ -31,7 +31,7 @@ pub struct Server<'t, T: Table> {
 impl<'t, T: Table> Model for Server<'t, T> {
     ghost use Rattle.std.specs.Prelude.{◌≤◌, length};
     ghost use Rattle.std.specs.Coded.{codes};
-    ghost use Rattle.wl_objects.specs.View.{view_code};
+    ghost use Rattle.wl_table.specs.View.{view_code};
     ghost use Rattle.wl_server.specs.State.{State, RiseFrom};
 
     ghost Value = { State };

@@ -7,7 +7,7 @@ use Rattle.std.specs.declared.result.Result.TheVariants.{Ok, Err}
 use Rattle.wl_message.specs.Arrived.{Arrived}
 use Rattle.wl_sigs.specs.declared.signature.Side.{Side}
 use Rattle.wl_sigs.specs.Tables.{Message}
-use Rattle.wl_objects.specs.declared.object.Object.{Object}
+use Rattle.wl_table.specs.declared.object.Object.{Object}
 use Rattle.wl_objects.specs.declared.error.SendError.{SendError}
 use Rattle.wl_objects.specs.declared.error.SendError.TheVariants as refusals
 use Rattle.wl_objects.specs.declared.error.NextError.{NextError}

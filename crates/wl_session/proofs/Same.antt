@@ -3,10 +3,10 @@ use Rattle.std.proofs.Common.{◌≡◌, ℕ, ◌<◌, ◌≤◌, ◌+◌, sym, 
 use Rattle.std.proofs.lemmas.Bool.{cases_lt}
 use Rattle.std.specs.declared.option.Option.{Option}
 use Rattle.std.specs.declared.option.Option.TheVariants.{None}
-use Rattle.wl_objects.specs.declared.object.Entry.{Entry}
-use Rattle.wl_objects.specs.View.{View, Sound, look}
-use Rattle.wl_objects.specs.Views
-use Rattle.wl_objects.specs.Views.{in_row, in_list, at_null, unused}
+use Rattle.wl_table.specs.declared.object.Entry.{Entry}
+use Rattle.wl_table.specs.View.{View, Sound, look}
+use Rattle.wl_table.specs.Views
+use Rattle.wl_table.specs.Views.{in_row, in_list, at_null, unused}
 use Rattle.wl_world.specs.Runs.{Agree}
 use Rattle.wl_session.specs.Room.{AreSame}
 

@@ -1,6 +1,6 @@
 //! Whether both ends have the same objects.
 ghost use Rattle.std.specs.Prelude.{◌≡◌, ◌↔◌, false, IsTrue};
-ghost use Rattle.wl_objects.specs.View.{Sound};
+ghost use Rattle.wl_table.specs.View.{Sound};
 ghost use Rattle.wl_world.specs.World.{World};
 ghost use Rattle.wl_world.specs.Pair.{drained};
 ghost use Rattle.wl_world.specs.Stands.{Stands};

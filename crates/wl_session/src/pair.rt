@@ -36,7 +36,7 @@ pub struct Pair<'t, T: Table> {
 impl<'t, T: Table> Model for Pair<'t, T> {
     ghost use Rattle.std.specs.Prelude.{◌≤◌, length};
     ghost use Rattle.std.specs.Coded.{codes};
-    ghost use Rattle.wl_objects.specs.View.{view_code};
+    ghost use Rattle.wl_table.specs.View.{view_code};
     ghost use Rattle.wl_world.specs.Pair.{PairState};
     ghost use Rattle.wl_session.specs.Room.{Holds};
 

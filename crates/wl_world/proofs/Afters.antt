@@ -8,12 +8,12 @@ use Rattle.wl_sigs.specs.declared.signature.Destroys.{Destroys}
 use Rattle.wl_sigs.specs.declared.signature.Destroys.TheVariants.{Nothing, Target}
 use Rattle.wl_sigs.specs.Tables.{destroys_target}
 use Rattle.wl_wire.specs.Argument.{Int, Uint, Fixed, Str, Obj, New, NewNamed, Array, Fd}
-use Rattle.wl_objects.specs.declared.object.Entry.{Entry}
-use Rattle.wl_objects.specs.declared.object.State.{State}
-use Rattle.wl_objects.specs.declared.object.State.TheVariants as states
-use Rattle.wl_objects.specs.View.{View, Sound, look, opened_at, closed, zombie}
-use Rattle.wl_objects.specs.Views.{look-opened_at, row-opened_at, row-closed, row-zombied}
-use Rattle.wl_objects.specs.Sounds.{Sound-opened_at, Sound-closed, Sound-zombied}
+use Rattle.wl_table.specs.declared.object.Entry.{Entry}
+use Rattle.wl_table.specs.declared.object.State.{State}
+use Rattle.wl_table.specs.declared.object.State.TheVariants as states
+use Rattle.wl_table.specs.View.{View, Sound, look, opened_at, closed, zombie}
+use Rattle.wl_table.specs.Views.{look-opened_at, row-opened_at, row-closed, row-zombied}
+use Rattle.wl_table.specs.Sounds.{Sound-opened_at, Sound-closed, Sound-zombied}
 use Rattle.wl_objects.specs.Messages.{Client, Server, after, opens}
 use Rattle.wl_world.specs.Meant.{Born, Known, Arg, rearg, object_in, objects, new_in, made_in, or_else, token_in, tokens, plain}
 use Rattle.wl_world.specs.World.{Row, Open, Ending, IfThere, Each}

@@ -18,7 +18,7 @@ use Rattle.wl_sigs.specs.Fixed as fixed
 use Rattle.wl_sigs.specs.Valid.{Valid}
 use Rattle.wl_message.specs.Outgoing.{message}
 use Rattle.wl_objects.specs.declared.error.SendError.{SendError}
-use Rattle.wl_objects.specs.View.{View, max_ids}
+use Rattle.wl_table.specs.View.{View, max_ids}
 use Rattle.wl_objects.specs.Messages.{Server as server_end, after}
 use Rattle.wl_objects.specs.Writing.{message_bytes}
 use Rattle.wl_end.specs.Core.{Core}

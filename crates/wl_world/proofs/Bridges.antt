@@ -5,9 +5,9 @@ use Rattle.std.proofs.lemmas.Bool.{cases_eq}
 use Rattle.std.specs.Prelude.{option_map}
 use Rattle.std.specs.declared.option.Option.{Option}
 use Rattle.std.specs.declared.option.Option.TheVariants.{None, Some}
-use Rattle.wl_objects.specs.declared.object.Entry.{Entry}
-use Rattle.wl_objects.specs.View.{View, Sound, look, opened_at, closed, zombied, zombie, next_id, can_open, has_room, free_or_next, max_ids}
-use Rattle.wl_objects.specs.Views.{look-opened_at, look-closed, look-zombied, free_is, is_free, free_or_next-next_id}
+use Rattle.wl_table.specs.declared.object.Entry.{Entry}
+use Rattle.wl_table.specs.View.{View, Sound, look, opened_at, closed, zombied, zombie, next_id, can_open, has_room, free_or_next, max_ids}
+use Rattle.wl_table.specs.Views.{look-opened_at, look-closed, look-zombied, free_is, is_free, free_or_next-next_id}
 use Rattle.wl_world.specs.Meant.{Known, plain}
 use Rattle.wl_world.specs.World.{Open, Ending, put}
 use Rattle.wl_world.specs.Flight.{Rows, at, most, made, row, client_rows, server_rows, Fresh}

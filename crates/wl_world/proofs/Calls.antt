@@ -16,13 +16,13 @@ use Rattle.wl_wire.specs.Spelling.{Suits, spelled_len}
 use Rattle.wl_sigs.specs.declared.signature.Side.{Side}
 use Rattle.wl_sigs.specs.Tables.{Interface, signature_at, new_objects}
 use Rattle.wl_sigs.specs.Tables as sigs
-use Rattle.wl_objects.specs.declared.object.Object.{Object}
-use Rattle.wl_objects.specs.declared.object.Entry.{Entry}
-use Rattle.wl_objects.specs.declared.object.State.{State}
-use Rattle.wl_objects.specs.declared.object.State.TheVariants as states
+use Rattle.wl_table.specs.declared.object.Object.{Object}
+use Rattle.wl_table.specs.declared.object.Entry.{Entry}
+use Rattle.wl_table.specs.declared.object.State.{State}
+use Rattle.wl_table.specs.declared.object.State.TheVariants as states
 use Rattle.wl_objects.specs.declared.error.SendError.{SendError}
-use Rattle.wl_objects.specs.View.{View, Sound, look, max_ids, next_id}
-use Rattle.wl_objects.specs.Views
+use Rattle.wl_table.specs.View.{View, Sound, look, max_ids, next_id}
+use Rattle.wl_table.specs.Views
 use Rattle.wl_objects.specs.Reading.{is_of}
 use Rattle.wl_objects.specs.Writing.{Given, suits, has_no_nul, wrong_place, lost_place, is_live, is_live_as, row_is_of, can_name, wired, tokens_of, message_len}
 use Rattle.wl_objects.specs.Messages.{Made, made, live_row, checked, checked_by, checked_as, unless_hidden, unless_wrong, is_hidden}

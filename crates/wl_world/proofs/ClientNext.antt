@@ -11,9 +11,9 @@ use Rattle.wl_sigs.specs.declared.signature.Side.TheVariants.{Event as event_sid
 use Rattle.wl_sigs.specs.Tables.{Interface, destroys_target}
 use Rattle.wl_sigs.specs.Tables as sigs
 use Rattle.wl_message.specs.Cut.{usual_limit, front, Front, More, Bad, Whole, HasMessage}
-use Rattle.wl_objects.specs.declared.object.Entry.{Entry}
-use Rattle.wl_objects.specs.declared.object.State.{State}
-use Rattle.wl_objects.specs.declared.object.State.TheVariants as states
+use Rattle.wl_table.specs.declared.object.Entry.{Entry}
+use Rattle.wl_table.specs.declared.object.State.{State}
+use Rattle.wl_table.specs.declared.object.State.TheVariants as states
 use Rattle.wl_objects.specs.declared.error.Fault.{Fault}
 use Rattle.wl_objects.specs.declared.error.NextError.{NextError}
 use Rattle.wl_objects.specs.Reading.{descriptors}

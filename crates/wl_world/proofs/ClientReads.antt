@@ -15,12 +15,12 @@ use Rattle.wl_sigs.specs.Fixed.{display, registry, wl_display}
 use Rattle.wl_sigs.specs.Fixed as fixed
 use Rattle.wl_message.specs.Cut.{usual_limit, front, Whole}
 use Rattle.wl_message.specs.Outgoing as boxes
-use Rattle.wl_objects.specs.declared.object.Entry.{Entry}
-use Rattle.wl_objects.specs.declared.object.State.{State}
-use Rattle.wl_objects.specs.declared.object.State.TheVariants as states
-use Rattle.wl_objects.specs.View.{View, look, is_held, closed}
-use Rattle.wl_objects.specs.Views.{look-closed, look-zombied}
-use Rattle.wl_objects.specs.Sounds.{Sound-closed}
+use Rattle.wl_table.specs.declared.object.Entry.{Entry}
+use Rattle.wl_table.specs.declared.object.State.{State}
+use Rattle.wl_table.specs.declared.object.State.TheVariants as states
+use Rattle.wl_table.specs.View.{View, look, is_held, closed}
+use Rattle.wl_table.specs.Views.{look-closed, look-zombied}
+use Rattle.wl_table.specs.Sounds.{Sound-closed}
 use Rattle.wl_objects.specs.Writing.{is_live}
 use Rattle.wl_objects.specs.Reading.{descriptors}
 use Rattle.wl_objects.specs.Messages.{is_error, is_delete_id, same_iface, Client as client_end, after, after_delete_id}

@@ -11,10 +11,10 @@ use Rattle.wl_sigs.specs.Tables.{Interface, destroys_target, signature_at}
 use Rattle.wl_sigs.specs.Tables as sigs
 use Rattle.wl_sigs.specs.Valid.{Valid}
 use Rattle.wl_message.specs.Outgoing.{message}
-use Rattle.wl_objects.specs.declared.object.Object.{Object}
-use Rattle.wl_objects.specs.declared.object.Entry.{Entry}
+use Rattle.wl_table.specs.declared.object.Object.{Object}
+use Rattle.wl_table.specs.declared.object.Entry.{Entry}
 use Rattle.wl_objects.specs.declared.error.SendError.{SendError}
-use Rattle.wl_objects.specs.View.{View, Sound, look, next_id, can_open}
+use Rattle.wl_table.specs.View.{View, Sound, look, next_id, can_open}
 use Rattle.wl_objects.specs.Writing.{Given, wired, message_bytes}
 use Rattle.wl_objects.specs.Messages.{Made, made, Client as client_end, after, checked}
 use Rattle.wl_end.specs.Core.{Core}

@@ -9,10 +9,10 @@ use Rattle.wl_sigs.specs.declared.signature.Destroys.{Destroys}
 use Rattle.wl_sigs.specs.declared.signature.Destroys.TheVariants.{Nothing, Target}
 use Rattle.wl_sigs.specs.Tables.{destroys_target}
 use Rattle.wl_message.specs.Outgoing as boxes
-use Rattle.wl_objects.specs.declared.object.Entry.{Entry}
-use Rattle.wl_objects.specs.View.{View, Sound, look, next_id, can_open, opened_at}
-use Rattle.wl_objects.specs.Views.{look-opened_at, look-zombied}
-use Rattle.wl_objects.specs.Sounds.{Sound-opened}
+use Rattle.wl_table.specs.declared.object.Entry.{Entry}
+use Rattle.wl_table.specs.View.{View, Sound, look, next_id, can_open, opened_at}
+use Rattle.wl_table.specs.Views.{look-opened_at, look-zombied}
+use Rattle.wl_table.specs.Sounds.{Sound-opened}
 use Rattle.wl_objects.specs.Messages.{Client as client_end, after, opens as opens_view}
 use Rattle.wl_end.specs.Core.{Core}
 use Rattle.wl_world.specs.Meant.{Born, Known, Message, Coming, renamed, rearg, born_of, wire, spelled, made_in, objects, live_entry}

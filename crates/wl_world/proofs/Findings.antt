@@ -10,8 +10,8 @@ use Rattle.wl_sigs.specs.declared.signature.Side.{Side}
 use Rattle.wl_sigs.specs.Tables.{Interface}
 use Rattle.wl_sigs.specs.Tables as sigs
 use Rattle.wl_message.specs.Cut.{usual_limit, front, Whole}
-use Rattle.wl_objects.specs.declared.object.Entry.{Entry}
-use Rattle.wl_objects.specs.View.{View, Sound, look}
+use Rattle.wl_table.specs.declared.object.Entry.{Entry}
+use Rattle.wl_table.specs.View.{View, Sound, look}
 use Rattle.wl_objects.specs.Writing.{spelled as spelled_values, message_bytes}
 use Rattle.wl_objects.specs.Messages.{reader_of, Received, received}
 use Rattle.wl_end.specs.Core.{Core}

@@ -9,12 +9,12 @@ use Rattle.wl_sigs.specs.Fixed.{display}
 use Rattle.wl_message.specs.declared.amounts.Sizes.{Sizes}
 use Rattle.wl_message.specs.Outgoing.{Outgoing, waiting_bytes, waiting_tokens}
 use Rattle.wl_message.specs.Arrived.{Arrived}
-use Rattle.wl_objects.specs.declared.object.Entry.{Entry}
-use Rattle.wl_objects.specs.declared.object.State.{State}
-use Rattle.wl_objects.specs.declared.object.State.TheVariants as states
-use Rattle.wl_objects.specs.View.{look, opening as opening_view}
-use Rattle.wl_objects.specs.Views.{look-opening}
-use Rattle.wl_objects.specs.Sounds.{Sound-opening}
+use Rattle.wl_table.specs.declared.object.Entry.{Entry}
+use Rattle.wl_table.specs.declared.object.State.{State}
+use Rattle.wl_table.specs.declared.object.State.TheVariants as states
+use Rattle.wl_table.specs.View.{look, opening as opening_view}
+use Rattle.wl_table.specs.Views.{look-opening}
+use Rattle.wl_table.specs.Sounds.{Sound-opening}
 use Rattle.wl_objects.specs.Messages.{is_empty}
 use Rattle.wl_end.specs.Core.{Core, is_drained}
 use Rattle.wl_world.specs.Meant.{Known, Message, Coming, birth_of, spelled, spelled_coming, plain, live_entry}

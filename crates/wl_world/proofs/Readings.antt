@@ -19,11 +19,11 @@ use Rattle.wl_wire.proofs.Canonicals.{reading-canonical, canonical-len, header_a
 use Rattle.wl_sigs.specs.declared.signature.Side.{Side}
 use Rattle.wl_sigs.specs.Tables.{Interface, signature_at}
 use Rattle.wl_message.specs.Cut.{usual_limit, IsMessage}
-use Rattle.wl_objects.specs.declared.object.Object.{Object}
-use Rattle.wl_objects.specs.declared.object.Entry.{Entry}
-use Rattle.wl_objects.specs.declared.object.State.{State}
-use Rattle.wl_objects.specs.declared.object.State.TheVariants as states
-use Rattle.wl_objects.specs.View.{View, look, free_or_next, has_room}
+use Rattle.wl_table.specs.declared.object.Object.{Object}
+use Rattle.wl_table.specs.declared.object.Entry.{Entry}
+use Rattle.wl_table.specs.declared.object.State.{State}
+use Rattle.wl_table.specs.declared.object.State.TheVariants as states
+use Rattle.wl_table.specs.View.{View, look, free_or_next, has_room}
 use Rattle.wl_objects.specs.Reading.{value_fault, iface_of, is_of, arguments_at, judged, descriptors, is_descriptor_kind, in_state, report_of, reports_of, first_or, tokens_after}
 use Rattle.wl_objects.specs.Writing.{spelled as spelled_values, message_len, message_bytes}
 use Rattle.wl_objects.specs.Messages.{reader_of, received, is_error, Made, made_by, made, or_else as made_or_else}

@@ -18,8 +18,8 @@ use Rattle.wl_sigs.specs.declared.signature.Side.TheVariants.{Request, Event}
 use Rattle.wl_sigs.specs.Tables.{Message, Interface, interface_at, signature_at, messages_of, message_of, new_objects, has_destroying_event, destroys_target}
 use Rattle.wl_sigs.specs.Fixed.{wl_display}
 use Rattle.wl_sigs.specs.Valid.{Valid}
-use Rattle.wl_objects.specs.declared.object.Object.{Object}
-use Rattle.wl_objects.specs.View.{View, look}
+use Rattle.wl_table.specs.declared.object.Object.{Object}
+use Rattle.wl_table.specs.View.{View, look}
 use Rattle.wl_objects.specs.Reading.{iface_of}
 use Rattle.wl_objects.specs.Writing.{Given, suits, is_live_as, row_is_of}
 use Rattle.wl_objects.specs.Messages.{is_hidden}

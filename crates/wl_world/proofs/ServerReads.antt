@@ -14,9 +14,9 @@ use Rattle.wl_message.specs.Cut.{usual_limit, front, Whole, IsMessage}
 use Rattle.wl_message.specs.Outgoing.{Outgoing, room_of, message}
 use Rattle.wl_message.specs.Outgoing as boxes
 use Rattle.wl_wire.specs.Argument.{Uint}
-use Rattle.wl_objects.specs.declared.object.Entry.{Entry}
-use Rattle.wl_objects.specs.View.{View, look}
-use Rattle.wl_objects.specs.Views.{look-opened_at, look-closed}
+use Rattle.wl_table.specs.declared.object.Entry.{Entry}
+use Rattle.wl_table.specs.View.{View, look}
+use Rattle.wl_table.specs.Views.{look-opened_at, look-closed}
 use Rattle.wl_objects.specs.Messages.{opens, made as made_message, is_bind, Server as server_end, after}
 use Rattle.wl_objects.specs.Reading.{descriptors}
 use Rattle.wl_end.specs.Core.{Core, past, with_view}

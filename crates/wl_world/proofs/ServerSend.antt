@@ -10,11 +10,11 @@ use Rattle.wl_sigs.specs.Tables.{Interface, interface_at, destroys_target}
 use Rattle.wl_sigs.specs.Tables as sigs
 use Rattle.wl_sigs.specs.Fixed.{display, registry}
 use Rattle.wl_message.specs.Outgoing.{message}
-use Rattle.wl_objects.specs.declared.object.Object.{Object}
-use Rattle.wl_objects.specs.declared.object.Entry.{Entry}
+use Rattle.wl_table.specs.declared.object.Object.{Object}
+use Rattle.wl_table.specs.declared.object.Entry.{Entry}
 use Rattle.wl_objects.specs.declared.error.SendError.{SendError}
 use Rattle.wl_objects.specs.declared.error.SendError.TheVariants as refusals
-use Rattle.wl_objects.specs.View.{View, look, next_id}
+use Rattle.wl_table.specs.View.{View, look, next_id}
 use Rattle.wl_objects.specs.Writing.{Given, message_bytes, is_live_as}
 use Rattle.wl_objects.specs.Messages.{Made, Server as server_end, after, checked, live_row, same_iface}
 use Rattle.wl_end.specs.Core.{Core}

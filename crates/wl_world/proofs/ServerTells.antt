@@ -8,8 +8,8 @@ use Rattle.wl_sigs.specs.declared.signature.Destroys.{Destroys}
 use Rattle.wl_sigs.specs.declared.signature.Destroys.TheVariants.{Target}
 use Rattle.wl_sigs.specs.Tables.{destroys_target}
 use Rattle.wl_message.specs.Outgoing as boxes
-use Rattle.wl_objects.specs.View.{look, closed}
-use Rattle.wl_objects.specs.Views.{look-closed}
+use Rattle.wl_table.specs.View.{look, closed}
+use Rattle.wl_table.specs.Views.{look-closed}
 use Rattle.wl_objects.specs.Messages.{Server as server_end, after}
 use Rattle.wl_end.specs.Core.{Core}
 use Rattle.wl_world.specs.Meant.{Born, Known, Message, Coming, Event, Delete, renamed, recoming, born_of, birth_of, wire, spelled, spelled_coming, objects, plain, live_entry}

@@ -11,13 +11,13 @@ use Rattle.wl_sigs.specs.declared.signature.Side.TheVariants.{Request, Event}
 use Rattle.wl_sigs.specs.Tables.{Interface, destroys_target}
 use Rattle.wl_sigs.specs.Tables as sigs
 use Rattle.wl_sigs.specs.Valid.{Valid}
-use Rattle.wl_objects.specs.declared.object.Object.{Object}
-use Rattle.wl_objects.specs.declared.object.Entry.{Entry}
+use Rattle.wl_table.specs.declared.object.Object.{Object}
+use Rattle.wl_table.specs.declared.object.Entry.{Entry}
 use Rattle.wl_objects.specs.declared.error.SendError.{SendError}
 use Rattle.wl_objects.specs.declared.error.SendError.TheVariants as refusals
 use Rattle.wl_sigs.specs.Fixed.{display, registry}
-use Rattle.wl_objects.specs.View.{View, Sound, next_id, can_open}
-use Rattle.wl_objects.specs.Views.{free_is, free_or_next-next_id}
+use Rattle.wl_table.specs.View.{View, Sound, next_id, can_open}
+use Rattle.wl_table.specs.Views.{free_is, free_or_next-next_id}
 use Rattle.wl_objects.specs.Writing.{Given, wired, message_len}
 use Rattle.wl_objects.specs.Messages.{Made, made, checked, is_hidden, is_error, is_delete_id, same_iface}
 use Rattle.wl_end.specs.Core.{Core}

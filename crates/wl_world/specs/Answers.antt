@@ -10,7 +10,7 @@ use Rattle.wl_sigs.specs.Tables as sigs
 use Rattle.wl_message.specs.Cut.{usual_limit, front, HasMessage}
 use Rattle.wl_message.specs.Arrived.{Arrived}
 use Rattle.wl_message.specs.Outgoing.{room_of}
-use Rattle.wl_objects.specs.declared.object.Object.{Object}
+use Rattle.wl_table.specs.declared.object.Object.{Object}
 use Rattle.wl_objects.specs.declared.argument.Named.{Named}
 use Rattle.wl_objects.specs.declared.argument.Named.TheVariants as named_as
 use Rattle.wl_objects.specs.declared.error.NextError.{NextError}

@@ -1,9 +1,9 @@
 -- What is in flight, taken apart to the smallest deeds, and what it leads to.
 use Rattle.std.specs.Prelude.{◌≡◌, ◌≢◌, ◌⊎◌, ℕ, ◌+◌, ◌<◌, ◌≤◌, Bool, true, false, cond, ltb, List, [], ◌∷◌, ◌++◌, map, Option, Some, None, option_map}
-use Rattle.wl_objects.specs.View.{View, look, max_ids, max_births}
-use Rattle.wl_objects.specs.declared.object.Entry.{Entry}
-use Rattle.wl_objects.specs.declared.object.State.{State}
-use Rattle.wl_objects.specs.declared.object.State.TheVariants as states
+use Rattle.wl_table.specs.View.{View, look, max_ids, max_births}
+use Rattle.wl_table.specs.declared.object.Entry.{Entry}
+use Rattle.wl_table.specs.declared.object.State.{State}
+use Rattle.wl_table.specs.declared.object.State.TheVariants as states
 use Rattle.wl_world.specs.Meant.{Born, Known, Message, Coming, Event, Delete as delete_of, objects, made_in, plain}
 use Rattle.wl_world.specs.World.{Row, Open, Ending, put}
 

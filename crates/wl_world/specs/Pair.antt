@@ -9,7 +9,7 @@ use Rattle.wl_message.specs.declared.amounts.Fed.{Fed}
 use Rattle.wl_message.specs.declared.amounts.Taken.{Taken}
 use Rattle.wl_message.specs.declared.amounts.Sizes.{Sizes}
 use Rattle.wl_message.specs.Outgoing.{goes, waiting_bytes, waiting_tokens}
-use Rattle.wl_objects.specs.declared.object.Object.{Object}
+use Rattle.wl_table.specs.declared.object.Object.{Object}
 use Rattle.wl_objects.specs.declared.error.SendError.{SendError}
 use Rattle.wl_objects.specs.declared.error.SendError.TheVariants as refusals
 use Rattle.wl_objects.specs.declared.error.NextError.{NextError}

@@ -2,9 +2,9 @@
 use Rattle.std.specs.Prelude.{◌≡◌, ℕ, ◌<◌, ◌^◌, List, [], ◌∷◌, Some, FitsSigned}
 use Rattle.std.specs.Int.{w32}
 use Rattle.wl_wire.specs.Argument.{Int, Uint, Fixed, NewNamed}
-use Rattle.wl_objects.specs.declared.object.Entry.{Entry}
-use Rattle.wl_objects.specs.declared.object.State.TheVariants as states
-use Rattle.wl_objects.specs.View.{View, look}
+use Rattle.wl_table.specs.declared.object.Entry.{Entry}
+use Rattle.wl_table.specs.declared.object.State.TheVariants as states
+use Rattle.wl_table.specs.View.{View, look}
 use Rattle.wl_objects.specs.Writing.{Given}
 use Rattle.wl_world.specs.World.{World, Each}
 use Rattle.wl_world.specs.Pair.{PairState, Move, Reply, ClientSend, ServerSend, AddGlobal, Does}

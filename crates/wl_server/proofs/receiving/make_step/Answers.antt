@@ -1,6 +1,6 @@
 use Rattle.std.proofs.Common.{◌≡◌, sym, ap, subst, ◌∙◌}
 use Rattle.std.specs.Prelude.{IsTrue}
-use Rattle.wl_objects.specs.View.{View, is_held}
+use Rattle.wl_table.specs.View.{View, is_held}
 use Rattle.wl_objects.specs.Messages.{opens}
 use Rattle.wl_end.specs.Core.{Core}
 use Rattle.wl_server.proofs.Taking.{held-opened}

@@ -1,5 +1,5 @@
 use Rattle.std.proofs.Common.{sym, subst, ap, ◌∙◌}
-use Rattle.wl_objects.specs.View.{closed}
+use Rattle.wl_table.specs.View.{closed}
 use Rattle.wl_end.specs.Core.{Core, HasDisplay, with_view}
 use Rattle.wl_end.specs.Sending.{with_delete_id}
 use Rattle.wl_end.proofs.Displays.{HasDisplay-closed, HasDisplay-zombied}

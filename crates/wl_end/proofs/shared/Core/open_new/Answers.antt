@@ -1,5 +1,5 @@
 use Rattle.std.proofs.Common.{sym, subst}
-use Rattle.wl_objects.specs.View.{Sound}
+use Rattle.wl_table.specs.View.{Sound}
 use Rattle.wl_end.specs.Core.{Core}
 use Rattle.wl_end.proofs.Displays.{HasDisplay-opening_next}
 use Rattle.wl_end.proofs.shared.Core.open_new.Goals as goal

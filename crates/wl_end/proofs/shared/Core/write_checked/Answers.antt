@@ -5,7 +5,7 @@ use Rattle.std.proofs.lemmas.Result.{err_from_is_err_and}
 use Rattle.wl_wire.specs.declared.kind.Iface.{Iface}
 use Rattle.wl_sigs.specs.declared.signature.Destroys.{Destroys}
 use Rattle.wl_objects.specs.declared.error.SendError.TheVariants as refusals
-use Rattle.wl_objects.specs.View.{is_live}
+use Rattle.wl_table.specs.View.{is_live}
 use Rattle.wl_objects.specs.Messages.{opens}
 use Rattle.wl_objects.specs.Writing.{on_wire, message_len, tokens_of, given, id_of, call_makes}
 use Rattle.wl_end.specs.Core.{Core}

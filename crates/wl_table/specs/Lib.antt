@@ -1,0 +1,3 @@
+pub mod View
+pub mod Views
+pub mod Sounds
