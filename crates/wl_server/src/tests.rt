@@ -6,12 +6,15 @@ use crate::{GlobalError, Request, Server};
 use refusing::RefusingAllocator;
 use std::alloc::{Allocator, Global};
 use std::test::Fail;
+use wl_end::Core;
 use wl_message::Sizes;
-use wl_objects::{Arg, Fault, Got, MapTable, NextError, Object, SendError};
+use wl_objects::{Arg, Fault, Got, Made, MapTable, NextError, Object, SendError};
 use wl_sigs::Tables;
 use wl_wire::{ArgFault, Iface};
 
 type TestServer<'t> = Server<'t, MapTable<Global>>;
+
+const CALLBACK: Iface = Iface(2);
 
 const COMPOSITOR: Iface = Iface(3);
 
@@ -109,7 +112,7 @@ fn writes<const N: usize>(server: &mut TestServer<'_>, want: [u8; N]) -> bool {
 }
 
 /// Whether it is a bind of a wl_compositor by the registry, as object 4.
-fn is_the_bind(request: &Request) -> bool {
+pub(crate) fn is_the_bind<A: Allocator>(request: &Request<A>) -> bool {
     if request.target != (Object { id: 2, birth: 1 }) || request.opcode != 0 {
         return false;
     }
@@ -373,6 +376,52 @@ fn f9_bad_bind(rt: HostRuntime) -> Result<(), Fail> {
     Ok(())
 }
 
+/// An end at which all ids up to this one are in use.
+fn with_objects<'t>(
+    alloc: Global,
+    tables: &'t Tables,
+    last: u32,
+) -> Result<Core<'t, MapTable<Global>>, Fail> {
+    let mut core: Core<'t, MapTable<Global>> = Core::new(alloc, tables, sizes(64))?;
+    for id in 1..last {
+        core.open(Made {
+            id: id + 1,
+            iface: CALLBACK,
+            version: 1,
+        })?;
+    }
+    Ok(core)
+}
+
+/// A server at which all 1,048,576 ids are in use.
+fn without_ids<'t>(alloc: Global, tables: &'t Tables) -> Result<TestServer<'t>, Fail> {
+    Ok(Server {
+        core: with_objects(alloc, tables, 1_048_576)?,
+        alloc,
+        globals: Vec::new(alloc),
+        registries: Vec::new(alloc),
+    })
+}
+
+#[test]
+fn f10_too_many_objects(rt: HostRuntime) -> Result<(), Fail> {
+    let tables = Tables::core(rt.alloc())?;
+    let mut server = without_ids(rt.alloc(), &tables)?;
+    let sync = [1, 0, 0, 0, 0, 0, 12, 0, 1, 0, 16, 0];
+    assert!(rt; is_at_fault(&mut server, &sync, Fault::TooManyObjects, 0));
+    assert!(rt;
+        writes(
+            &mut server,
+            [
+                1, 0, 0, 0, 0, 0, 40, 0, 1, 0, 0, 0, 2, 0, 0, 0, 17, 0, 0, 0, b't', b'o', b'o',
+                b' ', b'm', b'a', b'n', b'y', b' ', b'o', b'b', b'j', b'e', b'c', b't', b's', 0, 0,
+                0, 0
+            ]
+        )
+    );
+    Ok(())
+}
+
 #[test]
 fn a_request_that_destroys_is_answered_at_once(rt: HostRuntime) -> Result<(), Fail> {
     let tables = Tables::core(rt.alloc())?;
@@ -574,6 +623,41 @@ fn a_request_is_refused_each_of_its_allocations(rt: HostRuntime) -> Result<(), F
     }
     assert_eq!(rt; granted, Some(Object { id: 1, birth: 0 }));
     assert_eq!(rt; server.live(registry), Some((Iface(1), 1)));
+    Ok(())
+}
+
+/// How many allocations the reading of a bind is refused in turn, before it is read as it would
+/// have been; none where it is not.
+fn refusals_of_the_bind(server: &mut ShortServer<'_>, memory: &RefusingAllocator) -> Option<u64> {
+    for number in 0u64..100 {
+        memory.refuse_nth(number);
+        match server.next() {
+            Ok(Some(request)) if is_the_bind(&request) => return Some(number),
+            Err(NextError::Memory) if memory.has_refused() => {}
+            _ => return None,
+        }
+        if server.live(Object { id: 4, birth: 3 }).is_some() {
+            return None;
+        }
+    }
+    None
+}
+
+/// A bind has a name in memory of its own, beside the list of its arguments and its object.
+#[test]
+fn a_bind_is_refused_each_of_its_allocations(rt: HostRuntime) -> Result<(), Fail> {
+    let tables = Tables::core(rt.alloc())?;
+    let memory = RefusingAllocator::new(rt.alloc())?;
+    let mut server = ShortServer::new(memory.clone()?, &tables, sizes(64))?;
+    server.add_global(COMPOSITOR, 6)?;
+    server.feed(&FIRST, &[]);
+    server.feed(&bind(14, 0, 6), &[]);
+    for _ in 0..2 {
+        let _ = server.next()?;
+    }
+    let refusals = refusals_of_the_bind(&mut server, &memory);
+    assert!(rt; refusals.is_some());
+    assert_ne!(rt; refusals, Some(0));
     Ok(())
 }
 

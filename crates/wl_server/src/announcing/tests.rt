@@ -5,8 +5,9 @@ ghost use Rattle.wl_message.specs.Arrived.{AreSizes};
 use crate::server::Server;
 use std::alloc::Global;
 use std::test::Fail;
+use wl_end::Core;
 use wl_message::Sizes;
-use wl_objects::{MapTable, SendError};
+use wl_objects::{Made, MapTable, Object, SendError};
 use wl_sigs::Tables;
 use wl_wire::Iface;
 
@@ -64,6 +65,24 @@ fn with_registries<'t>(
     Ok(server)
 }
 
+/// A server with a wl_compositor and a second wl_display, of version 5, as object 2.
+fn with_two_displays<'t>(alloc: Global, tables: &'t Tables) -> Result<TestServer<'t>, Fail> {
+    let mut core: Core<'t, MapTable<Global>> = Core::new(alloc, tables, sizes(64))?;
+    core.open(Made {
+        id: 2,
+        iface: Iface(0),
+        version: 5,
+    })?;
+    let mut server = Server {
+        core,
+        alloc,
+        globals: Vec::new(alloc),
+        registries: Vec::new(alloc),
+    };
+    server.add_global(COMPOSITOR, 6)?;
+    Ok(server)
+}
+
 #[test]
 fn nothing_is_owed_to_nobody(rt: HostRuntime) -> Result<(), Fail> {
     let tables = Tables::core(rt.alloc())?;
@@ -112,6 +131,24 @@ fn a_withdrawn_global_is_removed_where_it_was_told(rt: HostRuntime) -> Result<()
     );
     assert_eq!(rt; server.announce(), Ok(0));
     assert!(rt; server.is_drained());
+    Ok(())
+}
+
+// The core tables have one request that makes a registry, but any object of its interface takes it.
+#[test]
+fn a_registry_of_another_display_is_told(rt: HostRuntime) -> Result<(), Fail> {
+    let tables = Tables::core(rt.alloc())?;
+    let mut server = with_two_displays(rt.alloc(), &tables)?;
+    server.feed(&[2, 0, 0, 0, 1, 0, 12, 0, 3, 0, 0, 0], &[]);
+    let _ = server.next()?;
+    let registry = Object { id: 3, birth: 2 };
+    assert_eq!(rt; server.live(registry), Some((Iface(1), 5)));
+    assert_eq!(rt; server.announce(), Ok(1));
+    let mut bytes = [0; 36];
+    let _ = server.take(&mut bytes, &mut []);
+    let mut told = COMPOSITOR_TOLD;
+    told[0] = 3;
+    assert_eq!(rt; bytes, told);
     Ok(())
 }
 

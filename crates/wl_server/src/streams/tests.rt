@@ -1,5 +1,6 @@
 //! Pieces of a stream, read at a server.
 use crate::Server;
+use crate::tests::is_the_bind;
 use refusing::RefusingAllocator;
 use std::alloc::Global;
 use std::test::Fail;
@@ -65,6 +66,10 @@ fn a_bind_is_read_byte_by_byte(rt: HostRuntime) -> Result<(), Fail> {
         ReadAll::ended(40, None)
     );
     assert_eq!(rt; reports.len(), 3);
+    match reports.last() {
+        Some(report) => assert!(rt; is_the_bind(report)),
+        None => assert!(rt; false),
+    }
     let made = Object { id: 4, birth: 3 };
     assert_eq!(rt; server.live(made).map(|known| known.1), Some(6));
     Ok(())
