@@ -1,7 +1,7 @@
 //! What an end does with a message in front, and with its objects.
-ghost use Rattle.std.specs.Prelude.{◌≡◌, ◌≢◌, ◌≤◌, ◌<◌, ℕ, IsTrue, IfOk, OnOk, OnErr, length, take, slice_index_or};
+ghost use Rattle.std.specs.Prelude.{◌≡◌, ◌≢◌, ◌≤◌, ◌<◌, ◌↔◌, ◌&&◌, not, ℕ, Err, IsTrue, IfOk, OnOk, OnErr, length, take, slice_index_or};
 ghost use Rattle.wl_message.specs.Cut.{usual_limit, front, Whole};
-ghost use Rattle.wl_table.specs.View.{is_held, is_live, opened_at, closed, zombied};
+ghost use Rattle.wl_table.specs.View.{free_or_next, has_room, is_held, is_live, opened_at, closed, zombied};
 ghost use Rattle.wl_end.specs.Core.{past, with_view};
 
 use crate::shared::Core;
@@ -34,12 +34,16 @@ impl<'t, T: Table> Core<'t, T> {
         self.read = self.read.saturating_add(u64::from(size));
     }
 
-    /// Opens the object that a message makes. What is refused is as the table says, and changes
-    /// nothing.
+    /// Opens the object that a message makes. O3 is tested first, then O2, O1 and O4, as the table
+    /// does; what is refused changes nothing.
     pub fn open(&mut self, made: Made) -> Result<Object, TableError>
         ensures ok { OnOk result (self.new ≡ with_view self.old (opened_at self.old.view made.id made.iface made.version)) }
         ensures object { IfOk result (λ object. object ≡ record { id = made.id; birth = self.old.view.births }) }
         ensures err { OnErr result (self.new ≡ self.old) }
+
+        ensures in_use { (result ≡ Err TableError.InUse) ↔ IsTrue (is_held self.old.view made.id) }
+        ensures not_next { (result ≡ Err TableError.NotNext) ↔ IsTrue (not (is_held self.old.view made.id) && not (free_or_next self.old.view made.id)) }
+        ensures no_ids { (result ≡ Err TableError.NoIds) ↔ IsTrue (free_or_next self.old.view made.id && not (has_room self.old.view made.id)) }
     {
         self.table.open_at(made.id, made.iface, made.version)
     }

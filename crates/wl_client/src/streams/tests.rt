@@ -1,5 +1,6 @@
 //! Pieces of a stream, read at a client.
 use crate::{Client, Incoming};
+use refusing::RefusingAllocator;
 use std::alloc::{Allocator, Global};
 use std::test::Fail;
 use wl_end::ReadAll;
@@ -8,6 +9,8 @@ use wl_objects::{Fault, MapTable, NextError};
 use wl_sigs::Tables;
 
 type Plain<'t> = Client<'t, MapTable<Global>>;
+
+type Refused<'t> = Client<'t, MapTable<RefusingAllocator>>;
 
 const SIZES: Sizes = Sizes {
     out_bytes: 64,
@@ -186,4 +189,70 @@ fn too_many_tokens_end_the_reading(rt: HostRuntime) -> Result<(), Fail> {
     Ok(())
 }
 
+/// How far a reading came of which one allocation was to be refused.
+enum Turn {
+    /// It never asked for that one, and read all.
+    Granted,
+    /// It said so, kept so many reports, and read the others once there was memory.
+    Refused(usize),
+    Wrong,
+}
+
+/// Whether these are the reports of five messages that name no object, and then of an error.
+fn are_all(reports: &[Incoming<RefusingAllocator>]) -> bool {
+    match reports {
+        [strays @ .., Incoming::Error { id, code, .. }] => {
+            strays.len() == 5 && strays.iter().all(is_stray) && *id == 0 && *code == 1
+        }
+        _ => false,
+    }
+}
+
+/// Reads six messages, of which the allocation of this number is refused; then what is left.
+fn read_without(memory: &RefusingAllocator, tables: &Tables, number: u64) -> Result<Turn, Fail> {
+    let mut client = Refused::new(memory.clone()?, tables, SIZES)?;
+    let mut reports = Vec::new(memory.clone()?);
+    let stray = piece(STRAY);
+    let pieces = [stray, stray, stray, stray, stray, piece(ERROR)];
+    memory.refuse_nth(number);
+    let end = client.read_all(&pieces, &mut reports);
+    let refused = memory.has_refused();
+    memory.refuse_none();
+    if !refused {
+        let whole = end == ReadAll::ended(6, None) && are_all(&reports);
+        return Ok(if whole { Turn::Granted } else { Turn::Wrong });
+    }
+    let kept = reports.len();
+    let left = &pieces[end.pieces.min(6)..];
+    let rest = client.read_all(left, &mut reports);
+    let stopped = end == ReadAll::ended(end.pieces, Some(NextError::Memory));
+    let later = rest == ReadAll::ended(left.len(), None) && are_all(&reports);
+    Ok(if stopped && later {
+        Turn::Refused(kept)
+    } else {
+        Turn::Wrong
+    })
+}
+
 // Each allocation is refused in turn; what is left is read once there is memory.
+#[test]
+fn a_reading_without_memory_goes_on_later(rt: HostRuntime) -> Result<(), Fail> {
+    let tables = Tables::core(rt.alloc())?;
+    let memory = RefusingAllocator::new(rt.alloc())?;
+    let mut granted = false;
+    let mut most_kept = 0;
+    for number in 0u64..100 {
+        match read_without(&memory, &tables, number)? {
+            Turn::Refused(kept) => most_kept = kept.max(most_kept),
+            Turn::Granted => {
+                granted = true;
+                break;
+            }
+            Turn::Wrong => break,
+        }
+    }
+    assert!(rt; granted);
+    // the last message is refused its text after five were read
+    assert_eq!(rt; most_kept, 5);
+    Ok(())
+}

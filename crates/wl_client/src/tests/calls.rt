@@ -109,6 +109,72 @@ fn the_last_id_is_used_once(rt: HostRuntime) -> Result<(), Fail> {
     Ok(())
 }
 
+/// Whether a bind is refused for its name, its interface or its version.
+fn is_bad_bind(client: &mut Plain<'_>, name: u32, iface: &[u8], version: u32) -> bool {
+    client.bind(REGISTRY, name, iface, version) == Err(SendError::BadBind)
+}
+
+// S7
+#[test]
+fn a_bind_is_of_what_was_advertised(rt: HostRuntime) -> Result<(), Fail> {
+    let tables = Tables::core(rt.alloc())?;
+    let mut client = Plain::new(rt.alloc(), &tables, SIZES)?;
+    told(&mut client)?;
+    // above the advertised version; version 0; another interface; a byte 0; a name that was not told
+    assert!(rt; is_bad_bind(&mut client, 1, b"wl_compositor", 7));
+    assert!(rt; is_bad_bind(&mut client, 1, b"wl_compositor", 0));
+    assert!(rt; is_bad_bind(&mut client, 1, b"wl_seat", 6));
+    assert!(rt; is_bad_bind(&mut client, 1, b"wl_compositor\0", 6));
+    assert!(rt; is_bad_bind(&mut client, 3, b"wl_compositor", 6));
+    assert!(rt; !is_bad_bind(&mut client, 1, b"wl_compositor", 6));
+    Ok(())
+}
+
+// S2, and S3 where the object is no registry: each also where the version is above the advertised
+// one.
+#[test]
+fn a_bind_is_of_a_live_registry(rt: HostRuntime) -> Result<(), Fail> {
+    let tables = Tables::core(rt.alloc())?;
+    let mut client = Plain::new(rt.alloc(), &tables, SIZES)?;
+    told(&mut client)?;
+    let display = client.display();
+    assert_eq!(rt;
+        client.bind(COMPOSITOR, 1, b"wl_compositor", 7),
+        Err(SendError::Stale)
+    );
+    assert_eq!(rt;
+        client.bind(display, 1, b"wl_compositor", 7),
+        Err(SendError::NoSuchMessage)
+    );
+    Ok(())
+}
+
+/// wl_display.get_registry of id 2; then wl_registry.bind of the name 1, wl_compositor of version 6,
+/// at id 3.
+const BIND: &[u8; 52] =
+    b"\x01\0\0\0\x01\0\x0c\0\x02\0\0\0\x02\0\0\0\0\0\x28\0\x01\0\0\0\x0e\0\0\0wl_compositor\0\0\0\x06\0\0\0\x03\0\0\0";
+
+/// Whether just the registry and its bind wait to go.
+fn writes_bind(client: &mut Plain<'_>) -> bool {
+    let mut bytes = [0; 52];
+    client.goes(64, 0).bytes == 52
+        && client.take(&mut bytes, &mut []).bytes == 52
+        && bytes.as_slice() == BIND.as_slice()
+}
+
+#[test]
+fn a_bind_is_written(rt: HostRuntime) -> Result<(), Fail> {
+    let tables = Tables::core(rt.alloc())?;
+    let mut client = Plain::new(rt.alloc(), &tables, SIZES)?;
+    told(&mut client)?;
+    assert_eq!(rt;
+        client.bind(REGISTRY, 1, b"wl_compositor", 6),
+        Ok(COMPOSITOR)
+    );
+    assert!(rt; writes_bind(&mut client));
+    Ok(())
+}
+
 #[test]
 fn a_bind_has_to_fit(rt: HostRuntime) -> Result<(), Fail> {
     let tables = Tables::core(rt.alloc())?;

@@ -42,8 +42,70 @@ fn delete_id_ends_a_live_object_and_frees_its_id(rt: HostRuntime) -> Result<(), 
     Ok(())
 }
 
+/// Whether an event was thrown away, for this zombie, and these tokens were handed out.
+fn is_discarded(report: &Option<Incoming>, zombie: Object, handed: &[u32]) -> bool {
+    match report {
+        Some(
+            Incoming::Discarded {
+                target,
+                opcode,
+                tokens,
+            },
+        ) => *target == zombie && *opcode == 0 && tokens.as_slice() == handed,
+        _ => false,
+    }
+}
+
+/// Whether a keyboard was told its keymap, of format 1 and 10 bytes, by this token.
+fn is_keymap(report: &Option<Incoming>, keyboard: Object, token: u32) -> bool {
+    match report {
+        Some(
+            Incoming::Event {
+                target,
+                opcode,
+                args,
+            },
+        ) => {
+            *target == keyboard
+                && *opcode == 0
+                && match args.as_slice() {
+                    [Got::Uint(1), Got::Fd(told), Got::Uint(10)] => *told == token,
+                    _ => false,
+                }
+        }
+        _ => false,
+    }
+}
+
+/// The seat's next keyboard.
+fn keyboard(client: &mut Plain<'_>) -> Result<Object, Fail> {
+    match client.send(SEAT, 1, &[Arg::New])? {
+        Some(keyboard) => Ok(keyboard),
+        None => Ok(SEAT),
+    }
+}
+
+/// wl_keyboard.keymap for the ids 6 and 7, each of format 1 and 10 bytes.
+const KEYMAPS: &[u8; 32] =
+    b"\x06\0\0\0\0\0\x10\0\x01\0\0\0\x0a\0\0\0\x07\0\0\0\0\0\x10\0\x01\0\0\0\x0a\0\0\0";
+
 // The client releases the first of two keyboards before it reads their keymaps, of which each has
 // a token.
+#[test]
+fn the_tokens_of_a_zombie_are_handed_out(rt: HostRuntime) -> Result<(), Fail> {
+    let tables = Tables::core(rt.alloc())?;
+    let mut client = bound(rt.alloc(), &tables, 6)?;
+    let first = keyboard(&mut client)?;
+    let second = keyboard(&mut client)?;
+    let _ = client.send(first, 0, &[])?;
+    let report = read(&mut client, KEYMAPS, &[7, 8])?;
+    assert!(rt; is_discarded(&report, first, &[7]));
+    let report = client.next()?;
+    assert!(rt; is_keymap(&report, second, 8));
+    assert!(rt; client.in_room().tokens == 20);
+    Ok(())
+}
+
 // A pointer enters a surface that the client has destroyed.
 #[test]
 fn an_event_can_name_a_zombie(rt: HostRuntime) -> Result<(), Fail> {
