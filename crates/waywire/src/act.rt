@@ -4,9 +4,10 @@ ghost use Rattle.std.specs.Io.KnownBytes.{Appends};
 ghost use Rattle.wl_sigs.specs.Core.{core_tables};
 ghost use Rattle.waywire.specs.declared.failure.Failure.TheVariants.{Memory};
 ghost use Rattle.waywire.specs.Failing.{IsReadFailure, IsRefusal};
-ghost use Rattle.waywire.specs.Output.{IsChecked, IsTraced, IsDone};
+ghost use Rattle.waywire.specs.Output.{IsChecked, IsTraced, IsDone, ReadsFile};
 ghost use Rattle.wl_recording.specs.Text.{IsFirstBad};
 
+use crate::demo::demo;
 use crate::failure::Failure;
 use crate::job::Job;
 use crate::verdict::{status_of, write_broken, write_verdict};
@@ -97,7 +98,7 @@ fn output<'a, 'b, A: Allocator, R: Read>(
 ) -> Result<Printed<&'a A>, Failure<'b>>
     ensures done { IfOk result (λ o. IfSome (R.remaining file.old) (λ text. IsDone job.now text o.text.items o.status)) }
     ensures refused { IfErr result (λ e. IsReadFailure e ⊎ IfSome (R.remaining file.old) (λ text. IsRefusal text e)) }
-    ensures bad { (text : List ℕ) (n : ℕ) → R.remaining file.old ≡ Some text → IsFirstBad text n → IsErr result }
+    ensures bad { (text : List ℕ) (n : ℕ) → R.remaining file.old ≡ Some text → IsFirstBad text n → ReadsFile job.now → IsErr result }
 {
     match job {
         Job::Trace { file: name } => {
@@ -107,6 +108,10 @@ fn output<'a, 'b, A: Allocator, R: Read>(
         Job::Check { file: name } => {
             let text = contents(alloc, name.as_str(), file)?;
             checked(alloc, &Tables::core(global)?, &text)
+        }
+        Job::Demo { piece } => {
+            let text = demo(alloc, &Tables::core(global)?, *piece)?;
+            Ok(Printed { text, status: 0 })
         }
     }
 }
@@ -123,7 +128,8 @@ fn write_through<O: Write>(out: &mut O, bytes: &[u8]) -> io::Result<()>
 /// it tells of a broken rule; else the status of a `Failure`, whose line goes to `err`.
 ///
 /// Nothing is written to `out` before the whole output is there. `file` is what the job's file
-/// has; at most 16,777,217 bytes of it are read. The signature tables lie in the global memory.
+/// has, if it reads one; at most 16,777,217 bytes of it are read. The signature tables lie in the
+/// global memory.
 pub fn act<A: Allocator, R: Read, O: Write, E: Write>(
     alloc: A,
     global: Global,
@@ -132,11 +138,11 @@ pub fn act<A: Allocator, R: Read, O: Write, E: Write>(
     out: &mut O,
     err: &mut E,
 ) -> u8
-    // The output of the job was written whole: 0 stands for a lawful session, 1 for a broken one.
+    // The output of the job was written whole: 0 stands for a lawful session or a demonstration, 1 for a broken session.
     ensures done { (result ≡ 0) ⊎ (result ≡ 1) → IfSome (R.remaining file.old) (λ text. (output : List ℕ) × IsDone job.now text output result
         × Appends (O.contents out.old) (O.contents out.new) output) }
-    // A recording with a bad line is refused.
-    ensures bad { (text : List ℕ) (n : ℕ) → R.remaining file.old ≡ Some text → IsFirstBad text n
+    // A recording with a bad line is refused, where the job reads one.
+    ensures bad { (text : List ℕ) (n : ℕ) → R.remaining file.old ≡ Some text → IsFirstBad text n → ReadsFile job.now
         → ((result ≡ 3) ⊎ (result ≡ 4)) × (O.contents out.new ≡ O.contents out.old) }
     ensures unwritten { result ≡ 4 → O.contents out.new ≡ O.contents out.old }
     ensures statuses { (result ≤ 4) × (result ≢ 2) }

@@ -6,6 +6,9 @@ use clap::error::ErrorKind;
 use clap::{Arg, ArgMatches, Command, Error};
 use std::alloc::{AllocError, Global};
 
+/// The most bytes that the demonstration carries at once, unless it is told otherwise.
+const MOST_PIECE: &str = "4096";
+
 /// One run of the program.
 #[derive(Debug, Drop)]
 pub enum Job {
@@ -14,6 +17,8 @@ pub enum Job {
     Trace { file: String },
     /// Print whether the recording in the file of this name is lawful.
     Check { file: String },
+    /// Print a session of both ends, in which at most so many bytes are carried at once: 1 to 4096.
+    Demo { piece: u32 },
 }
 
 /// Why there is no job.
@@ -34,11 +39,21 @@ fn command<'a>(alloc: Global) -> Result<Command<'a>, AllocError> {
     let check = Command::new(alloc, "check")
         .about("Prints whether a recording is a lawful session")
         .arg(file(alloc))?;
+    let piece = Arg::new(alloc, "piece")
+        .long("piece")
+        .value_name("N")
+        .value_parser(clap::value_parser!(u32).range(1..=4096))
+        .default_value(MOST_PIECE)
+        .help("The most bytes carried at once, 1 to 4096");
+    let demo = Command::new(alloc, "demo")
+        .about("Runs a client against a server and prints their session")
+        .arg(piece)?;
     Command::new(alloc, "waywire")
         .about("Recorded sessions of Wayland clients, as text")
         .subcommand_required(true)
         .subcommand(trace)?
-        .subcommand(check)
+        .subcommand(check)?
+        .subcommand(demo)
 }
 
 /// The argument that names a recording.
@@ -62,6 +77,7 @@ fn parsed(alloc: Global, words: &[String]) -> Result<Option<Job>, Error> {
     let job = match matches.subcommand() {
         Some(("trace", trace)) => file_of(alloc, trace)?.map(|file| Job::Trace { file }),
         Some(("check", check)) => file_of(alloc, check)?.map(|file| Job::Check { file }),
+        Some(("demo", demo)) => demo.get_one("piece").map(|piece| Job::Demo { piece }),
         _ => None,
     };
     Ok(job)

@@ -2,6 +2,7 @@
 #![tactic(auto)]
 
 mod act;
+mod demo;
 mod failure;
 mod job;
 mod verdict;
@@ -9,7 +10,7 @@ mod verdict;
 use failure::Failure;
 use job::{Job, Stop};
 use std::fs::File;
-use std::io::{ErrorKind, Write};
+use std::io::{ErrorKind, Read, Write};
 use std::process::ExitCode;
 use std::{env, io};
 
@@ -36,19 +37,22 @@ fn stopped(rt: &HostRuntime, stop: &Stop) -> u8 {
 
 /// Opens what the job reads, and does it.
 fn done(rt: &HostRuntime, job: &Job) -> u8 {
-    let (Job::Trace { file: name } | Job::Check { file: name }) = job;
-    let alloc = rt.alloc();
-    match File::open(rt, name.as_str()) {
-        Ok(mut file) => act::act(
-            alloc,
-            alloc,
-            job,
-            &mut file,
-            &mut io::writer(rt),
-            &mut rt.stderr(),
-        ),
-        Err(_) => Failure::CannotRead(name.as_str()).tell(&mut rt.stderr()),
+    match job {
+        Job::Trace { file: name } | Job::Check { file: name } => {
+            match File::open(rt, name.as_str()) {
+                Ok(mut file) => done_over(rt, job, &mut file),
+                Err(_) => Failure::CannotRead(name.as_str()).tell(&mut rt.stderr()),
+            }
+        }
+        Job::Demo { .. } => done_over(rt, job, &mut io::empty()),
     }
+}
+
+/// Does the job over what its file has.
+fn done_over<R: Read>(rt: &HostRuntime, job: &Job, file: &mut R) -> u8 {
+    let alloc = rt.alloc();
+    let mut out = io::writer(rt);
+    act::act(alloc, alloc, job, file, &mut out, &mut rt.stderr())
 }
 
 fn main(rt: HostRuntime) -> ExitCode {
