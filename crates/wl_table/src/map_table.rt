@@ -198,6 +198,6 @@ impl<A: Allocator + Clone + Drop> Table for MapTable<A> {
 
     fn close(&mut self, id: u32) {
         let _ = self.rows.remove(&id);
-        self.freed.push_reserved(id); let _ = self.freed.pop();
+        self.freed.push_reserved(id);
     }
 }
