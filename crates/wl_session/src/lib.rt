@@ -9,6 +9,8 @@ mod lending;
 mod moves;
 mod pair;
 mod running;
+#[cfg(test)]
+mod tests;
 
 pub use moves::{Carried, Move, Reply, SendArg};
 pub use pair::Pair;

@@ -1,0 +1,185 @@
+//! Sessions of a pair over the plain table.
+use crate::{Pair, Reply, Verdict, check};
+use std::alloc::{AllocError, Global};
+use std::test::Fail;
+use wl_message::Sizes;
+use wl_objects::{MapTable, Object};
+use wl_sigs::Tables;
+use wl_wire::Iface;
+
+mod ending;
+mod memory;
+mod recording;
+mod replies;
+mod seeded;
+mod sessions;
+mod steps;
+
+use replies::{Said, say};
+use steps::{Step, own};
+
+type Plain<'t> = Pair<'t, MapTable<Global>>;
+
+const SIZES: Sizes = Sizes {
+    out_bytes: 65_536,
+    out_tokens: 64,
+    in_bytes: 65_536,
+    in_tokens: 64,
+};
+
+/// More than ever waits in these tests.
+const ALL: usize = 65_536;
+
+/// The interfaces of the globals.
+const WL_COMPOSITOR: Iface = Iface(3);
+
+const WL_SEAT: Iface = Iface(9);
+
+const DISPLAY: Object = Object { id: 1, birth: 0 };
+
+const REGISTRY: Object = Object { id: 2, birth: 1 };
+
+const COMPOSITOR: Object = Object { id: 3, birth: 2 };
+
+const SURFACE: Object = Object { id: 4, birth: 3 };
+
+const SEAT: Object = Object { id: 5, birth: 4 };
+
+const POINTER: Object = Object { id: 6, birth: 5 };
+
+const KEYBOARD: Object = Object { id: 7, birth: 6 };
+
+const OTHER_KEYBOARD: Object = Object { id: 8, birth: 7 };
+
+/// What is answered to these moves.
+fn run(alloc: Global, pair: &mut Plain<'_>, steps: &[Step]) -> Result<Vec<Reply>, AllocError> {
+    let mut moves = Vec::new(alloc);
+    for step in steps {
+        let action = own(alloc, *step)?;
+        moves.push(action)?;
+    }
+    pair.run(moves.as_slice())
+}
+
+/// The same in short.
+fn play(alloc: Global, pair: &mut Plain<'_>, steps: &[Step]) -> Result<Vec<Said>, AllocError> {
+    let replies = run(alloc, pair, steps)?;
+    let mut said = Vec::new(alloc);
+    for reply in &replies {
+        said.push(say(reply))?;
+    }
+    Ok(said)
+}
+
+/// Whether each of these moves is answered so, one after another.
+fn is_answered(
+    alloc: Global,
+    pair: &mut Plain<'_>,
+    script: &[(Step, Said)],
+) -> Result<bool, AllocError> {
+    let mut is_so = true;
+    for (step, said) in script {
+        let answers = play(alloc, pair, &[*step])?;
+        is_so = is_last(answers.as_slice(), *said) && is_so;
+    }
+    Ok(is_so)
+}
+
+fn is_last(answers: &[Said], said: Said) -> bool {
+    match answers.last() {
+        Some(answer) => *answer == said,
+        None => false,
+    }
+}
+
+/// All is carried to the server and read there, and then all is carried to the client and read.
+fn turn(alloc: Global, pair: &mut Plain<'_>) -> Result<(), AllocError> {
+    let mut steps = Vec::new(alloc);
+    steps.push(Step::ToServer(ALL))?;
+    for _ in 0..8 {
+        steps.push(Step::ServerNext)?;
+    }
+    steps.push(Step::ToClient(ALL))?;
+    for _ in 0..8 {
+        steps.push(Step::ClientNext)?;
+    }
+    let _ = run(alloc, pair, steps.as_slice())?;
+    Ok(())
+}
+
+/// A pair whose server has the globals wl_compositor (name 1) and wl_seat (name 2), and whose client
+/// has made a registry and was told of both.
+fn told<'t>(alloc: Global, tables: &'t Tables) -> Result<Plain<'t>, AllocError> {
+    let mut pair = Plain::new(alloc, tables, SIZES, SIZES)?;
+    let steps = [
+        Step::AddGlobal(WL_COMPOSITOR, 6),
+        Step::AddGlobal(WL_SEAT, 9),
+        Step::Make(DISPLAY, 1),
+    ];
+    let _ = run(alloc, &mut pair, &steps)?;
+    turn(alloc, &mut pair)?;
+    let _ = run(alloc, &mut pair, &[Step::Announce])?;
+    turn(alloc, &mut pair)?;
+    Ok(pair)
+}
+
+/// The client binds both globals, and makes a surface, a pointer and two keyboards.
+const BINDING: [(Step, Said); 6] = [
+    (
+        Step::Bind(REGISTRY, 1, WL_COMPOSITOR, 6),
+        Said::Made(COMPOSITOR),
+    ),
+    (Step::Make(COMPOSITOR, 0), Said::Made(SURFACE)),
+    (Step::Bind(REGISTRY, 2, WL_SEAT, 9), Said::Made(SEAT)),
+    (Step::Make(SEAT, 0), Said::Made(POINTER)),
+    (Step::Make(SEAT, 1), Said::Made(KEYBOARD)),
+    (Step::Make(SEAT, 1), Said::Made(OTHER_KEYBOARD)),
+];
+
+/// A pair at which all of this is done and read, and nothing waits.
+fn set_up<'t>(alloc: Global, tables: &'t Tables) -> Result<Plain<'t>, AllocError> {
+    let mut pair = told(alloc, tables)?;
+    let _ = is_answered(alloc, &mut pair, &BINDING)?;
+    turn(alloc, &mut pair)?;
+    Ok(pair)
+}
+
+/// Whether nothing waits, and both ends have the same objects, so many.
+fn is_settled(pair: &Plain<'_>, objects: usize) -> bool {
+    pair.drained() && pair.agree() && pair.len() == objects
+}
+
+/// What is to be said of what was carried.
+fn verdict(alloc: Global, tables: &Tables, pair: &Plain<'_>) -> Result<Verdict, AllocError> {
+    check(alloc, pair.recording(), tables)
+}
+
+/// So many messages, all lawful and whole.
+fn lawful(requests: usize, events: usize) -> Verdict {
+    Verdict::Lawful {
+        requests,
+        events,
+        left_to_server: 0,
+        left_to_client: 0,
+    }
+}
+
+/// Whether both ends have settled on so many objects, and this is to be said of what was carried.
+fn has_ended(
+    alloc: Global,
+    tables: &Tables,
+    pair: &Plain<'_>,
+    objects: usize,
+    carried: Verdict,
+) -> Result<bool, AllocError> {
+    let verdict = verdict(alloc, tables, pair)?;
+    Ok(is_settled(pair, objects) && verdict == carried)
+}
+
+/// Whether these are the bytes of what was carried last.
+fn was_carried(pair: &Plain<'_>, bytes: &[u8]) -> bool {
+    match pair.recording().pieces().last() {
+        Some(piece) => piece.bytes.as_slice() == bytes,
+        None => false,
+    }
+}
