@@ -1,10 +1,15 @@
 -- The text of a demonstration.
-use Rattle.std.proofs.Common.{◌≡◌, ℕ, Bool, List, ◌++◌, ap, ◌∙◌}
+use Rattle.std.proofs.Common.{◌≡◌, ℕ, Bool, List, ◌++◌, ap, ◌∙◌, subst, IfOk, OnOk}
+use Rattle.std.specs.declared.result.Result.{Result}
+use Rattle.std.specs.declared.result.Result.TheVariants.{Ok, Err}
 use Rattle.wl_sigs.specs.Tables.{Interface}
 use Rattle.wl_recording.specs.Piece.{Piece}
 use Rattle.wl_check.specs.Session.{session_of}
 use Rattle.wl_check.specs.Trace.{trace_of}
-use Rattle.waywire.specs.Demo.{agreement_line}
+use Rattle.wl_world.specs.World.{opening}
+use Rattle.wl_world.specs.Pair.{PairState, new_pair}
+use Rattle.wl_world.specs.Stands.{Stands}
+use Rattle.waywire.specs.Demo.{IsRun, IsShown, Reaches, Tells, agreement_line, sizes}
 
 -- the lines of what was lent, and behind them the last line
 pub whole_text : (tables : List Interface) (lent pieces : List Piece) (lines text : List ℕ) (agree : Bool) (counted objects : ℕ)
@@ -15,3 +20,10 @@ whole_text tables lent pieces lines text agree counted objects traced same numbe
     let by_pieces = ap (λ (ps : List Piece). trace_of tables (session_of ps) ++ agreement_line agree counted) same in
     let by_number = ap (λ (n : ℕ). trace_of tables (session_of pieces) ++ agreement_line agree n) number in
     written ∙ (by_lines ∙ (by_pieces ∙ by_number))
+
+-- what tells of a pair that a new one leads to
+pub shown_from_new : {X E : Type 0} (items : X → List ℕ) (tables : List Interface) (pair last : PairState) (result : Result X E) → pair ≡ new_pair tables sizes sizes → Stands pair opening
+    → OnOk result (Reaches pair last) → IfOk result (λ x. Tells tables last (items x)) → IfOk result (λ x. IsShown tables (items x))
+shown_from_new items tables pair last (Ok x) begins standing played told =
+    record { last = last; run = subst (λ (p : PairState). IsRun p opening last) begins (played opening standing); told = told }
+shown_from_new items tables pair last (Err e) begins standing played told = tt

@@ -29,14 +29,18 @@ agreement false = codes "disagree"
 abbrev pub agreement_line : Bool → ℕ → List ℕ
 agreement_line agree objects = agreement agree ++ codes ": " ++ decimal objects ++ codes " objects\n"
 
+-- The text is the trace of what was carried between the two ends of this pair, and a last line: whether both have the same objects, all
+-- live, and how many the client has.
+pub record Tells (tables : List Interface) (pair : PairState) (text : List ℕ) : Type 0 where
+  pub agree : Bool
+  pub exact : IsTrue agree ↔ Agree pair.client.core.view pair.server.core.view
+  pub whole : text ≡ trace_of tables (session_of pair.recording) ++ agreement_line agree (row_count pair.client.core.view.rows)
+
 abbrev pub sizes : Sizes
 sizes = record { out_bytes = 65536; out_tokens = 64; in_bytes = 65536; in_tokens = 64 }
 
--- The text is the trace of what was carried between two ends that began new, in a run of both, and a last line: whether both have the
--- same objects then, all live, and how many the client has.
+-- The text tells of two ends that began new, after a run of both.
 pub record IsShown (tables : List Interface) (text : List ℕ) : Type 0 where
   pub last : PairState
   pub run : IsRun (new_pair tables sizes sizes) opening last
-  pub agree : Bool
-  pub exact : IsTrue agree ↔ Agree last.client.core.view last.server.core.view
-  pub whole : text ≡ trace_of tables (session_of last.recording) ++ agreement_line agree (row_count last.client.core.view.rows)
+  pub told : Tells tables last text

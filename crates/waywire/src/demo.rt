@@ -1,7 +1,7 @@
 //! The session that the program shows: a client binds two globals, asks for a callback, and makes
 //! and destroys a surface. What the two ends write is carried in pieces.
 ghost use Rattle.std.specs.Prelude.{◌≡◌, ◌++◌, IfOk, OnOk};
-ghost use Rattle.waywire.specs.Demo.{IsShown, Reaches, agreement_line};
+ghost use Rattle.waywire.specs.Demo.{IsShown, Reaches, Tells, agreement_line};
 
 use std::alloc::{AllocError, Allocator};
 use std::io::Write;
@@ -54,13 +54,37 @@ pub fn demo<A: Allocator + Clone + Drop>(
     ensures { IfOk result (λ text. IsShown tables.now text.items) }
 {
     let mut pair: Pair<'_, MapTable<A>> = Pair::new(alloc.clone()?, tables, SIZES, SIZES)?;
-    let most = piece as usize;
-    tell_globals(&alloc, tables, &mut pair, most)?;
-    bind_globals(&alloc, &mut pair, most)?;
-    draw(&alloc, &mut pair, most)?;
+    show(alloc, tables, &mut pair, piece as usize)
+}
+
+/// Plays the session, and tells of all that this pair has carried.
+fn show<T: Table>(
+    alloc: T::Alloc,
+    tables: &Tables,
+    pair: &mut Pair<'_, T>,
+    most: usize,
+) -> Result<Vec<u8, T::Alloc>, AllocError>
+    ensures played { OnOk result (Reaches pair.old pair.new) }
+    ensures told { IfOk result (λ text. Tells tables.now pair.new text.items) }
+{
+    play(&alloc, tables, pair, most)?;
     let (mut text, _verdict) = trace(alloc, pair.recording(), tables)?;
     write_agreement(&mut text, pair.agree(), pair.len())?;
     Ok(text)
+}
+
+/// Plays the session.
+fn play<T: Table>(
+    alloc: &T::Alloc,
+    tables: &Tables,
+    pair: &mut Pair<'_, T>,
+    most: usize,
+) -> Result<(), AllocError>
+    ensures { OnOk result (Reaches pair.old pair.new) }
+{
+    tell_globals(alloc, tables, pair, most)?;
+    bind_globals(alloc, pair, most)?;
+    draw(alloc, pair, most)
 }
 
 /// Appends the last line: how many objects the client has, and whether the server has the same.
