@@ -107,19 +107,26 @@ fn turn(alloc: Global, pair: &mut Plain<'_>) -> Result<(), AllocError> {
     Ok(())
 }
 
-/// A pair whose server has the globals wl_compositor (name 1) and wl_seat (name 2), and whose client
-/// has made a registry and was told of both.
-fn told<'t>(alloc: Global, tables: &'t Tables) -> Result<Plain<'t>, AllocError> {
-    let mut pair = Plain::new(alloc, tables, SIZES, SIZES)?;
+/// The server gives the globals wl_compositor (name 1) and wl_seat (name 2), and the client makes a
+/// registry and is told of both.
+fn tell(alloc: Global, pair: &mut Plain<'_>) -> Result<(), AllocError> {
     let steps = [
         Step::AddGlobal(WL_COMPOSITOR, 6),
         Step::AddGlobal(WL_SEAT, 9),
         Step::Make(DISPLAY, 1),
     ];
-    let _ = run(alloc, &mut pair, &steps)?;
-    turn(alloc, &mut pair)?;
-    let _ = run(alloc, &mut pair, &[Step::Announce])?;
-    turn(alloc, &mut pair)?;
+    let _ = run(alloc, pair, &steps)?;
+    turn(alloc, pair)?;
+    let _ = run(alloc, pair, &[Step::Announce])?;
+    turn(alloc, pair)
+}
+
+/// A pair at which this is done.
+// (A test does all else behind a `&mut`: what owns a pair drops it at each way out, and each of
+// these drops is a long proof.)
+fn told<'t>(alloc: Global, tables: &'t Tables) -> Result<Plain<'t>, AllocError> {
+    let mut pair = Plain::new(alloc, tables, SIZES, SIZES)?;
+    tell(alloc, &mut pair)?;
     Ok(pair)
 }
 
@@ -136,11 +143,16 @@ const BINDING: [(Step, Said); 6] = [
     (Step::Make(SEAT, 1), Said::Made(OTHER_KEYBOARD)),
 ];
 
-/// A pair at which all of this is done and read, and nothing waits.
+/// All of this is done and read.
+fn make_all(alloc: Global, pair: &mut Plain<'_>) -> Result<(), AllocError> {
+    let _ = is_answered(alloc, pair, &BINDING)?;
+    turn(alloc, pair)
+}
+
+/// A pair at which it is, and at which nothing waits.
 fn set_up<'t>(alloc: Global, tables: &'t Tables) -> Result<Plain<'t>, AllocError> {
     let mut pair = told(alloc, tables)?;
-    let _ = is_answered(alloc, &mut pair, &BINDING)?;
-    turn(alloc, &mut pair)?;
+    make_all(alloc, &mut pair)?;
     Ok(pair)
 }
 

@@ -49,44 +49,63 @@ fn goes_in_parts(alloc: Global, pair: &mut Plain<'_>) -> Result<bool, AllocError
     Ok(first && second && third)
 }
 
+/// Whether each carry is one piece, and all of them are lawful.
+fn records_each_carry(
+    alloc: Global,
+    tables: &Tables,
+    pair: &mut Plain<'_>,
+) -> Result<bool, AllocError> {
+    let goes = goes_in_parts(alloc, pair)?;
+    turn(alloc, pair)?;
+    let has_ended = has_ended(alloc, tables, pair, 9, lawful(8, 4))?;
+    Ok(goes && has_ended && pieces(pair) == 7)
+}
+
 #[test]
 fn a_carry_is_one_piece(rt: HostRuntime) -> Result<(), Fail> {
     let tables = Tables::core(rt.alloc())?;
     let mut pair = set_up(rt.alloc(), &tables)?;
-    assert!(rt; goes_in_parts(rt.alloc(), &mut pair)?);
-    turn(rt.alloc(), &mut pair)?;
-    assert_eq!(rt; pieces(&pair), 7);
-    assert!(rt; has_ended(rt.alloc(), &tables, &pair, 9, lawful(8, 4))?);
+    assert!(rt; records_each_carry(rt.alloc(), &tables, &mut pair)?);
     Ok(())
+}
+
+/// Carries of nothing: nothing is there, or nothing is asked.
+const OF_NOTHING: [(Step, Said); 6] = [
+    (Step::ToServer(9), Said::Moved(0, 0)),
+    (Step::ToClient(9), Said::Moved(0, 0)),
+    (
+        Step::Make(DISPLAY, 0),
+        Said::Made(Object { id: 9, birth: 8 }),
+    ),
+    (Step::ToServer(0), Said::Moved(0, 0)),
+    (Step::Keymap(KEYBOARD, 7), Said::Done),
+    (Step::ToClient(0), Said::Moved(0, 0)),
+];
+
+/// Whether these moves are answered so, and nothing is recorded.
+fn records_nothing(
+    alloc: Global,
+    pair: &mut Plain<'_>,
+    script: &[(Step, Said)],
+) -> Result<bool, AllocError> {
+    let before = pieces(pair);
+    let is_answered = is_answered(alloc, pair, script)?;
+    Ok(is_answered && pieces(pair) == before)
 }
 
 #[test]
 fn a_carry_of_nothing_is_not_recorded(rt: HostRuntime) -> Result<(), Fail> {
     let tables = Tables::core(rt.alloc())?;
     let mut pair = set_up(rt.alloc(), &tables)?;
-    let before = pieces(&pair);
-    let steps = [
-        Step::ToServer(9),
-        Step::ToClient(9),
-        Step::Make(DISPLAY, 0),
-        Step::ToServer(0),
-        Step::Keymap(KEYBOARD, 7),
-        Step::ToClient(0),
-    ];
-    let said = play(rt.alloc(), &mut pair, &steps)?;
-    assert_eq!(rt;
-        said.as_slice(),
-        [
-            Said::Moved(0, 0),
-            Said::Moved(0, 0),
-            Said::Made(Object { id: 9, birth: 8 }),
-            Said::Moved(0, 0),
-            Said::Done,
-            Said::Moved(0, 0)
-        ]
-        .as_slice()
-    );
-    assert_eq!(rt; pieces(&pair), before);
+    assert!(rt; records_nothing(rt.alloc(), &mut pair, &OF_NOTHING)?);
+    Ok(())
+}
+
+/// The client writes 4104 bytes.
+fn crowd(alloc: Global, pair: &mut Plain<'_>) -> Result<(), AllocError> {
+    for _ in 0..342 {
+        let _ = run(alloc, pair, &[Step::Make(DISPLAY, 0)])?;
+    }
     Ok(())
 }
 
@@ -99,71 +118,56 @@ fn crowded<'t>(alloc: Global, tables: &'t Tables) -> Result<Plain<'t>, AllocErro
         in_tokens: 20,
     };
     let mut pair = Plain::new(alloc, tables, SIZES, narrow)?;
-    for _ in 0..342 {
-        let _ = run(alloc, &mut pair, &[Step::Make(DISPLAY, 0)])?;
-    }
+    crowd(alloc, &mut pair)?;
     Ok(pair)
+}
+
+/// A carry that fills the inbox, one without room, and one behind a message that was read.
+const NARROW: [(Step, Said); 4] = [
+    (Step::ToServer(ALL), Said::Moved(4096, 0)),
+    (Step::ToServer(ALL), Said::Moved(0, 0)),
+    (Step::ServerNext, Said::Request(DISPLAY, 0)),
+    (Step::ToServer(ALL), Said::Moved(8, 0)),
+];
+
+/// Whether only the two carries that moved something are recorded.
+fn records_two(alloc: Global, pair: &mut Plain<'_>) -> Result<bool, AllocError> {
+    let is_answered = is_answered(alloc, pair, &NARROW)?;
+    Ok(is_answered && pieces(pair) == 2)
 }
 
 #[test]
 fn a_carry_without_room_is_not_recorded(rt: HostRuntime) -> Result<(), Fail> {
     let tables = Tables::core(rt.alloc())?;
     let mut pair = crowded(rt.alloc(), &tables)?;
-    let steps = [
-        Step::ToServer(ALL),
-        Step::ToServer(ALL),
-        Step::ServerNext,
-        Step::ToServer(ALL),
-    ];
-    let said = play(rt.alloc(), &mut pair, &steps)?;
-    assert_eq!(rt;
-        said.as_slice(),
-        [
-            Said::Moved(4096, 0),
-            Said::Moved(0, 0),
-            Said::Request(DISPLAY, 0),
-            Said::Moved(8, 0)
-        ]
-        .as_slice()
-    );
-    assert_eq!(rt; pieces(&pair), 2);
+    assert!(rt; records_two(rt.alloc(), &mut pair)?);
     Ok(())
 }
+
+/// A move of each kind that is no carry.
+const NO_CARRY: [(Step, Said); 10] = [
+    (
+        Step::Make(SURFACE, 3),
+        Said::Made(Object { id: 9, birth: 8 }),
+    ),
+    (
+        Step::Bind(REGISTRY, 1, WL_COMPOSITOR, 6),
+        Said::Made(Object { id: 10, birth: 9 }),
+    ),
+    (Step::Keymap(KEYBOARD, 7), Said::Done),
+    (Step::End(SURFACE), Said::Refused(SendError::NotDroppable)),
+    (Step::AddGlobal(WL_SEAT, 1), Said::Number(3)),
+    (Step::Withdraw(1), Said::Done),
+    (Step::Announce, Said::Number(2)),
+    (Step::ClientNext, Said::Nothing),
+    (Step::ServerNext, Said::Nothing),
+    (Step::Fail(DISPLAY, 6), Said::Done),
+];
 
 #[test]
 fn no_other_move_is_recorded(rt: HostRuntime) -> Result<(), Fail> {
     let tables = Tables::core(rt.alloc())?;
     let mut pair = set_up(rt.alloc(), &tables)?;
-    let before = pieces(&pair);
-    let steps = [
-        Step::Make(SURFACE, 3),
-        Step::Bind(REGISTRY, 1, WL_COMPOSITOR, 6),
-        Step::Keymap(KEYBOARD, 7),
-        Step::End(SURFACE),
-        Step::AddGlobal(WL_SEAT, 1),
-        Step::Withdraw(1),
-        Step::Announce,
-        Step::ClientNext,
-        Step::ServerNext,
-        Step::Fail(DISPLAY, 6),
-    ];
-    let said = play(rt.alloc(), &mut pair, &steps)?;
-    assert_eq!(rt;
-        said.as_slice(),
-        [
-            Said::Made(Object { id: 9, birth: 8 }),
-            Said::Made(Object { id: 10, birth: 9 }),
-            Said::Done,
-            Said::Refused(SendError::NotDroppable),
-            Said::Number(3),
-            Said::Done,
-            Said::Number(2),
-            Said::Nothing,
-            Said::Nothing,
-            Said::Done
-        ]
-        .as_slice()
-    );
-    assert_eq!(rt; pieces(&pair), before);
+    assert!(rt; records_nothing(rt.alloc(), &mut pair, &NO_CARRY)?);
     Ok(())
 }

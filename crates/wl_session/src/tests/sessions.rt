@@ -4,17 +4,25 @@ use wl_client::Incoming;
 use wl_objects::{Got, Named, SendError};
 use wl_wire::Fixed;
 
+/// Whether all is made as it should be, and both ends agree once it is read.
+fn makes_all_as_expected(
+    alloc: Global,
+    tables: &Tables,
+    pair: &mut Plain<'_>,
+) -> Result<bool, AllocError> {
+    let is_made = is_answered(alloc, pair, &BINDING)?;
+    // what was sent is not read yet
+    let waits = !pair.drained() && !pair.agree();
+    turn(alloc, pair)?;
+    let has_ended = has_ended(alloc, tables, pair, 8, lawful(7, 2))?;
+    Ok(is_made && waits && has_ended && pair.ended_at().is_none())
+}
+
 #[test]
 fn a_pair_is_set_up(rt: HostRuntime) -> Result<(), Fail> {
     let tables = Tables::core(rt.alloc())?;
     let mut pair = told(rt.alloc(), &tables)?;
-    assert!(rt; is_answered(rt.alloc(), &mut pair, &BINDING)?);
-    // what was sent is not read yet
-    assert!(rt; !pair.drained());
-    assert!(rt; !pair.agree());
-    turn(rt.alloc(), &mut pair)?;
-    assert!(rt; has_ended(rt.alloc(), &tables, &pair, 8, lawful(7, 2))?);
-    assert_eq!(rt; pair.ended_at(), None);
+    assert!(rt; makes_all_as_expected(rt.alloc(), &tables, &mut pair)?);
     Ok(())
 }
 
@@ -71,15 +79,25 @@ fn enters_the_dead(alloc: Global, pair: &mut Plain<'_>) -> Result<bool, AllocErr
     Ok(is_enter(replies.last(), Named::Dead(SURFACE)) && !pair.agree())
 }
 
+/// Whether a dead object is named, and then its id is used again.
+fn names_the_dead(
+    alloc: Global,
+    tables: &Tables,
+    pair: &mut Plain<'_>,
+) -> Result<bool, AllocError> {
+    let is_dead = enters_the_dead(alloc, pair)?;
+    let is_left = is_answered(alloc, pair, &LEFT)?;
+    let is_deleted = was_carried(pair, b"\x01\0\0\0\x01\0\x0c\0\x04\0\0\0");
+    turn(alloc, pair)?;
+    let has_ended = has_ended(alloc, tables, pair, 8, lawful(9, 4))?;
+    Ok(is_dead && is_left && is_deleted && has_ended)
+}
+
 #[test]
 fn an_event_names_an_object_that_is_destroyed(rt: HostRuntime) -> Result<(), Fail> {
     let tables = Tables::core(rt.alloc())?;
     let mut pair = set_up(rt.alloc(), &tables)?;
-    assert!(rt; enters_the_dead(rt.alloc(), &mut pair)?);
-    assert!(rt; is_answered(rt.alloc(), &mut pair, &LEFT)?);
-    assert!(rt; was_carried(&pair, b"\x01\0\0\0\x01\0\x0c\0\x04\0\0\0"));
-    turn(rt.alloc(), &mut pair)?;
-    assert!(rt; has_ended(rt.alloc(), &tables, &pair, 8, lawful(9, 4))?);
+    assert!(rt; names_the_dead(rt.alloc(), &tables, &mut pair)?);
     Ok(())
 }
 
@@ -126,15 +144,25 @@ fn reads_keymap(alloc: Global, pair: &mut Plain<'_>, token: u32) -> Result<bool,
     Ok(is_keymap(replies.last(), token))
 }
 
+/// Whether each keymap comes with its own token, the discarded one too.
+fn gives_each_its_token(
+    alloc: Global,
+    tables: &Tables,
+    pair: &mut Plain<'_>,
+) -> Result<bool, AllocError> {
+    let is_discarded = is_answered(alloc, pair, &RELEASING)?;
+    let is_read = reads_keymap(alloc, pair, 8)?;
+    let is_released = is_answered(alloc, pair, &RELEASED)?;
+    turn(alloc, pair)?;
+    let has_ended = has_ended(alloc, tables, pair, 8, lawful(9, 5))?;
+    Ok(is_discarded && is_read && is_released && has_ended)
+}
+
 #[test]
 fn an_event_for_a_destroyed_object_gives_its_token(rt: HostRuntime) -> Result<(), Fail> {
     let tables = Tables::core(rt.alloc())?;
     let mut pair = set_up(rt.alloc(), &tables)?;
-    assert!(rt; is_answered(rt.alloc(), &mut pair, &RELEASING)?);
-    assert!(rt; reads_keymap(rt.alloc(), &mut pair, 8)?);
-    assert!(rt; is_answered(rt.alloc(), &mut pair, &RELEASED)?);
-    turn(rt.alloc(), &mut pair)?;
-    assert!(rt; has_ended(rt.alloc(), &tables, &pair, 8, lawful(9, 5))?);
+    assert!(rt; gives_each_its_token(rt.alloc(), &tables, &mut pair)?);
     Ok(())
 }
 
@@ -158,14 +186,24 @@ const SYNCED: [(Step, Said); 8] = [
 /// wl_callback.done of 7, and delete_id.
 const DONE: &[u8; 24] = b"\x02\0\0\0\0\0\x0c\0\x07\0\0\0\x01\0\0\0\x01\0\x0c\0\x02\0\0\0";
 
+/// Whether a callback ends, and the next one has its id.
+fn uses_an_id_again(
+    alloc: Global,
+    tables: &Tables,
+    pair: &mut Plain<'_>,
+) -> Result<bool, AllocError> {
+    let is_synced = is_answered(alloc, pair, &SYNCED)?;
+    let is_done = was_carried(pair, DONE);
+    turn(alloc, pair)?;
+    let has_ended = has_ended(alloc, tables, pair, 2, lawful(2, 2))?;
+    Ok(is_synced && is_done && has_ended)
+}
+
 #[test]
 fn an_id_is_used_again(rt: HostRuntime) -> Result<(), Fail> {
     let tables = Tables::core(rt.alloc())?;
     let mut pair = Plain::new(rt.alloc(), &tables, SIZES, SIZES)?;
-    assert!(rt; is_answered(rt.alloc(), &mut pair, &SYNCED)?);
-    assert!(rt; was_carried(&pair, DONE));
-    turn(rt.alloc(), &mut pair)?;
-    assert!(rt; has_ended(rt.alloc(), &tables, &pair, 2, lawful(2, 2))?);
+    assert!(rt; uses_an_id_again(rt.alloc(), &tables, &mut pair)?);
     Ok(())
 }
 
@@ -182,12 +220,22 @@ const DROPPED: [(Step, Said); 7] = [
     (Step::ClientNext, Said::Nothing),
 ];
 
+/// Whether a callback is dropped, and no event comes.
+fn drops_a_callback(
+    alloc: Global,
+    tables: &Tables,
+    pair: &mut Plain<'_>,
+) -> Result<bool, AllocError> {
+    let is_dropped = is_answered(alloc, pair, &DROPPED)?;
+    let has_ended = has_ended(alloc, tables, pair, 8, lawful(8, 3))?;
+    Ok(is_dropped && has_ended)
+}
+
 #[test]
 fn a_callback_ends_without_its_event(rt: HostRuntime) -> Result<(), Fail> {
     let tables = Tables::core(rt.alloc())?;
     let mut pair = set_up(rt.alloc(), &tables)?;
-    assert!(rt; is_answered(rt.alloc(), &mut pair, &DROPPED)?);
-    assert!(rt; has_ended(rt.alloc(), &tables, &pair, 8, lawful(8, 3))?);
+    assert!(rt; drops_a_callback(rt.alloc(), &tables, &mut pair)?);
     Ok(())
 }
 
@@ -237,12 +285,22 @@ fn reads_bind(alloc: Global, pair: &mut Plain<'_>, object: Object) -> Result<boo
     Ok(is_bound(replies.last(), object))
 }
 
+/// Whether a bind of a withdrawn global is read.
+fn binds_what_is_withdrawn(
+    alloc: Global,
+    tables: &Tables,
+    pair: &mut Plain<'_>,
+) -> Result<bool, AllocError> {
+    let is_withdrawn = is_answered(alloc, pair, &WITHDRAWN)?;
+    let is_bound = reads_bind(alloc, pair, NEXT)?;
+    let has_ended = has_ended(alloc, tables, pair, 9, lawful(8, 2))?;
+    Ok(is_withdrawn && is_bound && has_ended)
+}
+
 #[test]
 fn a_withdrawn_global_is_still_bound(rt: HostRuntime) -> Result<(), Fail> {
     let tables = Tables::core(rt.alloc())?;
     let mut pair = set_up(rt.alloc(), &tables)?;
-    assert!(rt; is_answered(rt.alloc(), &mut pair, &WITHDRAWN)?);
-    assert!(rt; reads_bind(rt.alloc(), &mut pair, NEXT)?);
-    assert!(rt; has_ended(rt.alloc(), &tables, &pair, 9, lawful(8, 2))?);
+    assert!(rt; binds_what_is_withdrawn(rt.alloc(), &tables, &mut pair)?);
     Ok(())
 }
