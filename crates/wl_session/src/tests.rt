@@ -121,7 +121,7 @@ fn tell(alloc: Global, pair: &mut Plain<'_>) -> Result<(), AllocError> {
     turn(alloc, pair)
 }
 
-/// A pair at which this is done.
+/// A pair whose client was told of both globals.
 // (A test does all else behind a `&mut`: what owns a pair drops it at each way out, and each of
 // these drops is a long proof.)
 fn told<'t>(alloc: Global, tables: &'t Tables) -> Result<Plain<'t>, AllocError> {
@@ -143,13 +143,13 @@ const BINDING: [(Step, Said); 6] = [
     (Step::Make(SEAT, 1), Said::Made(OTHER_KEYBOARD)),
 ];
 
-/// All of this is done and read.
+/// Does what `BINDING` says, and has it read.
 fn make_all(alloc: Global, pair: &mut Plain<'_>) -> Result<(), AllocError> {
     let _ = is_answered(alloc, pair, &BINDING)?;
     turn(alloc, pair)
 }
 
-/// A pair at which it is, and at which nothing waits.
+/// A pair with all the objects of `BINDING`, at which nothing waits.
 fn set_up<'t>(alloc: Global, tables: &'t Tables) -> Result<Plain<'t>, AllocError> {
     let mut pair = told(alloc, tables)?;
     make_all(alloc, &mut pair)?;
