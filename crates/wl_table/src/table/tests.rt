@@ -1,153 +1,151 @@
+//! What each kind of table does, by the calls of the trait alone.
+// (Everything is done behind a `&mut`: what owns a table drops it at each way out.)
 ghost use Rattle.std.specs.Prelude.{◌<◌};
 
 use super::super::{MapTable, State};
 use super::*;
 use refusing::RefusingAllocator;
-use std::process::Abort;
 use std::test::Fail;
 
 const DISPLAY: Iface = Iface(0);
 
 const CALLBACK: Iface = Iface(2);
 
-// Closes an object that the table has.
-fn close<T: Table>(rt: &impl Abort, table: &mut T, id: u32) {
-    assert!(rt; table.look(id).is_some());
-    assert!(rt; id != 1);
-    table.close(id);
+/// Whether the next opening gives this object.
+fn opens<T: Table>(table: &mut T, version: u32, id: u32, birth: u64) -> bool {
+    table.open_next(CALLBACK, version) == Ok(Object { id, birth })
 }
 
-// Makes a live object a zombie.
-fn end<T: Table>(rt: &impl Abort, table: &mut T, id: u32) {
-    assert!(rt; id != 1);
+/// Whether an opening at this id gives an object of this birth.
+fn opens_at<T: Table>(table: &mut T, id: u32, birth: u64) -> bool {
+    table.open_at(id, CALLBACK, 1) == Ok(Object { id, birth })
+}
+
+/// Whether an opening at this id is refused so.
+fn refuses_at<T: Table>(table: &mut T, id: u32, why: TableError) -> bool {
+    table.open_at(id, CALLBACK, 1) == Err(why)
+}
+
+/// Closes an object, if the table has it and it is not the first. Whether it did.
+fn closes<T: Table>(table: &mut T, id: u32) -> bool {
+    if id == 1 || table.look(id).is_none() {
+        return false;
+    }
+    table.close(id);
+    true
+}
+
+/// Makes a live object a zombie, if it is not the first. Whether it did.
+fn ends<T: Table>(table: &mut T, id: u32) -> bool {
     match table.look(id) {
-        Some(entry) => match entry.state {
-            State::Live => table.make_zombie(id),
-            State::Zombie => assert!(rt; false),
-        },
-        None => assert!(rt; false),
+        Some(entry) if id != 1 && entry.state == State::Live => {
+            table.make_zombie(id);
+            true
+        }
+        _ => false,
     }
 }
 
-// Three objects are opened and closed, and their ids are opened again: the one freed last by itself, the others
-// where they are named.
-fn reuses_ids<T: Table + Drop>(rt: &impl Abort, alloc: T::Alloc) -> Result<(), Fail> {
-    let mut table = T::new(alloc, DISPLAY)?;
-    assert_eq!(rt;
-        table.open_next(CALLBACK, 1),
-        Ok(Object { id: 2, birth: 1 })
-    );
-    assert_eq!(rt;
-        table.open_next(CALLBACK, 1),
-        Ok(Object { id: 3, birth: 2 })
-    );
-    assert_eq!(rt;
-        table.open_next(CALLBACK, 7),
-        Ok(Object { id: 4, birth: 3 })
-    );
+/// Whether the table has used so many ids, has so many entries and has had so many births.
+fn counts<T: Table>(table: &T, used: u32, len: u32, births: u64) -> bool {
+    table.used() == used && table.len() == len && table.births() == births
+}
+
+fn opens_three<T: Table>(table: &mut T) -> bool {
     let opened = Entry {
         birth: 3,
         iface: CALLBACK,
         version: 7,
         state: State::Live,
     };
-    assert_eq!(rt; table.look(4), Some(opened));
-    close(rt, &mut table, 2);
-    close(rt, &mut table, 4);
-    close(rt, &mut table, 3);
-    // Freed, the latest first: 3, 4, 2.
-    assert_eq!(rt; (table.used(), table.len(), table.births()), (4, 1, 4));
-    assert_eq!(rt;
-        table.open_at(4, CALLBACK, 1),
-        Ok(Object { id: 4, birth: 4 })
-    );
-    assert_eq!(rt;
-        table.open_next(CALLBACK, 1),
-        Ok(Object { id: 3, birth: 5 })
-    );
-    assert_eq!(rt; table.open_at(6, CALLBACK, 1), Err(TableError::NotNext));
-    assert_eq!(rt; table.open_at(3, CALLBACK, 1), Err(TableError::InUse));
-    assert_eq!(rt; table.open_at(0, CALLBACK, 1), Err(TableError::NotNext));
-    assert_eq!(rt;
-        table.open_at(5, CALLBACK, 1),
-        Ok(Object { id: 5, birth: 6 })
-    );
-    // Freed: 2.
-    assert!(rt; table.is_free(2) && table.is_free(6));
-    assert!(rt; !table.is_free(0) && !table.is_free(1) && !table.is_free(7));
-    assert_eq!(rt;
-        table.open_next(CALLBACK, 1),
-        Ok(Object { id: 2, birth: 7 })
-    );
-    assert_eq!(rt; (table.used(), table.len(), table.births()), (5, 5, 8));
-    Ok(())
+    opens(table, 1, 2, 1)
+        && opens(table, 1, 3, 2)
+        && opens(table, 7, 4, 3)
+        && table.look(4) == Some(opened)
 }
 
-// A zombie keeps its id until it is closed.
-fn keeps_zombies<T: Table + Drop>(rt: &impl Abort, alloc: T::Alloc) -> Result<(), Fail> {
-    let mut table = T::new(alloc, DISPLAY)?;
-    assert_eq!(rt;
-        table.open_next(CALLBACK, 1),
-        Ok(Object { id: 2, birth: 1 })
-    );
-    end(rt, &mut table, 2);
+/// Freed, the latest first: 3, 4, 2.
+fn frees_three<T: Table>(table: &mut T) -> bool {
+    closes(table, 2) && closes(table, 4) && closes(table, 3) && counts(table, 4, 1, 4)
+}
+
+fn uses_freed_ids_again<T: Table>(table: &mut T) -> bool {
+    opens_at(table, 4, 4)
+        && opens(table, 1, 3, 5)
+        && refuses_at(table, 6, TableError::NotNext)
+        && refuses_at(table, 3, TableError::InUse)
+        && refuses_at(table, 0, TableError::NotNext)
+        && opens_at(table, 5, 6)
+}
+
+/// Freed: 2.
+fn has_one_freed_id<T: Table>(table: &T) -> bool {
+    table.is_free(2)
+        && table.is_free(6)
+        && !table.is_free(0)
+        && !table.is_free(1)
+        && !table.is_free(7)
+}
+
+/// Whether three objects are opened and closed, and their ids opened again: the one freed last by
+/// itself, the others where they are named.
+fn reuses_ids<T: Table>(table: &mut T) -> bool {
+    opens_three(table)
+        && frees_three(table)
+        && uses_freed_ids_again(table)
+        && has_one_freed_id(table)
+        && opens(table, 1, 2, 7)
+        && counts(table, 5, 5, 8)
+}
+
+/// Whether a zombie keeps its id until it is closed.
+fn keeps_zombies<T: Table>(table: &mut T) -> bool {
     let ended = Entry {
         birth: 1,
         iface: CALLBACK,
         version: 1,
         state: State::Zombie,
     };
-    assert_eq!(rt; table.look(2), Some(ended));
-    assert_eq!(rt; table.open_at(2, CALLBACK, 1), Err(TableError::InUse));
-    assert_eq!(rt;
-        table.open_next(CALLBACK, 1),
-        Ok(Object { id: 3, birth: 2 })
-    );
-    close(rt, &mut table, 2);
-    assert_eq!(rt;
-        table.open_next(CALLBACK, 1),
-        Ok(Object { id: 2, birth: 3 })
-    );
-    Ok(())
+    opens(table, 1, 2, 1)
+        && ends(table, 2)
+        && table.look(2) == Some(ended)
+        && refuses_at(table, 2, TableError::InUse)
+        && opens(table, 1, 3, 2)
+        && closes(table, 2)
+        && opens(table, 1, 2, 3)
 }
 
-// All 1,048,576 ids are used, and then one is freed.
-fn fills_up<T: Table + Drop>(rt: &impl Abort, alloc: T::Alloc) -> Result<(), Fail> {
-    let mut table = T::new(alloc, DISPLAY)?;
-    for id in 2u32..1_048_577 {
-        assert!(rt; table.can_open());
-        assert_eq!(rt;
-            table.open_next(CALLBACK, 1),
-            Ok(Object {
-                id,
-                birth: (id - 1) as u64
-            })
-        );
+/// Opens the objects from id 2 on, below this id. Whether each was given its id and birth.
+fn opens_below<T: Table>(table: &mut T, limit: u32) -> bool {
+    for id in 2..limit {
+        if !table.can_open() || !opens(table, 1, id, (id - 1) as u64) {
+            return false;
+        }
     }
-    assert!(rt; !table.can_open() && !table.has_room(1_048_577) && table.is_free(1_048_577));
-    assert_eq!(rt; table.open_next(CALLBACK, 1), Err(TableError::NoIds));
-    assert_eq!(rt;
-        table.open_at(1_048_577, CALLBACK, 1),
-        Err(TableError::NoIds)
-    );
-    assert_eq!(rt;
-        table.open_at(1_048_578, CALLBACK, 1),
-        Err(TableError::NotNext)
-    );
-    assert_eq!(rt; (table.used(), table.len()), (1_048_576, 1_048_576));
-    close(rt, &mut table, 77);
-    assert!(rt; table.can_open());
-    assert_eq!(rt;
-        table.open_next(CALLBACK, 1),
-        Ok(Object {
-            id: 77,
-            birth: 1_048_576
-        })
-    );
-    Ok(())
+    true
 }
 
-// Whether two tables have the same entries under the same ids, and the same counts.
+/// Whether all 1,048,576 ids are in use.
+fn is_full<T: Table>(table: &mut T) -> bool {
+    !table.can_open()
+        && !table.has_room(1_048_577)
+        && table.is_free(1_048_577)
+        && table.open_next(CALLBACK, 1) == Err(TableError::NoIds)
+        && refuses_at(table, 1_048_577, TableError::NoIds)
+        && refuses_at(table, 1_048_578, TableError::NotNext)
+        && counts(table, 1_048_576, 1_048_576, 1_048_576)
+}
+
+/// Whether all ids come to be used, and one that is freed is the next.
+fn fills_up<T: Table>(table: &mut T) -> bool {
+    opens_below(table, 1_048_577)
+        && is_full(table)
+        && closes(table, 77)
+        && table.can_open()
+        && opens(table, 1, 77, 1_048_576)
+}
+
+/// Whether two tables have the same entries under the same ids, and the same counts.
 fn are_same<T: Table>(one: &T, other: &T) -> bool {
     if one.used() != other.used() || one.births() != other.births() || one.len() != other.len() {
         return false;
@@ -160,113 +158,156 @@ fn are_same<T: Table>(one: &T, other: &T) -> bool {
     true
 }
 
-// A table with some objects, of which the last three are closed again where they are more than three.
-fn some_objects<T: Table + Drop>(rt: &impl Abort, alloc: T::Alloc, objects: u32) -> Result<T, Fail>
+/// Opens so many objects, and closes the last three where they are more than three. Whether it did.
+fn fill<T: Table>(table: &mut T, objects: u32) -> bool
     requires { objects < 100 }
 {
-    let mut table = T::new(alloc, DISPLAY)?;
-    for id in 0..objects {
-        assert_eq!(rt;
-            table.open_next(CALLBACK, 1),
-            Ok(Object {
-                id: id + 2,
-                birth: (id + 1) as u64
-            })
-        );
+    if !opens_below(table, objects + 2) {
+        return false;
     }
-    if 3 < objects {
-        close(rt, &mut table, objects - 1);
-        close(rt, &mut table, objects + 1);
-        close(rt, &mut table, objects);
-    }
-    Ok(table)
+    objects < 4
+        || closes(table, objects - 1) && closes(table, objects + 1) && closes(table, objects)
 }
 
-// Each allocation of an opening is refused in turn: the answer is want of memory, the table is as before, and the
-// same call with memory gives what it would have given. The answer is how many allocations there were.
-fn opening_refused<T: Table<Alloc = RefusingAllocator> + Drop>(
-    rt: &impl Abort,
+/// Opens one more, at its id where it is to be named.
+fn open<T: Table>(table: &mut T, id: u32, named: bool) -> Result<Object, TableError> {
+    if named {
+        table.open_at(id, CALLBACK, 1)
+    } else {
+        table.open_next(CALLBACK, 1)
+    }
+}
+
+/// Whether an opening gives this object where no allocation was refused. Else whether the answer is
+/// want of memory, the table is as it was before, and the same call gives the object with memory.
+fn opens_or_is_as_before<T: Table>(
+    memory: &RefusingAllocator,
+    before: &T,
+    table: &mut T,
+    object: Object,
+    named: bool,
+) -> bool {
+    let answer = open(table, object.id, named);
+    if !memory.has_refused() {
+        return answer == Ok(object);
+    }
+    answer == Err(TableError::Memory)
+        && are_same(before, table)
+        && open(table, object.id, named) == Ok(object)
+}
+
+/// The same of a table with so many objects, with the allocation of this number refused.
+fn is_refused_rightly<T: Table<Alloc = RefusingAllocator> + Drop>(
     memory: &RefusingAllocator,
     objects: u32,
     named: bool,
-) -> Result<u64, Fail>
+    number: u64,
+) -> Result<bool, AllocError>
     requires { objects < 100 }
 {
+    memory.refuse_none();
+    let mut before = T::new(memory.clone()?, DISPLAY)?;
+    let mut table = T::new(memory.clone()?, DISPLAY)?;
+    let are_filled = fill(&mut before, objects) && fill(&mut table, objects);
     let id = if named || objects < 4 {
         objects + 2
     } else {
         objects
     };
-    let opened = Object {
-        id,
-        birth: (objects + 1) as u64,
-    };
-    for number in 0u64..20 {
-        memory.refuse_none();
-        let before: T = some_objects(rt, memory.clone()?, objects)?;
-        let mut table: T = some_objects(rt, memory.clone()?, objects)?;
-        memory.refuse_nth(number);
-        let answer = if named {
-            table.open_at(id, CALLBACK, 1)
-        } else {
-            table.open_next(CALLBACK, 1)
-        };
-        if !memory.has_refused() {
-            assert_eq!(rt; answer, Ok(opened));
-            return Ok(memory.asked());
-        }
-        assert_eq!(rt; answer, Err(TableError::Memory));
-        assert!(rt; are_same(&before, &table));
-        let again = if named {
-            table.open_at(id, CALLBACK, 1)
-        } else {
-            table.open_next(CALLBACK, 1)
-        };
-        assert_eq!(rt; again, Ok(opened));
-    }
-    assert!(rt; false, "an opening asks for memory without end");
-    Ok(0)
+    let birth = (objects + 1) as u64;
+    memory.refuse_nth(number);
+    let object = Object { id, birth };
+    Ok(are_filled && opens_or_is_as_before(memory, &before, &mut table, object, named))
 }
 
-// Each allocation of the making is refused in turn, and then of openings in tables of some sizes.
+/// How many allocations an opening asks for, where each of them is refused rightly in turn.
 fn refused_in_turn<T: Table<Alloc = RefusingAllocator> + Drop>(
-    rt: &impl Abort,
     memory: &RefusingAllocator,
-) -> Result<(), Fail> {
-    let mut made = false;
+    objects: u32,
+    named: bool,
+) -> Result<Option<u64>, AllocError>
+    requires { objects < 100 }
+{
     for number in 0u64..20 {
-        memory.refuse_nth(number);
-        let table: Result<T, AllocError> = T::new(memory.clone()?, DISPLAY);
-        assert_eq!(rt; table.is_err(), memory.has_refused());
-        made = made || table.is_ok();
+        if !is_refused_rightly::<T>(memory, objects, named, number)? {
+            return Ok(None);
+        }
+        if !memory.has_refused() {
+            return Ok(Some(memory.asked()));
+        }
     }
-    assert!(rt; made);
+    Ok(None)
+}
+
+/// Whether the making of a table is refused just where its allocation of this number is.
+fn is_made<T: Table<Alloc = RefusingAllocator> + Drop>(
+    memory: &RefusingAllocator,
+    number: u64,
+) -> Result<bool, AllocError> {
+    let alloc = memory.clone()?;
+    memory.refuse_nth(number);
+    Ok(T::new(alloc, DISPLAY).is_ok())
+}
+
+/// Whether the making of a table is refused just where one of its allocations is, and made in the
+/// end.
+fn is_made_in_the_end<T: Table<Alloc = RefusingAllocator> + Drop>(
+    memory: &RefusingAllocator,
+) -> Result<bool, AllocError> {
+    for number in 0u64..20 {
+        let is_made = is_made::<T>(memory, number)?;
+        if is_made == memory.has_refused() {
+            return Ok(false);
+        }
+        if is_made {
+            return Ok(true);
+        }
+    }
+    Ok(false)
+}
+
+/// Whether each allocation of openings in tables of some sizes is refused rightly, and there are
+/// some.
+fn openings_are_refused<T: Table<Alloc = RefusingAllocator> + Drop>(
+    memory: &RefusingAllocator,
+) -> Result<bool, AllocError> {
     let mut asked = 0u64;
     for objects in 0u32..30 {
-        asked = asked.wrapping_add(opening_refused::<T>(rt, memory, objects, false)?);
-        asked = asked.wrapping_add(opening_refused::<T>(rt, memory, objects, true)?);
+        for named in [false, true] {
+            match refused_in_turn::<T>(memory, objects, named)? {
+                Some(more) => asked = asked.wrapping_add(more),
+                None => return Ok(false),
+            }
+        }
     }
-    assert!(rt; 0 < asked);
-    Ok(())
+    Ok(0 < asked)
 }
 
 #[test]
 fn map_table_reuses_ids(rt: HostRuntime) -> Result<(), Fail> {
-    reuses_ids::<MapTable>(&rt, rt.alloc())
+    let mut table = MapTable::new(rt.alloc(), DISPLAY)?;
+    assert!(rt; reuses_ids(&mut table));
+    Ok(())
 }
 
 #[test]
 fn map_table_keeps_zombies(rt: HostRuntime) -> Result<(), Fail> {
-    keeps_zombies::<MapTable>(&rt, rt.alloc())
+    let mut table = MapTable::new(rt.alloc(), DISPLAY)?;
+    assert!(rt; keeps_zombies(&mut table));
+    Ok(())
 }
 
 #[test]
 fn map_table_fills_up(rt: HostRuntime) -> Result<(), Fail> {
-    fills_up::<MapTable>(&rt, rt.alloc())
+    let mut table = MapTable::new(rt.alloc(), DISPLAY)?;
+    assert!(rt; fills_up(&mut table));
+    Ok(())
 }
 
 #[test]
 fn map_table_is_refused_in_turn(rt: HostRuntime) -> Result<(), Fail> {
     let memory = RefusingAllocator::new(rt.alloc())?;
-    refused_in_turn::<MapTable<RefusingAllocator>>(&rt, &memory)
+    assert!(rt; is_made_in_the_end::<MapTable<RefusingAllocator>>(&memory)?);
+    assert!(rt; openings_are_refused::<MapTable<RefusingAllocator>>(&memory)?);
+    Ok(())
 }
