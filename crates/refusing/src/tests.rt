@@ -1,8 +1,9 @@
+// What owns memory frees it at each way out, so a test does all else behind a loan.
 use super::*;
 use std::test::Fail;
 
 // Appends the numbers below 40 that are still missing.
-fn fill<A: Allocator>(numbers: &mut Vec<u32, A>) -> Result<(), AllocError> {
+fn fill(numbers: &mut Vec<u32, RefusingAllocator>) -> Result<(), AllocError> {
     for number in 0u32..40 {
         if numbers.len() <= number as usize {
             numbers.push(number)?;
@@ -11,34 +12,63 @@ fn fill<A: Allocator>(numbers: &mut Vec<u32, A>) -> Result<(), AllocError> {
     Ok(())
 }
 
+// Whether it has the numbers below 40, in their order.
+fn is_filled(numbers: &[u32]) -> bool {
+    for (place, number) in numbers.iter().enumerate() {
+        if *number as usize != place {
+            return false;
+        }
+    }
+    numbers.len() == 40
+}
+
+// Whether it grows to 40 numbers, where none of these allocations is refused.
+fn fills(
+    memory: &RefusingAllocator,
+    numbers: &mut Vec<u32, RefusingAllocator>,
+    asked: u64,
+) -> bool {
+    fill(numbers).is_ok() && memory.asked() == asked && is_filled(numbers)
+}
+
+// Whether it grows to 40 numbers once an allocation was refused, and kept those that it had.
+fn is_refused(
+    memory: &RefusingAllocator,
+    numbers: &mut Vec<u32, RefusingAllocator>,
+    number: u64,
+    kept: usize,
+) -> bool {
+    !memory.has_refused()
+        && fill(numbers).is_err()
+        && memory.has_refused()
+        && memory.asked() == number.wrapping_add(1)
+        && numbers.len() == kept
+        && fills(memory, numbers, 6)
+}
+
+// Whether a new vector keeps so many numbers where the allocation of this number is refused.
+fn keeps(memory: &RefusingAllocator, number: u64, kept: usize) -> Result<bool, AllocError> {
+    let mut numbers = Vec::new(memory.clone()?);
+    memory.refuse_nth(number);
+    Ok(is_refused(memory, &mut numbers, number, kept))
+}
+
+// Whether a new vector asks for five allocations and not for a sixth.
+fn asks_five_times(memory: &RefusingAllocator) -> Result<bool, AllocError> {
+    let mut numbers = Vec::new(memory.clone()?);
+    memory.refuse_nth(5);
+    let is_filled = fills(memory, &mut numbers, 5);
+    Ok(is_filled && !memory.has_refused())
+}
+
 // A vector takes room for 4, 8, 16, 32 and 64 numbers in turn, and keeps those that it has where it is refused more.
 #[test]
 fn a_growing_vec_is_refused_at_each_allocation_in_turn(rt: HostRuntime) -> Result<(), Fail> {
     let memory = RefusingAllocator::new(rt.alloc())?;
-    let whole: Vec<u32, Global> = Vec::from_iter(rt.alloc(), 0u32..40)?;
     for (number, kept) in [(0u64, 0usize), (1, 4), (2, 8), (3, 16), (4, 32)] {
-        let mut numbers = Vec::new(memory.clone()?);
-        memory.refuse_nth(number);
-        assert!(rt; !memory.has_refused());
-        assert_eq!(rt; fill(&mut numbers), Err(AllocError));
-        assert!(rt; memory.has_refused());
-        assert_eq!(rt; memory.asked(), number.wrapping_add(1));
-        assert_eq!(rt; numbers.len(), kept);
-        for (place, kept) in numbers.iter().enumerate() {
-            assert_eq!(rt; *kept as usize, place);
-        }
-        // Each later allocation is granted.
-        assert_eq!(rt; fill(&mut numbers), Ok(()));
-        assert_eq!(rt; memory.asked(), 6);
-        assert_eq!(rt; numbers.as_slice(), whole.as_slice());
+        assert!(rt; keeps(&memory, number, kept)?);
     }
-    // The sixth is never asked for.
-    let mut numbers = Vec::new(memory.clone()?);
-    memory.refuse_nth(5);
-    assert_eq!(rt; fill(&mut numbers), Ok(()));
-    assert!(rt; !memory.has_refused());
-    assert_eq!(rt; memory.asked(), 5);
-    assert_eq!(rt; numbers.as_slice(), whole.as_slice());
+    assert!(rt; asks_five_times(&memory)?);
     Ok(())
 }
 
@@ -61,6 +91,17 @@ impl<A: Allocator + Clone + Drop> Names<A> {
         self.names.push(copy)?;
         Ok(())
     }
+
+    // Whether these are all the names.
+    fn are(&self, names: &[&[u8]]) -> bool {
+        if self.names.len() != names.len() {
+            return false;
+        }
+        self.names
+            .iter()
+            .zip(names)
+            .all(|(own, name)| own.as_slice() == *name)
+    }
 }
 
 // A type with its allocator as an associated type, as an object table has one.
@@ -82,29 +123,36 @@ fn names_of<K: Keeper>(keeper: &K) -> Result<Names<K::Alloc>, AllocError> {
     Names::new(keeper.alloc()?)
 }
 
+// Whether an addition is refused just where an allocation was, changes nothing then, and gives with
+// memory again what it would have given.
+fn adds(memory: &RefusingAllocator, names: &mut Names<RefusingAllocator>) -> bool {
+    if names.add(b"wl_display").is_ok() {
+        return !memory.has_refused();
+    }
+    memory.has_refused()
+        && names.are(&[])
+        && names.add(b"wl_display").is_ok()
+        && names.are(&[b"wl_display"])
+}
+
+// The same of new names, with the allocation of this number refused.
+fn adds_refused(memory: &RefusingAllocator, number: u64) -> Result<bool, AllocError> {
+    memory.refuse_none();
+    let mut names = names_of(memory)?;
+    memory.refuse_nth(number);
+    Ok(adds(memory, &mut names))
+}
+
 // The loop that other crates use: the call is refused each of its allocations in turn, until it is granted them all.
 #[test]
 fn a_call_is_refused_each_of_its_allocations_in_turn(rt: HostRuntime) -> Result<(), Fail> {
     let memory = RefusingAllocator::new(rt.alloc())?;
     let mut asked = None;
     for number in 0u64..100 {
-        memory.refuse_none();
-        let mut names = names_of(&memory)?;
-        memory.refuse_nth(number);
-        match names.add(b"wl_display") {
-            Ok(()) => {
-                assert!(rt; !memory.has_refused());
-                asked = Some(memory.asked());
-                break;
-            }
-            Err(AllocError) => {
-                assert!(rt; memory.has_refused());
-                assert!(rt; names.names.is_empty());
-                // With memory again, the same call gives what it would have given.
-                assert_eq!(rt; names.add(b"wl_display"), Ok(()));
-                assert_eq!(rt; names.names.len(), 1);
-                assert_eq!(rt; names.names[0].as_slice(), b"wl_display".as_slice());
-            }
+        assert!(rt; adds_refused(&memory, number)?);
+        if !memory.has_refused() {
+            asked = Some(memory.asked());
+            break;
         }
     }
     // One for the copy, and one for the list of the copies.
@@ -112,25 +160,52 @@ fn a_call_is_refused_each_of_its_allocations_in_turn(rt: HostRuntime) -> Result<
     Ok(())
 }
 
-// Clones share the count and the choice, and a handle over another counts what it is asked for itself.
+// Whether a block is granted.
+fn grants(memory: &RefusingAllocator<RefusingAllocator>) -> Result<bool, AllocError> {
+    Ok(Box::new(memory.clone()?, 7u8).is_ok())
+}
+
+// Whether just the second of three blocks is refused, where a clone has chosen it.
+fn refuses_the_second(
+    above: &RefusingAllocator<RefusingAllocator>,
+    clone: &RefusingAllocator<RefusingAllocator>,
+) -> Result<bool, AllocError> {
+    clone.refuse_nth(1);
+    let are_granted = (grants(above)?, grants(above)?, grants(above)?);
+    Ok(are_granted == (true, false, true) && above.has_refused())
+}
+
+// Whether just the first of two blocks is refused, where the allocator below has chosen it.
+fn refuses_the_first(
+    above: &RefusingAllocator<RefusingAllocator>,
+    below: &RefusingAllocator,
+) -> Result<bool, AllocError> {
+    below.refuse_nth(0);
+    let are_granted = (grants(above)?, grants(above)?);
+    Ok(are_granted == (false, true))
+}
+
+// Whether clones share the count and the choice, and a handle over another counts what it is asked
+// for itself.
+fn share_one_choice(
+    below: &RefusingAllocator,
+    above: &RefusingAllocator<RefusingAllocator>,
+    clone: &RefusingAllocator<RefusingAllocator>,
+) -> Result<bool, AllocError> {
+    let by_the_clone = refuses_the_second(above, clone)?;
+    let counts = (above.asked(), below.asked());
+    let from_below = refuses_the_first(above, below)?;
+    let asked = clone.asked();
+    above.refuse_none();
+    let is_new = clone.asked() == 0 && !clone.has_refused();
+    Ok(by_the_clone && counts == (3, 2) && from_below && asked == 5 && is_new)
+}
+
 #[test]
 fn clones_share_one_choice(rt: HostRuntime) -> Result<(), Fail> {
     let below = RefusingAllocator::new(rt.alloc())?;
     let above = RefusingAllocator::over(rt.alloc(), below.clone()?)?;
     let clone = above.clone()?;
-    clone.refuse_nth(1);
-    assert!(rt; Box::new(above.clone()?, 7u8).is_ok());
-    assert!(rt; Box::new(above.clone()?, 7u8).is_err());
-    assert!(rt; Box::new(above.clone()?, 7u8).is_ok());
-    assert!(rt; above.has_refused());
-    assert_eq!(rt; above.asked(), 3);
-    assert_eq!(rt; below.asked(), 2);
-    below.refuse_nth(0);
-    assert!(rt; Box::new(above.clone()?, 7u8).is_err());
-    assert!(rt; Box::new(above.clone()?, 7u8).is_ok());
-    assert_eq!(rt; clone.asked(), 5);
-    above.refuse_none();
-    assert_eq!(rt; clone.asked(), 0);
-    assert!(rt; !clone.has_refused());
+    assert!(rt; share_one_choice(&below, &above, &clone)?);
     Ok(())
 }

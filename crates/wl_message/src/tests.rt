@@ -1,10 +1,11 @@
+// What owns a box drops it at each way out, so a test does all else behind a `&mut`.
 ghost use Rattle.std.specs.Prelude.{IsTrue};
 ghost use Rattle.wl_message.specs.Cut.{usual_limit, IsMessage};
 
 use super::*;
 use crate::header::header_of;
 use refusing::RefusingAllocator;
-use std::alloc::{Allocator, Global};
+use std::alloc::{AllocError, Global};
 use std::test::Fail;
 use wl_wire::Header;
 
@@ -20,15 +21,44 @@ const BIND: [u8; 40] = [
     b'o', b's', b'i', b't', b'o', b'r', 0, 0, 0, 6, 0, 0, 0, 4, 0, 0, 0,
 ];
 
-/// What stands in front of fresh bytes: the header of a whole message, or a bad size.
-fn front_of(alloc: Global, bytes: &[u8]) -> Result<Result<Option<Header>, BadSize>, Fail> {
-    let mut inbox = Inbox::new(alloc, 65_536, 64)?;
-    inbox.feed(bytes, &[]);
-    Ok(match inbox.frame() {
+/// What stands in front: the header of a whole message, or a bad size.
+fn front(inbox: &mut Inbox<Global>) -> Result<Option<Header>, BadSize> {
+    match inbox.frame() {
         Ok(Some(frame)) => Ok(Some(frame.header)),
         Ok(None) => Ok(None),
         Err(bad) => Err(bad),
-    })
+    }
+}
+
+/// The same of fresh bytes.
+fn front_of(alloc: Global, bytes: &[u8]) -> Result<Result<Option<Header>, BadSize>, AllocError> {
+    let mut inbox = Inbox::new(alloc, 65_536, 64)?;
+    inbox.feed(bytes, &[]);
+    Ok(front(&mut inbox))
+}
+
+/// Whether no whole message stands in front, and no bad size.
+fn waits(inbox: &mut Inbox<Global>) -> bool {
+    front(inbox) == Ok(None)
+}
+
+/// Whether a message with this header and body stands in front, and so many tokens wait.
+fn is_framed(inbox: &mut Inbox<Global>, header: Header, body: &[u8], tokens: usize) -> bool {
+    match inbox.frame() {
+        Ok(Some(frame)) => frame.header == header && frame.body == body && frame.tokens == tokens,
+        _ => false,
+    }
+}
+
+/// Takes the message out that stands in front, with none of the tokens. Whether there is one.
+fn pops(inbox: &mut Inbox<Global>) -> bool {
+    match inbox.frame() {
+        Ok(Some(_)) => {
+            inbox.pop(&mut []);
+            true
+        }
+        _ => false,
+    }
 }
 
 #[test]
@@ -47,99 +77,91 @@ fn a_size_that_no_message_has_is_told_with_its_header(rt: HostRuntime) -> Result
     Ok(())
 }
 
+/// Whether a message of 4096 bytes comes with its last byte.
+fn comes_with_its_last_byte(inbox: &mut Inbox<Global>) -> bool {
+    inbox.feed(&[1, 0, 0, 0, 0, 0, 0, 16], &[]);
+    inbox.feed(&[0; 4087], &[]);
+    let waits = waits(inbox);
+    inbox.feed(&[0], &[]);
+    let header = Header {
+        object: 1,
+        size: 4096,
+        opcode: 0,
+    };
+    waits && is_framed(inbox, header, &[0; 4088], 0)
+}
+
 #[test]
 fn a_message_of_4096_bytes_is_waited_for(rt: HostRuntime) -> Result<(), Fail> {
     let mut inbox = Inbox::new(rt.alloc(), 65_536, 64)?;
-    inbox.feed(&[1, 0, 0, 0, 0, 0, 0, 16], &[]);
-    inbox.feed(&[0; 4087], &[]);
-    match inbox.frame() {
-        Ok(None) => {}
-        _ => assert!(rt; false),
-    }
-    inbox.feed(&[0], &[]);
-    match inbox.frame() {
-        Ok(Some(frame)) => {
-            assert_eq!(rt;
-                frame.header,
-                Header {
-                    object: 1,
-                    size: 4096,
-                    opcode: 0
-                }
-            );
-            assert_eq!(rt; frame.body.len(), 4088);
-        }
-        _ => assert!(rt; false),
-    }
+    assert!(rt; comes_with_its_last_byte(&mut inbox));
     Ok(())
+}
+
+/// Whether no message comes with any of these bytes, each fed by itself.
+fn waits_at_each(inbox: &mut Inbox<Global>, bytes: &[u8]) -> bool {
+    for byte in bytes {
+        inbox.feed(&[*byte], &[]);
+        if !waits(inbox) {
+            return false;
+        }
+    }
+    true
+}
+
+/// Whether `BIND` comes with its last byte, fed byte by byte, and leaves nothing.
+fn comes_byte_by_byte(inbox: &mut Inbox<Global>) -> bool {
+    let waits = waits_at_each(inbox, &BIND[..39]);
+    inbox.feed(&BIND[39..], &[]);
+    let header = Header {
+        object: 2,
+        size: 40,
+        opcode: 0,
+    };
+    waits && is_framed(inbox, header, &BIND[8..], 0) && pops(inbox) && inbox.is_empty()
 }
 
 #[test]
 fn a_message_comes_byte_by_byte(rt: HostRuntime) -> Result<(), Fail> {
     let mut inbox = Inbox::new(rt.alloc(), 4096, 20)?;
-    for (index, byte) in BIND.iter().enumerate() {
-        inbox.feed(&[*byte], &[]);
-        match inbox.frame() {
-            Ok(None) => assert!(rt; index < 39),
-            Ok(Some(frame)) => {
-                assert_eq!(rt; index, 39);
-                assert_eq!(rt;
-                    frame.header,
-                    Header {
-                        object: 2,
-                        size: 40,
-                        opcode: 0
-                    }
-                );
-                assert_eq!(rt; frame.body, &BIND[8..]);
-                assert_eq!(rt; frame.tokens, 0);
-                inbox.pop(&mut []);
-            }
-            Err(_) => assert!(rt; false),
-        }
-    }
-    assert!(rt; inbox.is_empty());
+    assert!(rt; comes_byte_by_byte(&mut inbox));
     Ok(())
+}
+
+/// Whether just so many of these bytes and tokens are taken in.
+fn takes_in(
+    inbox: &mut Inbox<Global>,
+    from: &[u8],
+    with: &[u32],
+    bytes: usize,
+    tokens: usize,
+) -> bool {
+    inbox.feed(from, with) == Fed { bytes, tokens }
+}
+
+/// Whether tokens that do not fit hold back the bytes.
+fn holds_back_bytes(inbox: &mut Inbox<Global>) -> bool {
+    let tokens = [7; 21];
+    takes_in(inbox, &SYNC, &tokens, 0, 20)
+        && inbox.token_room() == 0
+        && inbox.token(19) == Some(7)
+        && inbox.token(20).is_none()
+        && takes_in(inbox, &SYNC, &tokens[..1], 0, 0)
+        && inbox.room() == 4096
+}
+
+/// Whether bytes without tokens then fit as far as there is room.
+fn takes_bytes_alone(inbox: &mut Inbox<Global>) -> bool {
+    holds_back_bytes(inbox)
+        && takes_in(inbox, &[0; 4090], &[], 4090, 0)
+        && takes_in(inbox, &SYNC, &[], 6, 0)
+        && inbox.room() == 0
 }
 
 #[test]
 fn tokens_that_do_not_fit_hold_back_the_bytes(rt: HostRuntime) -> Result<(), Fail> {
     let mut inbox = Inbox::new(rt.alloc(), 4096, 20)?;
-    let tokens = [7; 21];
-    assert_eq!(rt;
-        inbox.feed(&SYNC, &tokens),
-        Fed {
-            bytes: 0,
-            tokens: 20
-        }
-    );
-    assert_eq!(rt; inbox.token_room(), 0);
-    assert_eq!(rt; inbox.token(19), Some(7));
-    assert_eq!(rt; inbox.token(20), None);
-    assert_eq!(rt;
-        inbox.feed(&SYNC, &tokens[..1]),
-        Fed {
-            bytes: 0,
-            tokens: 0
-        }
-    );
-    assert_eq!(rt; inbox.room(), 4096);
-    // Bytes without tokens fit, as far as there is room.
-    assert_eq!(rt;
-        inbox.feed(&[0; 4090], &[]),
-        Fed {
-            bytes: 4090,
-            tokens: 0
-        }
-    );
-    assert_eq!(rt;
-        inbox.feed(&SYNC, &[]),
-        Fed {
-            bytes: 6,
-            tokens: 0
-        }
-    );
-    assert_eq!(rt; inbox.room(), 0);
+    assert!(rt; takes_bytes_alone(&mut inbox));
     Ok(())
 }
 
@@ -154,163 +176,182 @@ fn is_message(bytes: &[u8]) -> bool
     size as usize == bytes.len() && size % 4 == 0 && size <= 4096
 }
 
-/// Pushes what has to be a whole message.
-fn push<A: Allocator>(
-    outbox: &mut Outbox<A>,
-    message: &[u8],
-    tokens: &[u32],
-) -> Result<Result<(), Full>, Fail> {
-    if !is_message(message) {
-        return Err("no message")?;
-    }
-    Ok(outbox.push(message, tokens))
+/// Pushes a message. Whether it is whole and fits.
+fn pushes(outbox: &mut Outbox<Global>, message: &[u8], tokens: &[u32]) -> bool {
+    is_message(message) && outbox.push(message, tokens).is_ok()
+}
+
+/// Whether a message is whole and does not fit.
+fn is_full(outbox: &mut Outbox<Global>, message: &[u8], tokens: &[u32]) -> bool {
+    is_message(message) && outbox.push(message, tokens) == Err(Full)
+}
+
+/// Whether just these bytes and tokens are taken, where there are as many places for them.
+fn gives<const BYTES: usize, const TOKENS: usize>(
+    outbox: &mut Outbox<Global>,
+    bytes: [u8; BYTES],
+    tokens: [u32; TOKENS],
+) -> bool {
+    let mut some = [0xff; BYTES];
+    let mut some_tokens = [0xff; TOKENS];
+    let taken = outbox.take(&mut some, &mut some_tokens);
+    let wanted = Taken {
+        bytes: BYTES,
+        tokens: TOKENS,
+    };
+    taken == wanted && some == bytes && some_tokens == tokens
+}
+
+/// Whether the token of `CREATE_POOL` goes with its first byte.
+fn gives_the_token_first(outbox: &mut Outbox<Global>) -> bool {
+    let mut bytes = [0; 16];
+    let nothing = Taken {
+        bytes: 0,
+        tokens: 0,
+    };
+    let begins = Taken {
+        bytes: 3,
+        tokens: 1,
+    };
+    pushes(outbox, &CREATE_POOL, &[77])
+        && outbox.take(&mut bytes, &mut []) == nothing
+        && outbox.goes(3, 1) == begins
+        && gives(outbox, [4, 0, 0], [77])
+        && outbox.token_room() == 64
+        && gives(outbox, [0, 0, 0, 16, 0, 5, 0, 0, 0, 0, 16, 0, 0], [])
+        && outbox.is_empty()
 }
 
 #[test]
 fn tokens_go_with_the_first_byte(rt: HostRuntime) -> Result<(), Fail> {
     let mut outbox = Outbox::new(rt.alloc(), 65_536, 64)?;
-    assert_eq!(rt; push(&mut outbox, &CREATE_POOL, &[77])?, Ok(()));
-    let mut bytes = [0; 16];
-    let mut tokens = [0; 1];
-    assert_eq!(rt;
-        outbox.take(&mut bytes, &mut []),
-        Taken {
-            bytes: 0,
-            tokens: 0
-        }
-    );
-    assert_eq!(rt;
-        outbox.goes(3, 1),
-        Taken {
-            bytes: 3,
-            tokens: 1
-        }
-    );
-    assert_eq!(rt;
-        outbox.take(&mut bytes[..3], &mut tokens),
-        Taken {
-            bytes: 3,
-            tokens: 1
-        }
-    );
-    assert_eq!(rt; &bytes[..3], [4, 0, 0].as_slice());
-    assert_eq!(rt; tokens, [77]);
-    assert_eq!(rt; outbox.token_room(), 64);
-    assert_eq!(rt;
-        outbox.take(&mut bytes, &mut []),
-        Taken {
-            bytes: 13,
-            tokens: 0
-        }
-    );
-    assert_eq!(rt; &bytes[..13], &CREATE_POOL[3..]);
-    assert!(rt; outbox.is_empty());
+    assert!(rt; gives_the_token_first(&mut outbox));
     Ok(())
+}
+
+/// Whether 28 bytes and a token fit, and no more.
+fn fills_up(outbox: &mut Outbox<Global>) -> bool {
+    is_full(outbox, &CREATE_POOL, &[1, 2])
+        && pushes(outbox, &CREATE_POOL, &[1])
+        && is_full(outbox, &SYNC, &[2])
+        && is_full(outbox, &CREATE_POOL, &[])
+        && pushes(outbox, &SYNC, &[])
+        && outbox.room() == 0
+        && outbox.token_room() == 0
+}
+
+/// Whether a take with more room then gets just what was pushed.
+fn fills_up_and_gives_both(outbox: &mut Outbox<Global>) -> bool {
+    let mut bytes = [0; 40];
+    let all = Taken {
+        bytes: 28,
+        tokens: 1,
+    };
+    fills_up(outbox)
+        && outbox.take(&mut bytes, &mut [0]) == all
+        && &bytes[..16] == CREATE_POOL.as_slice()
+        && &bytes[16..28] == SYNC.as_slice()
 }
 
 #[test]
 fn an_outbox_fills_to_the_last_byte_and_token(rt: HostRuntime) -> Result<(), Fail> {
     let mut outbox = Outbox::new(rt.alloc(), 28, 1)?;
-    assert_eq!(rt; push(&mut outbox, &CREATE_POOL, &[1, 2])?, Err(Full));
-    assert_eq!(rt; push(&mut outbox, &CREATE_POOL, &[1])?, Ok(()));
-    assert_eq!(rt; push(&mut outbox, &SYNC, &[2])?, Err(Full));
-    assert_eq!(rt; push(&mut outbox, &CREATE_POOL, &[])?, Err(Full));
-    assert_eq!(rt; push(&mut outbox, &SYNC, &[])?, Ok(()));
-    assert_eq!(rt; (outbox.room(), outbox.token_room()), (0, 0));
-    let mut bytes = [0; 40];
-    assert_eq!(rt;
-        outbox.take(&mut bytes, &mut [0]),
-        Taken {
-            bytes: 28,
-            tokens: 1
-        }
-    );
-    assert_eq!(rt; &bytes[..16], CREATE_POOL.as_slice());
-    assert_eq!(rt; &bytes[16..28], SYNC.as_slice());
+    assert!(rt; fills_up_and_gives_both(&mut outbox));
     Ok(())
+}
+
+/// An event of 64 bytes.
+fn long_event() -> [u8; 64] {
+    let mut event = [1; 64];
+    event[..8].copy_from_slice(&[1, 0, 0, 0, 0, 0, 64, 0]);
+    event
+}
+
+/// Pushes it as the error event. Whether it is whole.
+fn pushes_error(outbox: &mut Outbox<Global>) -> bool {
+    let event = long_event();
+    if !is_message(&event) {
+        return false;
+    }
+    outbox.push_error(&event);
+    true
+}
+
+/// Whether the error event fits behind a message that fills the outbox.
+fn fits_a_full_outbox(outbox: &mut Outbox<Global>) -> bool {
+    pushes(outbox, &SYNC, &[])
+        && pushes_error(outbox)
+        && outbox.room() == 0
+        && gives(outbox, SYNC, [])
+        && gives(outbox, [1, 0, 0, 0], [])
+        && outbox.room() == 12
+}
+
+/// Whether an ordinary message then goes behind the rest of it, and no other fits.
+fn goes_behind(outbox: &mut Outbox<Global>) -> bool {
+    let mut behind = [0; 60];
+    let rest = Taken {
+        bytes: 60,
+        tokens: 0,
+    };
+    fits_a_full_outbox(outbox)
+        && pushes(outbox, &SYNC, &[])
+        && is_full(outbox, &SYNC, &[])
+        && outbox.take(&mut behind, &mut []) == rest
+        && behind.as_slice() == &long_event()[4..]
+        && gives(outbox, SYNC, [])
+        && outbox.is_empty()
 }
 
 #[test]
 fn an_error_event_fits_a_full_outbox(rt: HostRuntime) -> Result<(), Fail> {
-    // An event of 64 bytes.
-    let mut event = [1; 64];
-    event[..8].copy_from_slice(&[1, 0, 0, 0, 0, 0, 64, 0]);
     let mut outbox = Outbox::new(rt.alloc(), 12, 0)?;
-    if !is_message(&SYNC) || !is_message(&event) {
-        return Err("no message")?;
-    }
-    assert_eq!(rt; outbox.push(&SYNC, &[]), Ok(()));
-    outbox.push_error(&event);
-    assert_eq!(rt; outbox.room(), 0);
-    let mut message = [0; 12];
-    assert_eq!(rt;
-        outbox.take(&mut message, &mut []),
-        Taken {
-            bytes: 12,
-            tokens: 0
-        }
-    );
-    assert_eq!(rt; message, SYNC);
-    let mut front = [0; 4];
-    assert_eq!(rt;
-        outbox.take(&mut front, &mut []),
-        Taken {
-            bytes: 4,
-            tokens: 0
-        }
-    );
-    assert_eq!(rt; front, [1, 0, 0, 0]);
-    assert_eq!(rt; outbox.room(), 12);
-    // An ordinary message goes behind it, and no other fits.
-    assert_eq!(rt; outbox.push(&SYNC, &[]), Ok(()));
-    assert_eq!(rt; outbox.push(&SYNC, &[]), Err(Full));
-    let mut behind = [0; 60];
-    assert_eq!(rt;
-        outbox.take(&mut behind, &mut []),
-        Taken {
-            bytes: 60,
-            tokens: 0
-        }
-    );
-    assert_eq!(rt; behind.as_slice(), &event[4..]);
-    assert_eq!(rt;
-        outbox.take(&mut message, &mut []),
-        Taken {
-            bytes: 12,
-            tokens: 0
-        }
-    );
-    assert_eq!(rt; message, SYNC);
-    assert!(rt; outbox.is_empty());
+    assert!(rt; goes_behind(&mut outbox));
     Ok(())
+}
+
+/// Whether nothing waits in an outbox of 64 bytes and one token.
+fn is_new_outbox(outbox: &Outbox<RefusingAllocator>) -> bool {
+    outbox.room() == 64 && outbox.token_room() == 1 && outbox.is_empty()
+}
+
+/// Whether nothing waits in an inbox of 4096 bytes and 20 tokens.
+fn is_new_inbox(inbox: &Inbox<RefusingAllocator>) -> bool {
+    inbox.room() == 4096 && inbox.token_room() == 20 && inbox.is_empty()
+}
+
+/// Whether an outbox is made, and is as it should be, with the allocation of this number refused.
+fn makes_an_outbox(memory: &RefusingAllocator, number: u64) -> Result<bool, AllocError> {
+    let alloc = memory.clone()?;
+    memory.refuse_nth(number);
+    match Outbox::new(alloc, 64, 1) {
+        Ok(outbox) => Ok(is_new_outbox(&outbox)),
+        Err(_) => Ok(false),
+    }
+}
+
+/// The same of an inbox.
+fn makes_an_inbox(memory: &RefusingAllocator, number: u64) -> Result<bool, AllocError> {
+    let alloc = memory.clone()?;
+    memory.refuse_nth(number);
+    match Inbox::new(alloc, 4096, 20) {
+        Ok(inbox) => Ok(is_new_inbox(&inbox)),
+        Err(_) => Ok(false),
+    }
 }
 
 // Each allocation of both boxes is refused in turn.
 #[test]
 fn boxes_without_memory_are_refused(rt: HostRuntime) -> Result<(), Fail> {
     let memory = RefusingAllocator::new(rt.alloc())?;
+    for number in 0u64..4 {
+        assert_eq!(rt; makes_an_outbox(&memory, number)?, number == 3);
+        assert_eq!(rt; memory.has_refused(), number < 3);
+    }
     for number in 0u64..3 {
-        memory.refuse_nth(number);
-        assert!(rt; Outbox::new(memory.clone()?, 64, 1).is_err());
-        assert!(rt; memory.has_refused());
+        assert_eq!(rt; makes_an_inbox(&memory, number)?, number == 2);
+        assert_eq!(rt; memory.has_refused(), number < 2);
     }
-    memory.refuse_nth(3);
-    let outbox = Outbox::new(memory.clone()?, 64, 1)?;
-    assert_eq!(rt;
-        (outbox.room(), outbox.token_room(), outbox.is_empty()),
-        (64, 1, true)
-    );
-    for number in 0u64..2 {
-        memory.refuse_nth(number);
-        assert!(rt; Inbox::new(memory.clone()?, 4096, 20).is_err());
-        assert!(rt; memory.has_refused());
-    }
-    memory.refuse_nth(2);
-    let inbox = Inbox::new(memory.clone()?, 4096, 20)?;
-    assert_eq!(rt;
-        (inbox.room(), inbox.token_room(), inbox.is_empty()),
-        (4096, 20, true)
-    );
     Ok(())
 }
 
