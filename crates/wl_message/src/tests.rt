@@ -1,5 +1,5 @@
 // What owns a box drops it at each way out, so a test does all else behind a `&mut`.
-ghost use Rattle.std.specs.Prelude.{IsTrue};
+ghost use Rattle.std.specs.Prelude.{◌≡◌, IsTrue, false};
 ghost use Rattle.wl_message.specs.Cut.{usual_limit, IsMessage};
 
 use super::*;
@@ -267,28 +267,25 @@ fn long_event() -> [u8; 64] {
     event
 }
 
-/// Pushes it as the error event. Whether it is whole.
-fn pushes_error(outbox: &mut Outbox<Global>) -> bool {
+/// Whether the error event fits behind a message that fills the outbox.
+fn fits_a_full_outbox(outbox: &mut Outbox<Global>) -> bool
+    requires { outbox.old.has_error ≡ false }
+{
     let event = long_event();
-    if !is_message(&event) {
+    if !is_message(&SYNC) || !is_message(&event) || outbox.push(&SYNC, &[]).is_err() {
         return false;
     }
     outbox.push_error(&event);
-    true
-}
-
-/// Whether the error event fits behind a message that fills the outbox.
-fn fits_a_full_outbox(outbox: &mut Outbox<Global>) -> bool {
-    pushes(outbox, &SYNC, &[])
-        && pushes_error(outbox)
-        && outbox.room() == 0
+    outbox.room() == 0
         && gives(outbox, SYNC, [])
         && gives(outbox, [1, 0, 0, 0], [])
         && outbox.room() == 12
 }
 
 /// Whether an ordinary message then goes behind the rest of it, and no other fits.
-fn goes_behind(outbox: &mut Outbox<Global>) -> bool {
+fn goes_behind(outbox: &mut Outbox<Global>) -> bool
+    requires { outbox.old.has_error ≡ false }
+{
     let mut behind = [0; 60];
     let rest = Taken {
         bytes: 60,
