@@ -201,14 +201,14 @@ pub(crate) fn writes(server: &mut TestServer<'_>, want: &[u8]) -> bool {
 }
 
 /// Gives a wl_compositor of version 6, and reads `FIRST`. Whether that is done.
-fn begins(server: &mut TestServer<'_>) -> bool {
+fn begins<T: Table>(server: &mut Server<'_, T>) -> bool {
     let is_given = server.add_global(COMPOSITOR, 6) == Ok(1);
     server.feed(&FIRST, &[]);
     are_read(server, 2) && is_given
 }
 
 /// Then a wl_compositor of this version is bound as 4, and makes surface 5. Whether that is done.
-fn makes_a_surface(server: &mut TestServer<'_>, version: u8) -> bool {
+fn makes_a_surface<T: Table>(server: &mut Server<'_, T>, version: u8) -> bool {
     let has_begun = begins(server);
     server.feed(&bind(14, 0, version), &[]);
     server.feed(&CREATE_SURFACE, &[]);

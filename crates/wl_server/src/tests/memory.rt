@@ -53,7 +53,7 @@ fn a_server_is_refused_each_of_its_allocations(rt: HostRuntime) -> Result<(), Fa
 }
 
 /// Whether a global is given its name once no allocation is refused, and not before.
-fn gives_with_memory(memory: &RefusingAllocator, server: &mut ShortServer<'_>) -> bool {
+fn gives_with_memory<T: Table>(memory: &RefusingAllocator, server: &mut Server<'_, T>) -> bool {
     for number in 0u64..100 {
         memory.refuse_nth(number);
         match server.add_global(COMPOSITOR, 6) {
@@ -75,9 +75,9 @@ fn a_global_is_refused_each_of_its_allocations(rt: HostRuntime) -> Result<(), Fa
 
 /// What is read once no allocation of its reading is refused, and how many were refused before;
 /// none where an allocation is refused and this object is live, or where there is no end of it.
-fn read_with_memory(
+fn read_with_memory<T: Table>(
     memory: &RefusingAllocator,
-    server: &mut ShortServer<'_>,
+    server: &mut Server<'_, T>,
     made: Object,
 ) -> Option<(Next, u64)> {
     for number in 0u64..100 {
@@ -95,7 +95,10 @@ fn read_with_memory(
 }
 
 /// Whether a get_registry stays until there is memory, and is read then.
-fn reads_a_registry_with_memory(memory: &RefusingAllocator, server: &mut ShortServer<'_>) -> bool {
+fn reads_a_registry_with_memory<T: Table>(
+    memory: &RefusingAllocator,
+    server: &mut Server<'_, T>,
+) -> bool {
     let registry = Object { id: 2, birth: 1 };
     server.feed(&FIRST[..12], &[]);
     match read_with_memory(memory, server, registry) {
@@ -115,13 +118,14 @@ fn a_request_is_refused_each_of_its_allocations(rt: HostRuntime) -> Result<(), F
 }
 
 /// Whether a bind stays until there is memory, and is read then.
-fn reads_a_bind_with_memory(memory: &RefusingAllocator, server: &mut ShortServer<'_>) -> bool {
-    let is_given = server.add_global(COMPOSITOR, 6) == Ok(1);
-    server.feed(&FIRST, &[]);
+fn reads_a_bind_with_memory<T: Table>(
+    memory: &RefusingAllocator,
+    server: &mut Server<'_, T>,
+) -> bool {
+    let has_begun = begins(server);
     server.feed(&bind(14, 0, 6), &[]);
-    let are_read = are_read(server, 2);
     match read_with_memory(memory, server, Object { id: 4, birth: 3 }) {
-        Some((Next::Bind, refusals)) => is_given && are_read && refusals > 0,
+        Some((Next::Bind, refusals)) => has_begun && refusals > 0,
         _ => false,
     }
 }
@@ -134,18 +138,14 @@ fn a_bind_is_refused_each_of_its_allocations(rt: HostRuntime) -> Result<(), Fail
 }
 
 /// Whether a destroy is read where no memory is left.
-fn reads_a_destroy_without_memory(
+fn reads_a_destroy_without_memory<T: Table>(
     memory: &RefusingAllocator,
-    server: &mut ShortServer<'_>,
+    server: &mut Server<'_, T>,
 ) -> bool {
-    let is_given = server.add_global(COMPOSITOR, 6) == Ok(1);
-    server.feed(&FIRST, &[]);
-    server.feed(&bind(14, 0, 6), &[]);
-    server.feed(&CREATE_SURFACE, &[]);
+    let is_made = makes_a_surface(server, 6);
     server.feed(&DESTROY, &[]);
-    let are_read = are_read(server, 4);
     memory.refuse_nth(0);
-    is_given && are_read && read(server) == Next::Request(SURFACE, 0) && memory.asked() == 0
+    is_made && read(server) == Next::Request(SURFACE, 0) && memory.asked() == 0
 }
 
 /// A request without arguments is read where no memory is left.
