@@ -2,32 +2,30 @@
 ghost use Rattle.std.specs.Prelude.{◌≤◌};
 ghost use Rattle.wl_message.specs.Arrived.{AreSizes};
 
-use crate::server::Server;
-use std::alloc::Global;
+use crate::tests::{TestCore, TestServer, are_read, holds_of, holds_once, writes};
 use std::test::Fail;
-use wl_end::Core;
 use wl_message::Sizes;
-use wl_objects::{Made, MapTable, Object, SendError};
-use wl_sigs::Tables;
+use wl_objects::{Made, Object, SendError};
 use wl_wire::Iface;
-
-type TestServer<'t> = Server<'t, MapTable<Global>>;
 
 const COMPOSITOR: Iface = Iface(3);
 
 const SEAT: Iface = Iface(9);
 
 /// wl_registry.global of name 1, a wl_compositor of version 6, to object 2.
-const COMPOSITOR_TOLD: [u8; 36] = [
-    2, 0, 0, 0, 0, 0, 36, 0, 1, 0, 0, 0, 14, 0, 0, 0, b'w', b'l', b'_', b'c', b'o', b'm', b'p',
-    b'o', b's', b'i', b't', b'o', b'r', 0, 0, 0, 6, 0, 0, 0,
-];
+const COMPOSITOR_TOLD: &[u8; 36] =
+    b"\x02\0\0\0\0\0\x24\0\x01\0\0\0\x0e\0\0\0wl_compositor\0\0\0\x06\0\0\0";
+
+/// The same to object 3.
+const COMPOSITOR_TOLD_TO_3: &[u8; 36] =
+    b"\x03\0\0\0\0\0\x24\0\x01\0\0\0\x0e\0\0\0wl_compositor\0\0\0\x06\0\0\0";
 
 /// wl_registry.global of name 2, a wl_seat of version 9, to object 2.
-const SEAT_TOLD: [u8; 28] = [
-    2, 0, 0, 0, 0, 0, 28, 0, 2, 0, 0, 0, 8, 0, 0, 0, b'w', b'l', b'_', b's', b'e', b'a', b't', 0,
-    9, 0, 0, 0,
-];
+const SEAT_TOLD: &[u8; 28] = b"\x02\0\0\0\0\0\x1c\0\x02\0\0\0\x08\0\0\0wl_seat\0\x09\0\0\0";
+
+/// wl_registry.global_remove of name 1 to object 2, and wl_registry.global of name 2 to object 3.
+const WITHDRAWN_TOLD: &[u8; 40] =
+    b"\x02\0\0\0\x01\0\x0c\0\x01\0\0\0\x03\0\0\0\0\0\x1c\0\x02\0\0\0\x08\0\0\0wl_seat\0\x09\0\0\0";
 
 fn sizes(out_bytes: usize) -> Sizes
     requires { out_bytes ≤ 16777216 }
@@ -46,118 +44,110 @@ const GET_REGISTRIES: [u8; 24] = [
     1, 0, 0, 0, 1, 0, 12, 0, 2, 0, 0, 0, 1, 0, 0, 0, 1, 0, 12, 0, 3, 0, 0, 0,
 ];
 
-/// A server with a wl_compositor and a wl_seat that has read so many of these requests.
-fn with_registries<'t>(
-    alloc: Global,
-    tables: &'t Tables,
-    out_bytes: usize,
-    registries: usize,
-) -> Result<TestServer<'t>, Fail>
-    requires { out_bytes ≤ 16777216 }
-{
-    let mut server = TestServer::new(alloc, tables, sizes(out_bytes))?;
-    server.feed(&GET_REGISTRIES, &[]);
-    for _ in 0..registries {
-        let _ = server.next()?;
-    }
-    server.add_global(COMPOSITOR, 6)?;
-    server.add_global(SEAT, 9)?;
-    Ok(server)
+/// Reads so many of these requests, and then gives a wl_compositor and a wl_seat. Whether that is
+/// done.
+fn has_registries(server: &mut TestServer<'_>, registries: usize) -> bool {
+    server.feed(GET_REGISTRIES.as_slice(), &[]);
+    are_read(server, registries)
+        && server.add_global(COMPOSITOR, 6) == Ok(1)
+        && server.add_global(SEAT, 9) == Ok(2)
 }
 
-/// A server with a wl_compositor and a second wl_display, of version 5, as object 2.
-fn with_two_displays<'t>(alloc: Global, tables: &'t Tables) -> Result<TestServer<'t>, Fail> {
-    let mut core: Core<'t, MapTable<Global>> = Core::new(alloc, tables, sizes(64))?;
-    core.open(Made {
-        id: 2,
-        iface: Iface(0),
-        version: 5,
-    })?;
-    let mut server = Server {
-        core,
-        alloc,
-        globals: Vec::new(alloc),
-        registries: Vec::new(alloc),
-    };
-    server.add_global(COMPOSITOR, 6)?;
-    Ok(server)
+/// Whether there is nothing to announce where there is no registry.
+fn announces_nothing(server: &mut TestServer<'_>) -> bool {
+    server.add_global(COMPOSITOR, 6) == Ok(1) && server.announce() == Ok(0) && server.is_drained()
 }
 
 #[test]
 fn nothing_is_owed_to_nobody(rt: HostRuntime) -> Result<(), Fail> {
-    let tables = Tables::core(rt.alloc())?;
-    let mut server = TestServer::new(rt.alloc(), &tables, sizes(64))?;
-    server.add_global(COMPOSITOR, 6)?;
-    assert_eq!(rt; server.announce(), Ok(0));
-    assert!(rt; server.is_drained());
+    assert!(rt; holds_of(rt.alloc(), sizes(64), announces_nothing)?);
     Ok(())
+}
+
+/// Whether one global is told at a time, where no more fits.
+fn tells_as_far_as_it_fits(server: &mut TestServer<'_>) -> bool {
+    has_registries(server, 1)
+        && server.announce() == Ok(1)
+        && server.announce() == Ok(0)
+        && writes(server, COMPOSITOR_TOLD)
+        && server.announce() == Ok(1)
+        && writes(server, SEAT_TOLD)
+        && server.announce() == Ok(0)
+        && server.goes(64, 0).bytes == 0
 }
 
 #[test]
 fn a_registry_is_told_as_far_as_it_fits(rt: HostRuntime) -> Result<(), Fail> {
-    let tables = Tables::core(rt.alloc())?;
-    let mut server = with_registries(rt.alloc(), &tables, 40, 1)?;
-    let mut bytes = [0; 36];
-    assert_eq!(rt; server.announce(), Ok(1));
-    assert_eq!(rt; server.announce(), Ok(0));
-    let _ = server.take(&mut bytes, &mut []);
-    assert_eq!(rt; bytes, COMPOSITOR_TOLD);
-    let mut bytes = [0; 28];
-    assert_eq!(rt; server.announce(), Ok(1));
-    let _ = server.take(&mut bytes, &mut []);
-    assert_eq!(rt; bytes, SEAT_TOLD);
-    assert_eq!(rt; server.announce(), Ok(0));
-    assert_eq!(rt; server.goes(64, 0).bytes, 0);
+    assert!(rt; holds_of(rt.alloc(), sizes(40), tells_as_far_as_it_fits)?);
     Ok(())
+}
+
+/// Tells registry 2 of both globals, and registry 3 of none. Whether that is done.
+fn tells_the_first(server: &mut TestServer<'_>) -> bool {
+    let are_told = has_registries(server, 2) && server.announce() == Ok(2);
+    let _ = server.take(&mut [0; 64], &mut []);
+    are_told
+}
+
+/// Whether then registry 2 is told that the first is withdrawn, and registry 3 of the second alone.
+fn tells_of_a_withdrawn_global(server: &mut TestServer<'_>) -> bool {
+    tells_the_first(server)
+        && server.withdraw(1) == Ok(())
+        && server.announce() == Ok(2)
+        && writes(server, WITHDRAWN_TOLD)
+        && server.announce() == Ok(0)
+        && server.is_drained()
 }
 
 #[test]
 fn a_withdrawn_global_is_removed_where_it_was_told(rt: HostRuntime) -> Result<(), Fail> {
-    let tables = Tables::core(rt.alloc())?;
-    let mut server = with_registries(rt.alloc(), &tables, 64, 2)?;
-    // registry 2 is told of both, registry 3 of none
-    assert_eq!(rt; server.announce(), Ok(2));
-    let _ = server.take(&mut [0; 64], &mut []);
-    server.withdraw(1)?;
-    let mut bytes = [0; 40];
-    assert_eq!(rt; server.announce(), Ok(2));
-    let _ = server.take(&mut bytes, &mut []);
-    assert_eq!(rt;
-        bytes,
-        [
-            2, 0, 0, 0, 1, 0, 12, 0, 1, 0, 0, 0, 3, 0, 0, 0, 0, 0, 28, 0, 2, 0, 0, 0, 8, 0, 0, 0,
-            b'w', b'l', b'_', b's', b'e', b'a', b't', 0, 9, 0, 0, 0
-        ]
-    );
-    assert_eq!(rt; server.announce(), Ok(0));
-    assert!(rt; server.is_drained());
+    assert!(rt; holds_of(rt.alloc(), sizes(64), tells_of_a_withdrawn_global)?);
     Ok(())
+}
+
+/// Opens a second wl_display, of version 5, as object 2. Whether that is done.
+fn opens_a_display(core: &mut TestCore<'_>) -> bool {
+    let made = Made {
+        id: 2,
+        iface: Iface(0),
+        version: 5,
+    };
+    core.open(made).is_ok()
+}
+
+/// Whether a registry that is made at that display is told of a wl_compositor.
+fn tells_a_registry_of_another_display(server: &mut TestServer<'_>) -> bool {
+    let is_given = server.add_global(COMPOSITOR, 6) == Ok(1);
+    server.feed(&[2, 0, 0, 0, 1, 0, 12, 0, 3, 0, 0, 0], &[]);
+    is_given
+        && are_read(server, 1)
+        && server.live(Object { id: 3, birth: 2 }) == Some((Iface(1), 5))
+        && server.announce() == Ok(1)
+        && writes(server, COMPOSITOR_TOLD_TO_3)
 }
 
 // The core tables have one request that makes a registry, but any object of its interface takes it.
 #[test]
 fn a_registry_of_another_display_is_told(rt: HostRuntime) -> Result<(), Fail> {
-    let tables = Tables::core(rt.alloc())?;
-    let mut server = with_two_displays(rt.alloc(), &tables)?;
-    server.feed(&[2, 0, 0, 0, 1, 0, 12, 0, 3, 0, 0, 0], &[]);
-    let _ = server.next()?;
-    let registry = Object { id: 3, birth: 2 };
-    assert_eq!(rt; server.live(registry), Some((Iface(1), 5)));
-    assert_eq!(rt; server.announce(), Ok(1));
-    let mut bytes = [0; 36];
-    let _ = server.take(&mut bytes, &mut []);
-    let mut told = COMPOSITOR_TOLD;
-    told[0] = 3;
-    assert_eq!(rt; bytes, told);
+    assert!(rt;
+        holds_once(
+            rt.alloc(),
+            opens_a_display,
+            tells_a_registry_of_another_display
+        )?
+    );
     Ok(())
+}
+
+/// Whether a server that has failed refuses to announce, and writes nothing.
+fn refuses_to_announce(server: &mut TestServer<'_>) -> bool {
+    let has_registries = has_registries(server, 2);
+    server.core.failed = true;
+    has_registries && server.announce() == Err(SendError::Failed) && server.is_drained()
 }
 
 #[test]
 fn a_failed_server_announces_nothing(rt: HostRuntime) -> Result<(), Fail> {
-    let tables = Tables::core(rt.alloc())?;
-    let mut server = with_registries(rt.alloc(), &tables, 64, 2)?;
-    server.core.failed = true;
-    assert_eq!(rt; server.announce(), Err(SendError::Failed));
-    assert!(rt; server.is_drained());
+    assert!(rt; holds_of(rt.alloc(), sizes(64), refuses_to_announce)?);
     Ok(())
 }
