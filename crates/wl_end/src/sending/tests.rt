@@ -4,7 +4,7 @@ ghost use Rattle.wl_message.specs.Arrived.{AreSizes};
 
 use crate::shared::Core;
 use refusing::RefusingAllocator;
-use std::alloc::{Allocator, Global};
+use std::alloc::{AllocError, Global};
 use std::test::Fail;
 use wl_message::{Sizes, Taken};
 use wl_objects::{Arg, MapTable, Object, SendError, Table};
@@ -41,267 +41,312 @@ fn open(end: &mut End<'_>, iface: Iface, version: u32) -> Result<Object, SendErr
     end.open_new(Some(iface), version)?.ok_or(SendError::NoIds)
 }
 
-#[test]
-fn a_failed_end_writes_nothing(rt: HostRuntime) -> Result<(), Fail> {
-    let tables = Tables::core(rt.alloc())?;
-    let mut end = End::new(rt.alloc(), &tables, sizes(64))?;
+/// Whether this holds of a new end with an outbox of so many bytes.
+fn holds<F: FnOnce(&mut End<'_>) -> Result<bool, SendError>>(
+    alloc: Global,
+    out_bytes: usize,
+    scene: F,
+) -> Result<bool, Fail>
+    requires bytes { out_bytes ≤ 16777216 }
+    requires scene { F.IsAlwaysCallable scene }
+{
+    let tables = Tables::core(alloc)?;
+    let mut end = End::new(alloc, &tables, sizes(out_bytes))?;
+    Ok(scene(&mut end)?)
+}
+
+/// Whether a request is refused so.
+fn refuses(end: &mut End<'_>, target: Object, opcode: u16, args: &[Arg], why: SendError) -> bool {
+    end.send(Side::Request, target, opcode, args) == Err(why)
+}
+
+/// Whether there is no such event to send.
+fn lacks_event(end: &mut End<'_>, target: Object, opcode: u16, args: &[Arg]) -> bool {
+    end.send(Side::Event, target, opcode, args) == Err(SendError::NoSuchMessage)
+}
+
+/// Whether a request makes this object.
+fn makes(end: &mut End<'_>, target: Object, opcode: u16, args: &[Arg], made: Object) -> bool {
+    end.send(Side::Request, target, opcode, args) == Ok(Some(made))
+}
+
+/// Whether just these bytes and tokens are taken, where there are as many places for them.
+fn gives<const BYTES: usize, const TOKENS: usize>(
+    end: &mut End<'_>,
+    bytes: [u8; BYTES],
+    tokens: [u32; TOKENS],
+) -> bool {
+    let mut some = [0xff; BYTES];
+    let mut some_tokens = [0xff; TOKENS];
+    let taken = end.take(&mut some, &mut some_tokens);
+    let wanted = Taken {
+        bytes: BYTES,
+        tokens: TOKENS,
+    };
+    taken == wanted && some == bytes && some_tokens == tokens
+}
+
+fn fails_and_writes_nothing(end: &mut End<'_>) -> Result<bool, SendError> {
     let display = end.display();
     if !end.failed {
         end.write_error(1, 1, b"bad");
     }
-    let mut bytes = [0; 24];
-    let _ = end.take(&mut bytes, &mut []);
-    assert_eq!(rt;
-        bytes,
-        [
-            1, 0, 0, 0, 0, 0, 24, 0, 1, 0, 0, 0, 1, 0, 0, 0, 4, 0, 0, 0, b'b', b'a', b'd', 0
-        ]
-    );
-    assert_eq!(rt;
-        end.send(Side::Request, display, 0, &[Arg::New]),
-        Err(SendError::Failed)
-    );
-    // a failed end, and a target that it does not know
-    assert_eq!(rt;
-        end.send(Side::Request, Object { id: 9, birth: 9 }, 0, &[Arg::New]),
-        Err(SendError::Failed)
-    );
+    let error = [
+        1, 0, 0, 0, 0, 0, 24, 0, 1, 0, 0, 0, 1, 0, 0, 0, 4, 0, 0, 0, b'b', b'a', b'd', 0,
+    ];
+    // a target that it does not know comes behind that
+    let unknown = Object { id: 9, birth: 9 };
+    Ok(
+        gives(end, error, [])
+            && refuses(end, display, 0, &[Arg::New], SendError::Failed)
+            && refuses(end, unknown, 0, &[Arg::New], SendError::Failed),
+    )
+}
+
+#[test]
+fn a_failed_end_writes_nothing(rt: HostRuntime) -> Result<(), Fail> {
+    assert!(rt; holds(rt.alloc(), 64, fails_and_writes_nothing)?);
     Ok(())
+}
+
+/// Whether an id that is not held, and one that is held by another birth, are stale.
+fn knows_what_is_stale(end: &mut End<'_>) -> bool {
+    refuses(
+        end,
+        Object { id: 9, birth: 1 },
+        0,
+        &[Arg::New],
+        SendError::Stale,
+    ) && refuses(
+        end,
+        Object { id: 1, birth: 1 },
+        0,
+        &[Arg::New],
+        SendError::Stale,
+    )
+}
+
+/// Whether there is no such opcode, and no message that other calls write: bind, delete_id and
+/// global_remove.
+fn knows_its_messages(end: &mut End<'_>, registry: Object) -> bool {
+    let display = end.display();
+    refuses(end, display, 2, &[], SendError::NoSuchMessage)
+        && refuses(end, registry, 0, &[], SendError::NoSuchMessage)
+        && lacks_event(end, display, 1, &[Arg::Uint(2)])
+        && lacks_event(end, registry, 1, &[Arg::Uint(1)])
+}
+
+fn judges_the_target_first(end: &mut End<'_>) -> Result<bool, SendError> {
+    let registry = open(end, REGISTRY, 1)?;
+    let surface = open(end, SURFACE, 2)?;
+    // set_buffer_scale came with version 3; the wrong argument is not looked at
+    Ok(
+        knows_what_is_stale(end)
+            && knows_its_messages(end, registry)
+            && refuses(end, surface, 8, &[Arg::Int(2)], SendError::TooOld)
+            && refuses(end, surface, 8, &[Arg::Uint(2)], SendError::TooOld),
+    )
 }
 
 #[test]
 fn the_target_and_its_message_are_judged_first(rt: HostRuntime) -> Result<(), Fail> {
-    let tables = Tables::core(rt.alloc())?;
-    let mut end = End::new(rt.alloc(), &tables, sizes(64))?;
-    let display = end.display();
-    let registry = open(&mut end, REGISTRY, 1)?;
-    let surface = open(&mut end, SURFACE, 2)?;
-    // an id that is not held, and one that is held by another birth
-    let stale = [Object { id: 9, birth: 1 }, Object { id: 1, birth: 1 }];
-    for target in stale {
-        assert_eq!(rt;
-            end.send(Side::Request, target, 0, &[Arg::New]),
-            Err(SendError::Stale)
-        );
-    }
-    // no such opcode; and the messages that other calls write: bind, delete_id and global_remove
-    assert_eq!(rt;
-        end.send(Side::Request, display, 2, &[]),
-        Err(SendError::NoSuchMessage)
-    );
-    assert_eq!(rt;
-        end.send(Side::Request, registry, 0, &[]),
-        Err(SendError::NoSuchMessage)
-    );
-    assert_eq!(rt;
-        end.send(Side::Event, display, 1, &[Arg::Uint(2)]),
-        Err(SendError::NoSuchMessage)
-    );
-    assert_eq!(rt;
-        end.send(Side::Event, registry, 1, &[Arg::Uint(1)]),
-        Err(SendError::NoSuchMessage)
-    );
-    // set_buffer_scale came with version 3; the wrong argument is not looked at
-    assert_eq!(rt;
-        end.send(Side::Request, surface, 8, &[Arg::Int(2)]),
-        Err(SendError::TooOld)
-    );
-    assert_eq!(rt;
-        end.send(Side::Request, surface, 8, &[Arg::Uint(2)]),
-        Err(SendError::TooOld)
-    );
+    assert!(rt; holds(rt.alloc(), 64, judges_the_target_first)?);
     Ok(())
+}
+
+fn counts_arguments(end: &mut End<'_>) -> bool {
+    let display = end.display();
+    refuses(end, display, 0, &[Arg::Uint(1)], SendError::WrongArgs(0))
+        && refuses(
+            end,
+            display,
+            0,
+            &[Arg::New, Arg::New],
+            SendError::WrongArgs(1),
+        )
+}
+
+/// Attaches a surface where a buffer is asked for; then with a wrong argument behind it.
+fn judges_objects_last(end: &mut End<'_>, surface: Object) -> bool {
+    let itself = Arg::Obj(Some(surface));
+    let right = [itself, Arg::Int(0), Arg::Int(0)];
+    let wrong = [itself, Arg::Int(0), Arg::Uint(0)];
+    refuses(end, surface, 1, &right, SendError::BadObject(0))
+        && refuses(end, surface, 1, &wrong, SendError::WrongArgs(2))
+}
+
+/// Sets a title with a NUL; then one that no message holds, which no outbox would hold either.
+fn judges_the_length(end: &mut End<'_>, shell_surface: Object) -> bool {
+    let title = [b'x'; 4084];
+    let too_long = [Arg::Str(Some(&title))];
+    let long = [Arg::Str(Some(&title[..4083]))];
+    refuses(
+        end,
+        shell_surface,
+        8,
+        &[Arg::Str(Some(b"a\0"))],
+        SendError::WrongArgs(0),
+    ) && refuses(end, shell_surface, 8, &too_long, SendError::TooLong)
+        && refuses(end, shell_surface, 8, &long, SendError::Full)
+}
+
+fn judges_arguments_in_order(end: &mut End<'_>) -> Result<bool, SendError> {
+    let surface = open(end, SURFACE, 2)?;
+    let shell_surface = open(end, SHELL_SURFACE, 1)?;
+    Ok(
+        counts_arguments(end)
+            && judges_objects_last(end, surface)
+            && judges_the_length(end, shell_surface)
+            && end.is_drained(),
+    )
 }
 
 #[test]
 fn arguments_are_judged_before_objects_and_objects_before_length(
     rt: HostRuntime,
 ) -> Result<(), Fail> {
-    let tables = Tables::core(rt.alloc())?;
-    let mut end = End::new(rt.alloc(), &tables, sizes(64))?;
-    let display = end.display();
-    let surface = open(&mut end, SURFACE, 2)?;
-    let shell_surface = open(&mut end, SHELL_SURFACE, 1)?;
-    assert_eq!(rt;
-        end.send(Side::Request, display, 0, &[Arg::Uint(1)]),
-        Err(SendError::WrongArgs(0))
-    );
-    assert_eq!(rt;
-        end.send(Side::Request, display, 0, &[Arg::New, Arg::New]),
-        Err(SendError::WrongArgs(1))
-    );
-    // attach of a surface where a buffer is asked for; then with a wrong argument behind it
-    assert_eq!(rt;
-        end.send(
-            Side::Request,
-            surface,
-            1,
-            &[Arg::Obj(Some(surface)), Arg::Int(0), Arg::Int(0)]
-        ),
-        Err(SendError::BadObject(0))
-    );
-    assert_eq!(rt;
-        end.send(
-            Side::Request,
-            surface,
-            1,
-            &[Arg::Obj(Some(surface)), Arg::Int(0), Arg::Uint(0)]
-        ),
-        Err(SendError::WrongArgs(2))
-    );
-    // set_title with a NUL; then with a title that no message holds, which no outbox would hold either
-    assert_eq!(rt;
-        end.send(Side::Request, shell_surface, 8, &[Arg::Str(Some(b"a\0"))]),
-        Err(SendError::WrongArgs(0))
-    );
-    let title = [b'x'; 4084];
-    assert_eq!(rt;
-        end.send(Side::Request, shell_surface, 8, &[Arg::Str(Some(&title))]),
-        Err(SendError::TooLong)
-    );
-    assert_eq!(rt;
-        end.send(
-            Side::Request,
-            shell_surface,
-            8,
-            &[Arg::Str(Some(&title[..4083]))]
-        ),
-        Err(SendError::Full)
-    );
-    assert!(rt; end.is_drained());
+    assert!(rt; holds(rt.alloc(), 64, judges_arguments_in_order)?);
     Ok(())
+}
+
+/// Whether two pools fit, and then, in the 12 bytes that are left, no third one but a callback.
+fn fills_up(end: &mut End<'_>, shm: Object) -> bool {
+    let display = end.display();
+    let pool = [Arg::New, Arg::Fd(7), Arg::Int(4096)];
+    makes(end, shm, 0, &pool, Object { id: 3, birth: 2 })
+        && makes(end, shm, 0, &pool, Object { id: 4, birth: 3 })
+        && refuses(end, shm, 0, &pool, SendError::Full)
+        && makes(end, display, 0, &[Arg::New], Object { id: 5, birth: 4 })
+        && refuses(end, display, 0, &[Arg::New], SendError::Full)
+}
+
+fn fills_up_and_gives_all(end: &mut End<'_>) -> Result<bool, SendError> {
+    let shm = open(end, SHM, 1)?;
+    let bytes = [
+        2, 0, 0, 0, 0, 0, 16, 0, 3, 0, 0, 0, 0, 16, 0, 0, 2, 0, 0, 0, 0, 0, 16, 0, 4, 0, 0, 0, 0,
+        16, 0, 0, 1, 0, 0, 0, 0, 0, 12, 0, 5, 0, 0, 0,
+    ];
+    Ok(fills_up(end, shm) && gives(end, bytes, [7, 7]))
 }
 
 #[test]
 fn bytes_and_tokens_have_to_be_free(rt: HostRuntime) -> Result<(), Fail> {
-    let tables = Tables::core(rt.alloc())?;
-    let mut end = End::new(rt.alloc(), &tables, sizes(44))?;
-    let display = end.display();
-    let shm = open(&mut end, SHM, 1)?;
-    let pool = [Arg::New, Arg::Fd(7), Arg::Int(4096)];
-    assert_eq!(rt;
-        end.send(Side::Request, shm, 0, &pool),
-        Ok(Some(Object { id: 3, birth: 2 }))
-    );
-    // 12 bytes are left after the second one, and no token
-    assert_eq!(rt;
-        end.send(Side::Request, shm, 0, &pool),
-        Ok(Some(Object { id: 4, birth: 3 }))
-    );
-    assert_eq!(rt;
-        end.send(Side::Request, shm, 0, &pool),
-        Err(SendError::Full)
-    );
-    assert_eq!(rt;
-        end.send(Side::Request, display, 0, &[Arg::New]),
-        Ok(Some(Object { id: 5, birth: 4 }))
-    );
-    assert_eq!(rt;
-        end.send(Side::Request, display, 0, &[Arg::New]),
-        Err(SendError::Full)
-    );
-    let mut bytes = [0; 44];
-    let mut tokens = [0; 2];
-    assert_eq!(rt;
-        end.take(&mut bytes, &mut tokens),
-        Taken {
-            bytes: 44,
-            tokens: 2
-        }
-    );
-    assert_eq!(rt; tokens, [7, 7]);
-    assert_eq!(rt;
-        bytes,
-        [
-            2, 0, 0, 0, 0, 0, 16, 0, 3, 0, 0, 0, 0, 16, 0, 0, 2, 0, 0, 0, 0, 0, 16, 0, 4, 0, 0, 0,
-            0, 16, 0, 0, 1, 0, 0, 0, 0, 0, 12, 0, 5, 0, 0, 0
-        ]
-    );
+    assert!(rt; holds(rt.alloc(), 44, fills_up_and_gives_all)?);
     Ok(())
 }
 
-/// What wl_callback.done(7) is answered by an end of so many bytes that has a callback, and the
-/// callback.
-fn done(
-    alloc: Global,
-    out_bytes: usize,
-) -> Result<(Result<Option<Object>, SendError>, bool, [u8; 24]), Fail>
-    requires { out_bytes ≤ 16777216 }
-{
-    let tables = Tables::core(alloc)?;
-    let mut end = End::new(alloc, &tables, sizes(out_bytes))?;
-    let callback = open(&mut end, Iface(2), 1)?;
+/// What wl_callback.done(7) is answered for a new callback, and whether that lives on.
+fn done(end: &mut End<'_>) -> Result<(Result<Option<Object>, SendError>, bool), SendError> {
+    let callback = open(end, Iface(2), 1)?;
     let answer = end.send(Side::Event, callback, 0, &[Arg::Uint(7)]);
-    let mut bytes = [0; 24];
-    let _ = end.take(&mut bytes, &mut []);
-    Ok((answer, end.live(callback).is_some(), bytes))
+    Ok((answer, end.live(callback).is_some()))
+}
+
+fn lacks_room_for_the_delete_id(end: &mut End<'_>) -> Result<bool, SendError> {
+    let (answer, lives) = done(end)?;
+    Ok(answer == Err(SendError::Full) && lives && end.is_drained())
+}
+
+fn writes_the_delete_id(end: &mut End<'_>) -> Result<bool, SendError> {
+    let (answer, lives) = done(end)?;
+    let bytes = [
+        2, 0, 0, 0, 0, 0, 12, 0, 7, 0, 0, 0, 1, 0, 0, 0, 1, 0, 12, 0, 2, 0, 0, 0,
+    ];
+    Ok(answer == Ok(None) && !lives && gives(end, bytes, []))
 }
 
 #[test]
 fn a_destroying_event_needs_the_room_of_its_delete_id(rt: HostRuntime) -> Result<(), Fail> {
-    let (answer, lives, bytes) = done(rt.alloc(), 23)?;
-    assert_eq!(rt; answer, Err(SendError::Full));
-    assert!(rt; lives);
-    assert_eq!(rt; bytes, [0; 24]);
-    let (answer, lives, bytes) = done(rt.alloc(), 24)?;
-    assert_eq!(rt; answer, Ok(None));
-    assert!(rt; !lives);
-    assert_eq!(rt;
-        bytes,
-        [
-            2, 0, 0, 0, 0, 0, 12, 0, 7, 0, 0, 0, 1, 0, 0, 0, 1, 0, 12, 0, 2, 0, 0, 0
-        ]
-    );
+    assert!(rt; holds(rt.alloc(), 23, lacks_room_for_the_delete_id)?);
+    assert!(rt; holds(rt.alloc(), 24, writes_the_delete_id)?);
     Ok(())
+}
+
+/// Whether a surface is destroyed by a request, and its id is not used again.
+fn leaves_a_zombie(end: &mut End<'_>) -> Result<bool, SendError> {
+    let display = end.display();
+    let surface = open(end, SURFACE, 6)?;
+    Ok(
+        end.send(Side::Request, surface, 0, &[])? == None
+            && end.live(surface).is_none()
+            && refuses(end, surface, 0, &[], SendError::Stale)
+            && makes(end, display, 0, &[Arg::New], Object { id: 3, birth: 2 }),
+    )
 }
 
 #[test]
 fn a_destroying_request_leaves_a_zombie(rt: HostRuntime) -> Result<(), Fail> {
-    let tables = Tables::core(rt.alloc())?;
-    let mut end = End::new(rt.alloc(), &tables, sizes(64))?;
-    let display = end.display();
-    let surface = open(&mut end, SURFACE, 6)?;
-    assert_eq!(rt; end.send(Side::Request, surface, 0, &[]), Ok(None));
-    assert_eq!(rt; end.live(surface), None);
-    assert_eq!(rt;
-        end.send(Side::Request, surface, 0, &[]),
-        Err(SendError::Stale)
-    );
-    // its id is not used again
-    assert_eq!(rt;
-        end.send(Side::Request, display, 0, &[Arg::New]),
-        Ok(Some(Object { id: 3, birth: 2 }))
-    );
+    assert!(rt; holds(rt.alloc(), 64, leaves_a_zombie)?);
     Ok(())
+}
+
+/// Whether the last id is given; then there is no room and no id, and then no id.
+fn gives_the_last_id(end: &mut End<'_>) -> bool {
+    let display = end.display();
+    let last = Object {
+        id: 1_048_576,
+        birth: 1_048_575,
+    };
+    makes(end, display, 0, &[Arg::New], last)
+        && refuses(end, display, 0, &[Arg::New], SendError::Full)
+        && gives(end, [1, 0, 0, 0, 0, 0, 12, 0, 0, 0, 16, 0], [])
+        && refuses(end, display, 0, &[Arg::New], SendError::NoIds)
+        && end.is_drained()
+}
+
+fn uses_all_ids(end: &mut End<'_>) -> Result<bool, SendError> {
+    for _ in 2u32..1_048_576 {
+        let _ = open(end, SURFACE, 1)?;
+    }
+    Ok(gives_the_last_id(end))
 }
 
 #[test]
 fn the_last_id_is_given_and_none_behind_it(rt: HostRuntime) -> Result<(), Fail> {
-    let tables = Tables::core(rt.alloc())?;
-    let mut end = End::new(rt.alloc(), &tables, sizes(12))?;
-    let display = end.display();
-    for _ in 2u32..1_048_576 {
-        let _ = open(&mut end, SURFACE, 1)?;
-    }
-    assert_eq!(rt;
-        end.send(Side::Request, display, 0, &[Arg::New]),
-        Ok(Some(Object {
-            id: 1_048_576,
-            birth: 1_048_575
-        }))
-    );
-    // no room, and no id
-    assert_eq!(rt;
-        end.send(Side::Request, display, 0, &[Arg::New]),
-        Err(SendError::Full)
-    );
-    let _ = end.take(&mut [0; 12], &mut []);
-    assert_eq!(rt;
-        end.send(Side::Request, display, 0, &[Arg::New]),
-        Err(SendError::NoIds)
-    );
-    assert!(rt; end.is_drained());
+    assert!(rt; holds(rt.alloc(), 12, uses_all_ids)?);
     Ok(())
+}
+
+type Short<'t> = Core<'t, MapTable<RefusingAllocator>>;
+
+/// Whether a call makes an object where no allocation was refused. Else whether the answer is want
+/// of memory, nothing has changed, and the same call makes the object with memory.
+fn makes_or_leaves_all(memory: &RefusingAllocator, end: &mut Short<'_>) -> bool {
+    let display = end.display();
+    let made = Object { id: 2, birth: 1 };
+    let answer = end.send(Side::Request, display, 0, &[Arg::New]);
+    if !memory.has_refused() {
+        return answer == Ok(Some(made));
+    }
+    answer == Err(SendError::Memory)
+        && end.is_drained()
+        && end.live(made).is_none()
+        && end.send(Side::Request, display, 0, &[Arg::New]) == Ok(Some(made))
+}
+
+/// The same of a new end, with the allocation of this number refused.
+fn is_refused_rightly(
+    memory: &RefusingAllocator,
+    tables: &Tables,
+    number: u64,
+) -> Result<bool, AllocError> {
+    memory.refuse_none();
+    let mut end = Short::new(memory.clone()?, tables, sizes(64))?;
+    memory.refuse_nth(number);
+    Ok(makes_or_leaves_all(memory, &mut end))
+}
+
+/// Whether each allocation of the call is refused rightly in turn, and there are some.
+fn is_refused_in_turn(memory: &RefusingAllocator, tables: &Tables) -> Result<bool, AllocError> {
+    for number in 0u64..100 {
+        if !is_refused_rightly(memory, tables, number)? {
+            return Ok(false);
+        }
+        if !memory.has_refused() {
+            return Ok(number > 0);
+        }
+    }
+    Ok(false)
 }
 
 // Each allocation of a call that makes an object is refused in turn.
@@ -309,34 +354,6 @@ fn the_last_id_is_given_and_none_behind_it(rt: HostRuntime) -> Result<(), Fail> 
 fn a_call_without_memory_changes_nothing(rt: HostRuntime) -> Result<(), Fail> {
     let tables = Tables::core(rt.alloc())?;
     let memory = RefusingAllocator::new(rt.alloc())?;
-    let made = Object { id: 2, birth: 1 };
-    let mut granted = None;
-    for number in 0u64..100 {
-        let mut end = Core::<MapTable<RefusingAllocator>>::new(
-            memory.clone()?,
-            &tables,
-            sizes(64),
-        )?;
-        let display = end.display();
-        memory.refuse_nth(number);
-        let answer = end.send(Side::Request, display, 0, &[Arg::New]);
-        let refused = memory.has_refused();
-        memory.refuse_none();
-        if answer == Ok(Some(made)) {
-            assert!(rt; !refused);
-            granted = Some(number);
-            break;
-        }
-        assert!(rt; refused);
-        assert_eq!(rt; answer, Err(SendError::Memory));
-        assert!(rt; end.is_drained());
-        assert_eq!(rt; end.live(made), None);
-        assert_eq!(rt;
-            end.send(Side::Request, display, 0, &[Arg::New]),
-            Ok(Some(made))
-        );
-    }
-    assert!(rt; granted.is_some());
-    assert_ne!(rt; granted, Some(0));
+    assert!(rt; is_refused_in_turn(&memory, &tables)?);
     Ok(())
 }

@@ -1,7 +1,7 @@
 //! An end over the plain table: its making, and what it takes in.
 use super::*;
 use refusing::RefusingAllocator;
-use std::alloc::{Allocator, Global};
+use std::alloc::{AllocError, Global};
 use std::test::Fail;
 use wl_objects::MapTable;
 
@@ -12,46 +12,75 @@ const SIZES: Sizes = Sizes {
     in_tokens: 20,
 };
 
+/// Whether an end has just wl_display, at its first birth.
+fn has_the_display_alone(end: &Core<'_, MapTable<Global>>) -> bool {
+    let display = Object { id: 1, birth: 0 };
+    end.display() == display
+        && end.live(display) == Some((Iface(0), 1))
+        && end.live(Object { id: 1, birth: 1 }).is_none()
+        && end.live(Object { id: 2, birth: 1 }).is_none()
+}
+
+/// Whether bytes and tokens are taken in, as far as it has room, and nothing goes.
+fn takes_in(end: &mut Core<'_, MapTable<Global>>) -> bool {
+    let all = Fed {
+        bytes: 4096,
+        tokens: 20,
+    };
+    let some = Fed {
+        bytes: 3,
+        tokens: 1,
+    };
+    let rest = Fed {
+        bytes: 4093,
+        tokens: 19,
+    };
+    end.in_room() == all
+        && end.is_drained()
+        && end.feed(b"abc", &[7]) == some
+        && end.in_room() == rest
+        && !end.is_drained()
+}
+
+fn begins(end: &mut Core<'_, MapTable<Global>>) -> bool {
+    let nothing = Taken {
+        bytes: 0,
+        tokens: 0,
+    };
+    has_the_display_alone(end) && takes_in(end) && end.goes(10, 10) == nothing
+}
+
 #[test]
 fn a_new_end_has_the_display_alone(rt: HostRuntime) -> Result<(), Fail> {
     let tables = Tables::core(rt.alloc())?;
     let mut end = Core::<MapTable<Global>>::new(rt.alloc(), &tables, SIZES)?;
-    let display = end.display();
-    assert_eq!(rt; display, Object { id: 1, birth: 0 });
-    assert_eq!(rt; end.live(display), Some((Iface(0), 1)));
-    assert_eq!(rt; end.live(Object { id: 1, birth: 1 }), None);
-    assert_eq!(rt; end.live(Object { id: 2, birth: 1 }), None);
-    assert_eq!(rt;
-        end.in_room(),
-        Fed {
-            bytes: 4096,
-            tokens: 20
-        }
-    );
-    assert!(rt; end.is_drained());
-    assert_eq!(rt;
-        end.feed(b"abc", &[7]),
-        Fed {
-            bytes: 3,
-            tokens: 1
-        }
-    );
-    assert_eq!(rt;
-        end.in_room(),
-        Fed {
-            bytes: 4093,
-            tokens: 19
-        }
-    );
-    assert!(rt; !end.is_drained());
-    assert_eq!(rt;
-        end.goes(10, 10),
-        Taken {
-            bytes: 0,
-            tokens: 0
-        }
-    );
+    assert!(rt; begins(&mut end));
     Ok(())
+}
+
+/// Whether an end is made, with nothing to read or to go, with the allocation of this number
+/// refused.
+fn is_made(memory: &RefusingAllocator, tables: &Tables, number: u64) -> Result<bool, AllocError> {
+    let alloc = memory.clone()?;
+    memory.refuse_nth(number);
+    match Core::<MapTable<RefusingAllocator>>::new(alloc, tables, SIZES) {
+        Ok(end) => Ok(end.is_drained()),
+        Err(_) => Ok(false),
+    }
+}
+
+/// Whether it is refused just where one of its allocations is, and made in the end.
+fn is_made_in_the_end(memory: &RefusingAllocator, tables: &Tables) -> Result<bool, AllocError> {
+    for number in 0u64..100 {
+        let is_made = is_made(memory, tables, number)?;
+        if is_made == memory.has_refused() {
+            return Ok(false);
+        }
+        if is_made {
+            return Ok(true);
+        }
+    }
+    Ok(false)
 }
 
 // Each allocation of `new` is refused in turn.
@@ -59,18 +88,6 @@ fn a_new_end_has_the_display_alone(rt: HostRuntime) -> Result<(), Fail> {
 fn an_end_is_refused_each_of_its_allocations(rt: HostRuntime) -> Result<(), Fail> {
     let tables = Tables::core(rt.alloc())?;
     let memory = RefusingAllocator::new(rt.alloc())?;
-    let mut granted = None;
-    for number in 0u64..100 {
-        let alloc = memory.clone()?;
-        memory.refuse_nth(number);
-        if let Ok(end) = Core::<MapTable<RefusingAllocator>>::new(alloc, &tables, SIZES) {
-            assert!(rt; end.is_drained());
-            assert!(rt; !memory.has_refused());
-            granted = Some(number);
-            break;
-        }
-        assert!(rt; memory.has_refused());
-    }
-    assert!(rt; granted.is_some());
+    assert!(rt; is_made_in_the_end(&memory, &tables)?);
     Ok(())
 }
