@@ -62,6 +62,7 @@ fn ends_by_an_error(
     tables: &Tables,
     pair: &mut Plain<'_>,
 ) -> Result<bool, AllocError> {
+    set_up(alloc, pair)?;
     let is_read = reads_the_error(alloc, pair)?;
     let is_over = is_answered(alloc, pair, &FAILED)?;
     // the error itself is lawful
@@ -70,9 +71,7 @@ fn ends_by_an_error(
 
 #[test]
 fn an_error_ends_the_session(rt: HostRuntime) -> Result<(), Fail> {
-    let tables = Tables::core(rt.alloc())?;
-    let mut pair = set_up(rt.alloc(), &tables)?;
-    assert!(rt; ends_by_an_error(rt.alloc(), &tables, &mut pair)?);
+    assert!(rt; holds_of_pair(rt.alloc(), ends_by_an_error)?);
     Ok(())
 }
 
@@ -92,7 +91,12 @@ const POSTED: [(Step, Said); 5] = [
 ];
 
 /// Whether the first error that is accepted sets the mark.
-fn sets_the_mark(alloc: Global, pair: &mut Plain<'_>) -> Result<bool, AllocError> {
+fn sets_the_mark(
+    alloc: Global,
+    _tables: &Tables,
+    pair: &mut Plain<'_>,
+) -> Result<bool, AllocError> {
+    set_up(alloc, pair)?;
     let is_refused = is_answered(alloc, pair, &TOO_LONG)?;
     let has_no_mark = pair.ended_at().is_none();
     let is_posted = is_answered(alloc, pair, &POSTED)?;
@@ -103,9 +107,7 @@ fn sets_the_mark(alloc: Global, pair: &mut Plain<'_>) -> Result<bool, AllocError
 
 #[test]
 fn the_first_error_sets_the_mark(rt: HostRuntime) -> Result<(), Fail> {
-    let tables = Tables::core(rt.alloc())?;
-    let mut pair = set_up(rt.alloc(), &tables)?;
-    assert!(rt; sets_the_mark(rt.alloc(), &mut pair)?);
+    assert!(rt; holds_of_pair(rt.alloc(), sets_the_mark)?);
     Ok(())
 }
 
@@ -133,6 +135,7 @@ fn keeps_what_was_before(
     tables: &Tables,
     pair: &mut Plain<'_>,
 ) -> Result<bool, AllocError> {
+    set_up(alloc, pair)?;
     let _ = run(alloc, pair, &CARRIED_AND_POSTED)?;
     let before = pair.recording().to_text()?;
     turn(alloc, pair)?;
@@ -151,8 +154,6 @@ fn keeps_what_was_before(
 
 #[test]
 fn what_was_recorded_before_an_error_stays_and_is_lawful(rt: HostRuntime) -> Result<(), Fail> {
-    let tables = Tables::core(rt.alloc())?;
-    let mut pair = set_up(rt.alloc(), &tables)?;
-    assert!(rt; keeps_what_was_before(rt.alloc(), &tables, &mut pair)?);
+    assert!(rt; holds_of_pair(rt.alloc(), keeps_what_was_before)?);
     Ok(())
 }

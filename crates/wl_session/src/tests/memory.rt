@@ -6,41 +6,61 @@ use wl_objects::SendError;
 
 type Short<'t> = Pair<'t, MapTable<RefusingAllocator>>;
 
-/// wl_display.sync.
-fn sync(memory: &RefusingAllocator) -> Result<Move<RefusingAllocator>, AllocError> {
-    let args = vec![in memory.clone()?; SendArg::New]?;
-    Ok(Move::ClientSend {
-        target: DISPLAY,
-        opcode: 0,
-        args,
-    })
+/// Whether this holds over an allocator that refuses none.
+fn holds_over<F: FnOnce(&RefusingAllocator, &Tables) -> Result<bool, AllocError>>(
+    alloc: Global,
+    scene: F,
+) -> Result<bool, AllocError>
+    requires { F.IsAlwaysCallable scene }
+{
+    let tables = Tables::core(alloc)?;
+    let memory = RefusingAllocator::new(alloc)?;
+    scene(&memory, &tables)
+}
+
+/// Whether this holds of a fresh pair over this allocator.
+fn holds_of_short<F: FnOnce(&RefusingAllocator, &mut Short<'_>) -> Result<bool, AllocError>>(
+    memory: &RefusingAllocator,
+    tables: &Tables,
+    scene: F,
+) -> Result<bool, AllocError>
+    requires { F.IsAlwaysCallable scene }
+{
+    let mut pair = Short::new(memory.clone()?, tables, SIZES, SIZES)?;
+    scene(memory, &mut pair)
+}
+
+fn is_fresh(_memory: &RefusingAllocator, pair: &mut Short<'_>) -> Result<bool, AllocError> {
+    Ok(pair.drained() && pair.agree())
 }
 
 /// Whether a pair is made with the allocation of this number refused.
-fn is_made(memory: &RefusingAllocator, tables: &Tables, number: u64) -> Result<bool, AllocError> {
-    let alloc = memory.clone()?;
+fn is_made(memory: &RefusingAllocator, tables: &Tables, number: u64) -> bool {
     memory.refuse_nth(number);
-    match Short::new(alloc, tables, SIZES, SIZES) {
-        Ok(pair) => Ok(pair.drained() && pair.agree()),
-        Err(_) => Ok(false),
+    match holds_of_short(memory, tables, is_fresh) {
+        Ok(is_fresh) => is_fresh,
+        Err(_) => false,
     }
 }
 
-#[test]
-fn a_pair_is_refused_each_of_its_allocations(rt: HostRuntime) -> Result<(), Fail> {
-    let tables = Tables::core(rt.alloc())?;
-    let memory = RefusingAllocator::new(rt.alloc())?;
+/// Whether a pair is made as soon as none of its allocations is refused, and there are some.
+fn is_made_at_last(memory: &RefusingAllocator, tables: &Tables) -> Result<bool, AllocError> {
+    let mut is_so = true;
     let mut granted = None;
     for number in 0u64..100 {
-        let is_made = is_made(&memory, &tables, number)?;
-        assert_eq!(rt; is_made, !memory.has_refused());
+        let is_made = is_made(memory, tables, number);
+        is_so = is_made != memory.has_refused() && is_so;
         if is_made {
             granted = Some(number);
             break;
         }
     }
-    assert!(rt; granted.is_some());
-    assert_ne!(rt; granted, Some(0));
+    Ok(is_so && granted.is_some() && granted != Some(0))
+}
+
+#[test]
+fn a_pair_is_refused_each_of_its_allocations(rt: HostRuntime) -> Result<(), Fail> {
+    assert!(rt; holds_over(rt.alloc(), is_made_at_last)?);
     Ok(())
 }
 
@@ -103,6 +123,58 @@ impl Refusals {
     }
 }
 
+/// Whether so many pieces are recorded, nothing or something waits, and the client has so many
+/// objects.
+fn is_at(pair: &Short<'_>, pieces: usize, is_drained: bool, objects: usize) -> bool {
+    pair.recording().pieces().len() == pieces
+        && pair.drained() == is_drained
+        && pair.len() == objects
+}
+
+/// Refuses each allocation of these moves in turn, until they are answered. Whether one was refused
+/// each time before, and the pair stayed where it is.
+fn refuse_in_turn(
+    memory: &RefusingAllocator,
+    pair: &mut Short<'_>,
+    moves: &[Move<RefusingAllocator>],
+    refusals: &mut Refusals,
+) -> bool {
+    let pieces = pair.recording().pieces().len();
+    let is_drained = pair.drained();
+    let objects = pair.len();
+    let mut is_so = true;
+    for number in 0u64..100 {
+        let said = said(memory, pair, moves, number);
+        if refusals.count(said) {
+            break;
+        }
+        is_so = memory.has_refused() && is_at(pair, pieces, is_drained, objects) && is_so;
+    }
+    is_so
+}
+
+/// Whether these moves are refused both ways before they are answered this, and the pair stays where
+/// it is until then.
+fn is_refused_until(
+    memory: &RefusingAllocator,
+    pair: &mut Short<'_>,
+    moves: &[Move<RefusingAllocator>],
+    said: Said,
+) -> bool {
+    let mut refusals = Refusals::NONE;
+    refuse_in_turn(memory, pair, moves, &mut refusals) && refusals.ended_in(said)
+}
+
+/// wl_display.sync.
+fn sync(memory: &RefusingAllocator) -> Result<Move<RefusingAllocator>, AllocError> {
+    let args = vec![in memory.clone()?; SendArg::New]?;
+    Ok(Move::ClientSend {
+        target: DISPLAY,
+        opcode: 0,
+        args,
+    })
+}
+
 /// Whether just two pieces were carried, with these bytes.
 fn was_recorded(pair: &Short<'_>, first: &[u8], second: &[u8]) -> bool {
     match pair.recording().pieces() {
@@ -111,45 +183,45 @@ fn was_recorded(pair: &Short<'_>, first: &[u8], second: &[u8]) -> bool {
     }
 }
 
+/// The client asks for a sync, of which three bytes go.
+fn begin(memory: &RefusingAllocator, pair: &mut Short<'_>) -> Result<(), AllocError> {
+    let moves = [sync(memory)?, Move::CarryToServer(3)];
+    let _ = pair.run(&moves)?;
+    Ok(())
+}
+
+/// Whether a carry is refused each of its allocations, and then it is one piece.
+fn carries_at_last(memory: &RefusingAllocator, pair: &mut Short<'_>) -> Result<bool, AllocError> {
+    begin(memory, pair)?;
+    let begins = is_at(pair, 1, false, 2);
+    let is_refused = is_refused_until(memory, pair, &[Move::CarryToServer(5)], Said::Moved(5, 0));
+    Ok(begins && is_refused && was_recorded(pair, b"\x01\0\0", b"\0\0\0\x0c\0"))
+}
+
+fn refuses_a_carry(memory: &RefusingAllocator, tables: &Tables) -> Result<bool, AllocError> {
+    holds_of_short(memory, tables, carries_at_last)
+}
+
 #[test]
 fn a_carry_is_refused_each_of_its_allocations(rt: HostRuntime) -> Result<(), Fail> {
-    let tables = Tables::core(rt.alloc())?;
-    let memory = RefusingAllocator::new(rt.alloc())?;
-    let mut pair = Short::new(memory.clone()?, &tables, SIZES, SIZES)?;
-    let begin = [sync(&memory)?, Move::CarryToServer(3)];
-    let _ = pair.run(&begin)?;
-    let carry = [Move::CarryToServer(5)];
-    let mut refusals = Refusals::NONE;
-    for number in 0u64..100 {
-        let said = said(&memory, &mut pair, &carry, number);
-        if refusals.count(said) {
-            break;
-        }
-        assert!(rt; memory.has_refused());
-        assert_eq!(rt; pair.recording().pieces().len(), 1);
-    }
-    assert!(rt; refusals.ended_in(Said::Moved(5, 0)));
-    assert!(rt; was_recorded(&pair, b"\x01\0\0", b"\0\0\0\x0c\0"));
+    assert!(rt; holds_over(rt.alloc(), refuses_a_carry)?);
     Ok(())
+}
+
+/// Whether a request is refused each of its allocations, and then it makes an object.
+fn sends_at_last(memory: &RefusingAllocator, pair: &mut Short<'_>) -> Result<bool, AllocError> {
+    let begins = is_at(pair, 0, true, 1);
+    let made = Said::Made(Object { id: 2, birth: 1 });
+    let is_refused = is_refused_until(memory, pair, &[sync(memory)?], made);
+    Ok(begins && is_refused && pair.len() == 2)
+}
+
+fn refuses_a_request(memory: &RefusingAllocator, tables: &Tables) -> Result<bool, AllocError> {
+    holds_of_short(memory, tables, sends_at_last)
 }
 
 #[test]
 fn a_request_is_refused_each_of_its_allocations(rt: HostRuntime) -> Result<(), Fail> {
-    let tables = Tables::core(rt.alloc())?;
-    let memory = RefusingAllocator::new(rt.alloc())?;
-    let mut pair = Short::new(memory.clone()?, &tables, SIZES, SIZES)?;
-    let sync = [sync(&memory)?];
-    let mut refusals = Refusals::NONE;
-    for number in 0u64..100 {
-        let said = said(&memory, &mut pair, &sync, number);
-        if refusals.count(said) {
-            break;
-        }
-        assert!(rt; memory.has_refused());
-        assert!(rt; pair.drained());
-        assert_eq!(rt; pair.len(), 1);
-    }
-    assert!(rt; refusals.ended_in(Said::Made(Object { id: 2, birth: 1 })));
-    assert_eq!(rt; pair.len(), 2);
+    assert!(rt; holds_over(rt.alloc(), refuses_a_request)?);
     Ok(())
 }

@@ -10,6 +10,7 @@ fn makes_all_as_expected(
     tables: &Tables,
     pair: &mut Plain<'_>,
 ) -> Result<bool, AllocError> {
+    tell(alloc, pair)?;
     let is_made = is_answered(alloc, pair, &BINDING)?;
     // what was sent is not read yet
     let waits = !pair.drained() && !pair.agree();
@@ -20,9 +21,7 @@ fn makes_all_as_expected(
 
 #[test]
 fn a_pair_is_set_up(rt: HostRuntime) -> Result<(), Fail> {
-    let tables = Tables::core(rt.alloc())?;
-    let mut pair = told(rt.alloc(), &tables)?;
-    assert!(rt; makes_all_as_expected(rt.alloc(), &tables, &mut pair)?);
+    assert!(rt; holds_of_pair(rt.alloc(), makes_all_as_expected)?);
     Ok(())
 }
 
@@ -85,6 +84,7 @@ fn names_the_dead(
     tables: &Tables,
     pair: &mut Plain<'_>,
 ) -> Result<bool, AllocError> {
+    set_up(alloc, pair)?;
     let is_dead = enters_the_dead(alloc, pair)?;
     let is_left = is_answered(alloc, pair, &LEFT)?;
     let is_deleted = was_carried(pair, b"\x01\0\0\0\x01\0\x0c\0\x04\0\0\0");
@@ -95,9 +95,7 @@ fn names_the_dead(
 
 #[test]
 fn an_event_names_an_object_that_is_destroyed(rt: HostRuntime) -> Result<(), Fail> {
-    let tables = Tables::core(rt.alloc())?;
-    let mut pair = set_up(rt.alloc(), &tables)?;
-    assert!(rt; names_the_dead(rt.alloc(), &tables, &mut pair)?);
+    assert!(rt; holds_of_pair(rt.alloc(), names_the_dead)?);
     Ok(())
 }
 
@@ -150,6 +148,7 @@ fn gives_each_its_token(
     tables: &Tables,
     pair: &mut Plain<'_>,
 ) -> Result<bool, AllocError> {
+    set_up(alloc, pair)?;
     let is_discarded = is_answered(alloc, pair, &RELEASING)?;
     let is_read = reads_keymap(alloc, pair, 8)?;
     let is_released = is_answered(alloc, pair, &RELEASED)?;
@@ -160,9 +159,7 @@ fn gives_each_its_token(
 
 #[test]
 fn an_event_for_a_destroyed_object_gives_its_token(rt: HostRuntime) -> Result<(), Fail> {
-    let tables = Tables::core(rt.alloc())?;
-    let mut pair = set_up(rt.alloc(), &tables)?;
-    assert!(rt; gives_each_its_token(rt.alloc(), &tables, &mut pair)?);
+    assert!(rt; holds_of_pair(rt.alloc(), gives_each_its_token)?);
     Ok(())
 }
 
@@ -201,9 +198,7 @@ fn uses_an_id_again(
 
 #[test]
 fn an_id_is_used_again(rt: HostRuntime) -> Result<(), Fail> {
-    let tables = Tables::core(rt.alloc())?;
-    let mut pair = Plain::new(rt.alloc(), &tables, SIZES, SIZES)?;
-    assert!(rt; uses_an_id_again(rt.alloc(), &tables, &mut pair)?);
+    assert!(rt; holds_of_pair(rt.alloc(), uses_an_id_again)?);
     Ok(())
 }
 
@@ -226,6 +221,7 @@ fn drops_a_callback(
     tables: &Tables,
     pair: &mut Plain<'_>,
 ) -> Result<bool, AllocError> {
+    set_up(alloc, pair)?;
     let is_dropped = is_answered(alloc, pair, &DROPPED)?;
     let has_ended = has_ended(alloc, tables, pair, 8, lawful(8, 3))?;
     Ok(is_dropped && has_ended)
@@ -233,9 +229,7 @@ fn drops_a_callback(
 
 #[test]
 fn a_callback_ends_without_its_event(rt: HostRuntime) -> Result<(), Fail> {
-    let tables = Tables::core(rt.alloc())?;
-    let mut pair = set_up(rt.alloc(), &tables)?;
-    assert!(rt; drops_a_callback(rt.alloc(), &tables, &mut pair)?);
+    assert!(rt; holds_of_pair(rt.alloc(), drops_a_callback)?);
     Ok(())
 }
 
@@ -291,6 +285,7 @@ fn binds_what_is_withdrawn(
     tables: &Tables,
     pair: &mut Plain<'_>,
 ) -> Result<bool, AllocError> {
+    set_up(alloc, pair)?;
     let is_withdrawn = is_answered(alloc, pair, &WITHDRAWN)?;
     let is_bound = reads_bind(alloc, pair, NEXT)?;
     let has_ended = has_ended(alloc, tables, pair, 9, lawful(8, 2))?;
@@ -299,8 +294,6 @@ fn binds_what_is_withdrawn(
 
 #[test]
 fn a_withdrawn_global_is_still_bound(rt: HostRuntime) -> Result<(), Fail> {
-    let tables = Tables::core(rt.alloc())?;
-    let mut pair = set_up(rt.alloc(), &tables)?;
-    assert!(rt; binds_what_is_withdrawn(rt.alloc(), &tables, &mut pair)?);
+    assert!(rt; holds_of_pair(rt.alloc(), binds_what_is_withdrawn)?);
     Ok(())
 }
