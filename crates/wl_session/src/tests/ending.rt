@@ -90,19 +90,33 @@ const POSTED: [(Step, Said); 5] = [
     (Step::Fail(DISPLAY, 41), Said::Refused(SendError::Failed)),
 ];
 
-/// Whether the first error that is accepted sets the mark.
+/// Whether a text that is too long is refused, and sets no mark.
+fn is_too_long(alloc: Global, pair: &mut Plain<'_>) -> Result<bool, AllocError> {
+    let is_refused = is_answered(alloc, pair, &TOO_LONG)?;
+    Ok(is_refused && pair.ended_at().is_none())
+}
+
+/// Whether the first error that is accepted sets the mark, and the carries after it do not move it.
+fn is_marked(alloc: Global, pair: &mut Plain<'_>) -> Result<bool, AllocError> {
+    let is_posted = is_answered(alloc, pair, &POSTED)?;
+    Ok(is_posted && has_mark(pair, PIECES) && pair.recording().pieces().len() == PIECES + 2)
+}
+
+fn has_mark(pair: &Plain<'_>, pieces: usize) -> bool {
+    match pair.ended_at() {
+        Some(mark) => mark == pieces,
+        None => false,
+    }
+}
+
 fn sets_the_mark(
     alloc: Global,
     _tables: &Tables,
     pair: &mut Plain<'_>,
 ) -> Result<bool, AllocError> {
     set_up(alloc, pair)?;
-    let is_refused = is_answered(alloc, pair, &TOO_LONG)?;
-    let has_no_mark = pair.ended_at().is_none();
-    let is_posted = is_answered(alloc, pair, &POSTED)?;
-    let has_mark = pair.ended_at() == Some(PIECES);
-    let pieces = pair.recording().pieces().len();
-    Ok(is_refused && has_no_mark && is_posted && has_mark && pieces == PIECES + 2)
+    let is_too_long = is_too_long(alloc, pair)?;
+    Ok(is_marked(alloc, pair)? && is_too_long)
 }
 
 #[test]
@@ -128,8 +142,54 @@ const CARRIED_AND_POSTED: [Step; 3] = [
     Step::Fail(DISPLAY, 6),
 ];
 
-/// Whether all that was recorded before an error stays as it is, is what the mark counts, and is
-/// lawful.
+/// Whether this is the text of a recording.
+fn has_text(recording: &Recording, text: &[u8]) -> Result<bool, AllocError> {
+    let told = recording.to_text()?;
+    Ok(told.as_slice() == text)
+}
+
+/// Whether the text of a recording begins with this, and goes on.
+fn goes_on(recording: &Recording, begin: &[u8]) -> Result<bool, AllocError> {
+    let text = recording.to_text()?;
+    Ok(text.len() > begin.len() && text.as_slice().starts_with(begin))
+}
+
+/// Whether what the mark counts has this text, and is lawful.
+fn is_before_the_mark(
+    alloc: Global,
+    tables: &Tables,
+    recording: &Recording,
+    text: &[u8],
+) -> Result<bool, AllocError> {
+    let begin = begin_of(alloc, recording, PIECES + 1)?;
+    is_lawful_text(alloc, tables, &begin, text)
+}
+
+fn is_lawful_text(
+    alloc: Global,
+    tables: &Tables,
+    recording: &Recording,
+    text: &[u8],
+) -> Result<bool, AllocError> {
+    let has_text = has_text(recording, text)?;
+    let verdict = check(alloc, recording, tables)?;
+    Ok(has_text && verdict == lawful(7, 3))
+}
+
+/// Whether all that was recorded before an error, which is this, stays as it is, is what the mark
+/// counts, and is lawful.
+fn keeps(
+    alloc: Global,
+    tables: &Tables,
+    pair: &mut Plain<'_>,
+    before: &[u8],
+) -> Result<bool, AllocError> {
+    turn(alloc, pair)?;
+    let goes_on = goes_on(pair.recording(), before)?;
+    let is_before = is_before_the_mark(alloc, tables, pair.recording(), before)?;
+    Ok(has_mark(pair, PIECES + 1) && goes_on && is_before)
+}
+
 fn keeps_what_was_before(
     alloc: Global,
     tables: &Tables,
@@ -138,18 +198,7 @@ fn keeps_what_was_before(
     set_up(alloc, pair)?;
     let _ = run(alloc, pair, &CARRIED_AND_POSTED)?;
     let before = pair.recording().to_text()?;
-    turn(alloc, pair)?;
-    let after = pair.recording().to_text()?;
-    let begin = begin_of(alloc, pair.recording(), PIECES + 1)?;
-    let told = begin.to_text()?;
-    let verdict = check(alloc, &begin, tables)?;
-    Ok(
-        pair.ended_at() == Some(PIECES + 1)
-            && before.len() < after.len()
-            && after.as_slice().starts_with(before.as_slice())
-            && told.as_slice() == before.as_slice()
-            && verdict == lawful(7, 3),
-    )
+    keeps(alloc, tables, pair, before.as_slice())
 }
 
 #[test]
