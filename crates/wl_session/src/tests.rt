@@ -134,9 +134,25 @@ fn tell(alloc: Global, pair: &mut Plain<'_>) -> Result<(), AllocError> {
     turn(alloc, pair)
 }
 
-/// Whether this holds of a fresh pair with boxes of these sizes.
+/// Whether this holds of a fresh pair over these tables, with boxes of these sizes.
 // (What owns a pair drops it at each way out, and each of these drops is a long proof. So no other
-// function owns one: each test does all it does behind a `&mut`, in a scene that it passes here.)
+// function owns one: each test does all it does behind a `&mut`, in a scene that it passes.)
+fn holds_over<F: FnOnce(Global, &Tables, &mut Plain<'_>) -> Result<bool, AllocError>>(
+    alloc: Global,
+    tables: &Tables,
+    client: Sizes,
+    server: Sizes,
+    scene: F,
+) -> Result<bool, AllocError>
+    requires callable { F.IsAlwaysCallable scene }
+    requires client { AreSizes client }
+    requires server { AreSizes server }
+{
+    let mut pair = Plain::new(alloc, tables, client, server)?;
+    scene(alloc, tables, &mut pair)
+}
+
+/// Whether this holds of a fresh pair with boxes of these sizes.
 fn holds_between<F: FnOnce(Global, &Tables, &mut Plain<'_>) -> Result<bool, AllocError>>(
     alloc: Global,
     client: Sizes,
@@ -148,8 +164,7 @@ fn holds_between<F: FnOnce(Global, &Tables, &mut Plain<'_>) -> Result<bool, Allo
     requires server { AreSizes server }
 {
     let tables = Tables::core(alloc)?;
-    let mut pair = Plain::new(alloc, &tables, client, server)?;
-    scene(alloc, &tables, &mut pair)
+    holds_over(alloc, &tables, client, server, scene)
 }
 
 /// Whether this holds of a fresh pair with large boxes.

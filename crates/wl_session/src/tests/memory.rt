@@ -7,7 +7,7 @@ use wl_objects::SendError;
 type Short<'t> = Pair<'t, MapTable<RefusingAllocator>>;
 
 /// Whether this holds over an allocator that refuses none.
-fn holds_over<F: FnOnce(&RefusingAllocator, &Tables) -> Result<bool, AllocError>>(
+fn holds_refusing<F: FnOnce(&RefusingAllocator, &Tables) -> Result<bool, AllocError>>(
     alloc: Global,
     scene: F,
 ) -> Result<bool, AllocError>
@@ -60,7 +60,7 @@ fn is_made_at_last(memory: &RefusingAllocator, tables: &Tables) -> Result<bool, 
 
 #[test]
 fn a_pair_is_refused_each_of_its_allocations(rt: HostRuntime) -> Result<(), Fail> {
-    assert!(rt; holds_over(rt.alloc(), is_made_at_last)?);
+    assert!(rt; holds_refusing(rt.alloc(), is_made_at_last)?);
     Ok(())
 }
 
@@ -123,32 +123,58 @@ impl Refusals {
     }
 }
 
-/// Whether so many pieces are recorded, nothing or something waits, and the client has so many
-/// objects.
-fn is_at(pair: &Short<'_>, pieces: usize, is_drained: bool, objects: usize) -> bool {
-    pair.recording().pieces().len() == pieces
-        && pair.drained() == is_drained
-        && pair.len() == objects
+/// How many pieces are recorded, whether nothing waits, and how many objects the client has.
+#[derive(Clone, Copy)]
+struct Place {
+    pieces: usize,
+    is_drained: bool,
+    objects: usize,
 }
 
-/// Refuses each allocation of these moves in turn, until they are answered. Whether one was refused
-/// each time before, and the pair stayed where it is.
+fn place_of(pair: &Short<'_>) -> Place {
+    Place {
+        pieces: pair.recording().pieces().len(),
+        is_drained: pair.drained(),
+        objects: pair.len(),
+    }
+}
+
+/// Whether a pair is there.
+fn is_at(pair: &Short<'_>, place: Place) -> bool {
+    let here = place_of(pair);
+    here.pieces == place.pieces
+        && here.is_drained == place.is_drained
+        && here.objects == place.objects
+}
+
+/// Does these moves with the allocation of this number refused. Whether they are answered, or else
+/// it was refused and the pair stayed where it was.
+fn is_answered_or_stays(
+    memory: &RefusingAllocator,
+    pair: &mut Short<'_>,
+    moves: &[Move<RefusingAllocator>],
+    number: u64,
+    refusals: &mut Refusals,
+) -> bool {
+    let place = place_of(pair);
+    let said = said(memory, pair, moves, number);
+    refusals.count(said) || memory.has_refused() && is_at(pair, place)
+}
+
+/// Refuses each allocation of these moves in turn, until they are answered. Whether the pair stayed
+/// where it was until then.
 fn refuse_in_turn(
     memory: &RefusingAllocator,
     pair: &mut Short<'_>,
     moves: &[Move<RefusingAllocator>],
     refusals: &mut Refusals,
 ) -> bool {
-    let pieces = pair.recording().pieces().len();
-    let is_drained = pair.drained();
-    let objects = pair.len();
     let mut is_so = true;
     for number in 0u64..100 {
-        let said = said(memory, pair, moves, number);
-        if refusals.count(said) {
+        is_so = is_answered_or_stays(memory, pair, moves, number, refusals) && is_so;
+        if refusals.granted.is_some() {
             break;
         }
-        is_so = memory.has_refused() && is_at(pair, pieces, is_drained, objects) && is_so;
     }
     is_so
 }
@@ -167,12 +193,29 @@ fn is_refused_until(
 
 /// wl_display.sync.
 fn sync(memory: &RefusingAllocator) -> Result<Move<RefusingAllocator>, AllocError> {
-    let args = vec![in memory.clone()?; SendArg::New]?;
+    let mut args = Vec::new(memory.clone()?);
+    args.push(SendArg::New)?;
     Ok(Move::ClientSend {
         target: DISPLAY,
         opcode: 0,
         args,
     })
+}
+
+type Moves = Vec<Move<RefusingAllocator>, RefusingAllocator>;
+
+/// A sync alone.
+fn only_sync(memory: &RefusingAllocator) -> Result<Moves, AllocError> {
+    let mut moves = Vec::new(memory.clone()?);
+    moves.push(sync(memory)?)?;
+    Ok(moves)
+}
+
+/// A carry alone.
+fn only_carry(memory: &RefusingAllocator, most: usize) -> Result<Moves, AllocError> {
+    let mut moves = Vec::new(memory.clone()?);
+    moves.push(Move::CarryToServer(most))?;
+    Ok(moves)
 }
 
 /// Whether just two pieces were carried, with these bytes.
@@ -185,17 +228,31 @@ fn was_recorded(pair: &Short<'_>, first: &[u8], second: &[u8]) -> bool {
 
 /// The client asks for a sync, of which three bytes go.
 fn begin(memory: &RefusingAllocator, pair: &mut Short<'_>) -> Result<(), AllocError> {
-    let moves = [sync(memory)?, Move::CarryToServer(3)];
-    let _ = pair.run(&moves)?;
+    let mut moves = only_sync(memory)?;
+    moves.push(Move::CarryToServer(3))?;
+    let _ = pair.run(moves.as_slice())?;
     Ok(())
 }
+
+/// Whether the rest is refused each of its allocations, and then it goes.
+fn carries_the_rest(memory: &RefusingAllocator, pair: &mut Short<'_>) -> Result<bool, AllocError> {
+    let moves = only_carry(memory, 5)?;
+    Ok(is_refused_until(memory, pair, moves.as_slice(), Said::Moved(5, 0)))
+}
+
+/// One piece is recorded, and a request waits in part.
+const BEGUN: Place = Place {
+    pieces: 1,
+    is_drained: false,
+    objects: 2,
+};
 
 /// Whether a carry is refused each of its allocations, and then it is one piece.
 fn carries_at_last(memory: &RefusingAllocator, pair: &mut Short<'_>) -> Result<bool, AllocError> {
     begin(memory, pair)?;
-    let begins = is_at(pair, 1, false, 2);
-    let is_refused = is_refused_until(memory, pair, &[Move::CarryToServer(5)], Said::Moved(5, 0));
-    Ok(begins && is_refused && was_recorded(pair, b"\x01\0\0", b"\0\0\0\x0c\0"))
+    let has_begun = is_at(pair, BEGUN);
+    let carries = carries_the_rest(memory, pair)?;
+    Ok(has_begun && carries && was_recorded(pair, b"\x01\0\0", b"\0\0\0\x0c\0"))
 }
 
 fn refuses_a_carry(memory: &RefusingAllocator, tables: &Tables) -> Result<bool, AllocError> {
@@ -204,16 +261,24 @@ fn refuses_a_carry(memory: &RefusingAllocator, tables: &Tables) -> Result<bool, 
 
 #[test]
 fn a_carry_is_refused_each_of_its_allocations(rt: HostRuntime) -> Result<(), Fail> {
-    assert!(rt; holds_over(rt.alloc(), refuses_a_carry)?);
+    assert!(rt; holds_refusing(rt.alloc(), refuses_a_carry)?);
     Ok(())
 }
 
+/// Nothing is recorded, and nothing waits.
+const FRESH: Place = Place {
+    pieces: 0,
+    is_drained: true,
+    objects: 1,
+};
+
 /// Whether a request is refused each of its allocations, and then it makes an object.
 fn sends_at_last(memory: &RefusingAllocator, pair: &mut Short<'_>) -> Result<bool, AllocError> {
-    let begins = is_at(pair, 0, true, 1);
+    let is_fresh = is_at(pair, FRESH);
+    let moves = only_sync(memory)?;
     let made = Said::Made(Object { id: 2, birth: 1 });
-    let is_refused = is_refused_until(memory, pair, &[sync(memory)?], made);
-    Ok(begins && is_refused && pair.len() == 2)
+    let is_refused = is_refused_until(memory, pair, moves.as_slice(), made);
+    Ok(is_fresh && is_refused && pair.len() == 2)
 }
 
 fn refuses_a_request(memory: &RefusingAllocator, tables: &Tables) -> Result<bool, AllocError> {
@@ -222,6 +287,6 @@ fn refuses_a_request(memory: &RefusingAllocator, tables: &Tables) -> Result<bool
 
 #[test]
 fn a_request_is_refused_each_of_its_allocations(rt: HostRuntime) -> Result<(), Fail> {
-    assert!(rt; holds_over(rt.alloc(), refuses_a_request)?);
+    assert!(rt; holds_refusing(rt.alloc(), refuses_a_request)?);
     Ok(())
 }

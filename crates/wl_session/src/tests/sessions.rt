@@ -4,6 +4,12 @@ use wl_client::Incoming;
 use wl_objects::{Got, Named, SendError};
 use wl_wire::Fixed;
 
+/// Whether all is made as it should be, and not read yet.
+fn makes_all(alloc: Global, pair: &mut Plain<'_>) -> Result<bool, AllocError> {
+    let is_made = is_answered(alloc, pair, &BINDING)?;
+    Ok(is_made && !pair.drained() && !pair.agree())
+}
+
 /// Whether all is made as it should be, and both ends agree once it is read.
 fn makes_all_as_expected(
     alloc: Global,
@@ -11,12 +17,10 @@ fn makes_all_as_expected(
     pair: &mut Plain<'_>,
 ) -> Result<bool, AllocError> {
     tell(alloc, pair)?;
-    let is_made = is_answered(alloc, pair, &BINDING)?;
-    // what was sent is not read yet
-    let waits = !pair.drained() && !pair.agree();
+    let is_made = makes_all(alloc, pair)?;
     turn(alloc, pair)?;
     let has_ended = has_ended(alloc, tables, pair, 8, lawful(7, 2))?;
-    Ok(is_made && waits && has_ended && pair.ended_at().is_none())
+    Ok(is_made && has_ended && pair.ended_at().is_none())
 }
 
 #[test]
@@ -37,17 +41,30 @@ fn is_enter(reply: Option<&Reply>, surface: Named) -> bool {
 
 fn are_enter(args: &[Got], surface: Named) -> bool {
     match args {
-        [
-            Got::Uint(serial),
-            Got::Obj(named),
-            Got::Fixed(x),
-            Got::Fixed(y),
-        ] => {
-            *serial == 1
-                && *named == surface
-                && *x == Fixed::from_raw(0)
-                && *y == Fixed::from_raw(0)
+        [serial, named, x, y] => {
+            is_uint(serial, 1) && is_object(named, surface) && is_zero(x) && is_zero(y)
         }
+        _ => false,
+    }
+}
+
+fn is_uint(arg: &Got, uint: u32) -> bool {
+    match arg {
+        Got::Uint(is) => *is == uint,
+        _ => false,
+    }
+}
+
+fn is_object(arg: &Got, object: Named) -> bool {
+    match arg {
+        Got::Obj(is) => *is == object,
+        _ => false,
+    }
+}
+
+fn is_zero(arg: &Got) -> bool {
+    match arg {
+        Got::Fixed(is) => *is == Fixed::from_raw(0),
         _ => false,
     }
 }
@@ -111,9 +128,14 @@ fn is_keymap(reply: Option<&Reply>, token: u32) -> bool {
 
 fn are_keymap(args: &[Got], token: u32) -> bool {
     match args {
-        [Got::Uint(format), Got::Fd(held), Got::Uint(size)] => {
-            *format == 1 && *held == token && *size == 10
-        }
+        [format, held, size] => { is_uint(format, 1) && is_token(held, token) && is_uint(size, 10) }
+        _ => false,
+    }
+}
+
+fn is_token(arg: &Got, token: u32) -> bool {
+    match arg {
+        Got::Fd(is) => *is == token,
         _ => false,
     }
 }
@@ -245,19 +267,19 @@ fn is_bound(reply: Option<&Reply>, object: Object) -> bool {
 
 fn are_bound(args: &[Got], made: Object) -> bool {
     match args {
-        [
-            Got::Uint(name),
-            Got::Bound {
-                iface,
-                version,
-                object,
-            },
-        ] => {
-            *name == 1
-                && iface.as_slice() == b"wl_compositor".as_slice()
-                && *version == 6
-                && *object == made
-        }
+        [name, bound] => is_uint(name, 1) && is_compositor(bound, made),
+        _ => false,
+    }
+}
+
+/// Whether it is a wl_compositor of version 6, as this object.
+fn is_compositor(arg: &Got, made: Object) -> bool {
+    match arg {
+        Got::Bound {
+            iface,
+            version,
+            object,
+        } => { iface.as_slice() == b"wl_compositor".as_slice() && *version == 6 && *object == made }
         _ => false,
     }
 }
