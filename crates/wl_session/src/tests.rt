@@ -5,7 +5,7 @@ use crate::{Pair, Reply, Verdict, check};
 use std::alloc::{AllocError, Global};
 use std::test::Fail;
 use wl_message::Sizes;
-use wl_objects::{MapTable, Object};
+use wl_objects::{MapTable, Object, Table};
 use wl_sigs::Tables;
 use wl_wire::Iface;
 
@@ -197,9 +197,20 @@ fn set_up(alloc: Global, pair: &mut Plain<'_>) -> Result<(), AllocError> {
     turn(alloc, pair)
 }
 
+/// Whether nothing waits.
+// (What these two are proved to mean is not used here, and is long where both are called.)
+fn is_drained<T: Table>(pair: &Pair<'_, T>) -> bool {
+    pair.drained()
+}
+
+/// Whether both ends have the same objects.
+fn agrees<T: Table>(pair: &Pair<'_, T>) -> bool {
+    pair.agree()
+}
+
 /// Whether nothing waits, and both ends have the same objects, so many.
 fn is_settled(pair: &Plain<'_>, objects: usize) -> bool {
-    pair.drained() && pair.agree() && pair.len() == objects
+    is_drained(pair) && agrees(pair) && pair.len() == objects
 }
 
 /// What is to be said of what was carried.

@@ -31,7 +31,7 @@ fn holds_of_short<F: FnOnce(&RefusingAllocator, &mut Short<'_>) -> Result<bool, 
 }
 
 fn is_fresh(_memory: &RefusingAllocator, pair: &mut Short<'_>) -> Result<bool, AllocError> {
-    Ok(pair.drained() && pair.agree())
+    Ok(is_drained(pair) && agrees(pair))
 }
 
 /// Whether a pair is made with the allocation of this number refused.
@@ -134,7 +134,7 @@ struct Place {
 fn place_of(pair: &Short<'_>) -> Place {
     Place {
         pieces: pair.recording().pieces().len(),
-        is_drained: pair.drained(),
+        is_drained: is_drained(pair),
         objects: pair.len(),
     }
 }

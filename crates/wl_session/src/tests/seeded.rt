@@ -237,7 +237,7 @@ fn settle(alloc: Global, pair: &mut Plain<'_>) -> Result<bool, AllocError> {
     let mut are_sound = true;
     for _ in 0..1000 {
         are_sound = carry_and_read(alloc, pair)? && are_sound;
-        if pair.drained() {
+        if is_drained(pair) {
             break;
         }
     }
@@ -267,11 +267,11 @@ fn agrees_in_the_end(
     let acts = act(alloc, pair, seed)?;
     let settles = settle(alloc, pair)?;
     let is_lawful = is_lawful(verdict(alloc, tables, pair)?, 100);
-    Ok(acts && settles && pair.drained() && pair.agree() && is_lawful)
+    Ok(acts && settles && is_drained(pair) && agrees(pair) && is_lawful)
 }
 
 /// The same of a fresh pair.
-fn agrees(alloc: Global, seed: u64) -> Result<bool, AllocError> {
+fn agrees_by(alloc: Global, seed: u64) -> Result<bool, AllocError> {
     holds_between(alloc, SMALL, SMALL, |alloc, tables, pair| {
         agrees_in_the_end(alloc, tables, pair, seed)
     })
@@ -280,7 +280,7 @@ fn agrees(alloc: Global, seed: u64) -> Result<bool, AllocError> {
 #[test]
 fn whatever_is_done_both_ends_agree_in_the_end(rt: HostRuntime) -> Result<(), Fail> {
     for seed in 1u64..4 {
-        assert!(rt; agrees(rt.alloc(), seed)?, "seed {seed}");
+        assert!(rt; agrees_by(rt.alloc(), seed)?, "seed {seed}");
     }
     Ok(())
 }

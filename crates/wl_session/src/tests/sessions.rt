@@ -7,7 +7,7 @@ use wl_wire::Fixed;
 /// Whether all is made as it should be, and not read yet.
 fn makes_all(alloc: Global, pair: &mut Plain<'_>) -> Result<bool, AllocError> {
     let is_made = is_answered(alloc, pair, &BINDING)?;
-    Ok(is_made && !pair.drained() && !pair.agree())
+    Ok(is_made && !is_drained(pair) && !agrees(pair))
 }
 
 /// Whether all is made as it should be, and both ends agree once it is read.
@@ -92,7 +92,7 @@ const LEFT: [(Step, Said); 5] = [
 /// Whether the enter names an object that is dead by now.
 fn enters_the_dead(alloc: Global, pair: &mut Plain<'_>) -> Result<bool, AllocError> {
     let replies = run(alloc, pair, &ENTERING)?;
-    Ok(is_enter(replies.last(), Named::Dead(SURFACE)) && !pair.agree())
+    Ok(is_enter(replies.last(), Named::Dead(SURFACE)) && !agrees(pair))
 }
 
 /// Whether a dead object is named, and then its id is used again.
