@@ -83,6 +83,7 @@ fn is_answered(
     Ok(is_so)
 }
 
+/// Whether the last of these replies says this.
 fn is_last(replies: &[Reply], said: Said) -> bool {
     match replies.last() {
         Some(reply) => say(reply) == said,

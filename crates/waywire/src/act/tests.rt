@@ -185,6 +185,7 @@ fn prints(alloc: Global, job: &Job, text: &[u8], status: u8, first: &[u8], last:
     answer == status && out.strip_prefix(first) == Some(last) && err.is_empty()
 }
 
+/// Whether each lawful session is traced and checked.
 fn prints_lawful(alloc: Global, trace: &Job, check: &Job) -> bool {
     let mut is_so = true;
     for (text, lines, verdict) in LAWFUL {
@@ -200,6 +201,7 @@ fn traces_and_checks_lawful_sessions(rt: HostRuntime) -> Result<(), Fail> {
     Ok(())
 }
 
+/// Whether each broken session is traced as far as it is lawful, and checked.
 fn prints_broken(alloc: Global, trace: &Job, check: &Job) -> bool {
     let mut is_so = true;
     for (text, lines, verdict) in BROKEN {
@@ -223,11 +225,13 @@ fn says<R: Read>(alloc: Global, job: &Job, file: &mut R, status: u8, said: &[u8]
     answer == status && out.is_empty() && err.as_slice() == said
 }
 
+/// The same of a file of this text.
 fn says_of(alloc: Global, job: &Job, text: &[u8], status: u8, said: &[u8]) -> bool {
     let mut file = text;
     says(alloc, job, &mut file, status, said)
 }
 
+/// Whether both jobs refuse each text that is no recording.
 fn refuses(alloc: Global, trace: &Job, check: &Job) -> bool {
     let mut is_so = true;
     for (text, said) in REFUSED {
@@ -243,11 +247,13 @@ fn refuses_other_texts(rt: HostRuntime) -> Result<(), Fail> {
     Ok(())
 }
 
+/// Whether a file of the most bytes is read.
 fn reads_the_longest(alloc: Global, trace: &Job, _check: &Job) -> bool {
     let mut longest = io::repeat(b'#').take(16_777_216);
     says(alloc, trace, &mut longest, 0, b"")
 }
 
+/// Whether a file without end is refused.
 fn reads_none_longer(alloc: Global, trace: &Job, _check: &Job) -> bool {
     let mut endless = io::repeat(b'#');
     says(alloc, trace, &mut endless, 3, b"waywire: file too long\n")
@@ -260,6 +266,7 @@ fn reads_no_longer_file(rt: HostRuntime) -> Result<(), Fail> {
     Ok(())
 }
 
+/// Whether a file that cannot be read is told of.
 fn says_that_reading_failed(alloc: Global, _trace: &Job, check: &Job) -> bool {
     says(
         alloc,
@@ -270,6 +277,7 @@ fn says_that_reading_failed(alloc: Global, _trace: &Job, check: &Job) -> bool {
     )
 }
 
+/// Whether an output that cannot be written is told of.
 fn says_that_writing_failed(alloc: Global, _trace: &Job, check: &Job) -> bool {
     let mut file = LAWFUL[0].0;
     let mut err = Vec::new(alloc);
@@ -332,6 +340,7 @@ fn is_refused_in_turn(
     Ok(false)
 }
 
+/// Whether a trace is refused each of its allocations in turn, and then answered.
 fn traces_at_last(alloc: Global, trace: &Job, _check: &Job) -> bool {
     match RefusingAllocator::new(alloc) {
         Ok(memory) => matches!(is_refused_in_turn(alloc, &memory, trace), Ok(true)),

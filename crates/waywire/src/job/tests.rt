@@ -78,6 +78,7 @@ fn is_stop(stop: &Stop, wanted: Wanted<'_>) -> bool {
     }
 }
 
+/// Whether this is what is wanted.
 fn is_wanted(answer: &Result<Job, Stop>, wanted: Wanted<'_>) -> bool {
     match answer {
         Ok(job) => is_job(job, wanted),

@@ -102,6 +102,7 @@ fn is_marked(alloc: Global, pair: &mut Plain<'_>) -> Result<bool, AllocError> {
     Ok(is_posted && has_mark(pair, PIECES) && pair.recording().pieces().len() == PIECES + 2)
 }
 
+/// Whether the mark stands behind so many pieces.
 fn has_mark(pair: &Plain<'_>, pieces: usize) -> bool {
     match pair.ended_at() {
         Some(mark) => mark == pieces,
@@ -109,6 +110,7 @@ fn has_mark(pair: &Plain<'_>, pieces: usize) -> bool {
     }
 }
 
+/// Whether just the first error that is accepted sets the mark.
 fn sets_the_mark(
     alloc: Global,
     _tables: &Tables,
@@ -165,6 +167,7 @@ fn is_before_the_mark(
     is_lawful_text(alloc, tables, &begin, text)
 }
 
+/// Whether a recording has this text, and is lawful.
 fn is_lawful_text(
     alloc: Global,
     tables: &Tables,
@@ -190,6 +193,7 @@ fn keeps(
     Ok(has_mark(pair, PIECES + 1) && goes_on && is_before)
 }
 
+/// Whether what was recorded stays, once more is carried.
 fn keeps_what_was_before(
     alloc: Global,
     tables: &Tables,

@@ -30,6 +30,7 @@ fn holds_of_short<F: FnOnce(&RefusingAllocator, &mut Short<'_>) -> Result<bool, 
     scene(memory, &mut pair)
 }
 
+/// Whether nothing waits, and both ends agree.
 fn is_fresh(_memory: &RefusingAllocator, pair: &mut Short<'_>) -> Result<bool, AllocError> {
     Ok(is_drained(pair) && agrees(pair))
 }
@@ -131,6 +132,7 @@ struct Place {
     objects: usize,
 }
 
+/// Where a pair is.
 fn place_of(pair: &Short<'_>) -> Place {
     Place {
         pieces: pair.recording().pieces().len(),
@@ -255,6 +257,7 @@ fn carries_at_last(memory: &RefusingAllocator, pair: &mut Short<'_>) -> Result<b
     Ok(has_begun && carries && was_recorded(pair, b"\x01\0\0", b"\0\0\0\x0c\0"))
 }
 
+/// The same of a fresh pair.
 fn refuses_a_carry(memory: &RefusingAllocator, tables: &Tables) -> Result<bool, AllocError> {
     holds_of_short(memory, tables, carries_at_last)
 }
@@ -281,6 +284,7 @@ fn sends_at_last(memory: &RefusingAllocator, pair: &mut Short<'_>) -> Result<boo
     Ok(is_fresh && is_refused && pair.len() == 2)
 }
 
+/// The same of a fresh pair.
 fn refuses_a_request(memory: &RefusingAllocator, tables: &Tables) -> Result<bool, AllocError> {
     holds_of_short(memory, tables, sends_at_last)
 }

@@ -92,6 +92,7 @@ fn records_nothing(
     Ok(is_answered && pieces(pair) == before)
 }
 
+/// Whether no carry of nothing is recorded.
 fn records_no_carry_of_nothing(
     alloc: Global,
     _tables: &Tables,
@@ -164,6 +165,7 @@ const NO_CARRY: [(Step, Said); 10] = [
     (Step::Fail(DISPLAY, 6), Said::Done),
 ];
 
+/// Whether no move that is no carry is recorded.
 fn records_no_other_move(
     alloc: Global,
     _tables: &Tables,

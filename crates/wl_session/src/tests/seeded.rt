@@ -170,6 +170,7 @@ fn keep(
     }
 }
 
+/// Keeps the object that this says was made. Whether it is sound.
 fn keep_made(
     made: &mut Vec<(Object, Iface)>,
     said: Said,
@@ -196,6 +197,7 @@ fn act(alloc: Global, pair: &mut Plain<'_>, seed: u64) -> Result<bool, AllocErro
     advance_often(alloc, pair, &mut numbers, &mut made)
 }
 
+/// 1,500 moves by these numbers. Whether all were answered soundly.
 fn advance_often(
     alloc: Global,
     pair: &mut Plain<'_>,
@@ -224,6 +226,7 @@ fn carry_and_read(alloc: Global, pair: &mut Plain<'_>) -> Result<bool, AllocErro
     Ok(are_sound(replies.as_slice()))
 }
 
+/// Whether all of these replies are sound.
 fn are_sound(replies: &[Reply]) -> bool {
     let mut is_so = true;
     for reply in replies {
