@@ -1,9 +1,11 @@
 //! Sessions of a pair over the plain table.
+ghost use Rattle.wl_message.specs.Arrived.{AreSizes};
+
 use crate::{Pair, Reply, Verdict, check};
 use std::alloc::{AllocError, Global};
 use std::test::Fail;
 use wl_message::Sizes;
-use wl_objects::{MapTable, Object};
+use wl_objects::{MapTable, Object, Table};
 use wl_sigs::Tables;
 use wl_wire::Iface;
 
@@ -16,7 +18,7 @@ mod sessions;
 mod steps;
 
 use replies::{Said, say};
-use steps::{Step, own};
+use steps::{Step, moves_of};
 
 type Plain<'t> = Pair<'t, MapTable<Global>>;
 
@@ -53,22 +55,19 @@ const OTHER_KEYBOARD: Object = Object { id: 8, birth: 7 };
 
 /// What is answered to these moves.
 fn run(alloc: Global, pair: &mut Plain<'_>, steps: &[Step]) -> Result<Vec<Reply>, AllocError> {
-    let mut moves = Vec::new(alloc);
-    for step in steps {
-        let action = own(alloc, *step)?;
-        moves.push(action)?;
-    }
+    let moves = moves_of(alloc, steps)?;
     pair.run(moves.as_slice())
 }
 
-/// The same in short.
-fn play(alloc: Global, pair: &mut Plain<'_>, steps: &[Step]) -> Result<Vec<Said>, AllocError> {
-    let replies = run(alloc, pair, steps)?;
-    let mut said = Vec::new(alloc);
-    for reply in &replies {
-        said.push(say(reply))?;
-    }
-    Ok(said)
+/// Whether this move is answered so.
+fn is_answer(
+    alloc: Global,
+    pair: &mut Plain<'_>,
+    step: Step,
+    said: Said,
+) -> Result<bool, AllocError> {
+    let replies = run(alloc, pair, &[step])?;
+    Ok(is_last(replies.as_slice(), said))
 }
 
 /// Whether each of these moves is answered so, one after another.
@@ -79,55 +78,104 @@ fn is_answered(
 ) -> Result<bool, AllocError> {
     let mut is_so = true;
     for (step, said) in script {
-        let answers = play(alloc, pair, &[*step])?;
-        is_so = is_last(answers.as_slice(), *said) && is_so;
+        is_so = is_answer(alloc, pair, *step, *said)? && is_so;
     }
     Ok(is_so)
 }
 
-fn is_last(answers: &[Said], said: Said) -> bool {
-    match answers.last() {
-        Some(answer) => *answer == said,
+/// Whether the last of these replies says this.
+fn is_last(replies: &[Reply], said: Said) -> bool {
+    match replies.last() {
+        Some(reply) => say(reply) == said,
         None => false,
     }
 }
 
+/// One carry to the server and eight reads there, and then the same at the client.
+const TURN: [Step; 18] = [
+    Step::ToServer(ALL),
+    Step::ServerNext,
+    Step::ServerNext,
+    Step::ServerNext,
+    Step::ServerNext,
+    Step::ServerNext,
+    Step::ServerNext,
+    Step::ServerNext,
+    Step::ServerNext,
+    Step::ToClient(ALL),
+    Step::ClientNext,
+    Step::ClientNext,
+    Step::ClientNext,
+    Step::ClientNext,
+    Step::ClientNext,
+    Step::ClientNext,
+    Step::ClientNext,
+    Step::ClientNext,
+];
+
 /// All is carried to the server and read there, and then all is carried to the client and read.
 fn turn(alloc: Global, pair: &mut Plain<'_>) -> Result<(), AllocError> {
-    let mut steps = Vec::new(alloc);
-    steps.push(Step::ToServer(ALL))?;
-    for _ in 0..8 {
-        steps.push(Step::ServerNext)?;
-    }
-    steps.push(Step::ToClient(ALL))?;
-    for _ in 0..8 {
-        steps.push(Step::ClientNext)?;
-    }
-    let _ = run(alloc, pair, steps.as_slice())?;
+    let _ = run(alloc, pair, &TURN)?;
     Ok(())
 }
+
+/// Two globals, and a registry.
+const GLOBALS: [Step; 3] = [
+    Step::AddGlobal(WL_COMPOSITOR, 6),
+    Step::AddGlobal(WL_SEAT, 9),
+    Step::Make(DISPLAY, 1),
+];
 
 /// The server gives the globals wl_compositor (name 1) and wl_seat (name 2), and the client makes a
 /// registry and is told of both.
 fn tell(alloc: Global, pair: &mut Plain<'_>) -> Result<(), AllocError> {
-    let steps = [
-        Step::AddGlobal(WL_COMPOSITOR, 6),
-        Step::AddGlobal(WL_SEAT, 9),
-        Step::Make(DISPLAY, 1),
-    ];
-    let _ = run(alloc, pair, &steps)?;
+    let _ = run(alloc, pair, &GLOBALS)?;
     turn(alloc, pair)?;
     let _ = run(alloc, pair, &[Step::Announce])?;
     turn(alloc, pair)
 }
 
-/// A pair whose client was told of both globals.
-// (A test does all else behind a `&mut`: what owns a pair drops it at each way out, and each of
-// these drops is a long proof.)
-fn told<'t>(alloc: Global, tables: &'t Tables) -> Result<Plain<'t>, AllocError> {
-    let mut pair = Plain::new(alloc, tables, SIZES, SIZES)?;
-    tell(alloc, &mut pair)?;
-    Ok(pair)
+/// Whether this holds of a fresh pair over these tables, with boxes of these sizes.
+// (What owns a pair drops it at each way out, and each of these drops is a long proof. So no other
+// function owns one: each test does all it does behind a `&mut`, in a scene that it passes.)
+fn holds_over<F: FnOnce(Global, &Tables, &mut Plain<'_>) -> Result<bool, AllocError>>(
+    alloc: Global,
+    tables: &Tables,
+    client: Sizes,
+    server: Sizes,
+    scene: F,
+) -> Result<bool, AllocError>
+    requires callable { F.IsAlwaysCallable scene }
+    requires client { AreSizes client }
+    requires server { AreSizes server }
+{
+    let mut pair = Plain::new(alloc, tables, client, server)?;
+    scene(alloc, tables, &mut pair)
+}
+
+/// Whether this holds of a fresh pair with boxes of these sizes.
+fn holds_between<F: FnOnce(Global, &Tables, &mut Plain<'_>) -> Result<bool, AllocError>>(
+    alloc: Global,
+    client: Sizes,
+    server: Sizes,
+    scene: F,
+) -> Result<bool, AllocError>
+    requires callable { F.IsAlwaysCallable scene }
+    requires client { AreSizes client }
+    requires server { AreSizes server }
+{
+    let tables = Tables::core(alloc)?;
+    holds_over(alloc, &tables, client, server, scene)
+}
+
+/// Whether this holds of a fresh pair with large boxes.
+fn holds_of_pair<F: FnOnce(Global, &Tables, &mut Plain<'_>) -> Result<bool, AllocError>>(
+    alloc: Global,
+    scene: F,
+) -> Result<bool, AllocError>
+    requires callable { F.IsAlwaysCallable scene }
+{
+    holds_between(alloc, SIZES, SIZES, scene)
 }
 
 /// The client binds both globals, and makes a surface, a pointer and two keyboards.
@@ -143,22 +191,27 @@ const BINDING: [(Step, Said); 6] = [
     (Step::Make(SEAT, 1), Said::Made(OTHER_KEYBOARD)),
 ];
 
-/// Does what `BINDING` says, and has it read.
-fn make_all(alloc: Global, pair: &mut Plain<'_>) -> Result<(), AllocError> {
+/// The client is told of both globals, does what `BINDING` says, and all is read: now nothing waits.
+fn set_up(alloc: Global, pair: &mut Plain<'_>) -> Result<(), AllocError> {
+    tell(alloc, pair)?;
     let _ = is_answered(alloc, pair, &BINDING)?;
     turn(alloc, pair)
 }
 
-/// A pair with all the objects of `BINDING`, at which nothing waits.
-fn set_up<'t>(alloc: Global, tables: &'t Tables) -> Result<Plain<'t>, AllocError> {
-    let mut pair = told(alloc, tables)?;
-    make_all(alloc, &mut pair)?;
-    Ok(pair)
+/// Whether nothing waits.
+// (What these two are proved to mean is not used here, and is long where both are called.)
+fn is_drained<T: Table>(pair: &Pair<'_, T>) -> bool {
+    pair.drained()
+}
+
+/// Whether both ends have the same objects.
+fn agrees<T: Table>(pair: &Pair<'_, T>) -> bool {
+    pair.agree()
 }
 
 /// Whether nothing waits, and both ends have the same objects, so many.
 fn is_settled(pair: &Plain<'_>, objects: usize) -> bool {
-    pair.drained() && pair.agree() && pair.len() == objects
+    is_drained(pair) && agrees(pair) && pair.len() == objects
 }
 
 /// What is to be said of what was carried.

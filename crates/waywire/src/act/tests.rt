@@ -1,5 +1,6 @@
 use super::*;
 use refusing::RefusingAllocator;
+use std::alloc::AllocError;
 use std::io::{self, Error};
 use std::test::Fail;
 
@@ -23,16 +24,20 @@ impl Write for Failing {
     }
 }
 
-fn trace_job(alloc: Global) -> Result<Job, Fail> {
-    Ok(Job::Trace {
+/// Whether this holds of the jobs that trace and check a file.
+fn holds_of_both<F: FnOnce(Global, &Job, &Job) -> bool>(
+    alloc: Global,
+    scene: F,
+) -> Result<bool, AllocError>
+    requires { F.IsAlwaysCallable scene }
+{
+    let trace = Job::Trace {
         file: String::from_str(alloc, "session.rec")?,
-    })
-}
-
-fn check_job(alloc: Global) -> Result<Job, Fail> {
-    Ok(Job::Check {
+    };
+    let check = Job::Check {
         file: String::from_str(alloc, "session.rec")?,
-    })
+    };
+    Ok(scene(alloc, &trace, &check))
 }
 
 /// Lawful sessions: the recording, its trace, and the line of its verdict.
@@ -180,113 +185,171 @@ fn prints(alloc: Global, job: &Job, text: &[u8], status: u8, first: &[u8], last:
     answer == status && out.strip_prefix(first) == Some(last) && err.is_empty()
 }
 
+/// Whether each lawful session is traced and checked.
+fn prints_lawful(alloc: Global, trace: &Job, check: &Job) -> bool {
+    let mut is_so = true;
+    for (text, lines, verdict) in LAWFUL {
+        is_so = prints(alloc, trace, text, 0, lines, b"") && is_so;
+        is_so = prints(alloc, check, text, 0, b"", verdict) && is_so;
+    }
+    is_so
+}
+
 #[test]
 fn traces_and_checks_lawful_sessions(rt: HostRuntime) -> Result<(), Fail> {
-    let alloc = rt.alloc();
-    let (trace, check) = (trace_job(alloc)?, check_job(alloc)?);
-    for (text, lines, verdict) in LAWFUL {
-        assert!(rt; prints(alloc, &trace, text, 0, lines, b""));
-        assert!(rt; prints(alloc, &check, text, 0, b"", verdict));
-    }
+    assert!(rt; holds_of_both(rt.alloc(), prints_lawful)?);
     Ok(())
+}
+
+/// Whether each broken session is traced as far as it is lawful, and checked.
+fn prints_broken(alloc: Global, trace: &Job, check: &Job) -> bool {
+    let mut is_so = true;
+    for (text, lines, verdict) in BROKEN {
+        is_so = prints(alloc, trace, text, 1, lines, verdict) && is_so;
+        is_so = prints(alloc, check, text, 1, b"", verdict) && is_so;
+    }
+    is_so
 }
 
 #[test]
 fn traces_and_checks_broken_sessions(rt: HostRuntime) -> Result<(), Fail> {
-    let alloc = rt.alloc();
-    let (trace, check) = (trace_job(alloc)?, check_job(alloc)?);
-    for (text, lines, verdict) in BROKEN {
-        assert!(rt; prints(alloc, &trace, text, 1, lines, verdict));
-        assert!(rt; prints(alloc, &check, text, 1, b"", verdict));
-    }
+    assert!(rt; holds_of_both(rt.alloc(), prints_broken)?);
     Ok(())
+}
+
+/// Whether a job answers this status, writes no output, and this to standard error.
+fn says<R: Read>(alloc: Global, job: &Job, file: &mut R, status: u8, said: &[u8]) -> bool {
+    let mut out = Vec::new(alloc);
+    let mut err = Vec::new(alloc);
+    let answer = act(alloc, alloc, job, file, &mut out, &mut err);
+    answer == status && out.is_empty() && err.as_slice() == said
+}
+
+/// The same of a file of this text.
+fn says_of(alloc: Global, job: &Job, text: &[u8], status: u8, said: &[u8]) -> bool {
+    let mut file = text;
+    says(alloc, job, &mut file, status, said)
+}
+
+/// Whether both jobs refuse each text that is no recording.
+fn refuses(alloc: Global, trace: &Job, check: &Job) -> bool {
+    let mut is_so = true;
+    for (text, said) in REFUSED {
+        is_so = says_of(alloc, trace, text, 3, said) && is_so;
+        is_so = says_of(alloc, check, text, 3, said) && is_so;
+    }
+    is_so
 }
 
 #[test]
 fn refuses_other_texts(rt: HostRuntime) -> Result<(), Fail> {
-    let alloc = rt.alloc();
-    let jobs = [trace_job(alloc)?, check_job(alloc)?];
-    for (text, said) in REFUSED {
-        for job in &jobs {
-            let mut file = text;
-            let mut out = Vec::new(alloc);
-            let mut err = Vec::new(alloc);
-            let status = act(alloc, alloc, job, &mut file, &mut out, &mut err);
-            assert_eq!(rt; status, 3);
-            assert_eq!(rt; out.len(), 0);
-            assert_eq!(rt; err.as_slice(), said);
-        }
-    }
+    assert!(rt; holds_of_both(rt.alloc(), refuses)?);
     Ok(())
+}
+
+/// Whether a file of the most bytes is read.
+fn reads_the_longest(alloc: Global, trace: &Job, _check: &Job) -> bool {
+    let mut longest = io::repeat(b'#').take(16_777_216);
+    says(alloc, trace, &mut longest, 0, b"")
+}
+
+/// Whether a file without end is refused.
+fn reads_none_longer(alloc: Global, trace: &Job, _check: &Job) -> bool {
+    let mut endless = io::repeat(b'#');
+    says(alloc, trace, &mut endless, 3, b"waywire: file too long\n")
 }
 
 #[test]
 fn reads_no_longer_file(rt: HostRuntime) -> Result<(), Fail> {
-    let alloc = rt.alloc();
-    let job = trace_job(alloc)?;
-    let mut out = Vec::new(alloc);
-    let mut err = Vec::new(alloc);
-    let mut longest = io::repeat(b'#').take(16_777_216);
-    let status = act(alloc, alloc, &job, &mut longest, &mut out, &mut err);
-    assert_eq!(rt; status, 0);
-    let mut endless = io::repeat(b'#');
-    let status = act(alloc, alloc, &job, &mut endless, &mut out, &mut err);
-    assert_eq!(rt; status, 3);
-    assert_eq!(rt; out.len(), 0);
-    assert_eq!(rt; err.as_slice(), b"waywire: file too long\n".as_slice());
+    assert!(rt; holds_of_both(rt.alloc(), reads_the_longest)?);
+    assert!(rt; holds_of_both(rt.alloc(), reads_none_longer)?);
     Ok(())
+}
+
+/// Whether a file that cannot be read is told of.
+fn says_that_reading_failed(alloc: Global, _trace: &Job, check: &Job) -> bool {
+    says(
+        alloc,
+        check,
+        &mut Failing,
+        3,
+        b"waywire: cannot read session.rec\n",
+    )
+}
+
+/// Whether an output that cannot be written is told of.
+fn says_that_writing_failed(alloc: Global, _trace: &Job, check: &Job) -> bool {
+    let mut file = LAWFUL[0].0;
+    let mut err = Vec::new(alloc);
+    let status = act(alloc, alloc, check, &mut file, &mut Failing, &mut err);
+    status == 3 && err.as_slice() == b"waywire: cannot write\n".as_slice()
+}
+
+/// A standard error that fails changes no status.
+fn answers_the_same(alloc: Global, _trace: &Job, check: &Job) -> bool {
+    let mut file = REFUSED[0].0;
+    let mut out = Vec::new(alloc);
+    act(alloc, alloc, check, &mut file, &mut out, &mut Failing) == 3
 }
 
 #[test]
 fn says_which_stream_failed(rt: HostRuntime) -> Result<(), Fail> {
-    let alloc = rt.alloc();
-    let job = check_job(alloc)?;
+    assert!(rt; holds_of_both(rt.alloc(), says_that_reading_failed)?);
+    assert!(rt; holds_of_both(rt.alloc(), says_that_writing_failed)?);
+    assert!(rt; holds_of_both(rt.alloc(), answers_the_same)?);
+    Ok(())
+}
+
+/// What is said for want of memory.
+const NO_MEMORY: &[u8] = b"waywire: out of memory\n";
+
+/// Whether a trace in this memory answers want of memory, and nothing else, where an allocation was
+/// refused, and else all of this session.
+fn is_refused_or_whole(
+    alloc: Global,
+    memory: RefusingAllocator,
+    told: &RefusingAllocator,
+    job: &Job,
+) -> bool {
+    let (text, lines, verdict) = BROKEN[10];
+    let mut file = text;
     let mut out = Vec::new(alloc);
     let mut err = Vec::new(alloc);
-    let status = act(alloc, alloc, &job, &mut Failing, &mut out, &mut err);
-    assert_eq!(rt; status, 3);
-    assert_eq!(rt; out.len(), 0);
-    assert_eq!(rt;
-        err.as_slice(),
-        b"waywire: cannot read session.rec\n".as_slice()
-    );
+    let status = act(memory, alloc, job, &mut file, &mut out, &mut err);
+    if told.has_refused() {
+        status == 4 && out.is_empty() && err.as_slice() == NO_MEMORY
+    } else {
+        status == 1 && out.strip_prefix(lines) == Some(verdict)
+    }
+}
 
-    let mut file = LAWFUL[0].0;
-    let mut err = Vec::new(alloc);
-    let status = act(alloc, alloc, &job, &mut file, &mut Failing, &mut err);
-    assert_eq!(rt; status, 3);
-    assert_eq!(rt; err.as_slice(), b"waywire: cannot write\n".as_slice());
+/// Refuses each allocation in turn. Whether all is said as it should be, and at last it is granted.
+fn is_refused_in_turn(
+    alloc: Global,
+    memory: &RefusingAllocator,
+    job: &Job,
+) -> Result<bool, AllocError> {
+    let mut is_so = true;
+    for number in 0u64..2000 {
+        memory.refuse_nth(number);
+        is_so = is_refused_or_whole(alloc, memory.clone()?, memory, job) && is_so;
+        if !memory.has_refused() {
+            return Ok(is_so);
+        }
+    }
+    Ok(false)
+}
 
-    // A standard error that fails changes no status.
-    let mut file = REFUSED[0].0;
-    let status = act(alloc, alloc, &job, &mut file, &mut out, &mut Failing);
-    assert_eq!(rt; status, 3);
-    Ok(())
+/// Whether a trace is refused each of its allocations in turn, and then answered.
+fn traces_at_last(alloc: Global, trace: &Job, _check: &Job) -> bool {
+    match RefusingAllocator::new(alloc) {
+        Ok(memory) => matches!(is_refused_in_turn(alloc, &memory, trace), Ok(true)),
+        Err(_) => false,
+    }
 }
 
 #[test]
 fn is_refused_each_of_its_allocations_in_turn(rt: HostRuntime) -> Result<(), Fail> {
-    let alloc = rt.alloc();
-    let job = trace_job(alloc)?;
-    let (text, lines, verdict) = BROKEN[10];
-    let memory = RefusingAllocator::new(alloc)?;
-    let mut is_granted = false;
-    for number in 0u64..2000 {
-        let mut file = text;
-        let mut out = Vec::new(alloc);
-        let mut err = Vec::new(alloc);
-        memory.refuse_nth(number);
-        let status = act(memory.clone()?, alloc, &job, &mut file, &mut out, &mut err);
-        if !memory.has_refused() {
-            assert_eq!(rt; status, 1);
-            assert_eq!(rt; out.strip_prefix(lines), Some(verdict));
-            is_granted = true;
-            break;
-        }
-        assert_eq!(rt; status, 4);
-        assert_eq!(rt; out.len(), 0);
-        assert_eq!(rt; err.as_slice(), b"waywire: out of memory\n".as_slice());
-    }
-    assert!(rt; is_granted);
+    assert!(rt; holds_of_both(rt.alloc(), traces_at_last)?);
     Ok(())
 }

@@ -69,19 +69,23 @@ fn is_refused(alloc: Global, memory: RefusingAllocator<Global>) -> bool {
     status == 4 && out.is_empty() && err.as_slice() == b"waywire: out of memory\n".as_slice()
 }
 
+/// Refuses each allocation in turn. Whether each is answered so, and at last none is refused.
+fn is_refused_in_turn(alloc: Global, memory: &RefusingAllocator) -> Result<bool, AllocError> {
+    let mut is_so = true;
+    for number in 0u64..2000 {
+        memory.refuse_nth(number);
+        let is_refused = is_refused(alloc, memory.clone()?);
+        if !memory.has_refused() {
+            return Ok(is_so && !is_refused);
+        }
+        is_so = is_refused && is_so;
+    }
+    Ok(false)
+}
+
 #[test]
 fn is_refused_each_of_its_allocations_in_turn(rt: HostRuntime) -> Result<(), Fail> {
     let memory = RefusingAllocator::new(rt.alloc())?;
-    let mut is_granted = false;
-    for number in 0u64..2000 {
-        memory.refuse_nth(number);
-        let is_refused = is_refused(rt.alloc(), memory.clone()?);
-        if !memory.has_refused() {
-            is_granted = !is_refused;
-            break;
-        }
-        assert!(rt; is_refused, "at allocation {number}");
-    }
-    assert!(rt; is_granted);
+    assert!(rt; is_refused_in_turn(rt.alloc(), &memory)?);
     Ok(())
 }

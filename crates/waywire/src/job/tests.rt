@@ -37,50 +37,89 @@ const DEMOS: [(&[&str], u32); 4] = [
     (&["waywire", "demo", "--piece", "4096"], 4096),
 ];
 
+/// What a command line is answered.
+#[derive(Clone, Copy)]
+enum Wanted<'a> {
+    /// The job that reads a file of this name.
+    Trace(&'a str),
+    Check(&'a str),
+    /// The demonstration, with so many bytes at once.
+    Demo(u32),
+    /// No job, but this status, and a text of which this is a part.
+    Stop(u8, &'a str),
+}
+
 fn owned(alloc: Global, words: &[&str]) -> Result<Vec<String>, AllocError> {
     let mut all = Vec::new(alloc);
+    add_all(alloc, &mut all, words)?;
+    Ok(all)
+}
+
+fn add_all(alloc: Global, all: &mut Vec<String>, words: &[&str]) -> Result<(), AllocError> {
     for word in words {
         all.push(String::from_str(alloc, word)?)?;
     }
-    Ok(all)
+    Ok(())
+}
+
+fn is_job(job: &Job, wanted: Wanted<'_>) -> bool {
+    match (job, wanted) {
+        (Job::Trace { file }, Wanted::Trace(name)) => file.as_str() == name,
+        (Job::Check { file }, Wanted::Check(name)) => file.as_str() == name,
+        (Job::Demo { piece }, Wanted::Demo(bytes)) => *piece == bytes,
+        _ => false,
+    }
+}
+
+fn is_stop(stop: &Stop, wanted: Wanted<'_>) -> bool {
+    match wanted {
+        Wanted::Stop(status, part) => stop.status == status && stop.text.as_str().contains(part),
+        _ => false,
+    }
+}
+
+/// Whether this is what is wanted.
+fn is_wanted(answer: &Result<Job, Stop>, wanted: Wanted<'_>) -> bool {
+    match answer {
+        Ok(job) => is_job(job, wanted),
+        Err(stop) => is_stop(stop, wanted),
+    }
+}
+
+/// Whether these words are answered so.
+fn is_answered(alloc: Global, words: &[String], wanted: Wanted<'_>) -> bool {
+    is_wanted(&job_of(alloc, words), wanted)
+}
+
+/// Whether a command line is answered so.
+fn answers(alloc: Global, words: &[&str], wanted: Wanted<'_>) -> Result<bool, AllocError> {
+    let words = owned(alloc, words)?;
+    Ok(is_answered(alloc, words.as_slice(), wanted))
 }
 
 #[test]
 fn reads_the_file_of_a_trace(rt: HostRuntime) -> Result<(), Fail> {
-    let words = owned(rt.alloc(), &["waywire", "trace", "a b.rec"])?;
-    match job_of(rt.alloc(), words.as_slice()) {
-        Ok(Job::Trace { file }) => assert_eq!(rt; file.as_str(), "a b.rec"),
-        Ok(_job) => assert!(rt; false),
-        Err(_stop) => assert!(rt; false),
-    }
+    let words = ["waywire", "trace", "a b.rec"];
+    assert!(rt; answers(rt.alloc(), &words, Wanted::Trace("a b.rec"))?);
     Ok(())
 }
 
 #[test]
 fn reads_the_file_of_a_check(rt: HostRuntime) -> Result<(), Fail> {
-    let words = owned(rt.alloc(), &["waywire", "check", "-x.rec"])?;
-    match job_of(rt.alloc(), words.as_slice()) {
-        Ok(_job) => assert!(rt; false),
-        Err(stop) => assert_eq!(rt; stop.status, 2),
-    }
-    let words = owned(rt.alloc(), &["waywire", "check", "./-x.rec"])?;
-    match job_of(rt.alloc(), words.as_slice()) {
-        Ok(Job::Check { file }) => assert_eq!(rt; file.as_str(), "./-x.rec"),
-        Ok(_job) => assert!(rt; false),
-        Err(_stop) => assert!(rt; false),
-    }
+    let words = ["waywire", "check", "-x.rec"];
+    assert!(rt; answers(rt.alloc(), &words, Wanted::Stop(2, ""))?);
+    let words = ["waywire", "check", "./-x.rec"];
+    assert!(rt; answers(rt.alloc(), &words, Wanted::Check("./-x.rec"))?);
     Ok(())
 }
 
 #[test]
 fn reads_how_much_a_demonstration_carries(rt: HostRuntime) -> Result<(), Fail> {
-    for (words, wanted) in DEMOS {
-        let words = owned(rt.alloc(), words)?;
-        match job_of(rt.alloc(), words.as_slice()) {
-            Ok(Job::Demo { piece }) => assert_eq!(rt; piece, wanted),
-            Ok(_job) => assert!(rt; false),
-            Err(_stop) => assert!(rt; false),
-        }
+    for (words, piece) in DEMOS {
+        assert!(rt;
+            answers(rt.alloc(), words, Wanted::Demo(piece))?,
+            "in pieces of {piece}"
+        );
     }
     Ok(())
 }
@@ -88,29 +127,22 @@ fn reads_how_much_a_demonstration_carries(rt: HostRuntime) -> Result<(), Fail> {
 #[test]
 fn stops_at_faults_of_usage(rt: HostRuntime) -> Result<(), Fail> {
     for (words, said) in FAULTY {
-        let words = owned(rt.alloc(), words)?;
-        match job_of(rt.alloc(), words.as_slice()) {
-            Ok(_job) => assert!(rt; false),
-            Err(stop) => {
-                assert_eq!(rt; stop.status, 2);
-                assert!(rt; stop.text.as_str().contains(said), "{}", stop.text);
-            }
-        }
+        assert!(rt;
+            answers(rt.alloc(), words, Wanted::Stop(2, said))?,
+            "without {said}"
+        );
     }
     Ok(())
 }
 
 #[test]
 fn helps(rt: HostRuntime) -> Result<(), Fail> {
-    let words = owned(rt.alloc(), &["waywire", "--help"])?;
-    match job_of(rt.alloc(), words.as_slice()) {
-        Ok(_job) => assert!(rt; false),
-        Err(stop) => {
-            assert_eq!(rt; stop.status, 0);
-            for command in ["trace", "check", "demo"] {
-                assert!(rt; stop.text.as_str().contains(command));
-            }
-        }
+    for command in ["trace", "check", "demo"] {
+        let words = ["waywire", "--help"];
+        assert!(rt;
+            answers(rt.alloc(), &words, Wanted::Stop(0, command))?,
+            "of {command}"
+        );
     }
     Ok(())
 }

@@ -62,6 +62,7 @@ fn ends_by_an_error(
     tables: &Tables,
     pair: &mut Plain<'_>,
 ) -> Result<bool, AllocError> {
+    set_up(alloc, pair)?;
     let is_read = reads_the_error(alloc, pair)?;
     let is_over = is_answered(alloc, pair, &FAILED)?;
     // the error itself is lawful
@@ -70,9 +71,7 @@ fn ends_by_an_error(
 
 #[test]
 fn an_error_ends_the_session(rt: HostRuntime) -> Result<(), Fail> {
-    let tables = Tables::core(rt.alloc())?;
-    let mut pair = set_up(rt.alloc(), &tables)?;
-    assert!(rt; ends_by_an_error(rt.alloc(), &tables, &mut pair)?);
+    assert!(rt; holds_of_pair(rt.alloc(), ends_by_an_error)?);
     Ok(())
 }
 
@@ -91,21 +90,40 @@ const POSTED: [(Step, Said); 5] = [
     (Step::Fail(DISPLAY, 41), Said::Refused(SendError::Failed)),
 ];
 
-/// Whether the first error that is accepted sets the mark.
-fn sets_the_mark(alloc: Global, pair: &mut Plain<'_>) -> Result<bool, AllocError> {
+/// Whether a text that is too long is refused, and sets no mark.
+fn is_too_long(alloc: Global, pair: &mut Plain<'_>) -> Result<bool, AllocError> {
     let is_refused = is_answered(alloc, pair, &TOO_LONG)?;
-    let has_no_mark = pair.ended_at().is_none();
+    Ok(is_refused && pair.ended_at().is_none())
+}
+
+/// Whether the first error that is accepted sets the mark, and the carries after it do not move it.
+fn is_marked(alloc: Global, pair: &mut Plain<'_>) -> Result<bool, AllocError> {
     let is_posted = is_answered(alloc, pair, &POSTED)?;
-    let has_mark = pair.ended_at() == Some(PIECES);
-    let pieces = pair.recording().pieces().len();
-    Ok(is_refused && has_no_mark && is_posted && has_mark && pieces == PIECES + 2)
+    Ok(is_posted && has_mark(pair, PIECES) && pair.recording().pieces().len() == PIECES + 2)
+}
+
+/// Whether the mark stands behind so many pieces.
+fn has_mark(pair: &Plain<'_>, pieces: usize) -> bool {
+    match pair.ended_at() {
+        Some(mark) => mark == pieces,
+        None => false,
+    }
+}
+
+/// Whether just the first error that is accepted sets the mark.
+fn sets_the_mark(
+    alloc: Global,
+    _tables: &Tables,
+    pair: &mut Plain<'_>,
+) -> Result<bool, AllocError> {
+    set_up(alloc, pair)?;
+    let is_too_long = is_too_long(alloc, pair)?;
+    Ok(is_marked(alloc, pair)? && is_too_long)
 }
 
 #[test]
 fn the_first_error_sets_the_mark(rt: HostRuntime) -> Result<(), Fail> {
-    let tables = Tables::core(rt.alloc())?;
-    let mut pair = set_up(rt.alloc(), &tables)?;
-    assert!(rt; sets_the_mark(rt.alloc(), &mut pair)?);
+    assert!(rt; holds_of_pair(rt.alloc(), sets_the_mark)?);
     Ok(())
 }
 
@@ -126,33 +144,69 @@ const CARRIED_AND_POSTED: [Step; 3] = [
     Step::Fail(DISPLAY, 6),
 ];
 
-/// Whether all that was recorded before an error stays as it is, is what the mark counts, and is
-/// lawful.
+/// Whether this is the text of a recording.
+fn has_text(recording: &Recording, text: &[u8]) -> Result<bool, AllocError> {
+    let told = recording.to_text()?;
+    Ok(told.as_slice() == text)
+}
+
+/// Whether the text of a recording begins with this, and goes on.
+fn goes_on(recording: &Recording, begin: &[u8]) -> Result<bool, AllocError> {
+    let text = recording.to_text()?;
+    Ok(text.len() > begin.len() && text.as_slice().starts_with(begin))
+}
+
+/// Whether what the mark counts has this text, and is lawful.
+fn is_before_the_mark(
+    alloc: Global,
+    tables: &Tables,
+    recording: &Recording,
+    text: &[u8],
+) -> Result<bool, AllocError> {
+    let begin = begin_of(alloc, recording, PIECES + 1)?;
+    is_lawful_text(alloc, tables, &begin, text)
+}
+
+/// Whether a recording has this text, and is lawful.
+fn is_lawful_text(
+    alloc: Global,
+    tables: &Tables,
+    recording: &Recording,
+    text: &[u8],
+) -> Result<bool, AllocError> {
+    let has_text = has_text(recording, text)?;
+    let verdict = check(alloc, recording, tables)?;
+    Ok(has_text && verdict == lawful(7, 3))
+}
+
+/// Whether all that was recorded before an error, which is this, stays as it is, is what the mark
+/// counts, and is lawful.
+fn keeps(
+    alloc: Global,
+    tables: &Tables,
+    pair: &mut Plain<'_>,
+    before: &[u8],
+) -> Result<bool, AllocError> {
+    turn(alloc, pair)?;
+    let goes_on = goes_on(pair.recording(), before)?;
+    let is_before = is_before_the_mark(alloc, tables, pair.recording(), before)?;
+    Ok(has_mark(pair, PIECES + 1) && goes_on && is_before)
+}
+
+/// Whether what was recorded stays, once more is carried.
 fn keeps_what_was_before(
     alloc: Global,
     tables: &Tables,
     pair: &mut Plain<'_>,
 ) -> Result<bool, AllocError> {
+    set_up(alloc, pair)?;
     let _ = run(alloc, pair, &CARRIED_AND_POSTED)?;
     let before = pair.recording().to_text()?;
-    turn(alloc, pair)?;
-    let after = pair.recording().to_text()?;
-    let begin = begin_of(alloc, pair.recording(), PIECES + 1)?;
-    let told = begin.to_text()?;
-    let verdict = check(alloc, &begin, tables)?;
-    Ok(
-        pair.ended_at() == Some(PIECES + 1)
-            && before.len() < after.len()
-            && after.as_slice().starts_with(before.as_slice())
-            && told.as_slice() == before.as_slice()
-            && verdict == lawful(7, 3),
-    )
+    keeps(alloc, tables, pair, before.as_slice())
 }
 
 #[test]
 fn what_was_recorded_before_an_error_stays_and_is_lawful(rt: HostRuntime) -> Result<(), Fail> {
-    let tables = Tables::core(rt.alloc())?;
-    let mut pair = set_up(rt.alloc(), &tables)?;
-    assert!(rt; keeps_what_was_before(rt.alloc(), &tables, &mut pair)?);
+    assert!(rt; holds_of_pair(rt.alloc(), keeps_what_was_before)?);
     Ok(())
 }

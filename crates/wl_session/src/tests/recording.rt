@@ -55,6 +55,7 @@ fn records_each_carry(
     tables: &Tables,
     pair: &mut Plain<'_>,
 ) -> Result<bool, AllocError> {
+    set_up(alloc, pair)?;
     let goes = goes_in_parts(alloc, pair)?;
     turn(alloc, pair)?;
     let has_ended = has_ended(alloc, tables, pair, 9, lawful(8, 4))?;
@@ -63,9 +64,7 @@ fn records_each_carry(
 
 #[test]
 fn a_carry_is_one_piece(rt: HostRuntime) -> Result<(), Fail> {
-    let tables = Tables::core(rt.alloc())?;
-    let mut pair = set_up(rt.alloc(), &tables)?;
-    assert!(rt; records_each_carry(rt.alloc(), &tables, &mut pair)?);
+    assert!(rt; holds_of_pair(rt.alloc(), records_each_carry)?);
     Ok(())
 }
 
@@ -93,11 +92,19 @@ fn records_nothing(
     Ok(is_answered && pieces(pair) == before)
 }
 
+/// Whether no carry of nothing is recorded.
+fn records_no_carry_of_nothing(
+    alloc: Global,
+    _tables: &Tables,
+    pair: &mut Plain<'_>,
+) -> Result<bool, AllocError> {
+    set_up(alloc, pair)?;
+    records_nothing(alloc, pair, &OF_NOTHING)
+}
+
 #[test]
 fn a_carry_of_nothing_is_not_recorded(rt: HostRuntime) -> Result<(), Fail> {
-    let tables = Tables::core(rt.alloc())?;
-    let mut pair = set_up(rt.alloc(), &tables)?;
-    assert!(rt; records_nothing(rt.alloc(), &mut pair, &OF_NOTHING)?);
+    assert!(rt; holds_of_pair(rt.alloc(), records_no_carry_of_nothing)?);
     Ok(())
 }
 
@@ -109,21 +116,16 @@ fn crowd(alloc: Global, pair: &mut Plain<'_>) -> Result<(), AllocError> {
     Ok(())
 }
 
-/// A pair whose server's inbox has room for 4096 bytes, and whose client has written 4104.
-fn crowded<'t>(alloc: Global, tables: &'t Tables) -> Result<Plain<'t>, AllocError> {
-    let narrow = Sizes {
-        out_bytes: 64,
-        out_tokens: 0,
-        in_bytes: 4096,
-        in_tokens: 20,
-    };
-    let mut pair = Plain::new(alloc, tables, SIZES, narrow)?;
-    crowd(alloc, &mut pair)?;
-    Ok(pair)
-}
+/// A server's inbox of these sizes has room for 4096 bytes.
+const NARROW: Sizes = Sizes {
+    out_bytes: 64,
+    out_tokens: 0,
+    in_bytes: 4096,
+    in_tokens: 20,
+};
 
 /// A carry that fills the inbox, one without room, and one behind a message that was read.
-const NARROW: [(Step, Said); 4] = [
+const CARRIES: [(Step, Said); 4] = [
     (Step::ToServer(ALL), Said::Moved(4096, 0)),
     (Step::ToServer(ALL), Said::Moved(0, 0)),
     (Step::ServerNext, Said::Request(DISPLAY, 0)),
@@ -131,16 +133,15 @@ const NARROW: [(Step, Said); 4] = [
 ];
 
 /// Whether only the two carries that moved something are recorded.
-fn records_two(alloc: Global, pair: &mut Plain<'_>) -> Result<bool, AllocError> {
-    let is_answered = is_answered(alloc, pair, &NARROW)?;
+fn records_two(alloc: Global, _tables: &Tables, pair: &mut Plain<'_>) -> Result<bool, AllocError> {
+    crowd(alloc, pair)?;
+    let is_answered = is_answered(alloc, pair, &CARRIES)?;
     Ok(is_answered && pieces(pair) == 2)
 }
 
 #[test]
 fn a_carry_without_room_is_not_recorded(rt: HostRuntime) -> Result<(), Fail> {
-    let tables = Tables::core(rt.alloc())?;
-    let mut pair = crowded(rt.alloc(), &tables)?;
-    assert!(rt; records_two(rt.alloc(), &mut pair)?);
+    assert!(rt; holds_between(rt.alloc(), SIZES, NARROW, records_two)?);
     Ok(())
 }
 
@@ -164,10 +165,18 @@ const NO_CARRY: [(Step, Said); 10] = [
     (Step::Fail(DISPLAY, 6), Said::Done),
 ];
 
+/// Whether no move that is no carry is recorded.
+fn records_no_other_move(
+    alloc: Global,
+    _tables: &Tables,
+    pair: &mut Plain<'_>,
+) -> Result<bool, AllocError> {
+    set_up(alloc, pair)?;
+    records_nothing(alloc, pair, &NO_CARRY)
+}
+
 #[test]
 fn no_other_move_is_recorded(rt: HostRuntime) -> Result<(), Fail> {
-    let tables = Tables::core(rt.alloc())?;
-    let mut pair = set_up(rt.alloc(), &tables)?;
-    assert!(rt; records_nothing(rt.alloc(), &mut pair, &NO_CARRY)?);
+    assert!(rt; holds_of_pair(rt.alloc(), records_no_other_move)?);
     Ok(())
 }

@@ -6,7 +6,7 @@ use wl_objects::{NextError, Object, SendError};
 use wl_server::{GlobalError, Request};
 
 /// What a reply says, in short.
-#[derive(Clone, Copy, Debug, PartialEq, Eq)]
+#[derive(Clone, Copy, PartialEq)]
 pub(crate) enum Said {
     /// This object was made.
     Made(Object),

@@ -154,48 +154,93 @@ fn advance(
     made: &mut Vec<(Object, Iface)>,
 ) -> Result<bool, AllocError> {
     let (step, iface) = numbers.step(made.as_slice());
-    let said = play(alloc, pair, &[step])?;
-    match said.last() {
-        Some(Said::Made(object)) => {
-            made.push((*object, iface))?;
-            Ok(true)
-        }
-        Some(said) => Ok(is_sound(*said)),
+    let replies = run(alloc, pair, &[step])?;
+    keep(made, replies.as_slice(), iface)
+}
+
+/// Keeps what was made, as an object of this interface. Whether the answers are sound.
+fn keep(
+    made: &mut Vec<(Object, Iface)>,
+    replies: &[Reply],
+    iface: Iface,
+) -> Result<bool, AllocError> {
+    match replies.last() {
+        Some(reply) => keep_made(made, say(reply), iface),
         None => Ok(false),
     }
 }
 
+/// Keeps the object that this says was made. Whether it is sound.
+fn keep_made(
+    made: &mut Vec<(Object, Iface)>,
+    said: Said,
+    iface: Iface,
+) -> Result<bool, AllocError> {
+    if let Said::Made(object) = said {
+        made.push((object, iface))?;
+    }
+    Ok(is_sound(said))
+}
+
+/// The globals of each session.
+const FIRST: [Step; 3] = [
+    Step::AddGlobal(WL_COMPOSITOR, 6),
+    Step::AddGlobal(WL_SEAT, 9),
+    Step::AddGlobal(WL_SHM, 2),
+];
+
 /// Some globals, and 1,500 moves by these numbers. Whether all were answered soundly.
 fn act(alloc: Global, pair: &mut Plain<'_>, seed: u64) -> Result<bool, AllocError> {
-    let first = [
-        Step::AddGlobal(WL_COMPOSITOR, 6),
-        Step::AddGlobal(WL_SEAT, 9),
-        Step::AddGlobal(WL_SHM, 2),
-    ];
-    let _ = run(alloc, pair, &first)?;
+    let _ = run(alloc, pair, &FIRST)?;
     let mut numbers = Numbers { state: seed };
     let mut made = Vec::new(alloc);
-    let mut is_sound = true;
+    advance_often(alloc, pair, &mut numbers, &mut made)
+}
+
+/// 1,500 moves by these numbers. Whether all were answered soundly.
+fn advance_often(
+    alloc: Global,
+    pair: &mut Plain<'_>,
+    numbers: &mut Numbers,
+    made: &mut Vec<(Object, Iface)>,
+) -> Result<bool, AllocError> {
+    let mut are_sound = true;
     for _ in 0..1500 {
-        is_sound = advance(alloc, pair, &mut numbers, &mut made)? && is_sound;
+        are_sound = advance(alloc, pair, numbers, made)? && are_sound;
     }
-    Ok(is_sound)
+    Ok(are_sound)
+}
+
+/// All that waits is carried, as far as there is room, and some of it is read.
+const CARRY_AND_READ: [Step; 5] = [
+    Step::ToServer(4096),
+    Step::ServerNext,
+    Step::ToClient(4096),
+    Step::ClientNext,
+    Step::ClientNext,
+];
+
+/// Carries and reads. Whether all was answered soundly.
+fn carry_and_read(alloc: Global, pair: &mut Plain<'_>) -> Result<bool, AllocError> {
+    let replies = run(alloc, pair, &CARRY_AND_READ)?;
+    Ok(are_sound(replies.as_slice()))
+}
+
+/// Whether all of these replies are sound.
+fn are_sound(replies: &[Reply]) -> bool {
+    let mut is_so = true;
+    for reply in replies {
+        is_so = is_sound(say(reply)) && is_so;
+    }
+    is_so
 }
 
 /// Carries and reads until nothing waits. Whether all was answered soundly.
 fn settle(alloc: Global, pair: &mut Plain<'_>) -> Result<bool, AllocError> {
-    let steps = [
-        Step::ToServer(4096),
-        Step::ServerNext,
-        Step::ToClient(4096),
-        Step::ClientNext,
-        Step::ClientNext,
-    ];
     let mut are_sound = true;
     for _ in 0..1000 {
-        let said = play(alloc, pair, &steps)?;
-        are_sound = said.iter().all(|said| is_sound(*said)) && are_sound;
-        if pair.drained() {
+        are_sound = carry_and_read(alloc, pair)? && are_sound;
+        if is_drained(pair) {
             break;
         }
     }
@@ -215,19 +260,30 @@ fn is_lawful(verdict: Verdict, least: usize) -> bool {
     }
 }
 
+/// Whether all is answered soundly with these numbers, and both ends agree in the end.
+fn agrees_in_the_end(
+    alloc: Global,
+    tables: &Tables,
+    pair: &mut Plain<'_>,
+    seed: u64,
+) -> Result<bool, AllocError> {
+    let acts = act(alloc, pair, seed)?;
+    let settles = settle(alloc, pair)?;
+    let is_lawful = is_lawful(verdict(alloc, tables, pair)?, 100);
+    Ok(acts && settles && is_drained(pair) && agrees(pair) && is_lawful)
+}
+
+/// The same of a fresh pair.
+fn agrees_by(alloc: Global, seed: u64) -> Result<bool, AllocError> {
+    holds_between(alloc, SMALL, SMALL, |alloc, tables, pair| {
+        agrees_in_the_end(alloc, tables, pair, seed)
+    })
+}
+
 #[test]
 fn whatever_is_done_both_ends_agree_in_the_end(rt: HostRuntime) -> Result<(), Fail> {
-    let tables = Tables::core(rt.alloc())?;
     for seed in 1u64..4 {
-        let mut pair = Plain::new(rt.alloc(), &tables, SMALL, SMALL)?;
-        assert!(rt; act(rt.alloc(), &mut pair, seed)?, "seed {seed}");
-        assert!(rt; settle(rt.alloc(), &mut pair)?, "seed {seed}");
-        assert!(rt; pair.drained(), "seed {seed}");
-        assert!(rt; pair.agree(), "seed {seed}");
-        assert!(rt;
-            is_lawful(verdict(rt.alloc(), &tables, &pair)?, 100),
-            "seed {seed}"
-        );
+        assert!(rt; agrees_by(rt.alloc(), seed)?, "seed {seed}");
     }
     Ok(())
 }

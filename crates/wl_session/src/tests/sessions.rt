@@ -4,25 +4,28 @@ use wl_client::Incoming;
 use wl_objects::{Got, Named, SendError};
 use wl_wire::Fixed;
 
+/// Whether all is made as it should be, and not read yet.
+fn makes_all(alloc: Global, pair: &mut Plain<'_>) -> Result<bool, AllocError> {
+    let is_made = is_answered(alloc, pair, &BINDING)?;
+    Ok(is_made && !is_drained(pair) && !agrees(pair))
+}
+
 /// Whether all is made as it should be, and both ends agree once it is read.
 fn makes_all_as_expected(
     alloc: Global,
     tables: &Tables,
     pair: &mut Plain<'_>,
 ) -> Result<bool, AllocError> {
-    let is_made = is_answered(alloc, pair, &BINDING)?;
-    // what was sent is not read yet
-    let waits = !pair.drained() && !pair.agree();
+    tell(alloc, pair)?;
+    let is_made = makes_all(alloc, pair)?;
     turn(alloc, pair)?;
     let has_ended = has_ended(alloc, tables, pair, 8, lawful(7, 2))?;
-    Ok(is_made && waits && has_ended && pair.ended_at().is_none())
+    Ok(is_made && has_ended && pair.ended_at().is_none())
 }
 
 #[test]
 fn a_pair_is_set_up(rt: HostRuntime) -> Result<(), Fail> {
-    let tables = Tables::core(rt.alloc())?;
-    let mut pair = told(rt.alloc(), &tables)?;
-    assert!(rt; makes_all_as_expected(rt.alloc(), &tables, &mut pair)?);
+    assert!(rt; holds_of_pair(rt.alloc(), makes_all_as_expected)?);
     Ok(())
 }
 
@@ -38,17 +41,30 @@ fn is_enter(reply: Option<&Reply>, surface: Named) -> bool {
 
 fn are_enter(args: &[Got], surface: Named) -> bool {
     match args {
-        [
-            Got::Uint(serial),
-            Got::Obj(named),
-            Got::Fixed(x),
-            Got::Fixed(y),
-        ] => {
-            *serial == 1
-                && *named == surface
-                && *x == Fixed::from_raw(0)
-                && *y == Fixed::from_raw(0)
+        [serial, named, x, y] => {
+            is_uint(serial, 1) && is_object(named, surface) && is_zero(x) && is_zero(y)
         }
+        _ => false,
+    }
+}
+
+fn is_uint(arg: &Got, uint: u32) -> bool {
+    match arg {
+        Got::Uint(is) => *is == uint,
+        _ => false,
+    }
+}
+
+fn is_object(arg: &Got, object: Named) -> bool {
+    match arg {
+        Got::Obj(is) => *is == object,
+        _ => false,
+    }
+}
+
+fn is_zero(arg: &Got) -> bool {
+    match arg {
+        Got::Fixed(is) => *is == Fixed::from_raw(0),
         _ => false,
     }
 }
@@ -76,7 +92,7 @@ const LEFT: [(Step, Said); 5] = [
 /// Whether the enter names an object that is dead by now.
 fn enters_the_dead(alloc: Global, pair: &mut Plain<'_>) -> Result<bool, AllocError> {
     let replies = run(alloc, pair, &ENTERING)?;
-    Ok(is_enter(replies.last(), Named::Dead(SURFACE)) && !pair.agree())
+    Ok(is_enter(replies.last(), Named::Dead(SURFACE)) && !agrees(pair))
 }
 
 /// Whether a dead object is named, and then its id is used again.
@@ -85,6 +101,7 @@ fn names_the_dead(
     tables: &Tables,
     pair: &mut Plain<'_>,
 ) -> Result<bool, AllocError> {
+    set_up(alloc, pair)?;
     let is_dead = enters_the_dead(alloc, pair)?;
     let is_left = is_answered(alloc, pair, &LEFT)?;
     let is_deleted = was_carried(pair, b"\x01\0\0\0\x01\0\x0c\0\x04\0\0\0");
@@ -95,9 +112,7 @@ fn names_the_dead(
 
 #[test]
 fn an_event_names_an_object_that_is_destroyed(rt: HostRuntime) -> Result<(), Fail> {
-    let tables = Tables::core(rt.alloc())?;
-    let mut pair = set_up(rt.alloc(), &tables)?;
-    assert!(rt; names_the_dead(rt.alloc(), &tables, &mut pair)?);
+    assert!(rt; holds_of_pair(rt.alloc(), names_the_dead)?);
     Ok(())
 }
 
@@ -113,9 +128,14 @@ fn is_keymap(reply: Option<&Reply>, token: u32) -> bool {
 
 fn are_keymap(args: &[Got], token: u32) -> bool {
     match args {
-        [Got::Uint(format), Got::Fd(held), Got::Uint(size)] => {
-            *format == 1 && *held == token && *size == 10
-        }
+        [format, held, size] => { is_uint(format, 1) && is_token(held, token) && is_uint(size, 10) }
+        _ => false,
+    }
+}
+
+fn is_token(arg: &Got, token: u32) -> bool {
+    match arg {
+        Got::Fd(is) => *is == token,
         _ => false,
     }
 }
@@ -150,6 +170,7 @@ fn gives_each_its_token(
     tables: &Tables,
     pair: &mut Plain<'_>,
 ) -> Result<bool, AllocError> {
+    set_up(alloc, pair)?;
     let is_discarded = is_answered(alloc, pair, &RELEASING)?;
     let is_read = reads_keymap(alloc, pair, 8)?;
     let is_released = is_answered(alloc, pair, &RELEASED)?;
@@ -160,9 +181,7 @@ fn gives_each_its_token(
 
 #[test]
 fn an_event_for_a_destroyed_object_gives_its_token(rt: HostRuntime) -> Result<(), Fail> {
-    let tables = Tables::core(rt.alloc())?;
-    let mut pair = set_up(rt.alloc(), &tables)?;
-    assert!(rt; gives_each_its_token(rt.alloc(), &tables, &mut pair)?);
+    assert!(rt; holds_of_pair(rt.alloc(), gives_each_its_token)?);
     Ok(())
 }
 
@@ -201,9 +220,7 @@ fn uses_an_id_again(
 
 #[test]
 fn an_id_is_used_again(rt: HostRuntime) -> Result<(), Fail> {
-    let tables = Tables::core(rt.alloc())?;
-    let mut pair = Plain::new(rt.alloc(), &tables, SIZES, SIZES)?;
-    assert!(rt; uses_an_id_again(rt.alloc(), &tables, &mut pair)?);
+    assert!(rt; holds_of_pair(rt.alloc(), uses_an_id_again)?);
     Ok(())
 }
 
@@ -226,6 +243,7 @@ fn drops_a_callback(
     tables: &Tables,
     pair: &mut Plain<'_>,
 ) -> Result<bool, AllocError> {
+    set_up(alloc, pair)?;
     let is_dropped = is_answered(alloc, pair, &DROPPED)?;
     let has_ended = has_ended(alloc, tables, pair, 8, lawful(8, 3))?;
     Ok(is_dropped && has_ended)
@@ -233,9 +251,7 @@ fn drops_a_callback(
 
 #[test]
 fn a_callback_ends_without_its_event(rt: HostRuntime) -> Result<(), Fail> {
-    let tables = Tables::core(rt.alloc())?;
-    let mut pair = set_up(rt.alloc(), &tables)?;
-    assert!(rt; drops_a_callback(rt.alloc(), &tables, &mut pair)?);
+    assert!(rt; holds_of_pair(rt.alloc(), drops_a_callback)?);
     Ok(())
 }
 
@@ -251,19 +267,19 @@ fn is_bound(reply: Option<&Reply>, object: Object) -> bool {
 
 fn are_bound(args: &[Got], made: Object) -> bool {
     match args {
-        [
-            Got::Uint(name),
-            Got::Bound {
-                iface,
-                version,
-                object,
-            },
-        ] => {
-            *name == 1
-                && iface.as_slice() == b"wl_compositor".as_slice()
-                && *version == 6
-                && *object == made
-        }
+        [name, bound] => is_uint(name, 1) && is_compositor(bound, made),
+        _ => false,
+    }
+}
+
+/// Whether it is a wl_compositor of version 6, as this object.
+fn is_compositor(arg: &Got, made: Object) -> bool {
+    match arg {
+        Got::Bound {
+            iface,
+            version,
+            object,
+        } => { iface.as_slice() == b"wl_compositor".as_slice() && *version == 6 && *object == made }
         _ => false,
     }
 }
@@ -291,6 +307,7 @@ fn binds_what_is_withdrawn(
     tables: &Tables,
     pair: &mut Plain<'_>,
 ) -> Result<bool, AllocError> {
+    set_up(alloc, pair)?;
     let is_withdrawn = is_answered(alloc, pair, &WITHDRAWN)?;
     let is_bound = reads_bind(alloc, pair, NEXT)?;
     let has_ended = has_ended(alloc, tables, pair, 9, lawful(8, 2))?;
@@ -299,8 +316,6 @@ fn binds_what_is_withdrawn(
 
 #[test]
 fn a_withdrawn_global_is_still_bound(rt: HostRuntime) -> Result<(), Fail> {
-    let tables = Tables::core(rt.alloc())?;
-    let mut pair = set_up(rt.alloc(), &tables)?;
-    assert!(rt; binds_what_is_withdrawn(rt.alloc(), &tables, &mut pair)?);
+    assert!(rt; holds_of_pair(rt.alloc(), binds_what_is_withdrawn)?);
     Ok(())
 }

@@ -34,8 +34,23 @@ pub(crate) enum Step {
     ServerNext,
 }
 
+/// These moves themselves.
+pub(crate) fn moves_of(alloc: Global, steps: &[Step]) -> Result<Vec<Move>, AllocError> {
+    let mut moves = Vec::new(alloc);
+    add_all(alloc, &mut moves, steps)?;
+    Ok(moves)
+}
+
+fn add_all(alloc: Global, moves: &mut Vec<Move>, steps: &[Step]) -> Result<(), AllocError> {
+    for step in steps {
+        let action = own(alloc, *step)?;
+        moves.push(action)?;
+    }
+    Ok(())
+}
+
 /// The move itself.
-pub(crate) fn own(alloc: Global, step: Step) -> Result<Move, AllocError> {
+fn own(alloc: Global, step: Step) -> Result<Move, AllocError> {
     match step {
         Step::Make(target, opcode) => make(alloc, target, opcode),
         Step::Tell(target, opcode) => Ok(tell(alloc, target, opcode)),
