@@ -1,87 +1,121 @@
 //! What a client makes of events written by hand.
 use super::*;
+use std::alloc::Allocator;
 use wl_objects::{Got, Named};
 use wl_wire::Fixed;
+
+/// What a plain client answers of its next message.
+type Answer = Result<Option<Incoming>, NextError>;
 
 /// wl_display.delete_id of id 2.
 const DELETE_TWO: &[u8; 12] = b"\x01\0\0\0\x01\0\x0c\0\x02\0\0\0";
 
+/// wl_display.delete_id of id 1.
+const DELETE_ONE: &[u8; 12] = b"\x01\0\0\0\x01\0\x0c\0\x01\0\0\0";
+
+/// Whether an id was deleted that names no object.
+fn is_stray(answer: &Answer, of: u32) -> bool {
+    match answer {
+        Ok(Some(Incoming::Stray { id })) => *id == of,
+        _ => false,
+    }
+}
+
+/// Whether these bytes delete an id that names no object.
+fn reads_stray(client: &mut Plain<'_>, bytes: &[u8], of: u32) -> bool {
+    is_stray(&read(client, bytes, &[]), of)
+}
+
+/// Whether no whole message waits.
+fn has_read_all(client: &mut Plain<'_>) -> bool {
+    matches!(client.next(), Ok(None))
+}
+
+fn reads_strays(client: &mut Plain<'_>) -> bool {
+    let display = client.display();
+    reads_stray(client, DELETE_TWO, 2)
+        // nor does it end wl_display
+        && reads_stray(client, DELETE_ONE, 1)
+        && has_read_all(client)
+        && client.live(display).is_some()
+}
+
 #[test]
 fn delete_id_of_a_free_id_is_stray(rt: HostRuntime) -> Result<(), Fail> {
-    let tables = Tables::core(rt.alloc())?;
-    let mut client = Plain::new(rt.alloc(), &tables, SIZES)?;
-    match read(&mut client, DELETE_TWO, &[])? {
-        Some(Incoming::Stray { id }) => assert_eq!(rt; id, 2),
-        _ => assert!(rt; false),
-    }
-    // nor does it end wl_display
-    match read(&mut client, b"\x01\0\0\0\x01\0\x0c\0\x01\0\0\0", &[])? {
-        Some(Incoming::Stray { id }) => assert_eq!(rt; id, 1),
-        _ => assert!(rt; false),
-    }
-    assert!(rt; client.next()?.is_none());
-    let display = client.display();
-    assert!(rt; client.live(display).is_some());
+    assert!(rt; holds_of_new(rt.alloc(), reads_strays)?);
     Ok(())
+}
+
+/// Whether the first object of the id 2 was deleted.
+fn is_deleted(answer: &Answer) -> bool {
+    match answer {
+        Ok(Some(Incoming::Deleted { object })) => *object == Object { id: 2, birth: 1 },
+        _ => false,
+    }
+}
+
+fn deletes_two(client: &mut Plain<'_>) -> bool {
+    is_deleted(&read(client, DELETE_TWO, &[]))
+}
+
+fn uses_the_id_again(client: &mut Plain<'_>) -> bool {
+    let display = client.display();
+    sends(client, display, 0, &[Arg::New])
+        && deletes_two(client)
+        && client.send(display, 0, &[Arg::New]) == Ok(Some(Object { id: 2, birth: 2 }))
 }
 
 #[test]
 fn delete_id_ends_a_live_object_and_frees_its_id(rt: HostRuntime) -> Result<(), Fail> {
-    let tables = Tables::core(rt.alloc())?;
-    let mut client = Plain::new(rt.alloc(), &tables, SIZES)?;
-    let display = client.display();
-    let _ = client.send(display, 0, &[Arg::New])?;
-    match read(&mut client, DELETE_TWO, &[])? {
-        Some(Incoming::Deleted { object }) => assert_eq!(rt; object, Object { id: 2, birth: 1 }),
-        _ => assert!(rt; false),
-    }
-    assert_eq!(rt;
-        client.send(display, 0, &[Arg::New]),
-        Ok(Some(Object { id: 2, birth: 2 }))
-    );
+    assert!(rt; holds_of_new(rt.alloc(), uses_the_id_again)?);
     Ok(())
 }
 
 /// Whether an event was thrown away, for this zombie, and these tokens were handed out.
-fn is_discarded(report: &Option<Incoming>, zombie: Object, handed: &[u32]) -> bool {
-    match report {
-        Some(
-            Incoming::Discarded {
-                target,
-                opcode,
-                tokens,
-            },
+fn is_discarded(answer: &Answer, zombie: Object, handed: &[u32]) -> bool {
+    match answer {
+        Ok(
+            Some(
+                Incoming::Discarded {
+                    target,
+                    opcode,
+                    tokens,
+                },
+            ),
         ) => *target == zombie && *opcode == 0 && tokens.as_slice() == handed,
         _ => false,
     }
 }
 
+/// The arguments of an event of the opcode 0 for this object.
+fn told_to(answer: &Answer, object: Object) -> Option<&[Got]> {
+    match answer {
+        Ok(
+            Some(
+                Incoming::Event {
+                    target,
+                    opcode,
+                    args,
+                },
+            ),
+        ) if *target == object && *opcode == 0 => Some(args.as_slice()),
+        _ => None,
+    }
+}
+
 /// Whether a keyboard was told its keymap, of format 1 and 10 bytes, by this token.
-fn is_keymap(report: &Option<Incoming>, keyboard: Object, token: u32) -> bool {
-    match report {
-        Some(
-            Incoming::Event {
-                target,
-                opcode,
-                args,
-            },
-        ) => {
-            *target == keyboard
-                && *opcode == 0
-                && match args.as_slice() {
-                    [Got::Uint(1), Got::Fd(told), Got::Uint(10)] => *told == token,
-                    _ => false,
-                }
-        }
+fn is_keymap(answer: &Answer, keyboard: Object, token: u32) -> bool {
+    match told_to(answer, keyboard) {
+        Some([Got::Uint(1), Got::Fd(told), Got::Uint(10)]) => *told == token,
         _ => false,
     }
 }
 
-/// The seat's next keyboard.
-fn keyboard(client: &mut Plain<'_>) -> Result<Object, Fail> {
-    match client.send(SEAT, 1, &[Arg::New])? {
-        Some(keyboard) => Ok(keyboard),
-        None => Ok(SEAT),
+/// The seat's next keyboard; the seat where there is none.
+fn keyboard(client: &mut Plain<'_>) -> Object {
+    match client.send(SEAT, 1, &[Arg::New]) {
+        Ok(Some(keyboard)) => keyboard,
+        _ => SEAT,
     }
 }
 
@@ -89,125 +123,142 @@ fn keyboard(client: &mut Plain<'_>) -> Result<Object, Fail> {
 const KEYMAPS: &[u8; 32] =
     b"\x06\0\0\0\0\0\x10\0\x01\0\0\0\x0a\0\0\0\x07\0\0\0\0\0\x10\0\x01\0\0\0\x0a\0\0\0";
 
+/// Whether the keymap of the first is thrown away, once both were read.
+fn discards(client: &mut Plain<'_>, first: Object) -> bool {
+    is_discarded(&read(client, KEYMAPS, &[7, 8]), first, &[7])
+}
+
+/// Whether the keymap of the second is told.
+fn tells_keymap(client: &mut Plain<'_>, second: Object) -> bool {
+    is_keymap(&client.next(), second, 8)
+}
+
+fn hands_out_tokens(client: &mut Plain<'_>) -> bool {
+    if !is_bound(client, 6) {
+        return false;
+    }
+    let first = keyboard(client);
+    let second = keyboard(client);
+    sends(client, first, 0, &[])
+        && discards(client, first)
+        && tells_keymap(client, second)
+        && client.in_room().tokens == 20
+}
+
 // The client releases the first of two keyboards before it reads their keymaps, of which each has
 // a token.
 #[test]
 fn the_tokens_of_a_zombie_are_handed_out(rt: HostRuntime) -> Result<(), Fail> {
-    let tables = Tables::core(rt.alloc())?;
-    let mut client = bound(rt.alloc(), &tables, 6)?;
-    let first = keyboard(&mut client)?;
-    let second = keyboard(&mut client)?;
-    let _ = client.send(first, 0, &[])?;
-    let report = read(&mut client, KEYMAPS, &[7, 8])?;
-    assert!(rt; is_discarded(&report, first, &[7]));
-    let report = client.next()?;
-    assert!(rt; is_keymap(&report, second, 8));
-    assert!(rt; client.in_room().tokens == 20);
+    assert!(rt; holds_of_new(rt.alloc(), hands_out_tokens)?);
     Ok(())
+}
+
+/// wl_pointer.enter for the id 6 and the surface of id 4.
+const ENTER: &[u8; 24] = b"\x06\0\0\0\0\0\x18\0\x01\0\0\0\x04\0\0\0\0\x01\0\0\0\0\0\0";
+
+/// Whether a pointer was told that it entered the destroyed surface.
+fn is_enter(answer: &Answer, pointer: Object) -> bool {
+    match told_to(answer, pointer) {
+        Some([Got::Uint(_), Got::Obj(named), Got::Fixed(x), Got::Fixed(_)]) => {
+            *named == Named::Dead(SURFACE) && *x == Fixed::from_raw(256)
+        }
+        _ => false,
+    }
+}
+
+fn enters(client: &mut Plain<'_>) -> bool {
+    is_enter(&read(client, ENTER, &[]), Object { id: 6, birth: 5 })
+}
+
+fn enters_a_zombie(client: &mut Plain<'_>) -> bool {
+    is_bound(client, 6)
+        && sends(client, SEAT, 0, &[Arg::New])
+        && sends(client, SURFACE, 0, &[])
+        && enters(client)
 }
 
 // A pointer enters a surface that the client has destroyed.
 #[test]
 fn an_event_can_name_a_zombie(rt: HostRuntime) -> Result<(), Fail> {
-    let tables = Tables::core(rt.alloc())?;
-    let mut client = bound(rt.alloc(), &tables, 6)?;
-    let _ = client.send(SEAT, 0, &[Arg::New])?;
-    let _ = client.send(SURFACE, 0, &[])?;
-    let enter = b"\x06\0\0\0\0\0\x18\0\x01\0\0\0\x04\0\0\0\0\x01\0\0\0\0\0\0";
-    let report = read(&mut client, enter, &[])?;
-    match &report {
-        Some(
-            Incoming::Event {
-                target,
-                opcode,
-                args,
-            },
-        ) => {
-            assert_eq!(rt; *target, Object { id: 6, birth: 5 });
-            assert_eq!(rt; *opcode, 0);
-            match args.as_slice() {
-                [Got::Uint(_), Got::Obj(named), Got::Fixed(x), Got::Fixed(_)] => {
-                    assert_eq!(rt; *named, Named::Dead(SURFACE));
-                    assert_eq!(rt; *x, Fixed::from_raw(256));
-                }
-                _ => assert!(rt; false),
-            }
-        }
-        _ => assert!(rt; false),
-    }
+    assert!(rt; holds_of_new(rt.alloc(), enters_a_zombie)?);
     Ok(())
+}
+
+/// wl_registry.global: an interface that is not in the tables has the name 1.
+const GLOBAL_UNKNOWN: &[u8; 24] = b"\x02\0\0\0\0\0\x18\0\x01\0\0\0\x04\0\0\0xyz\0\x06\0\0\0";
+
+/// wl_registry.global_remove of the name 1.
+const REMOVE_ONE: &[u8; 12] = b"\x02\0\0\0\x01\0\x0c\0\x01\0\0\0";
+
+/// Whether a global was told.
+fn is_global(answer: &Answer) -> bool {
+    match told_to(answer, REGISTRY) {
+        Some(args) => args.len() == 3,
+        None => false,
+    }
+}
+
+fn tells_unknown(client: &mut Plain<'_>) -> bool {
+    is_global(&read(client, GLOBAL_UNKNOWN, &[]))
+}
+
+fn learns_globals(client: &mut Plain<'_>) -> bool {
+    is_told(client)
+        && tells_unknown(client)
+        && binds(client, 6, Err(SendError::BadBind))
+        && reads(client, GLOBAL_COMPOSITOR)
+        && binds(client, 6, Ok(COMPOSITOR))
+        && reads(client, REMOVE_ONE)
+        && binds(client, 6, Err(SendError::BadBind))
 }
 
 #[test]
 fn the_registry_teaches_globals(rt: HostRuntime) -> Result<(), Fail> {
-    let tables = Tables::core(rt.alloc())?;
-    let mut client = Plain::new(rt.alloc(), &tables, SIZES)?;
-    told(&mut client)?;
-    // an interface that is not in the tables has the name 1 now
-    let unknown = b"\x02\0\0\0\0\0\x18\0\x01\0\0\0\x04\0\0\0xyz\0\x06\0\0\0";
-    let report = read(&mut client, unknown, &[])?;
-    match &report {
-        Some(
-            Incoming::Event {
-                target,
-                opcode,
-                args,
-            },
-        ) => {
-            assert_eq!(rt; *target, REGISTRY);
-            assert_eq!(rt; *opcode, 0);
-            assert_eq!(rt; args.as_slice().len(), 3);
-        }
-        _ => assert!(rt; false),
-    }
-    assert_eq!(rt;
-        client.bind(REGISTRY, 1, b"wl_compositor", 6),
-        Err(SendError::BadBind)
-    );
-    let _ = read(&mut client, GLOBAL_COMPOSITOR, &[])?;
-    assert_eq!(rt;
-        client.bind(REGISTRY, 1, b"wl_compositor", 6),
-        Ok(COMPOSITOR)
-    );
-    // global_remove of the name 1
-    let _ = read(&mut client, b"\x02\0\0\0\x01\0\x0c\0\x01\0\0\0", &[])?;
-    assert_eq!(rt;
-        client.bind(REGISTRY, 1, b"wl_compositor", 6),
-        Err(SendError::BadBind)
-    );
+    assert!(rt; holds_of_new(rt.alloc(), learns_globals)?);
     Ok(())
+}
+
+/// wl_display.error of id 9, with code 2 and the text "bad".
+const ERROR: &[u8; 24] = b"\x01\0\0\0\0\0\x18\0\x09\0\0\0\x02\0\0\0\x04\0\0\0bad\0";
+
+/// Whether an error of this id was told, under which the client has this, with code 2 and the text
+/// "bad".
+pub(super) fn is_error<A: Allocator>(
+    answer: &Result<Option<Incoming<A>>, NextError>,
+    of: u32,
+    object: Named,
+) -> bool {
+    match answer {
+        Ok(
+            Some(
+                Incoming::Error {
+                    id,
+                    named,
+                    code,
+                    text,
+                },
+            ),
+        ) => *id == of && *named == object && *code == 2 && text.as_slice() == b"bad".as_slice(),
+        _ => false,
+    }
+}
+
+fn reads_error(client: &mut Plain<'_>) -> bool {
+    is_error(&read(client, ERROR, &[]), 9, Named::Null)
+}
+
+fn fails_by_an_error(client: &mut Plain<'_>) -> bool {
+    let display = client.display();
+    let mut bytes = [0; 12];
+    sends(client, display, 1, &[Arg::New])
+        && reads_error(client)
+        && stops(client, NextError::Failed)
+        // what was written before can still be taken
+        && client.take(&mut bytes, &mut []).bytes == 12
 }
 
 #[test]
 fn an_error_may_name_an_unknown_object(rt: HostRuntime) -> Result<(), Fail> {
-    let tables = Tables::core(rt.alloc())?;
-    let mut client = Plain::new(rt.alloc(), &tables, SIZES)?;
-    let display = client.display();
-    let _ = client.send(display, 1, &[Arg::New])?;
-    let error = b"\x01\0\0\0\0\0\x18\0\x09\0\0\0\x02\0\0\0\x04\0\0\0bad\0";
-    let report = read(&mut client, error, &[])?;
-    match &report {
-        Some(
-            Incoming::Error {
-                id,
-                named,
-                code,
-                text,
-            },
-        ) => {
-            assert_eq!(rt; *id, 9);
-            assert_eq!(rt; *named, Named::Null);
-            assert_eq!(rt; *code, 2);
-            assert_eq!(rt; text.as_slice(), b"bad".as_slice());
-        }
-        _ => assert!(rt; false),
-    }
-    match client.next() {
-        Err(why) => assert_eq!(rt; why, NextError::Failed),
-        Ok(_) => assert!(rt; false),
-    }
-    // what was written before can still be taken
-    let mut bytes = [0; 12];
-    assert_eq!(rt; client.take(&mut bytes, &mut []).bytes, 12);
+    assert!(rt; holds_of_new(rt.alloc(), fails_by_an_error)?);
     Ok(())
 }

@@ -1,9 +1,13 @@
 //! Each allocation of each call that may want memory is refused in turn.
 use super::*;
+use super::events::is_error;
 use refusing::RefusingAllocator;
 use wl_objects::Named;
 
 type Refused<'t> = Client<'t, MapTable<RefusingAllocator>>;
+
+/// What such a client answers of its next message.
+type Answer = Result<Option<Incoming<RefusingAllocator>>, NextError>;
 
 /// What came of a call of which one allocation was to be refused.
 enum Turn {
@@ -14,149 +18,215 @@ enum Turn {
     Wrong,
 }
 
+/// The turn of a call that was granted all, as that was right or wrong.
+fn granted(right: bool) -> Turn {
+    if right { Turn::Granted } else { Turn::Wrong }
+}
+
+/// The turn of a call that was refused something, as that was right or wrong.
+fn refused(right: bool) -> Turn {
+    if right { Turn::Refused } else { Turn::Wrong }
+}
+
+/// The number of the first turn that is granted all, where each before it is refused as it should be.
+fn granted_at<F: Fn(&RefusingAllocator, &Tables, u64) -> Result<Turn, AllocError>>(
+    memory: &RefusingAllocator,
+    tables: &Tables,
+    turn: F,
+) -> Result<Option<u64>, AllocError>
+    requires { F.IsAlwaysCallable turn }
+{
+    for number in 0u64..100 {
+        match turn(memory, tables, number)? {
+            Turn::Refused => {}
+            Turn::Granted => return Ok(Some(number)),
+            Turn::Wrong => return Ok(None),
+        }
+    }
+    Ok(None)
+}
+
+/// Whether at least one turn is refused, each as it should be, and then one is granted all.
+fn is_refused_in_turn<F: Fn(&RefusingAllocator, &Tables, u64) -> Result<Turn, AllocError>>(
+    alloc: Global,
+    turn: F,
+) -> Result<bool, AllocError>
+    requires { F.IsAlwaysCallable turn }
+{
+    let tables = Tables::core(alloc)?;
+    let memory = RefusingAllocator::new(alloc)?;
+    match granted_at(&memory, &tables, turn)? {
+        Some(number) => Ok(number != 0),
+        None => Ok(false),
+    }
+}
+
+/// What a scene of this number makes of a new client, whose memory it may refuse.
+fn turn_of_new<F: FnOnce(&RefusingAllocator, &mut Refused<'_>, u64) -> Turn>(
+    memory: &RefusingAllocator,
+    tables: &Tables,
+    number: u64,
+    scene: F,
+) -> Result<Turn, AllocError>
+    requires { F.IsAlwaysCallable scene }
+{
+    let mut client = Refused::new(memory.clone()?, tables, SIZES)?;
+    Ok(scene(memory, &mut client, number))
+}
+
+/// A making of a client, of which the allocation of this number is refused.
+fn new_without(
+    memory: &RefusingAllocator,
+    tables: &Tables,
+    number: u64,
+) -> Result<Turn, AllocError> {
+    let alloc = memory.clone()?;
+    memory.refuse_nth(number);
+    let drained = match Refused::new(alloc, tables, SIZES) {
+        Ok(client) => Some(client.is_drained()),
+        Err(_) => None,
+    };
+    Ok(match drained {
+        Some(drained) => granted(drained && !memory.has_refused()),
+        None => refused(memory.has_refused()),
+    })
+}
+
 #[test]
 fn a_client_is_refused_each_of_its_allocations(rt: HostRuntime) -> Result<(), Fail> {
-    let tables = Tables::core(rt.alloc())?;
-    let memory = RefusingAllocator::new(rt.alloc())?;
-    let mut granted = None;
-    for number in 0u64..100 {
-        let alloc = memory.clone()?;
-        memory.refuse_nth(number);
-        if let Ok(client) = Refused::new(alloc, &tables, SIZES) {
-            assert!(rt; client.is_drained());
-            assert!(rt; !memory.has_refused());
-            granted = Some(number);
-            break;
-        }
-        assert!(rt; memory.has_refused());
-    }
-    assert!(rt; granted.is_some());
-    assert_ne!(rt; granted, Some(0));
+    assert!(rt; is_refused_in_turn(rt.alloc(), new_without)?);
     Ok(())
+}
+
+/// Whether nothing waits, there is no registry, and a registry can be made.
+fn makes_a_registry_later(client: &mut Refused<'_>) -> bool {
+    let display = client.display();
+    client.is_drained()
+        && client.live(REGISTRY) == None
+        && client.send(display, 1, &[Arg::New]) == Ok(Some(REGISTRY))
+}
+
+fn send_without(memory: &RefusingAllocator, client: &mut Refused<'_>, number: u64) -> Turn {
+    let display = client.display();
+    memory.refuse_nth(number);
+    let answer = client.send(display, 1, &[Arg::New]);
+    let has_refused = memory.has_refused();
+    memory.refuse_none();
+    if answer == Ok(Some(REGISTRY)) {
+        return granted(!has_refused);
+    }
+    let said = has_refused && answer == Err(SendError::Memory);
+    refused(said && makes_a_registry_later(client))
+}
+
+/// A request of which the allocation of this number is refused.
+fn request_without(
+    memory: &RefusingAllocator,
+    tables: &Tables,
+    number: u64,
+) -> Result<Turn, AllocError> {
+    turn_of_new(memory, tables, number, send_without)
 }
 
 #[test]
 fn a_request_without_memory_changes_nothing(rt: HostRuntime) -> Result<(), Fail> {
-    let tables = Tables::core(rt.alloc())?;
-    let memory = RefusingAllocator::new(rt.alloc())?;
-    let mut granted = None;
-    for number in 0u64..100 {
-        let mut client = Refused::new(memory.clone()?, &tables, SIZES)?;
-        let display = client.display();
-        memory.refuse_nth(number);
-        let answer = client.send(display, 1, &[Arg::New]);
-        let refused = memory.has_refused();
-        memory.refuse_none();
-        if answer == Ok(Some(REGISTRY)) {
-            assert!(rt; !refused);
-            granted = Some(number);
-            break;
-        }
-        assert!(rt; refused);
-        assert_eq!(rt; answer, Err(SendError::Memory));
-        assert!(rt; client.is_drained());
-        assert_eq!(rt; client.live(REGISTRY), None);
-        assert_eq!(rt; client.send(display, 1, &[Arg::New]), Ok(Some(REGISTRY)));
-    }
-    assert!(rt; granted.is_some());
-    assert_ne!(rt; granted, Some(0));
+    assert!(rt; is_refused_in_turn(rt.alloc(), request_without)?);
     Ok(())
+}
+
+/// Whether a scene holds of a new client, whose memory it may refuse.
+fn holds_of_refused<F: FnOnce(&RefusingAllocator, &mut Refused<'_>) -> bool>(
+    alloc: Global,
+    scene: F,
+) -> Result<bool, AllocError>
+    requires { F.IsAlwaysCallable scene }
+{
+    let tables = Tables::core(alloc)?;
+    let memory = RefusingAllocator::new(alloc)?;
+    let mut client = Refused::new(memory.clone()?, &tables, SIZES)?;
+    Ok(scene(&memory, &mut client))
+}
+
+/// wl_display.error of id 1, with code 2 and the text "bad".
+const ERROR: &[u8; 24] = b"\x01\0\0\0\0\0\x18\0\x01\0\0\0\x02\0\0\0\x04\0\0\0bad\0";
+
+/// Whether the next message is the error of wl_display.
+fn tells_error(client: &mut Refused<'_>) -> bool {
+    is_error(&client.next(), 1, Named::Live(Object { id: 1, birth: 0 }))
+}
+
+fn error_stays(memory: &RefusingAllocator, client: &mut Refused<'_>) -> bool {
+    memory.refuse_nth(0);
+    stops_at(client, ERROR, NextError::Memory) && tells_error(client)
 }
 
 #[test]
 fn an_error_that_finds_no_memory_stays(rt: HostRuntime) -> Result<(), Fail> {
-    let tables = Tables::core(rt.alloc())?;
-    let memory = RefusingAllocator::new(rt.alloc())?;
-    let mut client = Refused::new(memory.clone()?, &tables, SIZES)?;
-    memory.refuse_nth(0);
-    let error = b"\x01\0\0\0\0\0\x18\0\x01\0\0\0\x02\0\0\0\x04\0\0\0bad\0";
-    match read(&mut client, error, &[]) {
-        Err(why) => assert_eq!(rt; why, NextError::Memory),
-        Ok(_) => assert!(rt; false),
-    }
-    let report = client.next()?;
-    match &report {
-        Some(
-            Incoming::Error {
-                id,
-                named,
-                code,
-                text,
-            },
-        ) => {
-            assert_eq!(rt; *id, 1);
-            assert_eq!(rt; *named, Named::Live(Object { id: 1, birth: 0 }));
-            assert_eq!(rt; *code, 2);
-            assert_eq!(rt; text.as_slice(), b"bad".as_slice());
-        }
-        _ => assert!(rt; false),
-    }
+    assert!(rt; holds_of_refused(rt.alloc(), error_stays)?);
     Ok(())
 }
 
-/// A client that was told of the compositor and the seat, and has used the room made for ids.
-fn crowded<'t>(memory: &RefusingAllocator, tables: &'t Tables) -> Result<Refused<'t>, Fail> {
-    let mut client = Refused::new(memory.clone()?, tables, SIZES)?;
-    told(&mut client)?;
+/// Tells a client of the compositor and the seat, and uses the room made for ids. Whether all went
+/// well.
+fn is_crowded(client: &mut Refused<'_>) -> bool {
     let display = client.display();
-    let _ = client.send(display, 0, &[Arg::New])?;
-    let _ = client.send(display, 0, &[Arg::New])?;
-    Ok(client)
+    is_told(client) && sends(client, display, 0, &[Arg::New]) && sends(client, display, 0, &[Arg::New])
 }
 
 /// The object that a crowded client binds.
 const BOUND: Object = Object { id: 5, birth: 4 };
 
-/// Whether nothing but the requests of a crowded client waits, and nothing more is live.
-fn is_crowded(client: &Refused<'_>) -> bool {
-    client.goes(100, 0).bytes == 36 && client.live(BOUND).is_none()
+/// What a crowded client answers where it binds the compositor.
+fn bind(client: &mut Refused<'_>) -> Result<Object, SendError> {
+    client.bind(REGISTRY, 1, b"wl_compositor", 6)
+}
+
+/// Whether nothing but the requests of a crowded client waits, nothing more is live, and the
+/// compositor can be bound.
+fn binds_later(client: &mut Refused<'_>) -> bool {
+    client.goes(100, 0).bytes == 36 && client.live(BOUND).is_none() && bind(client) == Ok(BOUND)
+}
+
+fn crowded_bind_without(memory: &RefusingAllocator, client: &mut Refused<'_>, number: u64) -> Turn {
+    if !is_crowded(client) {
+        return Turn::Wrong;
+    }
+    memory.refuse_nth(number);
+    let answer = bind(client);
+    let has_refused = memory.has_refused();
+    memory.refuse_none();
+    if has_refused {
+        refused(answer == Err(SendError::Memory) && binds_later(client))
+    } else {
+        granted(answer == Ok(BOUND))
+    }
 }
 
 /// A bind of which the allocation of this number is refused.
-fn bind_without(memory: &RefusingAllocator, tables: &Tables, number: u64) -> Result<Turn, Fail> {
-    let mut client = crowded(memory, tables)?;
-    memory.refuse_nth(number);
-    let answer = client.bind(REGISTRY, 1, b"wl_compositor", 6);
-    let refused = memory.has_refused();
-    memory.refuse_none();
-    if !refused {
-        return Ok(if answer == Ok(BOUND) {
-            Turn::Granted
-        } else {
-            Turn::Wrong
-        });
-    }
-    let same = answer == Err(SendError::Memory) && is_crowded(&client);
-    let later = client.bind(REGISTRY, 1, b"wl_compositor", 6) == Ok(BOUND);
-    Ok(if same && later {
-        Turn::Refused
-    } else {
-        Turn::Wrong
-    })
+fn bind_without(
+    memory: &RefusingAllocator,
+    tables: &Tables,
+    number: u64,
+) -> Result<Turn, AllocError> {
+    turn_of_new(memory, tables, number, crowded_bind_without)
 }
 
 #[test]
 fn a_bind_without_memory_changes_nothing(rt: HostRuntime) -> Result<(), Fail> {
-    let tables = Tables::core(rt.alloc())?;
-    let memory = RefusingAllocator::new(rt.alloc())?;
-    let mut granted = None;
-    for number in 0u64..100 {
-        match bind_without(&memory, &tables, number)? {
-            Turn::Refused => {}
-            Turn::Granted => {
-                granted = Some(number);
-                break;
-            }
-            Turn::Wrong => break,
-        }
-    }
-    assert!(rt; granted.is_some());
-    assert_ne!(rt; granted, Some(0));
+    assert!(rt; is_refused_in_turn(rt.alloc(), bind_without)?);
     Ok(())
 }
 
-/// Whether the answer is the event that tells of the compositor.
-fn tells_compositor(answer: &Result<Option<Incoming<RefusingAllocator>>, NextError>) -> bool {
+/// What was made of the event that tells of the compositor.
+#[derive(Drop)]
+enum Told {
+    Whole,
+    NoMemory,
+    Else,
+}
+
+/// What the answer to the event that tells of the compositor is.
+fn told_in(answer: &Answer) -> Told {
     match answer {
         Ok(
             Some(
@@ -166,88 +236,81 @@ fn tells_compositor(answer: &Result<Option<Incoming<RefusingAllocator>>, NextErr
                     args,
                 },
             ),
-        ) => *target == REGISTRY && *opcode == 0 && args.as_slice().len() == 3,
-        _ => false,
+        ) if *target == REGISTRY && *opcode == 0 && args.as_slice().len() == 3 => Told::Whole,
+        Err(NextError::Memory) => Told::NoMemory,
+        _ => Told::Else,
     }
 }
 
-/// Whether the answer is that there was no memory.
-fn is_memory(answer: &Result<Option<Incoming<RefusingAllocator>>, NextError>) -> bool {
-    match answer {
-        Err(why) => *why == NextError::Memory,
-        Ok(_) => false,
-    }
+/// What the next message tells of the compositor.
+fn tells(client: &mut Refused<'_>) -> Told {
+    told_in(&client.next())
 }
 
-/// Whether the event that tells of the compositor still waits, and has taught nothing.
-fn waits_untold(client: &mut Refused<'_>) -> bool {
+/// Whether the event that tells of the compositor still waits, has taught nothing, and is told.
+fn tells_later(client: &mut Refused<'_>) -> bool {
     client.in_room().bytes == 4060
-        && client.bind(REGISTRY, 1, b"wl_compositor", 6) == Err(SendError::BadBind)
+        && bind(client) == Err(SendError::BadBind)
+        && matches!(tells(client), Told::Whole)
+}
+
+fn tell_without(memory: &RefusingAllocator, client: &mut Refused<'_>, number: u64) -> Turn {
+    let display = client.display();
+    if !sends(client, display, 1, &[Arg::New]) {
+        return Turn::Wrong;
+    }
+    memory.refuse_nth(number);
+    let _ = client.feed(GLOBAL_COMPOSITOR, &[]);
+    let told = tells(client);
+    let has_refused = memory.has_refused();
+    memory.refuse_none();
+    match told {
+        Told::Whole => granted(!has_refused),
+        Told::NoMemory => refused(has_refused && tells_later(client)),
+        Told::Else => Turn::Wrong,
+    }
 }
 
 /// A reading of an event with a string, of which the allocation of this number is refused.
-fn next_without(memory: &RefusingAllocator, tables: &Tables, number: u64) -> Result<Turn, Fail> {
-    let mut client = Refused::new(memory.clone()?, tables, SIZES)?;
-    let display = client.display();
-    let _ = client.send(display, 1, &[Arg::New])?;
-    memory.refuse_nth(number);
-    let answer = read(&mut client, GLOBAL_COMPOSITOR, &[]);
-    let refused = memory.has_refused();
-    memory.refuse_none();
-    if !refused {
-        return Ok(if tells_compositor(&answer) {
-            Turn::Granted
-        } else {
-            Turn::Wrong
-        });
-    }
-    let same = is_memory(&answer) && waits_untold(&mut client);
-    let later = tells_compositor(&client.next());
-    Ok(if same && later {
-        Turn::Refused
-    } else {
-        Turn::Wrong
-    })
+fn next_without(
+    memory: &RefusingAllocator,
+    tables: &Tables,
+    number: u64,
+) -> Result<Turn, AllocError> {
+    turn_of_new(memory, tables, number, tell_without)
 }
 
 #[test]
 fn an_event_that_finds_no_memory_stays(rt: HostRuntime) -> Result<(), Fail> {
-    let tables = Tables::core(rt.alloc())?;
-    let memory = RefusingAllocator::new(rt.alloc())?;
-    let mut granted = None;
-    for number in 0u64..100 {
-        match next_without(&memory, &tables, number)? {
-            Turn::Refused => {}
-            Turn::Granted => {
-                granted = Some(number);
-                break;
-            }
-            Turn::Wrong => break,
-        }
-    }
-    assert!(rt; granted.is_some());
-    assert_ne!(rt; granted, Some(0));
+    assert!(rt; is_refused_in_turn(rt.alloc(), next_without)?);
     Ok(())
 }
 
-/// Whether the report is of wl_display.delete_id: of an object, or of an id that names none.
-fn is_delete(report: &Option<Incoming<RefusingAllocator>>, of: Option<Object>) -> bool {
-    match report {
-        Some(Incoming::Deleted { object }) => of == Some(*object),
-        Some(Incoming::Stray { id }) => of == None && *id == 2,
+/// Whether the answer is wl_display.delete_id: of an object, or of an id that names none.
+fn is_delete(answer: &Answer, of: Option<Object>) -> bool {
+    match answer {
+        Ok(Some(Incoming::Deleted { object })) => of == Some(*object),
+        Ok(Some(Incoming::Stray { id })) => of == None && *id == 2,
         _ => false,
     }
 }
 
-/// Whether the report is wl_pointer.frame, which has no arguments.
-fn is_frame(report: &Option<Incoming<RefusingAllocator>>, pointer: Object) -> bool {
-    match report {
-        Some(
-            Incoming::Event {
-                target,
-                opcode,
-                args,
-            },
+/// Whether the next message is wl_display.delete_id: of an object, or of an id that names none.
+fn deletes(client: &mut Refused<'_>, of: Option<Object>) -> bool {
+    is_delete(&client.next(), of)
+}
+
+/// Whether the answer is wl_pointer.frame, which has no arguments.
+fn is_frame(answer: &Answer, pointer: Object) -> bool {
+    match answer {
+        Ok(
+            Some(
+                Incoming::Event {
+                    target,
+                    opcode,
+                    args,
+                },
+            ),
         ) => *target == pointer && *opcode == 5 && args.as_slice().is_empty(),
         _ => false,
     }
@@ -257,19 +320,29 @@ fn is_frame(report: &Option<Incoming<RefusingAllocator>>, pointer: Object) -> bo
 const FRAME: &[u8; 32] =
     b"\x02\0\0\0\x05\0\x08\0\x01\0\0\0\x01\0\x0c\0\x02\0\0\0\x01\0\0\0\x01\0\x0c\0\x02\0\0\0";
 
+/// Whether the pointer's frame is told first, once all came.
+fn reads_frame(client: &mut Refused<'_>, pointer: Object) -> bool {
+    is_frame(&read(client, FRAME, &[]), pointer)
+}
+
+/// Whether a frame, the end of the pointer and a stray delete are read without memory.
+fn reads_without(memory: &RefusingAllocator, client: &mut Refused<'_>, pointer: Object) -> bool {
+    memory.refuse_nth(0);
+    reads_frame(client, pointer)
+        && deletes(client, Some(pointer))
+        && deletes(client, None)
+        && memory.asked() == 0
+}
+
+fn takes_no_memory(memory: &RefusingAllocator, client: &mut Refused<'_>) -> bool {
+    match open(client, Iface(10), 9) {
+        Ok(pointer) => reads_without(memory, client, pointer),
+        Err(_) => false,
+    }
+}
+
 #[test]
 fn a_report_without_arguments_takes_no_memory(rt: HostRuntime) -> Result<(), Fail> {
-    let tables = Tables::core(rt.alloc())?;
-    let memory = RefusingAllocator::new(rt.alloc())?;
-    let mut client = Refused::new(memory.clone()?, &tables, SIZES)?;
-    let pointer = open(&mut client, Iface(10), 9)?;
-    memory.refuse_nth(0);
-    let report = read(&mut client, FRAME, &[])?;
-    assert!(rt; is_frame(&report, pointer));
-    let report = client.next()?;
-    assert!(rt; is_delete(&report, Some(pointer)));
-    let report = client.next()?;
-    assert!(rt; is_delete(&report, None));
-    assert!(rt; memory.asked() == 0);
+    assert!(rt; holds_of_refused(rt.alloc(), takes_no_memory)?);
     Ok(())
 }
