@@ -1,6 +1,6 @@
 //! Each allocation of each call that may want memory is refused in turn.
-use super::*;
 use super::events::is_error;
+use super::*;
 use refusing::RefusingAllocator;
 use wl_objects::Named;
 
@@ -28,25 +28,25 @@ fn refused(right: bool) -> Turn {
     if right { Turn::Refused } else { Turn::Wrong }
 }
 
-/// The number of the first turn that is granted all, where each before it is refused as it should be.
-fn granted_at<F: Fn(&RefusingAllocator, &Tables, u64) -> Result<Turn, AllocError>>(
+/// Whether some turns are refused, each as it should be, and then one is granted all.
+fn is_granted_at_last<F: Fn(&RefusingAllocator, &Tables, u64) -> Result<Turn, AllocError>>(
     memory: &RefusingAllocator,
     tables: &Tables,
     turn: F,
-) -> Result<Option<u64>, AllocError>
+) -> Result<bool, AllocError>
     requires { F.IsAlwaysCallable turn }
 {
     for number in 0u64..100 {
         match turn(memory, tables, number)? {
             Turn::Refused => {}
-            Turn::Granted => return Ok(Some(number)),
-            Turn::Wrong => return Ok(None),
+            Turn::Granted => return Ok(number != 0),
+            Turn::Wrong => return Ok(false),
         }
     }
-    Ok(None)
+    Ok(false)
 }
 
-/// Whether at least one turn is refused, each as it should be, and then one is granted all.
+/// Whether a call is refused each of its allocations in turn, as it should be.
 fn is_refused_in_turn<F: Fn(&RefusingAllocator, &Tables, u64) -> Result<Turn, AllocError>>(
     alloc: Global,
     turn: F,
@@ -55,10 +55,7 @@ fn is_refused_in_turn<F: Fn(&RefusingAllocator, &Tables, u64) -> Result<Turn, Al
 {
     let tables = Tables::core(alloc)?;
     let memory = RefusingAllocator::new(alloc)?;
-    match granted_at(&memory, &tables, turn)? {
-        Some(number) => Ok(number != 0),
-        None => Ok(false),
-    }
+    is_granted_at_last(&memory, &tables, turn)
 }
 
 /// What a scene of this number makes of a new client, whose memory it may refuse.
@@ -170,7 +167,9 @@ fn an_error_that_finds_no_memory_stays(rt: HostRuntime) -> Result<(), Fail> {
 /// well.
 fn is_crowded(client: &mut Refused<'_>) -> bool {
     let display = client.display();
-    is_told(client) && sends(client, display, 0, &[Arg::New]) && sends(client, display, 0, &[Arg::New])
+    is_told(client)
+        && sends(client, display, 0, &[Arg::New])
+        && sends(client, display, 0, &[Arg::New])
 }
 
 /// The object that a crowded client binds.
