@@ -85,6 +85,26 @@ fn reads<T: Table>(client: &mut Client<'_, T>, bytes: &[u8]) -> bool {
     read(client, bytes, &[]).is_ok()
 }
 
+/// What a request of these arguments is answered.
+fn send<T: Table>(
+    client: &mut Client<'_, T>,
+    target: Object,
+    opcode: u16,
+    args: &[Arg<'_>],
+) -> Result<Option<Object>, SendError> {
+    client.send(target, opcode, args)
+}
+
+/// What a bind at the registry is answered.
+fn bind<T: Table>(
+    client: &mut Client<'_, T>,
+    name: u32,
+    iface: &[u8],
+    version: u32,
+) -> Result<Object, SendError> {
+    client.bind(REGISTRY, name, iface, version)
+}
+
 /// Whether a request of these arguments is sent.
 fn sends<T: Table>(
     client: &mut Client<'_, T>,
@@ -92,7 +112,7 @@ fn sends<T: Table>(
     opcode: u16,
     args: &[Arg<'_>],
 ) -> bool {
-    client.send(target, opcode, args).is_ok()
+    send(client, target, opcode, args).is_ok()
 }
 
 /// Whether a request of these arguments is refused for this reason.
@@ -103,12 +123,12 @@ fn refuses(
     args: &[Arg<'_>],
     why: SendError,
 ) -> bool {
-    client.send(target, opcode, args) == Err(why)
+    send(client, target, opcode, args) == Err(why)
 }
 
 /// Whether the compositor is bound at this version with this answer.
 fn binds(client: &mut Plain<'_>, version: u32, answer: Result<Object, SendError>) -> bool {
-    client.bind(REGISTRY, 1, b"wl_compositor", version) == answer
+    bind(client, 1, b"wl_compositor", version) == answer
 }
 
 /// Makes a registry, and lets it be told of the compositor and the seat. Whether all went well.
@@ -136,7 +156,7 @@ fn is_bound(client: &mut Plain<'_>, version: u32) -> bool {
     is_told(client)
         && binds(client, version, Ok(COMPOSITOR))
         && sends(client, COMPOSITOR, 0, &[Arg::New])
-        && client.bind(REGISTRY, 2, b"wl_seat", 9).is_ok()
+        && bind(client, 2, b"wl_seat", 9).is_ok()
 }
 
 /// Whether no next message is read, for this reason.
@@ -153,16 +173,19 @@ fn stops_at<T: Table>(client: &mut Client<'_, T>, bytes: &[u8], why: NextError) 
     stops(client, why)
 }
 
+fn has_empty_boxes(client: &Plain<'_>) -> bool {
+    let room = Fed {
+        bytes: 4096,
+        tokens: 20,
+    };
+    client.in_room() == room && client.is_drained()
+}
+
 fn has_the_display_alone(client: &mut Plain<'_>) -> bool {
     client.display() == Object { id: 1, birth: 0 }
-        && client.live(REGISTRY) == None
+        && client.live(REGISTRY).is_none()
         && client.table().len() == 1
-        && client.in_room()
-            == Fed {
-                bytes: 4096,
-                tokens: 20,
-            }
-        && client.is_drained()
+        && has_empty_boxes(client)
 }
 
 #[test]

@@ -236,13 +236,19 @@ enum Turn {
 /// The reports of a client whose memory is refused.
 type Reports = Vec<Incoming<RefusingAllocator>, RefusingAllocator>;
 
+/// Whether a report is of an error of no object, with code 1.
+fn is_error(report: &Incoming<RefusingAllocator>) -> bool {
+    match report {
+        Incoming::Error { id, code, .. } => *id == 0 && *code == 1,
+        _ => false,
+    }
+}
+
 /// Whether these are the reports of five messages that name no object, and then of an error.
 fn are_all(reports: &[Incoming<RefusingAllocator>]) -> bool {
-    match reports {
-        [strays @ .., Incoming::Error { id, code, .. }] => {
-            strays.len() == 5 && are_strays(strays) && *id == 0 && *code == 1
-        }
-        _ => false,
+    match reports.split_last() {
+        Some((last, strays)) => strays.len() == 5 && are_strays(strays) && is_error(last),
+        None => false,
     }
 }
 

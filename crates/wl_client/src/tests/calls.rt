@@ -66,7 +66,7 @@ fn titles(
     title: &[u8],
     answer: Result<Option<Object>, SendError>,
 ) -> bool {
-    client.send(shell_surface, 8, &[Arg::Str(Some(title))]) == answer
+    send(client, shell_surface, 8, &[Arg::Str(Some(title))]) == answer
 }
 
 fn judges_the_lengths(client: &mut Plain<'_>, shell_surface: Object) -> bool {
@@ -127,7 +127,7 @@ fn the_last_id_is_used_once(rt: HostRuntime) -> Result<(), Fail> {
 
 /// Whether a bind is refused for its name, its interface or its version.
 fn is_bad_bind(client: &mut Plain<'_>, name: u32, iface: &[u8], version: u32) -> bool {
-    client.bind(REGISTRY, name, iface, version) == Err(SendError::BadBind)
+    bind(client, name, iface, version) == Err(SendError::BadBind)
 }
 
 fn judges_versions(client: &mut Plain<'_>) -> bool {
@@ -212,7 +212,7 @@ fn binds_what_fits(client: &mut Plain<'_>) -> bool {
     is_told(client)
         && is_bad_bind(client, 1, b"wl_compositor", 7)
         && binds(client, 6, Err(SendError::Full))
-        && client.bind(REGISTRY, 2, b"wl_seat", 6) == Ok(COMPOSITOR)
+        && bind(client, 2, b"wl_seat", 6) == Ok(COMPOSITOR)
 }
 
 #[test]

@@ -62,7 +62,7 @@ fn uses_the_id_again(client: &mut Plain<'_>) -> bool {
     let display = client.display();
     sends(client, display, 0, &[Arg::New])
         && deletes_two(client)
-        && client.send(display, 0, &[Arg::New]) == Ok(Some(Object { id: 2, birth: 2 }))
+        && send(client, display, 0, &[Arg::New]) == Ok(Some(Object { id: 2, birth: 2 }))
 }
 
 #[test]
@@ -113,7 +113,7 @@ fn is_keymap(answer: &Answer, keyboard: Object, token: u32) -> bool {
 
 /// The seat's next keyboard; the seat where there is none.
 fn keyboard(client: &mut Plain<'_>) -> Object {
-    match client.send(SEAT, 1, &[Arg::New]) {
+    match send(client, SEAT, 1, &[Arg::New]) {
         Ok(Some(keyboard)) => keyboard,
         _ => SEAT,
     }

@@ -10,6 +10,7 @@ type Refused<'t> = Client<'t, MapTable<RefusingAllocator>>;
 type Answer = Result<Option<Incoming<RefusingAllocator>>, NextError>;
 
 /// What came of a call of which one allocation was to be refused.
+#[derive(Drop)]
 enum Turn {
     /// It never asked for that one, and answered what it answers with memory.
     Granted,
@@ -95,18 +96,20 @@ fn a_client_is_refused_each_of_its_allocations(rt: HostRuntime) -> Result<(), Fa
     Ok(())
 }
 
+/// What a client answers where it is asked for a registry.
+fn ask(client: &mut Refused<'_>) -> Result<Option<Object>, SendError> {
+    let display = client.display();
+    send(client, display, 1, &[Arg::New])
+}
+
 /// Whether nothing waits, there is no registry, and a registry can be made.
 fn makes_a_registry_later(client: &mut Refused<'_>) -> bool {
-    let display = client.display();
-    client.is_drained()
-        && client.live(REGISTRY) == None
-        && client.send(display, 1, &[Arg::New]) == Ok(Some(REGISTRY))
+    client.is_drained() && client.live(REGISTRY).is_none() && ask(client) == Ok(Some(REGISTRY))
 }
 
 fn send_without(memory: &RefusingAllocator, client: &mut Refused<'_>, number: u64) -> Turn {
-    let display = client.display();
     memory.refuse_nth(number);
-    let answer = client.send(display, 1, &[Arg::New]);
+    let answer = ask(client);
     let has_refused = memory.has_refused();
     memory.refuse_none();
     if answer == Ok(Some(REGISTRY)) {
@@ -131,17 +134,16 @@ fn a_request_without_memory_changes_nothing(rt: HostRuntime) -> Result<(), Fail>
     Ok(())
 }
 
-/// Whether a scene holds of a new client, whose memory it may refuse.
-fn holds_of_refused<F: FnOnce(&RefusingAllocator, &mut Refused<'_>) -> bool>(
+/// What a scene makes of a new client, where it is the next allocation that is refused.
+fn first_turn<F: FnOnce(&RefusingAllocator, &mut Refused<'_>, u64) -> Turn>(
     alloc: Global,
     scene: F,
-) -> Result<bool, AllocError>
+) -> Result<Turn, AllocError>
     requires { F.IsAlwaysCallable scene }
 {
     let tables = Tables::core(alloc)?;
     let memory = RefusingAllocator::new(alloc)?;
-    let mut client = Refused::new(memory.clone()?, &tables, SIZES)?;
-    Ok(scene(&memory, &mut client))
+    turn_of_new(&memory, &tables, 0, scene)
 }
 
 /// wl_display.error of id 1, with code 2 and the text "bad".
@@ -152,14 +154,14 @@ fn tells_error(client: &mut Refused<'_>) -> bool {
     is_error(&client.next(), 1, Named::Live(Object { id: 1, birth: 0 }))
 }
 
-fn error_stays(memory: &RefusingAllocator, client: &mut Refused<'_>) -> bool {
-    memory.refuse_nth(0);
-    stops_at(client, ERROR, NextError::Memory) && tells_error(client)
+fn error_stays(memory: &RefusingAllocator, client: &mut Refused<'_>, number: u64) -> Turn {
+    memory.refuse_nth(number);
+    refused(stops_at(client, ERROR, NextError::Memory) && tells_error(client))
 }
 
 #[test]
 fn an_error_that_finds_no_memory_stays(rt: HostRuntime) -> Result<(), Fail> {
-    assert!(rt; holds_of_refused(rt.alloc(), error_stays)?);
+    assert!(rt; matches!(first_turn(rt.alloc(), error_stays)?, Turn::Refused));
     Ok(())
 }
 
@@ -175,15 +177,17 @@ fn is_crowded(client: &mut Refused<'_>) -> bool {
 /// The object that a crowded client binds.
 const BOUND: Object = Object { id: 5, birth: 4 };
 
-/// What a crowded client answers where it binds the compositor.
-fn bind(client: &mut Refused<'_>) -> Result<Object, SendError> {
-    client.bind(REGISTRY, 1, b"wl_compositor", 6)
+/// What a client answers where it binds the compositor.
+fn bind_compositor(client: &mut Refused<'_>) -> Result<Object, SendError> {
+    bind(client, 1, b"wl_compositor", 6)
 }
 
 /// Whether nothing but the requests of a crowded client waits, nothing more is live, and the
 /// compositor can be bound.
 fn binds_later(client: &mut Refused<'_>) -> bool {
-    client.goes(100, 0).bytes == 36 && client.live(BOUND).is_none() && bind(client) == Ok(BOUND)
+    client.goes(100, 0).bytes == 36
+        && client.live(BOUND).is_none()
+        && bind_compositor(client) == Ok(BOUND)
 }
 
 fn crowded_bind_without(memory: &RefusingAllocator, client: &mut Refused<'_>, number: u64) -> Turn {
@@ -191,7 +195,7 @@ fn crowded_bind_without(memory: &RefusingAllocator, client: &mut Refused<'_>, nu
         return Turn::Wrong;
     }
     memory.refuse_nth(number);
-    let answer = bind(client);
+    let answer = bind_compositor(client);
     let has_refused = memory.has_refused();
     memory.refuse_none();
     if has_refused {
@@ -249,7 +253,7 @@ fn tells(client: &mut Refused<'_>) -> Told {
 /// Whether the event that tells of the compositor still waits, has taught nothing, and is told.
 fn tells_later(client: &mut Refused<'_>) -> bool {
     client.in_room().bytes == 4060
-        && bind(client) == Err(SendError::BadBind)
+        && bind_compositor(client) == Err(SendError::BadBind)
         && matches!(tells(client), Told::Whole)
 }
 
@@ -324,24 +328,30 @@ fn reads_frame(client: &mut Refused<'_>, pointer: Object) -> bool {
     is_frame(&read(client, FRAME, &[]), pointer)
 }
 
-/// Whether a frame, the end of the pointer and a stray delete are read without memory.
-fn reads_without(memory: &RefusingAllocator, client: &mut Refused<'_>, pointer: Object) -> bool {
-    memory.refuse_nth(0);
+/// Whether a frame, the end of the pointer and a stray delete are read, and no memory is asked for.
+fn reads_without_memory(
+    memory: &RefusingAllocator,
+    client: &mut Refused<'_>,
+    pointer: Object,
+) -> bool {
     reads_frame(client, pointer)
         && deletes(client, Some(pointer))
         && deletes(client, None)
         && memory.asked() == 0
 }
 
-fn takes_no_memory(memory: &RefusingAllocator, client: &mut Refused<'_>) -> bool {
+fn reads_without(memory: &RefusingAllocator, client: &mut Refused<'_>, number: u64) -> Turn {
     match open(client, Iface(10), 9) {
-        Ok(pointer) => reads_without(memory, client, pointer),
-        Err(_) => false,
+        Ok(pointer) => {
+            memory.refuse_nth(number);
+            granted(reads_without_memory(memory, client, pointer))
+        }
+        Err(_) => Turn::Wrong,
     }
 }
 
 #[test]
 fn a_report_without_arguments_takes_no_memory(rt: HostRuntime) -> Result<(), Fail> {
-    assert!(rt; holds_of_refused(rt.alloc(), takes_no_memory)?);
+    assert!(rt; matches!(first_turn(rt.alloc(), reads_without)?, Turn::Granted));
     Ok(())
 }
