@@ -237,7 +237,7 @@ enum Turn {
 type Reports = Vec<Incoming<RefusingAllocator>, RefusingAllocator>;
 
 /// Whether a report is of an error of no object, with code 1.
-fn is_error(report: &Incoming<RefusingAllocator>) -> bool {
+fn is_error<A: Allocator>(report: &Incoming<A>) -> bool {
     match report {
         Incoming::Error { id, code, .. } => *id == 0 && *code == 1,
         _ => false,

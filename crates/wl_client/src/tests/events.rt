@@ -4,9 +4,6 @@ use std::alloc::Allocator;
 use wl_objects::{Got, Named};
 use wl_wire::Fixed;
 
-/// What a plain client answers of its next message.
-type Answer = Result<Option<Incoming>, NextError>;
-
 /// wl_display.delete_id of id 2.
 const DELETE_TWO: &[u8; 12] = b"\x01\0\0\0\x01\0\x0c\0\x02\0\0\0";
 
@@ -14,16 +11,19 @@ const DELETE_TWO: &[u8; 12] = b"\x01\0\0\0\x01\0\x0c\0\x02\0\0\0";
 const DELETE_ONE: &[u8; 12] = b"\x01\0\0\0\x01\0\x0c\0\x01\0\0\0";
 
 /// Whether an id was deleted that names no object.
-fn is_stray(answer: &Answer, of: u32) -> bool {
-    match answer {
-        Ok(Some(Incoming::Stray { id })) => *id == of,
+fn is_stray(report: &Incoming, of: u32) -> bool {
+    match report {
+        Incoming::Stray { id } => *id == of,
         _ => false,
     }
 }
 
 /// Whether these bytes delete an id that names no object.
 fn reads_stray(client: &mut Plain<'_>, bytes: &[u8], of: u32) -> bool {
-    is_stray(&read(client, bytes, &[]), of)
+    match read(client, bytes, &[]) {
+        Ok(Some(report)) => is_stray(&report, of),
+        _ => false,
+    }
 }
 
 /// Whether no whole message waits.
@@ -47,15 +47,18 @@ fn delete_id_of_a_free_id_is_stray(rt: HostRuntime) -> Result<(), Fail> {
 }
 
 /// Whether the first object of the id 2 was deleted.
-fn is_deleted(answer: &Answer) -> bool {
-    match answer {
-        Ok(Some(Incoming::Deleted { object })) => *object == Object { id: 2, birth: 1 },
+fn is_deleted(report: &Incoming) -> bool {
+    match report {
+        Incoming::Deleted { object } => *object == Object { id: 2, birth: 1 },
         _ => false,
     }
 }
 
 fn deletes_two(client: &mut Plain<'_>) -> bool {
-    is_deleted(&read(client, DELETE_TWO, &[]))
+    match read(client, DELETE_TWO, &[]) {
+        Ok(Some(report)) => is_deleted(&report),
+        _ => false,
+    }
 }
 
 fn uses_the_id_again(client: &mut Plain<'_>) -> bool {
@@ -72,40 +75,32 @@ fn delete_id_ends_a_live_object_and_frees_its_id(rt: HostRuntime) -> Result<(), 
 }
 
 /// Whether an event was thrown away, for this zombie, and these tokens were handed out.
-fn is_discarded(answer: &Answer, zombie: Object, handed: &[u32]) -> bool {
-    match answer {
-        Ok(
-            Some(
-                Incoming::Discarded {
-                    target,
-                    opcode,
-                    tokens,
-                },
-            ),
-        ) => *target == zombie && *opcode == 0 && tokens.as_slice() == handed,
+fn is_discarded(report: &Incoming, zombie: Object, handed: &[u32]) -> bool {
+    match report {
+        Incoming::Discarded {
+            target,
+            opcode,
+            tokens,
+        } => *target == zombie && *opcode == 0 && tokens.as_slice() == handed,
         _ => false,
     }
 }
 
 /// The arguments of an event of the opcode 0 for this object.
-fn told_to(answer: &Answer, object: Object) -> Option<&[Got]> {
-    match answer {
-        Ok(
-            Some(
-                Incoming::Event {
-                    target,
-                    opcode,
-                    args,
-                },
-            ),
-        ) if *target == object && *opcode == 0 => Some(args.as_slice()),
+fn told_to(report: &Incoming, object: Object) -> Option<&[Got]> {
+    match report {
+        Incoming::Event {
+            target,
+            opcode,
+            args,
+        } if *target == object && *opcode == 0 => Some(args.as_slice()),
         _ => None,
     }
 }
 
 /// Whether a keyboard was told its keymap, of format 1 and 10 bytes, by this token.
-fn is_keymap(answer: &Answer, keyboard: Object, token: u32) -> bool {
-    match told_to(answer, keyboard) {
+fn is_keymap(report: &Incoming, keyboard: Object, token: u32) -> bool {
+    match told_to(report, keyboard) {
         Some([Got::Uint(1), Got::Fd(told), Got::Uint(10)]) => *told == token,
         _ => false,
     }
@@ -125,12 +120,18 @@ const KEYMAPS: &[u8; 32] =
 
 /// Whether the keymap of the first is thrown away, once both were read.
 fn discards(client: &mut Plain<'_>, first: Object) -> bool {
-    is_discarded(&read(client, KEYMAPS, &[7, 8]), first, &[7])
+    match read(client, KEYMAPS, &[7, 8]) {
+        Ok(Some(report)) => is_discarded(&report, first, &[7]),
+        _ => false,
+    }
 }
 
 /// Whether the keymap of the second is told.
 fn tells_keymap(client: &mut Plain<'_>, second: Object) -> bool {
-    is_keymap(&client.next(), second, 8)
+    match client.next() {
+        Ok(Some(report)) => is_keymap(&report, second, 8),
+        _ => false,
+    }
 }
 
 fn hands_out_tokens(client: &mut Plain<'_>) -> bool {
@@ -157,8 +158,8 @@ fn the_tokens_of_a_zombie_are_handed_out(rt: HostRuntime) -> Result<(), Fail> {
 const ENTER: &[u8; 24] = b"\x06\0\0\0\0\0\x18\0\x01\0\0\0\x04\0\0\0\0\x01\0\0\0\0\0\0";
 
 /// Whether a pointer was told that it entered the destroyed surface.
-fn is_enter(answer: &Answer, pointer: Object) -> bool {
-    match told_to(answer, pointer) {
+fn is_enter(report: &Incoming, pointer: Object) -> bool {
+    match told_to(report, pointer) {
         Some([Got::Uint(_), Got::Obj(named), Got::Fixed(x), Got::Fixed(_)]) => {
             *named == Named::Dead(SURFACE) && *x == Fixed::from_raw(256)
         }
@@ -167,7 +168,10 @@ fn is_enter(answer: &Answer, pointer: Object) -> bool {
 }
 
 fn enters(client: &mut Plain<'_>) -> bool {
-    is_enter(&read(client, ENTER, &[]), Object { id: 6, birth: 5 })
+    match read(client, ENTER, &[]) {
+        Ok(Some(report)) => is_enter(&report, Object { id: 6, birth: 5 }),
+        _ => false,
+    }
 }
 
 fn enters_a_zombie(client: &mut Plain<'_>) -> bool {
@@ -191,15 +195,18 @@ const GLOBAL_UNKNOWN: &[u8; 24] = b"\x02\0\0\0\0\0\x18\0\x01\0\0\0\x04\0\0\0xyz\
 const REMOVE_ONE: &[u8; 12] = b"\x02\0\0\0\x01\0\x0c\0\x01\0\0\0";
 
 /// Whether a global was told.
-fn is_global(answer: &Answer) -> bool {
-    match told_to(answer, REGISTRY) {
+fn is_global(report: &Incoming) -> bool {
+    match told_to(report, REGISTRY) {
         Some(args) => args.len() == 3,
         None => false,
     }
 }
 
 fn tells_unknown(client: &mut Plain<'_>) -> bool {
-    is_global(&read(client, GLOBAL_UNKNOWN, &[]))
+    match read(client, GLOBAL_UNKNOWN, &[]) {
+        Ok(Some(report)) => is_global(&report),
+        _ => false,
+    }
 }
 
 fn learns_globals(client: &mut Plain<'_>) -> bool {
@@ -223,28 +230,23 @@ const ERROR: &[u8; 24] = b"\x01\0\0\0\0\0\x18\0\x09\0\0\0\x02\0\0\0\x04\0\0\0bad
 
 /// Whether an error of this id was told, under which the client has this, with code 2 and the text
 /// "bad".
-pub(super) fn is_error<A: Allocator>(
-    answer: &Result<Option<Incoming<A>>, NextError>,
-    of: u32,
-    object: Named,
-) -> bool {
-    match answer {
-        Ok(
-            Some(
-                Incoming::Error {
-                    id,
-                    named,
-                    code,
-                    text,
-                },
-            ),
-        ) => *id == of && *named == object && *code == 2 && text.as_slice() == b"bad".as_slice(),
+pub(super) fn is_error<A: Allocator>(report: &Incoming<A>, of: u32, object: Named) -> bool {
+    match report {
+        Incoming::Error {
+            id,
+            named,
+            code,
+            text,
+        } => *id == of && *named == object && *code == 2 && text.as_slice() == b"bad".as_slice(),
         _ => false,
     }
 }
 
 fn reads_error(client: &mut Plain<'_>) -> bool {
-    is_error(&read(client, ERROR, &[]), 9, Named::Null)
+    match read(client, ERROR, &[]) {
+        Ok(Some(report)) => is_error(&report, 9, Named::Null),
+        _ => false,
+    }
 }
 
 fn fails_by_an_error(client: &mut Plain<'_>) -> bool {

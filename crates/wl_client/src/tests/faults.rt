@@ -9,31 +9,28 @@ const BEFORE: u64 = 36 + 28 + 12;
 /// wl_display.delete_id of id 99.
 const DELETE: &[u8; 12] = b"\x01\0\0\0\x01\0\x0c\0\x63\0\0\0";
 
-/// Whether these bytes are at this fault, or else are read, at a client with a registry, a
-/// compositor, a surface and a seat.
-fn judges(client: &mut Plain<'_>, bytes: &[u8], fault: Option<Fault>) -> bool {
-    if !is_bound(client, 5) || !reads(client, DELETE) {
-        return false;
-    }
-    match fault {
-        None => reads(client, bytes),
-        Some(fault) => {
-            let offset = BEFORE;
-            stops_at(client, bytes, NextError::Fault { fault, offset })
-        }
-    }
+/// Why these bytes are not read, if they are not.
+fn error_at(client: &mut Plain<'_>, bytes: &[u8]) -> Option<NextError> {
+    read(client, bytes, &[]).err()
 }
 
-/// Whether these bytes are at this fault, or else are read, at a client of their own.
-fn is_judged(alloc: Global, bytes: &[u8], fault: Option<Fault>) -> Result<bool, AllocError> {
+/// Whether these bytes are at this error, or are read where that is none, at a client with a
+/// registry, a compositor, a surface and a seat.
+fn judges(client: &mut Plain<'_>, bytes: &[u8], error: Option<NextError>) -> bool {
+    is_bound(client, 5) && reads(client, DELETE) && error_at(client, bytes) == error
+}
+
+/// Whether these bytes are at this error, or are read where that is none, at a client of their own.
+fn is_judged(alloc: Global, bytes: &[u8], error: Option<NextError>) -> Result<bool, AllocError> {
     let tables = Tables::core(alloc)?;
     let mut client = Plain::new(alloc, &tables, SIZES)?;
-    Ok(judges(&mut client, bytes, fault))
+    Ok(judges(&mut client, bytes, error))
 }
 
 /// Whether these bytes are at this fault.
 fn is_fault(alloc: Global, bytes: &[u8], fault: Fault) -> Result<bool, AllocError> {
-    is_judged(alloc, bytes, Some(fault))
+    let offset = BEFORE;
+    is_judged(alloc, bytes, Some(NextError::Fault { fault, offset }))
 }
 
 #[test]

@@ -6,8 +6,8 @@ use wl_objects::Named;
 
 type Refused<'t> = Client<'t, MapTable<RefusingAllocator>>;
 
-/// What such a client answers of its next message.
-type Answer = Result<Option<Incoming<RefusingAllocator>>, NextError>;
+/// A message that such a client read.
+type Report = Incoming<RefusingAllocator>;
 
 /// What came of a call of which one allocation was to be refused.
 #[derive(Drop)]
@@ -72,6 +72,12 @@ fn turn_of_new<F: FnOnce(&RefusingAllocator, &mut Refused<'_>, u64) -> Turn>(
     Ok(scene(memory, &mut client, number))
 }
 
+/// Whether a new client is drained.
+fn is_new_drained(alloc: RefusingAllocator, tables: &Tables) -> Result<bool, AllocError> {
+    let client = Refused::new(alloc, tables, SIZES)?;
+    Ok(client.is_drained())
+}
+
 /// A making of a client, of which the allocation of this number is refused.
 fn new_without(
     memory: &RefusingAllocator,
@@ -80,13 +86,11 @@ fn new_without(
 ) -> Result<Turn, AllocError> {
     let alloc = memory.clone()?;
     memory.refuse_nth(number);
-    let drained = match Refused::new(alloc, tables, SIZES) {
-        Ok(client) => Some(client.is_drained()),
-        Err(_) => None,
-    };
-    Ok(match drained {
-        Some(drained) => granted(drained && !memory.has_refused()),
-        None => refused(memory.has_refused()),
+    let made = is_new_drained(alloc, tables);
+    let has_refused = memory.has_refused();
+    Ok(match made {
+        Ok(is_drained) => granted(is_drained && !has_refused),
+        Err(_) => refused(has_refused),
     })
 }
 
@@ -151,7 +155,10 @@ const ERROR: &[u8; 24] = b"\x01\0\0\0\0\0\x18\0\x01\0\0\0\x02\0\0\0\x04\0\0\0bad
 
 /// Whether the next message is the error of wl_display.
 fn tells_error(client: &mut Refused<'_>) -> bool {
-    is_error(&client.next(), 1, Named::Live(Object { id: 1, birth: 0 }))
+    match client.next() {
+        Ok(Some(report)) => is_error(&report, 1, Named::Live(Object { id: 1, birth: 0 })),
+        _ => false,
+    }
 }
 
 fn error_stays(memory: &RefusingAllocator, client: &mut Refused<'_>, number: u64) -> Turn {
@@ -228,26 +235,25 @@ enum Told {
     Else,
 }
 
-/// What the answer to the event that tells of the compositor is.
-fn told_in(answer: &Answer) -> Told {
-    match answer {
-        Ok(
-            Some(
-                Incoming::Event {
-                    target,
-                    opcode,
-                    args,
-                },
-            ),
-        ) if *target == REGISTRY && *opcode == 0 && args.as_slice().len() == 3 => Told::Whole,
-        Err(NextError::Memory) => Told::NoMemory,
-        _ => Told::Else,
+/// Whether the report is the event that tells of the compositor.
+fn tells_compositor(report: &Report) -> bool {
+    match report {
+        Incoming::Event {
+            target,
+            opcode,
+            args,
+        } => *target == REGISTRY && *opcode == 0 && args.as_slice().len() == 3,
+        _ => false,
     }
 }
 
 /// What the next message tells of the compositor.
 fn tells(client: &mut Refused<'_>) -> Told {
-    told_in(&client.next())
+    match client.next() {
+        Ok(Some(report)) if tells_compositor(&report) => Told::Whole,
+        Err(NextError::Memory) => Told::NoMemory,
+        _ => Told::Else,
+    }
 }
 
 /// Whether the event that tells of the compositor still waits, has taught nothing, and is told.
@@ -289,32 +295,31 @@ fn an_event_that_finds_no_memory_stays(rt: HostRuntime) -> Result<(), Fail> {
     Ok(())
 }
 
-/// Whether the answer is wl_display.delete_id: of an object, or of an id that names none.
-fn is_delete(answer: &Answer, of: Option<Object>) -> bool {
-    match answer {
-        Ok(Some(Incoming::Deleted { object })) => of == Some(*object),
-        Ok(Some(Incoming::Stray { id })) => of == None && *id == 2,
+/// Whether the report is wl_display.delete_id: of an object, or of an id that names none.
+fn is_delete(report: &Report, of: Option<Object>) -> bool {
+    match report {
+        Incoming::Deleted { object } => of == Some(*object),
+        Incoming::Stray { id } => of == None && *id == 2,
         _ => false,
     }
 }
 
 /// Whether the next message is wl_display.delete_id: of an object, or of an id that names none.
 fn deletes(client: &mut Refused<'_>, of: Option<Object>) -> bool {
-    is_delete(&client.next(), of)
+    match client.next() {
+        Ok(Some(report)) => is_delete(&report, of),
+        _ => false,
+    }
 }
 
-/// Whether the answer is wl_pointer.frame, which has no arguments.
-fn is_frame(answer: &Answer, pointer: Object) -> bool {
-    match answer {
-        Ok(
-            Some(
-                Incoming::Event {
-                    target,
-                    opcode,
-                    args,
-                },
-            ),
-        ) => *target == pointer && *opcode == 5 && args.as_slice().is_empty(),
+/// Whether the report is wl_pointer.frame, which has no arguments.
+fn is_frame(report: &Report, pointer: Object) -> bool {
+    match report {
+        Incoming::Event {
+            target,
+            opcode,
+            args,
+        } => *target == pointer && *opcode == 5 && args.as_slice().is_empty(),
         _ => false,
     }
 }
@@ -325,7 +330,10 @@ const FRAME: &[u8; 32] =
 
 /// Whether the pointer's frame is told first, once all came.
 fn reads_frame(client: &mut Refused<'_>, pointer: Object) -> bool {
-    is_frame(&read(client, FRAME, &[]), pointer)
+    match read(client, FRAME, &[]) {
+        Ok(Some(report)) => is_frame(&report, pointer),
+        _ => false,
+    }
 }
 
 /// Whether a frame, the end of the pointer and a stray delete are read, and no memory is asked for.
