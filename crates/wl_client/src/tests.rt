@@ -173,6 +173,7 @@ fn stops_at<T: Table>(client: &mut Client<'_, T>, bytes: &[u8], why: NextError) 
     stops(client, why)
 }
 
+/// Whether nothing waits, and the inbox has all its room.
 fn has_empty_boxes(client: &Plain<'_>) -> bool {
     let room = Fed {
         bytes: 4096,
@@ -181,6 +182,7 @@ fn has_empty_boxes(client: &Plain<'_>) -> bool {
     client.in_room() == room && client.is_drained()
 }
 
+/// Whether wl_display is the only object, and the boxes are empty.
 fn has_the_display_alone(client: &mut Plain<'_>) -> bool {
     client.display() == Object { id: 1, birth: 0 }
         && client.live(REGISTRY).is_none()
@@ -199,12 +201,14 @@ fn fails(client: &mut Plain<'_>) -> bool {
     !reads(client, b"\x01\0\0\0\0\0\x07\0")
 }
 
+/// Whether a failed client says so, and takes nothing in.
 fn reads_nothing_more(client: &mut Plain<'_>) -> bool {
     stops(client, NextError::Failed)
         && client.feed(b"more", &[1]) == NO_ROOM
         && client.in_room() == NO_ROOM
 }
 
+/// Whether a failed client refuses its calls for that reason.
 fn writes_nothing_more(client: &mut Plain<'_>) -> bool {
     let display = client.display();
     refuses(client, display, 1, &[Arg::New], SendError::Failed)
@@ -213,6 +217,7 @@ fn writes_nothing_more(client: &mut Plain<'_>) -> bool {
         && binds(client, 6, Err(SendError::Failed))
 }
 
+/// Whether a client that fails neither reads nor writes from then on.
 fn does_nothing_once_failed(client: &mut Plain<'_>) -> bool {
     fails(client) && reads_nothing_more(client) && writes_nothing_more(client)
 }

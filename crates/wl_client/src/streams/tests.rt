@@ -71,6 +71,7 @@ fn reads(
     client.read_all(pieces, reports) == end && reports.len() == count
 }
 
+/// Whether a piece is read as one stray id, and nothing is left.
 fn reads_a_piece(
     client: &mut Plain<'_>,
     pieces: &[Piece<'_>],
@@ -97,6 +98,7 @@ fn cut(alloc: Global, bytes: &[u8]) -> Result<Vec<Piece<'_>>, AllocError> {
     Ok(pieces)
 }
 
+/// Whether twelve pieces are read as one stray id.
 fn reads_twelve_pieces(
     client: &mut Plain<'_>,
     pieces: &[Piece<'_>],
@@ -122,6 +124,7 @@ fn repeated(alloc: Global, bytes: &[u8]) -> Result<Vec<u8>, AllocError> {
     Ok(all)
 }
 
+/// Whether two pieces are read as 801 stray ids.
 fn reads_a_long_piece(
     client: &mut Plain<'_>,
     pieces: &[Piece<'_>],
@@ -139,6 +142,7 @@ fn a_piece_may_be_longer_than_the_inbox(rt: HostRuntime) -> Result<(), Fail> {
     Ok(())
 }
 
+/// Whether the second of the pieces ends the reading, without a stop, and for good.
 fn reads_up_to_an_error(
     client: &mut Plain<'_>,
     pieces: &[Piece<'_>],
@@ -163,6 +167,7 @@ const FAULT: NextError = NextError::Fault {
     offset: 12,
 };
 
+/// Whether the third of the pieces is not read, for the fault before it.
 fn reads_up_to_a_fault(
     client: &mut Plain<'_>,
     pieces: &[Piece<'_>],
@@ -178,6 +183,7 @@ fn a_fault_stops_the_reading(rt: HostRuntime) -> Result<(), Fail> {
     Ok(())
 }
 
+/// Whether so much of the second piece was taken as the inbox holds.
 fn leaves_the_rest(
     client: &mut Plain<'_>,
     pieces: &[Piece<'_>],
@@ -204,6 +210,7 @@ fn a_fault_in_a_long_piece_leaves_its_rest(rt: HostRuntime) -> Result<(), Fail> 
     Ok(())
 }
 
+/// Whether the second of the pieces is not taken.
 fn reads_up_to_the_tokens(
     client: &mut Plain<'_>,
     pieces: &[Piece<'_>],

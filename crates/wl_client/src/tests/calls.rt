@@ -1,20 +1,20 @@
 //! What a client's calls are answered, and the bytes that they write.
 use super::*;
 
-// S2: an id that is not held, and a held one of another birth
+/// S2: whether an id that is not held is stale, and a held one of another birth.
 fn judges_the_target(client: &mut Plain<'_>) -> bool {
     refuses(client, Object { id: 9, birth: 9 }, 0, &[], SendError::Stale)
         && refuses(client, Object { id: 4, birth: 9 }, 0, &[], SendError::Stale)
 }
 
-// S3: no such opcode, and bind, which has a call of its own
+/// S3: whether there is no such opcode, nor bind, which has a call of its own.
 fn judges_the_opcode(client: &mut Plain<'_>) -> bool {
     let display = client.display();
     refuses(client, display, 2, &[], SendError::NoSuchMessage)
         && refuses(client, REGISTRY, 0, &[], SendError::NoSuchMessage)
 }
 
-// S4: set_buffer_scale came with version 3, and this surface is of version 2
+/// S4: whether set_buffer_scale, which came with version 3, is too new for a surface of version 2.
 fn judges_the_version(client: &mut Plain<'_>) -> bool {
     client.live(SURFACE) == Some((Iface(7), 2))
         && refuses(client, SURFACE, 8, &[Arg::Int(2)], SendError::TooOld)
@@ -22,6 +22,7 @@ fn judges_the_version(client: &mut Plain<'_>) -> bool {
         && refuses(client, SURFACE, 8, &[Arg::Uint(2)], SendError::TooOld)
 }
 
+/// Whether S2, S3 and S4 are found at a client with objects of version 2.
 fn judges_the_target_and_its_message(client: &mut Plain<'_>) -> bool {
     is_bound(client, 2)
         && judges_the_target(client)
@@ -35,7 +36,7 @@ fn the_target_and_its_message_are_judged_first(rt: HostRuntime) -> Result<(), Fa
     Ok(())
 }
 
-// S5
+/// S5: whether a missing argument is wrong, and one of another type.
 fn judges_the_arguments(client: &mut Plain<'_>) -> bool {
     let display = client.display();
     let attach = [Arg::Obj(Some(SURFACE)), Arg::Int(0), Arg::Uint(0)];
@@ -43,12 +44,13 @@ fn judges_the_arguments(client: &mut Plain<'_>) -> bool {
         && refuses(client, SURFACE, 1, &attach, SendError::WrongArgs(2))
 }
 
-// S6: a surface is no buffer
+/// S6: whether a surface is refused as a buffer.
 fn judges_the_objects(client: &mut Plain<'_>) -> bool {
     let attach = [Arg::Obj(Some(SURFACE)), Arg::Int(0), Arg::Int(0)];
     refuses(client, SURFACE, 1, &attach, SendError::BadObject(0))
 }
 
+/// Whether S5 and S6 are found at a client with a surface.
 fn judges_the_arguments_and_objects(client: &mut Plain<'_>) -> bool {
     is_bound(client, 6) && judges_the_arguments(client) && judges_the_objects(client)
 }
@@ -69,6 +71,7 @@ fn titles(
     send(client, shell_surface, 8, &[Arg::Str(Some(title))]) == answer
 }
 
+/// Whether a title is refused that is too long, and a call once an earlier title filled the outbox.
 fn judges_the_lengths(client: &mut Plain<'_>, shell_surface: Object) -> bool {
     let title = [b'x'; 4084];
     // S8
@@ -79,6 +82,7 @@ fn judges_the_lengths(client: &mut Plain<'_>, shell_surface: Object) -> bool {
         && refuses(client, shell_surface, 3, &[], SendError::Full)
 }
 
+/// Whether S8 and S9 are found at a client with a wl_shell_surface.
 fn judges_the_length_and_the_room(client: &mut Plain<'_>) -> bool {
     // a wl_shell_surface, which no registry of this test tells
     match open(client, Iface(17), 1) {
@@ -109,6 +113,7 @@ const LAST: Object = Object {
     birth: 1_048_575,
 };
 
+/// Whether the last id can be bound, and nothing after it.
 fn uses_the_last_id_once(client: &mut Plain<'_>) -> bool {
     let display = client.display();
     is_told(client)
@@ -130,11 +135,13 @@ fn is_bad_bind(client: &mut Plain<'_>, name: u32, iface: &[u8], version: u32) ->
     bind(client, name, iface, version) == Err(SendError::BadBind)
 }
 
+/// Whether a bind is refused above the advertised version, and at version 0.
 fn judges_versions(client: &mut Plain<'_>) -> bool {
     // above the advertised version, and version 0
     is_bad_bind(client, 1, b"wl_compositor", 7) && is_bad_bind(client, 1, b"wl_compositor", 0)
 }
 
+/// Whether a bind is refused of another interface, with a byte 0, and of a name that was not told.
 fn judges_names(client: &mut Plain<'_>) -> bool {
     // another interface; a byte 0; a name that was not told
     is_bad_bind(client, 1, b"wl_seat", 6)
@@ -142,6 +149,7 @@ fn judges_names(client: &mut Plain<'_>) -> bool {
         && is_bad_bind(client, 3, b"wl_compositor", 6)
 }
 
+/// Whether only what was told can be bound.
 fn binds_what_was_advertised(client: &mut Plain<'_>) -> bool {
     is_told(client)
         && judges_versions(client)
@@ -161,6 +169,7 @@ fn binds_nothing(client: &mut Plain<'_>, registry: Object, why: SendError) -> bo
     client.bind(registry, 1, b"wl_compositor", 7) == Err(why)
 }
 
+/// Whether nothing is bound at an object that is not live, nor at wl_display.
 fn binds_at_a_registry(client: &mut Plain<'_>) -> bool {
     let display = client.display();
     is_told(client)
@@ -189,6 +198,7 @@ fn writes_bind(client: &mut Plain<'_>) -> bool {
         && bytes.as_slice() == BIND.as_slice()
 }
 
+/// Whether a bind of the compositor is written.
 fn binds_and_writes(client: &mut Plain<'_>) -> bool {
     is_told(client) && binds(client, 6, Ok(COMPOSITOR)) && writes_bind(client)
 }
@@ -207,6 +217,7 @@ const SHORT: Sizes = Sizes {
     in_tokens: 20,
 };
 
+/// Whether the longer bind is refused for its room, and the shorter one is not.
 fn binds_what_fits(client: &mut Plain<'_>) -> bool {
     // 39 bytes are free. S7 stands before S9.
     is_told(client)

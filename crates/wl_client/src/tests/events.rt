@@ -31,6 +31,7 @@ fn has_read_all(client: &mut Plain<'_>) -> bool {
     matches!(client.next(), Ok(None))
 }
 
+/// Whether a delete_id of a free id is stray, and one of the id of wl_display.
 fn reads_strays(client: &mut Plain<'_>) -> bool {
     let display = client.display();
     reads_stray(client, DELETE_TWO, 2)
@@ -54,6 +55,7 @@ fn is_deleted(report: &Incoming) -> bool {
     }
 }
 
+/// Whether delete_id of id 2 is read as the end of its object.
 fn deletes_two(client: &mut Plain<'_>) -> bool {
     match read(client, DELETE_TWO, &[]) {
         Ok(Some(report)) => is_deleted(&report),
@@ -61,6 +63,7 @@ fn deletes_two(client: &mut Plain<'_>) -> bool {
     }
 }
 
+/// Whether the id of a deleted object is given to the next one.
 fn uses_the_id_again(client: &mut Plain<'_>) -> bool {
     let display = client.display();
     sends(client, display, 0, &[Arg::New])
@@ -134,6 +137,7 @@ fn tells_keymap(client: &mut Plain<'_>, second: Object) -> bool {
     }
 }
 
+/// Whether each of two keymaps gets its token, of which the first is for a zombie.
 fn hands_out_tokens(client: &mut Plain<'_>) -> bool {
     if !is_bound(client, 6) {
         return false;
@@ -167,6 +171,7 @@ fn is_enter(report: &Incoming, pointer: Object) -> bool {
     }
 }
 
+/// Whether the pointer of id 6 is told that it enters.
 fn enters(client: &mut Plain<'_>) -> bool {
     match read(client, ENTER, &[]) {
         Ok(Some(report)) => is_enter(&report, Object { id: 6, birth: 5 }),
@@ -174,6 +179,7 @@ fn enters(client: &mut Plain<'_>) -> bool {
     }
 }
 
+/// Whether a pointer is told of a surface that was destroyed.
 fn enters_a_zombie(client: &mut Plain<'_>) -> bool {
     is_bound(client, 6)
         && sends(client, SEAT, 0, &[Arg::New])
@@ -202,6 +208,7 @@ fn is_global(report: &Incoming) -> bool {
     }
 }
 
+/// Whether a global of an unknown interface is told.
 fn tells_unknown(client: &mut Plain<'_>) -> bool {
     match read(client, GLOBAL_UNKNOWN, &[]) {
         Ok(Some(report)) => is_global(&report),
@@ -209,6 +216,7 @@ fn tells_unknown(client: &mut Plain<'_>) -> bool {
     }
 }
 
+/// Whether the latest global of the name 1 can be bound, and none once it was removed.
 fn learns_globals(client: &mut Plain<'_>) -> bool {
     is_told(client)
         && tells_unknown(client)
@@ -242,6 +250,7 @@ pub(super) fn is_error<A: Allocator>(report: &Incoming<A>, of: u32, object: Name
     }
 }
 
+/// Whether the error of id 9 is told, under which the client has nothing.
 fn reads_error(client: &mut Plain<'_>) -> bool {
     match read(client, ERROR, &[]) {
         Ok(Some(report)) => is_error(&report, 9, Named::Null),
@@ -249,6 +258,7 @@ fn reads_error(client: &mut Plain<'_>) -> bool {
     }
 }
 
+/// Whether a client fails by an error, and keeps what it wrote before.
 fn fails_by_an_error(client: &mut Plain<'_>) -> bool {
     let display = client.display();
     let mut bytes = [0; 12];

@@ -67,6 +67,7 @@ fn arguments_are_judged(rt: HostRuntime) -> Result<(), Fail> {
 /// wl_keyboard.keymap for the id 6, of format 1 and 10 bytes.
 const KEYMAP: &[u8; 16] = b"\x06\0\0\0\0\0\x10\0\x01\0\0\0\x0a\0\0\0";
 
+/// Whether a keymap without its token is at fault.
 fn misses_a_descriptor(client: &mut Plain<'_>) -> bool {
     let why = NextError::Fault {
         fault: Fault::MissingDescriptor,

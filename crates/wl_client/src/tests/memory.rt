@@ -111,6 +111,7 @@ fn makes_a_registry_later(client: &mut Refused<'_>) -> bool {
     client.is_drained() && client.live(REGISTRY).is_none() && ask(client) == Ok(Some(REGISTRY))
 }
 
+/// A request at this client, of which the allocation of this number is refused.
 fn send_without(memory: &RefusingAllocator, client: &mut Refused<'_>, number: u64) -> Turn {
     memory.refuse_nth(number);
     let answer = ask(client);
@@ -161,6 +162,7 @@ fn tells_error(client: &mut Refused<'_>) -> bool {
     }
 }
 
+/// An error that is refused its text, and told once there is memory.
 fn error_stays(memory: &RefusingAllocator, client: &mut Refused<'_>, number: u64) -> Turn {
     memory.refuse_nth(number);
     refused(stops_at(client, ERROR, NextError::Memory) && tells_error(client))
@@ -197,6 +199,7 @@ fn binds_later(client: &mut Refused<'_>) -> bool {
         && bind_compositor(client) == Ok(BOUND)
 }
 
+/// A bind at this client, once it is crowded, of which the allocation of this number is refused.
 fn crowded_bind_without(memory: &RefusingAllocator, client: &mut Refused<'_>, number: u64) -> Turn {
     if !is_crowded(client) {
         return Turn::Wrong;
@@ -263,6 +266,7 @@ fn tells_later(client: &mut Refused<'_>) -> bool {
         && matches!(tells(client), Told::Whole)
 }
 
+/// A reading of a global at this client, of which the allocation of this number is refused.
 fn tell_without(memory: &RefusingAllocator, client: &mut Refused<'_>, number: u64) -> Turn {
     let display = client.display();
     if !sends(client, display, 1, &[Arg::New]) {
@@ -348,6 +352,7 @@ fn reads_without_memory(
         && memory.asked() == 0
 }
 
+/// A reading of reports without arguments, of which the allocation of this number is refused.
 fn reads_without(memory: &RefusingAllocator, client: &mut Refused<'_>, number: u64) -> Turn {
     match open(client, Iface(10), 9) {
         Ok(pointer) => {
