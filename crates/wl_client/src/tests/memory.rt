@@ -1,11 +1,16 @@
 //! Each allocation of each call that may want memory is refused in turn.
+use super::events::is_error;
 use super::*;
 use refusing::RefusingAllocator;
 use wl_objects::Named;
 
 type Refused<'t> = Client<'t, MapTable<RefusingAllocator>>;
 
+/// A message that such a client read.
+type Report = Incoming<RefusingAllocator>;
+
 /// What came of a call of which one allocation was to be refused.
+#[derive(Drop)]
 enum Turn {
     /// It never asked for that one, and answered what it answers with memory.
     Granted,
@@ -14,241 +19,311 @@ enum Turn {
     Wrong,
 }
 
+/// The turn of a call that was granted all, as that was right or wrong.
+fn granted(right: bool) -> Turn {
+    if right { Turn::Granted } else { Turn::Wrong }
+}
+
+/// The turn of a call that was refused something, as that was right or wrong.
+fn refused(right: bool) -> Turn {
+    if right { Turn::Refused } else { Turn::Wrong }
+}
+
+/// Whether some turns are refused, each as it should be, and then one is granted all.
+fn is_granted_at_last<F: Fn(&RefusingAllocator, &Tables, u64) -> Result<Turn, AllocError>>(
+    memory: &RefusingAllocator,
+    tables: &Tables,
+    turn: F,
+) -> Result<bool, AllocError>
+    requires { F.IsAlwaysCallable turn }
+{
+    for number in 0u64..100 {
+        match turn(memory, tables, number)? {
+            Turn::Refused => {}
+            Turn::Granted => return Ok(number != 0),
+            Turn::Wrong => return Ok(false),
+        }
+    }
+    Ok(false)
+}
+
+/// Whether a call is refused each of its allocations in turn, as it should be.
+fn is_refused_in_turn<F: Fn(&RefusingAllocator, &Tables, u64) -> Result<Turn, AllocError>>(
+    alloc: Global,
+    turn: F,
+) -> Result<bool, AllocError>
+    requires { F.IsAlwaysCallable turn }
+{
+    let tables = Tables::core(alloc)?;
+    let memory = RefusingAllocator::new(alloc)?;
+    is_granted_at_last(&memory, &tables, turn)
+}
+
+/// What a scene of this number makes of a new client, whose memory it may refuse.
+fn turn_of_new<F: FnOnce(&RefusingAllocator, &mut Refused<'_>, u64) -> Turn>(
+    memory: &RefusingAllocator,
+    tables: &Tables,
+    number: u64,
+    scene: F,
+) -> Result<Turn, AllocError>
+    requires { F.IsAlwaysCallable scene }
+{
+    let mut client = Refused::new(memory.clone()?, tables, SIZES)?;
+    Ok(scene(memory, &mut client, number))
+}
+
+/// Whether a new client is drained.
+fn is_new_drained(alloc: RefusingAllocator, tables: &Tables) -> Result<bool, AllocError> {
+    let client = Refused::new(alloc, tables, SIZES)?;
+    Ok(client.is_drained())
+}
+
+/// A making of a client, of which the allocation of this number is refused.
+fn new_without(
+    memory: &RefusingAllocator,
+    tables: &Tables,
+    number: u64,
+) -> Result<Turn, AllocError> {
+    let alloc = memory.clone()?;
+    memory.refuse_nth(number);
+    let made = is_new_drained(alloc, tables);
+    let has_refused = memory.has_refused();
+    Ok(match made {
+        Ok(is_drained) => granted(is_drained && !has_refused),
+        Err(_) => refused(has_refused),
+    })
+}
+
 #[test]
 fn a_client_is_refused_each_of_its_allocations(rt: HostRuntime) -> Result<(), Fail> {
-    let tables = Tables::core(rt.alloc())?;
-    let memory = RefusingAllocator::new(rt.alloc())?;
-    let mut granted = None;
-    for number in 0u64..100 {
-        let alloc = memory.clone()?;
-        memory.refuse_nth(number);
-        if let Ok(client) = Refused::new(alloc, &tables, SIZES) {
-            assert!(rt; client.is_drained());
-            assert!(rt; !memory.has_refused());
-            granted = Some(number);
-            break;
-        }
-        assert!(rt; memory.has_refused());
-    }
-    assert!(rt; granted.is_some());
-    assert_ne!(rt; granted, Some(0));
+    assert!(rt; is_refused_in_turn(rt.alloc(), new_without)?);
     Ok(())
+}
+
+/// What a client answers where it is asked for a registry.
+fn ask(client: &mut Refused<'_>) -> Result<Option<Object>, SendError> {
+    let display = client.display();
+    send(client, display, 1, &[Arg::New])
+}
+
+/// Whether nothing waits, there is no registry, and a registry can be made.
+fn makes_a_registry_later(client: &mut Refused<'_>) -> bool {
+    client.is_drained() && client.live(REGISTRY).is_none() && ask(client) == Ok(Some(REGISTRY))
+}
+
+/// A request at this client, of which the allocation of this number is refused.
+fn send_without(memory: &RefusingAllocator, client: &mut Refused<'_>, number: u64) -> Turn {
+    memory.refuse_nth(number);
+    let answer = ask(client);
+    let has_refused = memory.has_refused();
+    memory.refuse_none();
+    if answer == Ok(Some(REGISTRY)) {
+        return granted(!has_refused);
+    }
+    let said = has_refused && answer == Err(SendError::Memory);
+    refused(said && makes_a_registry_later(client))
+}
+
+/// A request of which the allocation of this number is refused.
+fn request_without(
+    memory: &RefusingAllocator,
+    tables: &Tables,
+    number: u64,
+) -> Result<Turn, AllocError> {
+    turn_of_new(memory, tables, number, send_without)
 }
 
 #[test]
 fn a_request_without_memory_changes_nothing(rt: HostRuntime) -> Result<(), Fail> {
-    let tables = Tables::core(rt.alloc())?;
-    let memory = RefusingAllocator::new(rt.alloc())?;
-    let mut granted = None;
-    for number in 0u64..100 {
-        let mut client = Refused::new(memory.clone()?, &tables, SIZES)?;
-        let display = client.display();
-        memory.refuse_nth(number);
-        let answer = client.send(display, 1, &[Arg::New]);
-        let refused = memory.has_refused();
-        memory.refuse_none();
-        if answer == Ok(Some(REGISTRY)) {
-            assert!(rt; !refused);
-            granted = Some(number);
-            break;
-        }
-        assert!(rt; refused);
-        assert_eq!(rt; answer, Err(SendError::Memory));
-        assert!(rt; client.is_drained());
-        assert_eq!(rt; client.live(REGISTRY), None);
-        assert_eq!(rt; client.send(display, 1, &[Arg::New]), Ok(Some(REGISTRY)));
-    }
-    assert!(rt; granted.is_some());
-    assert_ne!(rt; granted, Some(0));
+    assert!(rt; is_refused_in_turn(rt.alloc(), request_without)?);
     Ok(())
+}
+
+/// What a scene makes of a new client, where it is the next allocation that is refused.
+fn first_turn<F: FnOnce(&RefusingAllocator, &mut Refused<'_>, u64) -> Turn>(
+    alloc: Global,
+    scene: F,
+) -> Result<Turn, AllocError>
+    requires { F.IsAlwaysCallable scene }
+{
+    let tables = Tables::core(alloc)?;
+    let memory = RefusingAllocator::new(alloc)?;
+    turn_of_new(&memory, &tables, 0, scene)
+}
+
+/// wl_display.error of id 1, with code 2 and the text "bad".
+const ERROR: &[u8; 24] = b"\x01\0\0\0\0\0\x18\0\x01\0\0\0\x02\0\0\0\x04\0\0\0bad\0";
+
+/// Whether the next message is the error of wl_display.
+fn tells_error(client: &mut Refused<'_>) -> bool {
+    match client.next() {
+        Ok(Some(report)) => is_error(&report, 1, Named::Live(Object { id: 1, birth: 0 })),
+        _ => false,
+    }
+}
+
+/// An error that is refused its text, and told once there is memory.
+fn error_stays(memory: &RefusingAllocator, client: &mut Refused<'_>, number: u64) -> Turn {
+    memory.refuse_nth(number);
+    refused(stops_at(client, ERROR, NextError::Memory) && tells_error(client))
 }
 
 #[test]
 fn an_error_that_finds_no_memory_stays(rt: HostRuntime) -> Result<(), Fail> {
-    let tables = Tables::core(rt.alloc())?;
-    let memory = RefusingAllocator::new(rt.alloc())?;
-    let mut client = Refused::new(memory.clone()?, &tables, SIZES)?;
-    memory.refuse_nth(0);
-    let error = b"\x01\0\0\0\0\0\x18\0\x01\0\0\0\x02\0\0\0\x04\0\0\0bad\0";
-    match read(&mut client, error, &[]) {
-        Err(why) => assert_eq!(rt; why, NextError::Memory),
-        Ok(_) => assert!(rt; false),
-    }
-    let report = client.next()?;
-    match &report {
-        Some(
-            Incoming::Error {
-                id,
-                named,
-                code,
-                text,
-            },
-        ) => {
-            assert_eq!(rt; *id, 1);
-            assert_eq!(rt; *named, Named::Live(Object { id: 1, birth: 0 }));
-            assert_eq!(rt; *code, 2);
-            assert_eq!(rt; text.as_slice(), b"bad".as_slice());
-        }
-        _ => assert!(rt; false),
-    }
+    assert!(rt; matches!(first_turn(rt.alloc(), error_stays)?, Turn::Refused));
     Ok(())
 }
 
-/// A client that was told of the compositor and the seat, and has used the room made for ids.
-fn crowded<'t>(memory: &RefusingAllocator, tables: &'t Tables) -> Result<Refused<'t>, Fail> {
-    let mut client = Refused::new(memory.clone()?, tables, SIZES)?;
-    told(&mut client)?;
+/// Tells a client of the compositor and the seat, and uses the room made for ids. Whether all went
+/// well.
+fn is_crowded(client: &mut Refused<'_>) -> bool {
     let display = client.display();
-    let _ = client.send(display, 0, &[Arg::New])?;
-    let _ = client.send(display, 0, &[Arg::New])?;
-    Ok(client)
+    is_told(client)
+        && sends(client, display, 0, &[Arg::New])
+        && sends(client, display, 0, &[Arg::New])
 }
 
 /// The object that a crowded client binds.
 const BOUND: Object = Object { id: 5, birth: 4 };
 
-/// Whether nothing but the requests of a crowded client waits, and nothing more is live.
-fn is_crowded(client: &Refused<'_>) -> bool {
-    client.goes(100, 0).bytes == 36 && client.live(BOUND).is_none()
+/// What a client answers where it binds the compositor.
+fn bind_compositor(client: &mut Refused<'_>) -> Result<Object, SendError> {
+    bind(client, 1, b"wl_compositor", 6)
+}
+
+/// Whether nothing but the requests of a crowded client waits, nothing more is live, and the
+/// compositor can be bound.
+fn binds_later(client: &mut Refused<'_>) -> bool {
+    client.goes(100, 0).bytes == 36
+        && client.live(BOUND).is_none()
+        && bind_compositor(client) == Ok(BOUND)
+}
+
+/// A bind at this client, once it is crowded, of which the allocation of this number is refused.
+fn crowded_bind_without(memory: &RefusingAllocator, client: &mut Refused<'_>, number: u64) -> Turn {
+    if !is_crowded(client) {
+        return Turn::Wrong;
+    }
+    memory.refuse_nth(number);
+    let answer = bind_compositor(client);
+    let has_refused = memory.has_refused();
+    memory.refuse_none();
+    if has_refused {
+        refused(answer == Err(SendError::Memory) && binds_later(client))
+    } else {
+        granted(answer == Ok(BOUND))
+    }
 }
 
 /// A bind of which the allocation of this number is refused.
-fn bind_without(memory: &RefusingAllocator, tables: &Tables, number: u64) -> Result<Turn, Fail> {
-    let mut client = crowded(memory, tables)?;
-    memory.refuse_nth(number);
-    let answer = client.bind(REGISTRY, 1, b"wl_compositor", 6);
-    let refused = memory.has_refused();
-    memory.refuse_none();
-    if !refused {
-        return Ok(if answer == Ok(BOUND) {
-            Turn::Granted
-        } else {
-            Turn::Wrong
-        });
-    }
-    let same = answer == Err(SendError::Memory) && is_crowded(&client);
-    let later = client.bind(REGISTRY, 1, b"wl_compositor", 6) == Ok(BOUND);
-    Ok(if same && later {
-        Turn::Refused
-    } else {
-        Turn::Wrong
-    })
+fn bind_without(
+    memory: &RefusingAllocator,
+    tables: &Tables,
+    number: u64,
+) -> Result<Turn, AllocError> {
+    turn_of_new(memory, tables, number, crowded_bind_without)
 }
 
 #[test]
 fn a_bind_without_memory_changes_nothing(rt: HostRuntime) -> Result<(), Fail> {
-    let tables = Tables::core(rt.alloc())?;
-    let memory = RefusingAllocator::new(rt.alloc())?;
-    let mut granted = None;
-    for number in 0u64..100 {
-        match bind_without(&memory, &tables, number)? {
-            Turn::Refused => {}
-            Turn::Granted => {
-                granted = Some(number);
-                break;
-            }
-            Turn::Wrong => break,
-        }
-    }
-    assert!(rt; granted.is_some());
-    assert_ne!(rt; granted, Some(0));
+    assert!(rt; is_refused_in_turn(rt.alloc(), bind_without)?);
     Ok(())
 }
 
-/// Whether the answer is the event that tells of the compositor.
-fn tells_compositor(answer: &Result<Option<Incoming<RefusingAllocator>>, NextError>) -> bool {
-    match answer {
-        Ok(
-            Some(
-                Incoming::Event {
-                    target,
-                    opcode,
-                    args,
-                },
-            ),
-        ) => *target == REGISTRY && *opcode == 0 && args.as_slice().len() == 3,
+/// What was made of the event that tells of the compositor.
+#[derive(Drop)]
+enum Told {
+    Whole,
+    NoMemory,
+    Else,
+}
+
+/// Whether the report is the event that tells of the compositor.
+fn tells_compositor(report: &Report) -> bool {
+    match report {
+        Incoming::Event {
+            target,
+            opcode,
+            args,
+        } => *target == REGISTRY && *opcode == 0 && args.as_slice().len() == 3,
         _ => false,
     }
 }
 
-/// Whether the answer is that there was no memory.
-fn is_memory(answer: &Result<Option<Incoming<RefusingAllocator>>, NextError>) -> bool {
-    match answer {
-        Err(why) => *why == NextError::Memory,
-        Ok(_) => false,
+/// What the next message tells of the compositor.
+fn tells(client: &mut Refused<'_>) -> Told {
+    match client.next() {
+        Ok(Some(report)) if tells_compositor(&report) => Told::Whole,
+        Err(NextError::Memory) => Told::NoMemory,
+        _ => Told::Else,
     }
 }
 
-/// Whether the event that tells of the compositor still waits, and has taught nothing.
-fn waits_untold(client: &mut Refused<'_>) -> bool {
+/// Whether the event that tells of the compositor still waits, has taught nothing, and is told.
+fn tells_later(client: &mut Refused<'_>) -> bool {
     client.in_room().bytes == 4060
-        && client.bind(REGISTRY, 1, b"wl_compositor", 6) == Err(SendError::BadBind)
+        && bind_compositor(client) == Err(SendError::BadBind)
+        && matches!(tells(client), Told::Whole)
+}
+
+/// A reading of a global at this client, of which the allocation of this number is refused.
+fn tell_without(memory: &RefusingAllocator, client: &mut Refused<'_>, number: u64) -> Turn {
+    let display = client.display();
+    if !sends(client, display, 1, &[Arg::New]) {
+        return Turn::Wrong;
+    }
+    memory.refuse_nth(number);
+    let _ = client.feed(GLOBAL_COMPOSITOR, &[]);
+    let told = tells(client);
+    let has_refused = memory.has_refused();
+    memory.refuse_none();
+    match told {
+        Told::Whole => granted(!has_refused),
+        Told::NoMemory => refused(has_refused && tells_later(client)),
+        Told::Else => Turn::Wrong,
+    }
 }
 
 /// A reading of an event with a string, of which the allocation of this number is refused.
-fn next_without(memory: &RefusingAllocator, tables: &Tables, number: u64) -> Result<Turn, Fail> {
-    let mut client = Refused::new(memory.clone()?, tables, SIZES)?;
-    let display = client.display();
-    let _ = client.send(display, 1, &[Arg::New])?;
-    memory.refuse_nth(number);
-    let answer = read(&mut client, GLOBAL_COMPOSITOR, &[]);
-    let refused = memory.has_refused();
-    memory.refuse_none();
-    if !refused {
-        return Ok(if tells_compositor(&answer) {
-            Turn::Granted
-        } else {
-            Turn::Wrong
-        });
-    }
-    let same = is_memory(&answer) && waits_untold(&mut client);
-    let later = tells_compositor(&client.next());
-    Ok(if same && later {
-        Turn::Refused
-    } else {
-        Turn::Wrong
-    })
+fn next_without(
+    memory: &RefusingAllocator,
+    tables: &Tables,
+    number: u64,
+) -> Result<Turn, AllocError> {
+    turn_of_new(memory, tables, number, tell_without)
 }
 
 #[test]
 fn an_event_that_finds_no_memory_stays(rt: HostRuntime) -> Result<(), Fail> {
-    let tables = Tables::core(rt.alloc())?;
-    let memory = RefusingAllocator::new(rt.alloc())?;
-    let mut granted = None;
-    for number in 0u64..100 {
-        match next_without(&memory, &tables, number)? {
-            Turn::Refused => {}
-            Turn::Granted => {
-                granted = Some(number);
-                break;
-            }
-            Turn::Wrong => break,
-        }
-    }
-    assert!(rt; granted.is_some());
-    assert_ne!(rt; granted, Some(0));
+    assert!(rt; is_refused_in_turn(rt.alloc(), next_without)?);
     Ok(())
 }
 
-/// Whether the report is of wl_display.delete_id: of an object, or of an id that names none.
-fn is_delete(report: &Option<Incoming<RefusingAllocator>>, of: Option<Object>) -> bool {
+/// Whether the report is wl_display.delete_id: of an object, or of an id that names none.
+fn is_delete(report: &Report, of: Option<Object>) -> bool {
     match report {
-        Some(Incoming::Deleted { object }) => of == Some(*object),
-        Some(Incoming::Stray { id }) => of == None && *id == 2,
+        Incoming::Deleted { object } => of == Some(*object),
+        Incoming::Stray { id } => of == None && *id == 2,
+        _ => false,
+    }
+}
+
+/// Whether the next message is wl_display.delete_id: of an object, or of an id that names none.
+fn deletes(client: &mut Refused<'_>, of: Option<Object>) -> bool {
+    match client.next() {
+        Ok(Some(report)) => is_delete(&report, of),
         _ => false,
     }
 }
 
 /// Whether the report is wl_pointer.frame, which has no arguments.
-fn is_frame(report: &Option<Incoming<RefusingAllocator>>, pointer: Object) -> bool {
+fn is_frame(report: &Report, pointer: Object) -> bool {
     match report {
-        Some(
-            Incoming::Event {
-                target,
-                opcode,
-                args,
-            },
-        ) => *target == pointer && *opcode == 5 && args.as_slice().is_empty(),
+        Incoming::Event {
+            target,
+            opcode,
+            args,
+        } => *target == pointer && *opcode == 5 && args.as_slice().is_empty(),
         _ => false,
     }
 }
@@ -257,19 +332,39 @@ fn is_frame(report: &Option<Incoming<RefusingAllocator>>, pointer: Object) -> bo
 const FRAME: &[u8; 32] =
     b"\x02\0\0\0\x05\0\x08\0\x01\0\0\0\x01\0\x0c\0\x02\0\0\0\x01\0\0\0\x01\0\x0c\0\x02\0\0\0";
 
+/// Whether the pointer's frame is told first, once all came.
+fn reads_frame(client: &mut Refused<'_>, pointer: Object) -> bool {
+    match read(client, FRAME, &[]) {
+        Ok(Some(report)) => is_frame(&report, pointer),
+        _ => false,
+    }
+}
+
+/// Whether a frame, the end of the pointer and a stray delete are read, and no memory is asked for.
+fn reads_without_memory(
+    memory: &RefusingAllocator,
+    client: &mut Refused<'_>,
+    pointer: Object,
+) -> bool {
+    reads_frame(client, pointer)
+        && deletes(client, Some(pointer))
+        && deletes(client, None)
+        && memory.asked() == 0
+}
+
+/// A reading of reports without arguments, of which the allocation of this number is refused.
+fn reads_without(memory: &RefusingAllocator, client: &mut Refused<'_>, number: u64) -> Turn {
+    match open(client, Iface(10), 9) {
+        Ok(pointer) => {
+            memory.refuse_nth(number);
+            granted(reads_without_memory(memory, client, pointer))
+        }
+        Err(_) => Turn::Wrong,
+    }
+}
+
 #[test]
 fn a_report_without_arguments_takes_no_memory(rt: HostRuntime) -> Result<(), Fail> {
-    let tables = Tables::core(rt.alloc())?;
-    let memory = RefusingAllocator::new(rt.alloc())?;
-    let mut client = Refused::new(memory.clone()?, &tables, SIZES)?;
-    let pointer = open(&mut client, Iface(10), 9)?;
-    memory.refuse_nth(0);
-    let report = read(&mut client, FRAME, &[])?;
-    assert!(rt; is_frame(&report, pointer));
-    let report = client.next()?;
-    assert!(rt; is_delete(&report, Some(pointer)));
-    let report = client.next()?;
-    assert!(rt; is_delete(&report, None));
-    assert!(rt; memory.asked() == 0);
+    assert!(rt; matches!(first_turn(rt.alloc(), reads_without)?, Turn::Granted));
     Ok(())
 }
