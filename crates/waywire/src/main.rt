@@ -1,18 +1,13 @@
 //! Recorded sessions of Wayland clients, as text.
 #![tactic(auto)]
 
-mod act;
-mod demo;
-mod failure;
-mod job;
-mod verdict;
+ghost use Rattle.std.specs.Prelude.{◌≡◌, ◌≢◌, ◌≤◌, ◌⊎◌};
 
-use failure::Failure;
-use job::{Job, Stop};
 use std::fs::File;
 use std::io::{ErrorKind, Read, Write};
 use std::process::ExitCode;
 use std::{env, io};
+use wl_jobs::{Failure, Job, Stop, act, job_of};
 
 /// The words of the command line, the program's name first.
 fn words(rt: &HostRuntime) -> io::Result<Vec<String>> {
@@ -20,7 +15,9 @@ fn words(rt: &HostRuntime) -> io::Result<Vec<String>> {
 }
 
 /// Prints why there is no job, and answers the status.
-fn stopped(rt: &HostRuntime, stop: &Stop) -> u8 {
+fn stopped(rt: &HostRuntime, stop: &Stop) -> u8
+    ensures { (result ≡ stop.now.status) ⊎ ((result ≡ 3) ⊎ (result ≡ 4)) }
+{
     let text = stop.text.as_str();
     match stop.status {
         0 => match io::writer(rt).write_all(text.as_bytes()) {
@@ -36,7 +33,9 @@ fn stopped(rt: &HostRuntime, stop: &Stop) -> u8 {
 }
 
 /// Opens what the job reads, and does it.
-fn done(rt: &HostRuntime, job: &Job) -> u8 {
+fn done(rt: &HostRuntime, job: &Job) -> u8
+    ensures { (result ≤ 4) × (result ≢ 2) }
+{
     match job {
         Job::Trace { file: name } | Job::Check { file: name } => {
             match File::open(rt, name.as_str()) {
@@ -49,15 +48,17 @@ fn done(rt: &HostRuntime, job: &Job) -> u8 {
 }
 
 /// Does the job over what its file has.
-fn done_over<R: Read>(rt: &HostRuntime, job: &Job, file: &mut R) -> u8 {
+fn done_over<R: Read>(rt: &HostRuntime, job: &Job, file: &mut R) -> u8
+    ensures { (result ≤ 4) × (result ≢ 2) }
+{
     let alloc = rt.alloc();
     let mut out = io::writer(rt);
-    act::act(alloc, alloc, job, file, &mut out, &mut rt.stderr())
+    act(alloc, alloc, job, file, &mut out, &mut rt.stderr())
 }
 
 fn main(rt: HostRuntime) -> ExitCode {
     let status = match words(&rt) {
-        Ok(words) => match job::job_of(rt.alloc(), words.as_slice()) {
+        Ok(words) => match job_of(rt.alloc(), words.as_slice()) {
             Ok(job) => done(&rt, &job),
             Err(stop) => stopped(&rt, &stop),
         },

@@ -1,8 +1,0 @@
-use Rattle.waywire.proofs.act.act.Goals as goal
-
--- where there is an output, no line is bad
-pub returns-in-Ok-write_through-clause-bad : goal.returns-in-Ok-write_through-clause-bad
-returns-in-Ok-write_through-clause-bad g c = λ text n known bad reads. cc (c.in-Ok.ensures.bad text n known bad reads)
-
-pub returns-in-Ok-clause-bad : goal.returns-in-Ok-clause-bad
-returns-in-Ok-clause-bad g c = λ text n known bad reads. cc (c.in-Ok.ensures.bad text n known bad reads)

@@ -1,0 +1,160 @@
+//! A job done over any reader and writers.
+ghost use Rattle.std.specs.Prelude.{◌≡◌, ◌≤◌, ◌<◌, ◌⊎◌, ℕ, length, Ok, Err, IfOk, IfErr, IfSome, OnOk, IsErr, Some, List, ◌≢◌};
+ghost use Rattle.std.specs.Io.KnownBytes.{Appends};
+ghost use Rattle.wl_sigs.specs.Core.{core_tables};
+ghost use Rattle.wl_jobs.specs.declared.failure.Failure.TheVariants.{Memory};
+ghost use Rattle.wl_jobs.specs.Failing.{IsReadFailure, IsRefusal};
+ghost use Rattle.wl_jobs.specs.Output.{IsChecked, IsTraced, IsDone, ReadsFile};
+ghost use Rattle.wl_recording.specs.Text.{IsFirstBad};
+
+use crate::demo::demo;
+use crate::failure::Failure;
+use crate::job::Job;
+use crate::verdict::{status_of, write_broken, write_verdict};
+use std::alloc::{Allocator, Global};
+use std::io::{self, ErrorKind, Read, Write};
+use wl_check::{check, trace};
+use wl_recording::Recording;
+use wl_sigs::Tables;
+
+/// The most bytes of a file.
+const MOST: usize = 16_777_216;
+
+/// What a job prints, whole, and the exit status that goes with it.
+#[derive(Debug, Drop)]
+struct Printed<A: Allocator> {
+    text: Vec<u8, A>,
+    status: u8,
+    ghost known: { status ≤ 1 },
+}
+
+/// All that the reader gives, which is at most `MOST` bytes. One byte more is read to see that.
+fn contents<'a, A: Allocator, R: Read>(
+    alloc: A,
+    name: &'a str,
+    file: &mut R,
+) -> Result<Vec<u8, A>, Failure<'a>>
+    ensures whole { IfOk result (λ bytes. IfSome (R.remaining file.old) (λ all. bytes.items ≡ all)) }
+    ensures refused { IfErr result IsReadFailure }
+{
+    let mut bytes = Vec::new(alloc);
+    match file.take(16_777_217).read_to_end(&mut bytes) {
+        Ok(_) if bytes.len() <= MOST => Ok(bytes),
+        Ok(_) => Err(Failure::TooLong),
+        Err(error) => match error.kind() {
+            ErrorKind::OutOfMemory => Err(Failure::Memory),
+            _ => Err(Failure::CannotRead(name)),
+        },
+    }
+}
+
+/// The line of the verdict on a recording.
+fn checked<'a, A: Allocator>(
+    alloc: &'a A,
+    tables: &Tables,
+    text: &[u8],
+) -> Result<Printed<&'a A>, Failure<'static>>
+    requires { tables.now ≡ core_tables }
+    ensures line { IfOk result (λ o. IsChecked text.now o.text.items o.status) }
+    ensures refused { IfErr result (IsRefusal text.now) }
+    ensures bad { (n : ℕ) → IsFirstBad text.now n → IsErr result }
+{
+    let recording = Recording::parse(alloc, text)?;
+    let verdict = check(alloc, &recording, tables)?;
+    let mut text = Vec::new(alloc);
+    write_verdict(&mut text, &verdict)?;
+    Ok(Printed {
+        text,
+        status: status_of(&verdict),
+    })
+}
+
+/// The lines of a recording's messages, and the verdict's line where a rule is broken.
+fn traced<'a, A: Allocator>(
+    alloc: &'a A,
+    tables: &Tables,
+    text: &[u8],
+) -> Result<Printed<&'a A>, Failure<'static>>
+    requires { tables.now ≡ core_tables }
+    ensures lines { IfOk result (λ o. IsTraced text.now o.text.items o.status) }
+    ensures refused { IfErr result (IsRefusal text.now) }
+    ensures bad { (n : ℕ) → IsFirstBad text.now n → IsErr result }
+{
+    let recording = Recording::parse(alloc, text)?;
+    let (mut text, verdict) = trace(alloc, &recording, tables)?;
+    write_broken(&mut text, &verdict)?;
+    Ok(Printed {
+        text,
+        status: status_of(&verdict),
+    })
+}
+
+/// What the job prints.
+fn output<'a, 'b, A: Allocator, R: Read>(
+    alloc: &'a A,
+    global: Global,
+    job: &'b Job,
+    file: &mut R,
+) -> Result<Printed<&'a A>, Failure<'b>>
+    ensures done { IfOk result (λ o. IfSome (R.remaining file.old) (λ text. IsDone job.now text o.text.items o.status)) }
+    ensures refused { IfErr result (λ e. IsReadFailure e ⊎ IfSome (R.remaining file.old) (λ text. IsRefusal text e)) }
+    ensures bad { (text : List ℕ) (n : ℕ) → R.remaining file.old ≡ Some text → IsFirstBad text n → ReadsFile job.now → IsErr result }
+{
+    match job {
+        Job::Trace { file: name } => {
+            let text = contents(alloc, name.as_str(), file)?;
+            traced(alloc, &Tables::core(global)?, &text)
+        }
+        Job::Check { file: name } => {
+            let text = contents(alloc, name.as_str(), file)?;
+            checked(alloc, &Tables::core(global)?, &text)
+        }
+        Job::Demo { piece } => {
+            let text = demo(alloc, &Tables::core(global)?, *piece)?;
+            Ok(Printed { text, status: 0 })
+        }
+    }
+}
+
+/// Writes all the bytes through.
+fn write_through<O: Write>(out: &mut O, bytes: &[u8]) -> io::Result<()>
+    ensures { OnOk result (Appends (O.contents out.old) (O.contents out.new) bytes.now) }
+{
+    out.write_all(bytes)?;
+    out.flush()
+}
+
+/// Does the job and answers the exit status: 0 or 1 where `out` has taken the whole output, 1 where
+/// it tells of a broken rule; else the status of a `Failure`, whose line goes to `err`.
+///
+/// Nothing is written to `out` before the whole output is there. `file` is what the job's file
+/// has, if it reads one; at most 16,777,217 bytes of it are read. The signature tables lie in the
+/// global memory.
+pub fn act<A: Allocator, R: Read, O: Write, E: Write>(
+    alloc: A,
+    global: Global,
+    job: &Job,
+    file: &mut R,
+    out: &mut O,
+    err: &mut E,
+) -> u8
+    // The output of the job was written whole: 0 stands for a lawful session or a demonstration, 1 for a broken session.
+    ensures done { (result ≡ 0) ⊎ (result ≡ 1) → IfSome (R.remaining file.old) (λ text. (output : List ℕ) × IsDone job.now text output result
+        × Appends (O.contents out.old) (O.contents out.new) output) }
+    // A recording with a bad line is refused, where the job reads one.
+    ensures bad { (text : List ℕ) (n : ℕ) → R.remaining file.old ≡ Some text → IsFirstBad text n → ReadsFile job.now
+        → ((result ≡ 3) ⊎ (result ≡ 4)) × (O.contents out.new ≡ O.contents out.old) }
+    ensures unwritten { result ≡ 4 → O.contents out.new ≡ O.contents out.old }
+    ensures statuses { (result ≤ 4) × (result ≢ 2) }
+{
+    match output(&alloc, global, job, file) {
+        Ok(output) => match write_through(out, &output.text) {
+            Ok(()) => output.status,
+            Err(_) => Failure::CannotWrite.tell(err),
+        },
+        Err(failure) => failure.tell(err),
+    }
+}
+
+#[cfg(test)]
+mod tests;
