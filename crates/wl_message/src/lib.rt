@@ -13,8 +13,6 @@ mod inbox;
 mod laws;
 mod marks;
 mod outbox;
-#[cfg(test)]
-mod tests;
 
 pub use amounts::{Fed, Full, Piece, Sizes, Taken};
 pub use inbox::{BadSize, Frame, Inbox};

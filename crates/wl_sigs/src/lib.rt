@@ -10,8 +10,6 @@ mod interface;
 mod laws;
 mod signature;
 mod tables;
-#[cfg(test)]
-mod tests;
 
 pub use laws::{found_by_its_name, valid_where_tests_pass};
 pub use signature::{Destroys, Side, Signature};

@@ -85,6 +85,3 @@ pub trait Table {
         requires not_display { id ≢ 1 }
         ensures { view self.new ≡ closed (view self.old) id };
 }
-
-#[cfg(test)]
-mod tests;

@@ -25,6 +25,3 @@ pub use owning::read_value;
 pub use reading::read_ref;
 pub use value::{Value, ValueRef};
 pub use writing::encode_value;
-
-#[cfg(test)]
-mod tests;

@@ -1,8 +1,8 @@
-use super::*;
 use refusing::RefusingAllocator;
 use std::alloc::{AllocError, Allocator, Global};
 use std::fmt::Write;
 use std::test::Fail;
+use wl_sigs::{Destroys, Side, Signature, Tables};
 use wl_wire::{Iface, Kind};
 
 // Each interface with its version, its requests and its events, in the order of their opcodes. Arguments: i int,

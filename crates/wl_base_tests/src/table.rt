@@ -2,10 +2,11 @@
 // (Everything is done behind a `&mut`: what owns a table drops it at each way out.)
 ghost use Rattle.std.specs.Prelude.{◌<◌};
 
-use super::super::{MapTable, State};
-use super::*;
 use refusing::RefusingAllocator;
+use std::alloc::{AllocError, Allocator, Global};
 use std::test::Fail;
+use wl_table::{Entry, MapTable, Object, State, Table, TableError};
+use wl_wire::Iface;
 
 const DISPLAY: Iface = Iface(0);
 

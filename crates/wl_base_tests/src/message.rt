@@ -2,11 +2,14 @@
 ghost use Rattle.std.specs.Prelude.{◌≡◌, IsTrue, false};
 ghost use Rattle.wl_message.specs.Cut.{usual_limit, IsMessage};
 
-use super::*;
-use crate::header::header_of;
 use refusing::RefusingAllocator;
 use std::alloc::{AllocError, Global};
 use std::test::Fail;
+use wl_message::{
+    BadSize, Fed, Full, Inbox, Outbox, Taken, any_cut, front_stays, headed_message,
+    joined_messages, next_message, one_amount, one_cut, pieces_in_step, reading_in_step,
+    take_keeps_step,
+};
 use wl_wire::Header;
 
 /// wl_shm.create_pool with new id 5 and size 4096, for object 4.
@@ -172,8 +175,8 @@ fn is_message(bytes: &[u8]) -> bool
     if bytes.len() < 8 {
         return false;
     }
-    let size = header_of(bytes).size;
-    size as usize == bytes.len() && size % 4 == 0 && size <= 4096
+    let size = bytes[6] as usize + 256 * bytes[7] as usize;
+    size == bytes.len() && size % 4 == 0 && size <= 4096
 }
 
 /// Pushes a message. Whether it is whole and fits.

@@ -1,6 +1,8 @@
-use super::*;
 use std::alloc::Global;
 use std::test::Fail;
+use wl_wire::{
+    ArgFault, Bytes, Fixed, Header, Iface, Kind, ReadError, ValueRef, encode_value, read_value,
+};
 
 /// Whether these are the bytes of the value.
 fn is_written(alloc: Global, value: ValueRef<'_>, bytes: &[u8]) -> Result<bool, Fail> {

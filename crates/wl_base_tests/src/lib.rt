@@ -1,0 +1,11 @@
+//! The tests of `wl_wire`, `wl_sigs`, `wl_message` and `wl_table`, over what they give out.
+#![tactic(auto)]
+
+#[cfg(test)]
+mod message;
+#[cfg(test)]
+mod sigs;
+#[cfg(test)]
+mod table;
+#[cfg(test)]
+mod wire;
