@@ -9,8 +9,6 @@ mod lending;
 mod moves;
 mod pair;
 mod running;
-#[cfg(test)]
-mod tests;
 
 pub use moves::{Carried, Move, Reply, SendArg};
 pub use pair::Pair;

@@ -1,7 +1,7 @@
 //! What is recorded of the moves, and what is not.
 use super::*;
-use crate::{Direction, Passed};
 use wl_objects::SendError;
+use wl_session::{Direction, Passed};
 
 /// How many pieces a pair has recorded.
 fn pieces(pair: &Plain<'_>) -> usize {

@@ -1,7 +1,7 @@
 //! Moves in short, without memory of their own.
-use crate::{Move, SendArg};
 use std::alloc::{AllocError, Global};
 use wl_objects::Object;
+use wl_session::{Move, SendArg};
 use wl_wire::{Fixed, Iface};
 
 /// A move, in short.

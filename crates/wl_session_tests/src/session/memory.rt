@@ -1,8 +1,8 @@
 //! Each allocation of a pair's calls is refused in turn.
 use super::*;
-use crate::{Move, SendArg};
 use refusing::RefusingAllocator;
 use wl_objects::SendError;
+use wl_session::{Move, SendArg};
 
 type Short<'t> = Pair<'t, MapTable<RefusingAllocator>>;
 

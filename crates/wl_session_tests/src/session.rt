@@ -1,11 +1,11 @@
 //! Sessions of a pair over the plain table.
 ghost use Rattle.wl_message.specs.Arrived.{AreSizes};
 
-use crate::{Pair, Reply, Verdict, check};
 use std::alloc::{AllocError, Global};
 use std::test::Fail;
 use wl_message::Sizes;
 use wl_objects::{MapTable, Object, Table};
+use wl_session::{Pair, Reply, Verdict, check};
 use wl_sigs::Tables;
 use wl_wire::Iface;
 

@@ -1,9 +1,9 @@
 //! Replies in short.
-use crate::{Carried, Reply};
 use std::alloc::Allocator;
 use wl_client::Incoming;
 use wl_objects::{NextError, Object, SendError};
 use wl_server::{GlobalError, Request};
+use wl_session::{Carried, Reply};
 
 /// What a reply says, in short.
 #[derive(Clone, Copy, PartialEq)]

@@ -1,8 +1,8 @@
 //! An error ends the session, and the mark that it leaves in the recording.
 use super::*;
-use crate::Recording;
 use wl_client::Incoming;
 use wl_objects::{Named, NextError, SendError};
+use wl_session::Recording;
 
 /// How many pieces a pair has recorded once it is set up.
 const PIECES: usize = 3;
