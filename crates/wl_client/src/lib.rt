@@ -18,6 +18,3 @@ pub use globals::Global;
 pub use incoming::Incoming;
 pub use laws::{any_cut_reads, one_reading};
 pub use tokens::Tokens;
-
-#[cfg(test)]
-mod tests;

@@ -124,6 +124,3 @@ fn is_last<A: Allocator>(report: &Incoming<A>) -> bool
 {
     matches!(report, Incoming::Error { .. })
 }
-
-#[cfg(test)]
-mod tests;

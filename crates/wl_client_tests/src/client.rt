@@ -4,13 +4,12 @@
 //! stands in few functions, each of which lends it to a scene.
 ghost use Rattle.wl_message.specs.Arrived.{AreSizes};
 
-use crate::{Client, Incoming};
 use std::alloc::{AllocError, Global};
 use std::test::Fail;
+use wl_client::{Client, Incoming};
 use wl_message::{Fed, Sizes};
 use wl_objects::{Arg, MapTable, NextError, Object, SendError, Table};
 use wl_sigs::Tables;
-use wl_wire::Iface;
 
 mod calls;
 mod events;
@@ -137,18 +136,6 @@ fn is_told<T: Table>(client: &mut Client<'_, T>) -> bool {
     sends(client, display, 1, &[Arg::New])
         && reads(client, GLOBAL_COMPOSITOR)
         && reads(client, GLOBAL_SEAT)
-}
-
-/// Opens an object at the next id.
-fn open<T: Table>(
-    client: &mut Client<'_, T>,
-    iface: Iface,
-    version: u32,
-) -> Result<Object, SendError> {
-    let core = &mut client.core;
-    // That the table is looked at shows that it is sound.
-    let _ = core.table.look(1);
-    core.open_new(Some(iface), version)?.ok_or(SendError::NoIds)
 }
 
 /// Binds a compositor of this version and makes a surface, and binds a seat. Whether all went well.

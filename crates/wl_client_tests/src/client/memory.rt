@@ -303,7 +303,7 @@ fn an_event_that_finds_no_memory_stays(rt: HostRuntime) -> Result<(), Fail> {
 fn is_delete(report: &Report, of: Option<Object>) -> bool {
     match report {
         Incoming::Deleted { object } => of == Some(*object),
-        Incoming::Stray { id } => of == None && *id == 2,
+        Incoming::Stray { id } => of == None && *id == 4,
         _ => false,
     }
 }
@@ -328,9 +328,9 @@ fn is_frame(report: &Report, pointer: Object) -> bool {
     }
 }
 
-/// wl_pointer.frame at id 2, then wl_display.delete_id of id 2 twice.
+/// wl_pointer.frame at id 4, then wl_display.delete_id of id 4 twice.
 const FRAME: &[u8; 32] =
-    b"\x02\0\0\0\x05\0\x08\0\x01\0\0\0\x01\0\x0c\0\x02\0\0\0\x01\0\0\0\x01\0\x0c\0\x02\0\0\0";
+    b"\x04\0\0\0\x05\0\x08\0\x01\0\0\0\x01\0\x0c\0\x04\0\0\0\x01\0\0\0\x01\0\x0c\0\x04\0\0\0";
 
 /// Whether the pointer's frame is told first, once all came.
 fn reads_frame(client: &mut Refused<'_>, pointer: Object) -> bool {
@@ -352,14 +352,23 @@ fn reads_without_memory(
         && memory.asked() == 0
 }
 
+/// The pointer of a seat of version 9, at the id 4 where the registry was told of it.
+fn pointer(client: &mut Refused<'_>) -> Result<Option<Object>, SendError> {
+    let seat = bind(client, 2, b"wl_seat", 9)?;
+    send(client, seat, 0, &[Arg::New])
+}
+
 /// A reading of reports without arguments, of which the allocation of this number is refused.
 fn reads_without(memory: &RefusingAllocator, client: &mut Refused<'_>, number: u64) -> Turn {
-    match open(client, Iface(10), 9) {
-        Ok(pointer) => {
+    if !is_told(client) {
+        return Turn::Wrong;
+    }
+    match pointer(client) {
+        Ok(Some(pointer)) => {
             memory.refuse_nth(number);
             granted(reads_without_memory(memory, client, pointer))
         }
-        Err(_) => Turn::Wrong,
+        _ => Turn::Wrong,
     }
 }
 

@@ -1,5 +1,6 @@
 //! What a client's calls are answered, and the bytes that they write.
 use super::*;
+use wl_wire::Iface;
 
 /// S2: whether an id that is not held is stale, and a held one of another birth.
 fn judges_the_target(client: &mut Plain<'_>) -> bool {
@@ -82,12 +83,35 @@ fn judges_the_lengths(client: &mut Plain<'_>, shell_surface: Object) -> bool {
         && refuses(client, shell_surface, 3, &[], SendError::Full)
 }
 
-/// Whether S8 and S9 are found at a client with a wl_shell_surface.
+/// Takes what waits to go. Whether nothing waits then.
+fn lets_all_go(client: &mut Plain<'_>) -> bool {
+    let _ = client.take(&mut [0; 4096], &mut []);
+    client.is_drained()
+}
+
+/// wl_registry.global: wl_shell of version 1 has the name 3.
+const GLOBAL_SHELL: &[u8; 32] =
+    b"\x02\0\0\0\0\0\x20\0\x03\0\0\0\x09\0\0\0wl_shell\0\0\0\0\x01\0\0\0";
+
+/// Whether there is a surface, and wl_shell was told.
+fn is_told_of_the_shell(client: &mut Plain<'_>) -> bool {
+    is_bound(client, 6) && reads(client, GLOBAL_SHELL)
+}
+
+/// The wl_shell_surface of the surface.
+fn shell_surface(client: &mut Plain<'_>) -> Result<Option<Object>, SendError> {
+    let shell = bind(client, 3, b"wl_shell", 1)?;
+    send(client, shell, 0, &[Arg::New, Arg::Obj(Some(SURFACE))])
+}
+
+/// Whether S8 and S9 are found at a client with a wl_shell_surface, once all before has gone.
 fn judges_the_length_and_the_room(client: &mut Plain<'_>) -> bool {
-    // a wl_shell_surface, which no registry of this test tells
-    match open(client, Iface(17), 1) {
-        Ok(opened) => judges_the_lengths(client, opened),
-        Err(_) => false,
+    if !is_told_of_the_shell(client) {
+        return false;
+    }
+    match shell_surface(client) {
+        Ok(Some(opened)) => lets_all_go(client) && judges_the_lengths(client, opened),
+        _ => false,
     }
 }
 
@@ -97,10 +121,19 @@ fn a_message_has_to_be_short_and_to_fit(rt: HostRuntime) -> Result<(), Fail> {
     Ok(())
 }
 
-/// Opens an object at each id from the next one on, but at the last. Whether all were opened.
-fn opens_all_but_one(client: &mut Plain<'_>) -> bool {
+/// Whether a callback is made at the next id. Where the outbox is full, all of it goes first.
+fn makes_a_callback(client: &mut Plain<'_>) -> bool {
+    let display = client.display();
+    match send(client, display, 0, &[Arg::New]) {
+        Err(SendError::Full) => lets_all_go(client) && sends(client, display, 0, &[Arg::New]),
+        answer => answer.is_ok(),
+    }
+}
+
+/// Makes an object at each id from the next one on, but at the last. Whether all were made.
+fn makes_all_but_one(client: &mut Plain<'_>) -> bool {
     for _ in 3u32..1_048_576 {
-        if open(client, Iface(7), 1).is_err() {
+        if !makes_a_callback(client) {
             return false;
         }
     }
@@ -117,7 +150,8 @@ const LAST: Object = Object {
 fn uses_the_last_id_once(client: &mut Plain<'_>) -> bool {
     let display = client.display();
     is_told(client)
-        && opens_all_but_one(client)
+        && makes_all_but_one(client)
+        && lets_all_go(client)
         && binds(client, 6, Ok(LAST))
         // S10
         && refuses(client, display, 0, &[Arg::New], SendError::NoIds)

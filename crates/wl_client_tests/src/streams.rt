@@ -1,8 +1,8 @@
 //! Pieces of a stream, read at a client.
-use crate::{Client, Incoming};
 use refusing::RefusingAllocator;
 use std::alloc::{AllocError, Allocator, Global};
 use std::test::Fail;
+use wl_client::{Client, Incoming};
 use wl_end::ReadAll;
 use wl_message::{Fed, Piece, Sizes};
 use wl_objects::{Fault, MapTable, NextError};
