@@ -3,3 +3,11 @@
 
 #[cfg(test)]
 mod check;
+#[cfg(test)]
+mod objects;
+#[cfg(test)]
+mod recording;
+#[cfg(test)]
+mod sending;
+#[cfg(test)]
+mod shared;
