@@ -12,8 +12,6 @@ mod judging;
 mod known;
 pub mod laws;
 mod progress;
-#[cfg(test)]
-mod tests;
 mod tracing;
 mod verdict;
 

@@ -226,6 +226,3 @@ impl<'t, T: Table> Core<'t, T> {
         self.write_checked(side, target, opcode, args, entry, signature)
     }
 }
-
-#[cfg(test)]
-mod tests;

@@ -153,6 +153,3 @@ impl<'t, T: Table> Core<'t, T> {
         self.outbox.take(bytes, tokens)
     }
 }
-
-#[cfg(test)]
-mod tests;

@@ -15,8 +15,6 @@ mod messages;
 mod reading;
 mod reporting;
 pub mod samples;
-#[cfg(test)]
-mod tests;
 mod values;
 mod writing;
 

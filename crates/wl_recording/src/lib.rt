@@ -14,8 +14,6 @@
 mod line;
 mod piece;
 mod recording;
-#[cfg(test)]
-mod tests;
 mod write;
 
 pub use piece::{Direction, Passed};

@@ -1,7 +1,9 @@
-use crate::{
+//! Messages as their reader reports them.
+
+use std::test::Fail;
+use wl_objects::{
     DISPLAY, Got, MapTable, Named, Object, REGISTRY, State, Table, receive, report_arguments,
 };
-use std::test::Fail;
 use wl_sigs::{Side, Tables};
 use wl_wire::{Header, Iface};
 

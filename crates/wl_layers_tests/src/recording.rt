@@ -1,8 +1,8 @@
 //! Texts from outside, and want of memory.
 
-use crate::{Direction, Recording, RecordingError};
 use refusing::RefusingAllocator;
 use std::test::Fail;
+use wl_recording::{Direction, Recording, RecordingError};
 
 #[test]
 fn a_text_is_written_back(rt: HostRuntime) -> Result<(), Fail> {

@@ -2,10 +2,10 @@
 ghost use Rattle.std.specs.Prelude.{◌≤◌};
 ghost use Rattle.wl_message.specs.Arrived.{AreSizes};
 
-use crate::shared::Core;
 use refusing::RefusingAllocator;
 use std::alloc::{AllocError, Global};
 use std::test::Fail;
+use wl_end::Core;
 use wl_message::{Sizes, Taken};
 use wl_objects::{Arg, MapTable, Object, SendError, Table};
 use wl_sigs::{Side, Tables};

@@ -1,9 +1,13 @@
 //! An end over the plain table: its making, and what it takes in.
-use super::*;
+
 use refusing::RefusingAllocator;
 use std::alloc::{AllocError, Global};
 use std::test::Fail;
-use wl_objects::MapTable;
+use wl_end::Core;
+use wl_message::{Fed, Sizes, Taken};
+use wl_objects::{MapTable, Object};
+use wl_sigs::Tables;
+use wl_wire::Iface;
 
 const SIZES: Sizes = Sizes {
     out_bytes: 64,

@@ -1,9 +1,9 @@
 //! Sessions worked out by hand, one or more for each rule that one can break, and want of memory.
 
-use crate::{Verdict, check, trace};
 use refusing::RefusingAllocator;
 use std::alloc::Global;
 use std::test::Fail;
+use wl_check::{Verdict, check, trace};
 use wl_objects::Fault;
 use wl_recording::{Direction, Recording};
 use wl_sigs::Tables;
