@@ -155,6 +155,3 @@ pub fn act<A: Allocator, R: Read, O: Write, E: Write>(
         Err(failure) => failure.tell(err),
     }
 }
-
-#[cfg(test)]
-mod tests;

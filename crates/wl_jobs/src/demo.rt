@@ -273,6 +273,3 @@ fn lacks_memory<A: Allocator>(reply: &Reply<A>) -> bool {
             | Reply::ServerNext(Err(NextError::Memory))
     )
 }
-
-#[cfg(test)]
-mod tests;

@@ -120,6 +120,3 @@ pub fn job_of(alloc: Global, words: &[String]) -> Result<Job, Stop>
         Err(error) => Err(stop_of(alloc, &error)),
     }
 }
-
-#[cfg(test)]
-mod tests;

@@ -1,8 +1,8 @@
-use super::*;
 use refusing::RefusingAllocator;
-use std::alloc::AllocError;
-use std::io::{self, Error};
+use std::alloc::{AllocError, Global};
+use std::io::{self, Error, ErrorKind, Read, Write};
 use std::test::Fail;
+use wl_jobs::{Failure, Job, act};
 
 /// A stream that fails at its first call.
 #[derive(Drop)]

@@ -1,10 +1,9 @@
 //! The lines of the whole session, by words of a command line.
-use crate::acting::act;
-use crate::job::{Job, job_of};
 use refusing::RefusingAllocator;
 use std::alloc::{AllocError, Global};
 use std::io;
 use std::test::Fail;
+use wl_jobs::{Job, act, job_of};
 
 /// What a demonstration prints.
 const LINES: &[u8] = b"-> wl_display@1.get_registry(new id wl_registry@2)
