@@ -120,49 +120,82 @@ fn row<A: Allocator>(
     Ok(text)
 }
 
+/// Whether this is the row of the interface at this place.
+fn has_row(alloc: Global, tables: &Tables, place: u16, wanted: &str) -> Result<bool, AllocError> {
+    let row = row(alloc, tables, Iface(place))?;
+    Ok(row.as_str() == wanted)
+}
+
+fn has_all_rows(alloc: Global, tables: &Tables) -> Result<bool, AllocError> {
+    let mut place = 0u16;
+    for wanted in TABLE {
+        if !has_row(alloc, tables, place, wanted)? {
+            return Ok(false);
+        }
+        place = place.wrapping_add(1);
+    }
+    Ok(true)
+}
+
+fn has_no_more(tables: &Tables) -> bool {
+    tables.version(Iface(18)).is_none()
+        && tables.name(Iface(18)).is_none()
+        && tables.message(Iface(18), Side::Request, 0).is_none()
+        && tables.message(Iface(0), Side::Request, 2).is_none()
+        && tables.message(Iface(0), Side::Event, 65535).is_none()
+}
+
+fn finds_by_name(tables: &Tables) -> bool {
+    tables.interface(b"wl_display") == Some(Iface(0))
+        && tables.interface(b"wl_shell_surface") == Some(Iface(17))
+        && tables.interface(b"wl_data_device").is_none()
+}
+
 // Every signature stands at its place, side and opcode, and nothing else does.
 #[test]
 fn the_core_tables_are_those_of_the_documentation(rt: HostRuntime) -> Result<(), Fail> {
     let tables = Tables::core(rt.alloc())?;
-    let mut place = 0u16;
-    for expected in TABLE {
-        let row = row(rt.alloc(), &tables, Iface(place))?;
-        assert_eq!(rt; row.as_str(), expected);
-        place = place.wrapping_add(1);
-    }
-    assert_eq!(rt; tables.version(Iface(18)), None);
-    assert!(rt; tables.name(Iface(18)).is_none());
-    assert!(rt; tables.message(Iface(18), Side::Request, 0).is_none());
-    assert!(rt; tables.message(Iface(0), Side::Request, 2).is_none());
-    assert!(rt; tables.message(Iface(0), Side::Event, 65535).is_none());
-    assert_eq!(rt; tables.interface(b"wl_display"), Some(Iface(0)));
-    assert_eq!(rt; tables.interface(b"wl_shell_surface"), Some(Iface(17)));
-    assert_eq!(rt; tables.interface(b"wl_data_device"), None);
+    let has_all_rows = has_all_rows(rt.alloc(), &tables);
+    assert!(rt; has_all_rows? && has_no_more(&tables) && finds_by_name(&tables));
     Ok(())
 }
 
-// The making of the core tables is refused each of its allocations in turn. The answer is want of memory, and the
-// same call with memory gives the tables.
+/// Whether the making is refused, where the allocation of this number is, with want of memory, and
+/// the same call with memory gives the tables. Where it is not met the tables are made.
+fn is_made_at_last(
+    alloc: Global,
+    memory: &RefusingAllocator,
+    number: u64,
+) -> Result<bool, AllocError> {
+    let handle = memory.clone()?;
+    memory.refuse_nth(number);
+    if Tables::core(handle).is_ok() {
+        return Ok(!memory.has_refused());
+    }
+    let is_refused = memory.has_refused() && memory.asked() == number.wrapping_add(1);
+    let tables = Tables::core(memory.clone()?)?;
+    let last = row(alloc, &tables, Iface(17))?;
+    Ok(is_refused && last.as_str() == TABLE[17])
+}
+
+/// How many allocations there are, each of which is refused in turn; none where that goes wrong.
+fn refused_in_turn(alloc: Global) -> Result<Option<u64>, AllocError> {
+    let memory = RefusingAllocator::new(alloc)?;
+    for number in 0u64..1000 {
+        if !is_made_at_last(alloc, &memory, number)? {
+            return Ok(None);
+        }
+        if !memory.has_refused() {
+            return Ok(Some(number));
+        }
+    }
+    Ok(None)
+}
+
+// One for the interfaces, and for each interface and each message one for its name and one for each of its lists
+// that is not empty.
 #[test]
 fn the_core_tables_are_refused_each_allocation_in_turn(rt: HostRuntime) -> Result<(), Fail> {
-    let memory = RefusingAllocator::new(rt.alloc())?;
-    let mut refused = 0u64;
-    for number in 0u64..1000 {
-        let handle = memory.clone()?;
-        memory.refuse_nth(number);
-        if Tables::core(handle).is_ok() {
-            assert!(rt; !memory.has_refused());
-            break;
-        }
-        assert!(rt; memory.has_refused());
-        assert_eq!(rt; memory.asked(), number.wrapping_add(1));
-        refused = number.wrapping_add(1);
-        let tables = Tables::core(memory.clone()?)?;
-        let last = row(rt.alloc(), &tables, Iface(17))?;
-        assert_eq!(rt; last.as_str(), TABLE[17]);
-    }
-    // One for the interfaces, and for each interface and each message one for its name and one for each of its lists
-    // that is not empty.
-    assert_eq!(rt; refused, 224);
+    assert_eq!(rt; refused_in_turn(rt.alloc())?, Some(224));
     Ok(())
 }

@@ -178,61 +178,101 @@ fn write_sample<A: Allocator>(
     Ok(())
 }
 
+/// Whether this holds of the core tables and those objects.
+fn holds_of<F: FnOnce(Global, &Tables, &MapTable) -> Result<bool, Fail>>(
+    alloc: Global,
+    scene: F,
+) -> Result<bool, Fail>
+    requires { F.IsAlwaysCallable scene }
+{
+    let tables = Tables::core(alloc)?;
+    let table = held(alloc)?;
+    scene(alloc, &tables, &table)
+}
+
+/// Whether a sample's message has its line.
+fn has_its_line(
+    alloc: Global,
+    tables: &Tables,
+    table: &MapTable,
+    sample: Sample,
+) -> Result<bool, Fail> {
+    let mut out = Vec::new(alloc);
+    write_sample(&mut out, tables, table, sample)?;
+    Ok(out.as_slice() == sample.5)
+}
+
+fn have_their_lines(alloc: Global, tables: &Tables, table: &MapTable) -> Result<bool, Fail> {
+    for sample in SAMPLES {
+        if !has_its_line(alloc, tables, table, sample)? {
+            return Ok(false);
+        }
+    }
+    Ok(true)
+}
+
 #[test]
 fn messages_have_their_lines(rt: HostRuntime) -> Result<(), Fail> {
-    let tables = Tables::core(rt.alloc())?;
-    let table = held(rt.alloc())?;
-    for sample in SAMPLES {
-        let mut out = Vec::new(rt.alloc());
-        write_sample(&mut out, &tables, &table, sample)?;
-        assert_eq!(rt; out.as_slice(), sample.5);
-    }
+    assert!(rt; holds_of(rt.alloc(), have_their_lines)?);
     Ok(())
+}
+
+fn follow_one_another(alloc: Global, tables: &Tables, table: &MapTable) -> Result<bool, Fail> {
+    let mut out = Vec::new(alloc);
+    write_sample(&mut out, tables, table, SAMPLES[8])?;
+    write_sample(&mut out, tables, table, SAMPLES[13])?;
+    let wanted = b"-> wl_surface@3.commit()\n<- wl_keyboard@5.keymap(1, fd 42, 10)\n";
+    Ok(out.as_slice() == wanted.as_slice())
 }
 
 #[test]
 fn a_line_is_appended(rt: HostRuntime) -> Result<(), Fail> {
-    let tables = Tables::core(rt.alloc())?;
-    let table = held(rt.alloc())?;
-    let mut out = Vec::new(rt.alloc());
-    write_sample(&mut out, &tables, &table, SAMPLES[8])?;
-    write_sample(&mut out, &tables, &table, SAMPLES[13])?;
-    let wanted = b"-> wl_surface@3.commit()\n<- wl_keyboard@5.keymap(1, fd 42, 10)\n";
-    assert_eq!(rt; out.as_slice(), wanted.as_slice());
+    assert!(rt; holds_of(rt.alloc(), follow_one_another)?);
     Ok(())
 }
 
-#[test]
-fn each_allocation_is_refused_in_turn(rt: HostRuntime) -> Result<(), Fail> {
-    let tables = Tables::core(rt.alloc())?;
-    let table = held(rt.alloc())?;
-    let (side, object, opcode, body, taken, line) = SAMPLES[3];
+/// Whether a line is there at last where the allocation of this number is refused: the writing
+/// fails just where that is met, and is then done again.
+fn is_written_at_last(
+    memory: &RefusingAllocator,
+    tables: &Tables,
+    table: &MapTable,
+    number: u64,
+) -> Result<bool, Fail> {
+    let (side, object, opcode, body, _taken, line) = SAMPLES[3];
     let header = Header {
         object,
         size: 0,
         opcode,
     };
-    let message = receive(&tables, side, &table, header, body, 0)?;
-    let lookup = Held { table: &table };
-    let memory = RefusingAllocator::new(rt.alloc())?;
-    let mut is_granted = false;
+    let message = receive(tables, side, table, header, body, 0)?;
+    let lookup = Held { table };
+    let mut out = Vec::new(memory.clone()?);
+    memory.refuse_nth(number);
+    let has_failed = write_line(&mut out, tables, side, &lookup, &message, 0).is_err();
+    let is_told = has_failed == memory.has_refused();
+    if has_failed {
+        out.clear();
+        write_line(&mut out, tables, side, &lookup, &message, 0)?;
+    }
+    Ok(is_told && out.as_slice() == line)
+}
+
+fn is_refused_in_turn(alloc: Global, tables: &Tables, table: &MapTable) -> Result<bool, Fail> {
+    let memory = RefusingAllocator::new(alloc)?;
     for number in 0u64..100 {
-        let mut out = Vec::new(memory.clone()?);
-        memory.refuse_nth(number);
-        let written = write_line(&mut out, &tables, side, &lookup, &message, 0);
-        assert_eq!(rt; written.is_err(), memory.has_refused());
-        if written.is_err() {
-            out.clear();
-            write_line(&mut out, &tables, side, &lookup, &message, 0)?;
-        } else {
-            is_granted = true;
+        if !is_written_at_last(&memory, tables, table, number)? {
+            return Ok(false);
         }
-        assert_eq!(rt; out.as_slice(), line);
-        if is_granted {
-            break;
+        if !memory.has_refused() {
+            return Ok(true);
         }
     }
-    assert_eq!(rt; taken, 0);
-    assert!(rt; is_granted);
+    Ok(false)
+}
+
+#[test]
+fn each_allocation_is_refused_in_turn(rt: HostRuntime) -> Result<(), Fail> {
+    assert!(rt; holds_of(rt.alloc(), is_refused_in_turn)?);
     Ok(())
 }
