@@ -82,7 +82,8 @@ fn play<T: Table>(
 ) -> Result<(), AllocError>
     ensures { OnOk result (Reaches pair.old pair.new) }
 {
-    tell_globals(alloc, tables, pair, most)?;
+    give_globals(alloc, tables, pair)?;
+    tell_globals(alloc, pair, most)?;
     bind_globals(alloc, pair, most)?;
     draw(alloc, pair, most)
 }
@@ -99,23 +100,27 @@ fn write_agreement<A: Allocator>(
     writeln!(out, "{word}: {objects} objects").map_err(|_| AllocError)
 }
 
-/// The client asks for the registry, and the server tells it of two globals.
-fn tell_globals<T: Table>(
+/// The server gives two globals.
+fn give_globals<T: Table>(
     alloc: &T::Alloc,
     tables: &Tables,
+    pair: &mut Pair<'_, T>,
+) -> Result<(), AllocError>
+    ensures { OnOk result (Reaches pair.old pair.new) }
+{
+    run_all(pair, &globals(alloc, tables)?)?;
+    Ok(())
+}
+
+/// The client asks for the registry, and the server tells it of the globals.
+fn tell_globals<T: Table>(
+    alloc: &T::Alloc,
     pair: &mut Pair<'_, T>,
     most: usize,
 ) -> Result<(), AllocError>
     ensures { OnOk result (Reaches pair.old pair.new) }
 {
-    let mut globals = Vec::with_capacity(alloc.clone()?, 2)?;
-    globals.push_reserved(global(tables, b"wl_compositor", 6));
-    globals.push_reserved(global(tables, b"wl_seat", 9));
-    run_all(pair, &globals)?;
-    let registry = one(alloc.clone()?, SendArg::New)?;
-    let asking = one(alloc.clone()?, request(DISPLAY, GET_REGISTRY, registry))?;
-    let answers = one(alloc.clone()?, Move::Announce)?;
-    play_turn(alloc, pair, most, &asking, &answers)
+    play_turn(alloc, pair, most, &asking(alloc)?, &announcing(alloc)?)
 }
 
 /// The client binds both globals and asks for a callback, and the server is done with that.
@@ -126,26 +131,66 @@ fn bind_globals<T: Table>(
 ) -> Result<(), AllocError>
     ensures { OnOk result (Reaches pair.old pair.new) }
 {
-    let callback = one(alloc.clone()?, SendArg::New)?;
-    let mut binding = Vec::with_capacity(alloc.clone()?, 3)?;
-    binding.push_reserved(bind(alloc.clone()?, 1, b"wl_compositor", 6)?);
-    binding.push_reserved(bind(alloc.clone()?, 2, b"wl_seat", 9)?);
-    binding.push_reserved(request(DISPLAY, SYNC, callback));
-    let serial = one(alloc.clone()?, SendArg::Uint(1))?;
-    let answers = one(alloc.clone()?, event(CALLBACK, DONE, serial))?;
-    play_turn(alloc, pair, most, &binding, &answers)
+    play_turn(alloc, pair, most, &binding(alloc)?, &done(alloc)?)
 }
 
 /// The client makes a surface, commits it and destroys it.
 fn draw<T: Table>(alloc: &T::Alloc, pair: &mut Pair<'_, T>, most: usize) -> Result<(), AllocError>
     ensures { OnOk result (Reaches pair.old pair.new) }
 {
-    let surface = one(alloc.clone()?, SendArg::New)?;
-    let mut drawing = Vec::with_capacity(alloc.clone()?, 3)?;
-    drawing.push_reserved(request(COMPOSITOR, CREATE_SURFACE, surface));
-    drawing.push_reserved(request(SURFACE, COMMIT, Vec::new(alloc.clone()?)));
-    drawing.push_reserved(request(SURFACE, DESTROY, Vec::new(alloc.clone()?)));
+    let drawing = drawing(alloc)?;
     play_turn(alloc, pair, most, &drawing, &drawing[..0])
+}
+
+/// A list of moves.
+type Moves<A> = Vec<Move<A>, A>;
+
+/// The giving of two globals.
+fn globals<A: Allocator + Clone + Drop>(
+    alloc: &A,
+    tables: &Tables,
+) -> Result<Moves<A>, AllocError> {
+    let mut moves = Vec::with_capacity(alloc.clone()?, 2)?;
+    moves.push_reserved(global(tables, b"wl_compositor", 6));
+    moves.push_reserved(global(tables, b"wl_seat", 9));
+    Ok(moves)
+}
+
+/// The request for a registry.
+fn asking<A: Allocator + Clone + Drop>(alloc: &A) -> Result<Moves<A>, AllocError> {
+    let args = one(alloc, SendArg::New)?;
+    one(alloc, request(DISPLAY, GET_REGISTRY, args))
+}
+
+/// The telling of what is owed.
+fn announcing<A: Allocator + Clone + Drop>(alloc: &A) -> Result<Moves<A>, AllocError> {
+    one(alloc, Move::Announce)
+}
+
+/// The binding of both globals, and the request for a callback.
+fn binding<A: Allocator + Clone + Drop>(alloc: &A) -> Result<Moves<A>, AllocError> {
+    let callback = one(alloc, SendArg::New)?;
+    let mut moves = Vec::with_capacity(alloc.clone()?, 3)?;
+    moves.push_reserved(bind(alloc, 1, b"wl_compositor", 6)?);
+    moves.push_reserved(bind(alloc, 2, b"wl_seat", 9)?);
+    moves.push_reserved(request(DISPLAY, SYNC, callback));
+    Ok(moves)
+}
+
+/// The event of the callback.
+fn done<A: Allocator + Clone + Drop>(alloc: &A) -> Result<Moves<A>, AllocError> {
+    let args = one(alloc, SendArg::Uint(1))?;
+    one(alloc, event(CALLBACK, DONE, args))
+}
+
+/// The making of a surface, its commit and its destruction.
+fn drawing<A: Allocator + Clone + Drop>(alloc: &A) -> Result<Moves<A>, AllocError> {
+    let surface = one(alloc, SendArg::New)?;
+    let mut moves = Vec::with_capacity(alloc.clone()?, 3)?;
+    moves.push_reserved(request(COMPOSITOR, CREATE_SURFACE, surface));
+    moves.push_reserved(request(SURFACE, COMMIT, Vec::new(alloc.clone()?)));
+    moves.push_reserved(request(SURFACE, DESTROY, Vec::new(alloc.clone()?)));
+    Ok(moves)
 }
 
 /// The giving of a global. A name that is not in the tables stands for wl_display, which no server
@@ -158,8 +203,8 @@ fn global<A: Allocator>(tables: &Tables, name: &[u8], version: u32) -> Move<A> {
 }
 
 /// The binding of a global.
-fn bind<A: Allocator>(
-    alloc: A,
+fn bind<A: Allocator + Clone + Drop>(
+    alloc: &A,
     name: u32,
     iface: &[u8],
     version: u32,
@@ -167,7 +212,7 @@ fn bind<A: Allocator>(
     Ok(Move::ClientBind {
         registry: REGISTRY,
         name,
-        iface: Vec::from_slice(alloc, iface)?,
+        iface: Vec::from_slice(alloc.clone()?, iface)?,
         version,
     })
 }
@@ -191,8 +236,8 @@ fn event<A: Allocator>(target: Object, opcode: u16, args: Vec<SendArg<A>, A>) ->
 }
 
 /// The list of one item.
-fn one<X: Drop, A: Allocator>(alloc: A, item: X) -> Result<Vec<X, A>, AllocError> {
-    let mut items = Vec::with_capacity(alloc, 1)?;
+fn one<X: Drop, A: Allocator + Clone + Drop>(alloc: &A, item: X) -> Result<Vec<X, A>, AllocError> {
+    let mut items = Vec::with_capacity(alloc.clone()?, 1)?;
     items.push_reserved(item);
     Ok(items)
 }
@@ -223,7 +268,7 @@ fn repeat<T: Table>(
 ) -> Result<(), AllocError>
     ensures { OnOk result (Reaches pair.old pair.new) }
 {
-    let moves = one(alloc.clone()?, action)?;
+    let moves = one(alloc, action)?;
     'again: for _ in 0..u64::MAX {
         let replies = run_all(pair, &moves)?;
         if !replies.iter().any(|reply| does_something(reply)) {

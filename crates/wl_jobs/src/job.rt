@@ -33,27 +33,30 @@ pub struct Stop {
 }
 
 fn command<'a>(alloc: Global) -> Result<Command<'a>, AllocError> {
-    let trace = Command::new(alloc, "trace")
-        .about("Prints each message of a recording, one a line")
-        .arg(file(alloc))?;
-    let check = Command::new(alloc, "check")
-        .about("Prints whether a recording is a lawful session")
-        .arg(file(alloc))?;
-    let piece = Arg::new(alloc, "piece")
-        .long("piece")
-        .value_name("N")
-        .value_parser(clap::value_parser!(u32).range(1..=4096))
-        .default_value(MOST_PIECE)
-        .help("The most bytes carried at once, 1 to 4096");
-    let demo = Command::new(alloc, "demo")
-        .about("Runs a client against a server and prints their session")
-        .arg(piece)?;
     Command::new(alloc, "waywire")
         .about("Recorded sessions of Wayland clients, as text")
         .subcommand_required(true)
-        .subcommand(trace)?
-        .subcommand(check)?
-        .subcommand(demo)
+        .subcommand(trace(alloc)?)?
+        .subcommand(check(alloc)?)?
+        .subcommand(demo(alloc)?)
+}
+
+fn trace<'a>(alloc: Global) -> Result<Command<'a>, AllocError> {
+    Command::new(alloc, "trace")
+        .about("Prints each message of a recording, one a line")
+        .arg(file(alloc))
+}
+
+fn check<'a>(alloc: Global) -> Result<Command<'a>, AllocError> {
+    Command::new(alloc, "check")
+        .about("Prints whether a recording is a lawful session")
+        .arg(file(alloc))
+}
+
+fn demo<'a>(alloc: Global) -> Result<Command<'a>, AllocError> {
+    Command::new(alloc, "demo")
+        .about("Runs a client against a server and prints their session")
+        .arg(piece(alloc))
 }
 
 /// The argument that names a recording.
@@ -61,6 +64,16 @@ fn file<'a>(alloc: Global) -> Arg<'a> {
     Arg::new(alloc, "FILE")
         .required(true)
         .help("The recording: one piece a line, `> HEX` or `< HEX`")
+}
+
+/// The argument that says how much is carried at once.
+fn piece<'a>(alloc: Global) -> Arg<'a> {
+    Arg::new(alloc, "piece")
+        .long("piece")
+        .value_name("N")
+        .value_parser(clap::value_parser!(u32).range(1..=4096))
+        .default_value(MOST_PIECE)
+        .help("The most bytes carried at once, 1 to 4096")
 }
 
 /// The file that a command names, or none where it names none.
@@ -71,16 +84,20 @@ fn file_of(alloc: Global, matches: &ArgMatches<'_>) -> Result<Option<String>, Al
     }
 }
 
-/// The job that the words ask for, or none where they were parsed and name no job.
-fn parsed(alloc: Global, words: &[String]) -> Result<Option<Job>, Error> {
-    let matches = command(alloc)?.try_get_matches_from(words)?;
-    let job = match matches.subcommand() {
+/// The job that a parsed command line asks for, or none where it names no job.
+fn named(alloc: Global, matches: &ArgMatches<'_>) -> Result<Option<Job>, AllocError> {
+    Ok(match matches.subcommand() {
         Some(("trace", trace)) => file_of(alloc, trace)?.map(|file| Job::Trace { file }),
         Some(("check", check)) => file_of(alloc, check)?.map(|file| Job::Check { file }),
         Some(("demo", demo)) => demo.get_one("piece").map(|piece| Job::Demo { piece }),
         _ => None,
-    };
-    Ok(job)
+    })
+}
+
+/// The job that the words ask for, or none where they were parsed and name no job.
+fn parsed(alloc: Global, words: &[String]) -> Result<Option<Job>, Error> {
+    let matches = command(alloc)?.try_get_matches_from(words)?;
+    Ok(named(alloc, &matches)?)
 }
 
 fn no_memory(alloc: Global) -> Stop

@@ -1,13 +1,15 @@
 //! A client and a server.
-ghost use Rattle.std.specs.Prelude.{◌≡◌, ◌↔◌, ◌≤◌, IfOk, IsTrue};
+ghost use Rattle.std.specs.Prelude.{◌≡◌, ◌↔◌, ◌≤◌, IfOk, IsTrue, length};
 ghost use Rattle.std.specs.FinMap.{len as row_count};
 ghost use Rattle.wl_sigs.specs.Valid.{Valid};
 ghost use Rattle.wl_message.specs.Arrived.{AreSizes};
+ghost use Rattle.wl_client.specs.State.{new_state as new_client};
+ghost use Rattle.wl_server.specs.State.{new_state as new_server};
 ghost use Rattle.wl_world.specs.World.{opening};
 ghost use Rattle.wl_world.specs.Pair.{new_pair, drained};
 ghost use Rattle.wl_world.specs.Stands.{Stands};
 
-use std::alloc::AllocError;
+use std::alloc::{AllocError, Allocator};
 use std::marker::Model;
 use wl_client::Client;
 use wl_message::Sizes;
@@ -68,12 +70,9 @@ impl<'t, T: Table + Drop> Pair<'t, T> {
         ensures stands { IfOk result (λ pair. Stands pair opening) }
     {
         know_valid(tables);
-        let most_bytes = client.in_bytes.max(server.in_bytes);
-        let bytes = vec![in alloc.clone()?; 0u8; most_bytes]?;
-        let tokens = vec![in alloc.clone()?; 0u32; MOST_TOKENS]?;
+        let (bytes, tokens) = buffers(&alloc, client.in_bytes.max(server.in_bytes))?;
         let recording = Recording::new(alloc.clone()?);
-        let client = Client::new(alloc.clone()?, tables, client)?;
-        let server = Server::new(alloc.clone()?, tables, server)?;
+        let (client, server) = ends(&alloc, tables, client, server)?;
         Ok(Pair {
             client,
             server,
@@ -114,6 +113,35 @@ impl<'t, T: Table> Pair<'t, T> {
     {
         self.ended_at
     }
+}
+
+/// Room for so many bytes that a carry moves, and for as many tokens as an inbox can hold.
+fn buffers<A: Allocator + Clone + Drop>(
+    alloc: &A,
+    most_bytes: usize,
+) -> Result<(Vec<u8, A>, Vec<u32, A>), AllocError>
+    ensures { IfOk result (λ made. (length made.0.items ≡ most_bytes) × (length made.1.items ≡ 65536)) }
+{
+    let bytes = vec![in alloc.clone()?; 0u8; most_bytes]?;
+    let tokens = vec![in alloc.clone()?; 0u32; MOST_TOKENS]?;
+    Ok((bytes, tokens))
+}
+
+/// A client and a server as they begin.
+fn ends<'t, T: Table + Drop>(
+    alloc: &T::Alloc,
+    tables: &'t Tables,
+    client: Sizes,
+    server: Sizes,
+) -> Result<(Client<'t, T>, Server<'t, T>), AllocError>
+    requires client { AreSizes client }
+    requires server { AreSizes server }
+    ensures { IfOk result (λ ends.
+        (ends.0 ≡ new_client tables.now client) × (ends.1 ≡ new_server tables.now server)) }
+{
+    let client = Client::new(alloc.clone()?, tables, client)?;
+    let server = Server::new(alloc.clone()?, tables, server)?;
+    Ok((client, server))
 }
 
 // All tables are valid.

@@ -1,4 +1,4 @@
-use Rattle.std.proofs.Common.{◌≡◌, Bool, true, false, Some, Ok, Err, sym, ap, subst, ◌∙◌, refl}
+use Rattle.std.proofs.Common.{◌≡◌, Bool, true, false, None, Some, Ok, Err, sym, ap, subst, ◌∙◌, refl}
 use Rattle.std.specs.Prelude.{Option, Result, OnOk, OnErr, is_err}
 use Rattle.std.specs.declared.result.Result.TheVariants.{Ok as ok, Err as err}
 use Rattle.wl_objects.specs.declared.error.NextError.{NextError}
@@ -19,6 +19,22 @@ on_ok (err x) e p = absurd (cc e)
 on_err : {X E P : Type 0} (r : Result X E) → is_err r ≡ true → OnErr r P → P
 on_err (ok x) e p = absurd (cc e)
 on_err (err x) e p = p
+
+pub returns-in-Ok-None-clause-answer : goal.returns-in-Ok-None-clause-answer
+returns-in-Ok-None-clause-answer g c =
+    let state : State = record { core = c.self.inside.core; globals = c.self.inside.globals.items; registries = c.self.inside.registries.items } in
+    let lives : state.core.failed ≡ false = sym (λ i. (c.self-inside.view_is i).core.failed) ∙ c.if-self.false in
+    let answer : Gives Memory (has_arguments (request state)) (front_step state) (ok None) = seen-by state c.deref.result.now (ok None) c.deref.ensures.value (rw c.in-Ok-None.field-0-is at c.in-Ok-None.ensures.answer) in
+    subst (λ (s : State). Gives Memory (has_arguments (request s)) (next_answer s) (let it : Result (Option Report) NextError = ok None in it)) c.self.view_is
+    (gives-front state (ok None) lives answer)
+
+pub returns-in-Err-clause-answer : goal.returns-in-Err-clause-answer
+returns-in-Err-clause-answer g c =
+    let state : State = record { core = c.self.inside.core; globals = c.self.inside.globals.items; registries = c.self.inside.registries.items } in
+    let lives : state.core.failed ≡ false = sym (λ i. (c.self-inside.view_is i).core.failed) ∙ c.if-self.false in
+    let answer : Gives Memory (has_arguments (request state)) (front_step state) (err c.in-Err.why) = seen-by state c.deref.result.now (err c.in-Err.why) c.deref.ensures.value c.in-Err.ensures.answer in
+    subst (λ (s : State). Gives Memory (has_arguments (request s)) (next_answer s) (let it : Result (Option Report) NextError = err c.in-Err.why in it)) c.self.view_is
+    (gives-front state (err c.in-Err.why) lives answer)
 
 pub returns-in-Err-clause-state : goal.returns-in-Err-clause-state
 returns-in-Err-clause-state g c =
