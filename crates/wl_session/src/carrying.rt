@@ -68,8 +68,9 @@ fn hand_to_server<'t, T: Table>(
         recording.new ≡ filled recording.old (carried_bytes client.old.core taken) }
 {
     let taken = client.take(bytes, tokens);
-    fill(recording, &bytes[..taken.bytes]);
-    server.feed(&bytes[..taken.bytes], &tokens[..taken.tokens]);
+    let bytes = &bytes[..taken.bytes];
+    fill(recording, bytes);
+    server.feed(bytes, &tokens[..taken.tokens]);
 }
 
 /// The same by way of these places, within this limit.
@@ -121,8 +122,9 @@ fn hand_to_client<'t, T: Table>(
         recording.new ≡ filled recording.old (carried_bytes server.old.core taken) }
 {
     let taken = server.take(bytes, tokens);
-    fill(recording, &bytes[..taken.bytes]);
-    client.feed(&bytes[..taken.bytes], &tokens[..taken.tokens]);
+    let bytes = &bytes[..taken.bytes];
+    fill(recording, bytes);
+    client.feed(bytes, &tokens[..taken.tokens]);
 }
 
 /// The same by way of these places, within this limit.

@@ -19,6 +19,26 @@ loop-index-init g c =
       text_is = c.new-text.ensures.items;
     }
 
+pub judge-requires-clause-header : goal.judge-requires-clause-header
+judge-requires-clause-header g c =
+    let s : Session = session_in c.args.merged.now in
+    let k : ℕ = c.loop-index.index in
+    let f : Frame = get_or c.deref-frame-items.result.now k (record { direction = ToServer; start = 0; size = 0; tokens = 0 }) in
+    let e : slice_get s.frames k ≡ Some f = frame_is s.frames c.deref-frame-items.result.now k _ c.deref-frame-items.ensures.value c.loop-index-test.true in
+    let h : f.start + 8 ≤ length (s.streams f.direction) = (c.requires k f e).header in
+    let l = ap (λ (b : List ℕ). length b) c.stream-stream.ensures in
+    omega (arith, h, l)
+
+pub judge-requires-clause-whole : goal.judge-requires-clause-whole
+judge-requires-clause-whole g c is_size =
+    let s : Session = session_in c.args.merged.now in
+    let k : ℕ = c.loop-index.index in
+    let f : Frame = get_or c.deref-frame-items.result.now k (record { direction = ToServer; start = 0; size = 0; tokens = 0 }) in
+    let e : slice_get s.frames k ≡ Some f = frame_is s.frames c.deref-frame-items.result.now k _ c.deref-frame-items.ensures.value c.loop-index-test.true in
+    let h : f.start + f.size ≤ length (s.streams f.direction) = (c.requires k f e).whole is_size in
+    let l = ap (λ (b : List ℕ). length b) c.stream-stream.ensures in
+    omega (arith, h, l)
+
 pub returns-in-Err : goal.returns-in-Err
 returns-in-Err g c =
     let tables = c.args.tables.now in

@@ -23,6 +23,12 @@ loop-taken-init g c =
       sound = sym c.has_failed.ensures ∙ c.if-has_failed.false;
     }
 
+pub returns-then-has_failed-clause-reports : goal.returns-then-has_failed-clause-reports
+returns-then-has_failed-clause-reports g c = kept_same c.args.reports.now.items
+
+pub returns-in-Err-clause-reports : goal.returns-in-Err-clause-reports
+returns-in-Err-clause-reports g c = kept_again c.args.reports.now.items c.loop-taken.reports.items c.read_waiting.new.reports.items c.loop-taken.invariant.kept c.in-Err.ensures.reports
+
 pub returns-in-Err-clause-reads : goal.returns-in-Err-clause-reads
 returns-in-Err-clause-reads g c sound =
     let pieces = map part c.args.pieces.now in
@@ -33,6 +39,9 @@ returns-in-Err-clause-reads g c sound =
     (until_again first c.loop-taken.self c.read_waiting.new.self c.args.reports.now.items c.loop-taken.reports.items c.read_waiting.new.reports.items c.in-Err.stop
     c.loop-taken.invariant.some c.loop-taken.invariant.kept c.in-Err.ensures.reports c.in-Err.ensures.reads.0)
     (λ s f. absurd (cc (c.in-Err.ensures.reads.1 s, f)))
+
+pub returns-then-in_room-piece-clause-reports : goal.returns-then-in_room-piece-clause-reports
+returns-then-in_room-piece-clause-reports g c = kept_again c.args.reports.now.items c.loop-taken.reports.items c.read_waiting.new.reports.items c.loop-taken.invariant.kept c.in_default.ensures.reports
 
 pub returns-then-in_room-piece-clause-reads : goal.returns-then-in_room-piece-clause-reads
 returns-then-in_room-piece-clause-reads g c sound =
@@ -46,6 +55,11 @@ returns-then-in_room-piece-clause-reads g c sound =
     (reads_to_none first last _ (read_again first c.loop-taken.self last c.args.reports.now.items c.loop-taken.reports.items c.read_waiting.new.reports.items
     c.loop-taken.invariant.some c.loop-taken.invariant.kept c.in_default.ensures.reports c.in_default.ensures.reads.0) c.in_default.ensures.reads.1)
     (λ s f. few_fit _ c.in_room.result.tokens c.args.pieces.now i _ c.loop-taken-test.true c.if-in_room-piece.true room)
+
+pub returns-in-Err-read_piece-clause-reports : goal.returns-in-Err-read_piece-clause-reports
+returns-in-Err-read_piece-clause-reports g c =
+    let kept = kept_again c.args.reports.now.items c.loop-taken.reports.items c.read_waiting.new.reports.items c.loop-taken.invariant.kept c.in_default.ensures.reports in
+    kept_again c.args.reports.now.items c.read_waiting.new.reports.items c.read_piece.new.reports.items kept c.in-Err-read_piece.ensures.reports
 
 pub returns-in-Err-read_piece-clause-reads : goal.returns-in-Err-read_piece-clause-reads
 returns-in-Err-read_piece-clause-reads g c sound =
@@ -83,6 +97,9 @@ loop-taken-preserved g c =
       sound = c.in_default-read_piece.ensures.reads.1;
     }
 
+pub returns-in-Err-read_waiting-clause-reports : goal.returns-in-Err-read_waiting-clause-reports
+returns-in-Err-read_waiting-clause-reports g c = kept_again c.args.reports.now.items c.loop-taken.reports.items c.read_waiting-2.new.reports.items c.loop-taken.invariant.kept c.in-Err-read_waiting.ensures.reports
+
 pub returns-in-Err-read_waiting-clause-reads : goal.returns-in-Err-read_waiting-clause-reads
 returns-in-Err-read_waiting-clause-reads g c sound =
     let pieces = map part c.args.pieces.now in
@@ -94,6 +111,9 @@ returns-in-Err-read_waiting-clause-reads g c sound =
     (until_again first c.loop-taken.self c.read_waiting-2.new.self c.args.reports.now.items c.loop-taken.reports.items c.read_waiting-2.new.reports.items c.in-Err-read_waiting.stop
     c.loop-taken.invariant.some c.loop-taken.invariant.kept c.in-Err-read_waiting.ensures.reports c.in-Err-read_waiting.ensures.reads.0)
     (λ s f. absurd (cc (c.in-Err-read_waiting.ensures.reads.1 s, f)))
+
+pub returns-clause-reports : goal.returns-clause-reports
+returns-clause-reports g c = kept_again c.args.reports.now.items c.loop-taken.reports.items c.read_waiting-2.new.reports.items c.loop-taken.invariant.kept c.in_default-read_waiting.ensures.reports
 
 pub returns-clause-reads : goal.returns-clause-reads
 returns-clause-reads g c sound =

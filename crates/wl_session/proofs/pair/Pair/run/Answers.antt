@@ -21,6 +21,11 @@ moves-preserved g c = (
   (let e = c.push_reserved.ensures.capacity in let i = c.moves.invariant.4 in omega (arith, e, i)),
 )
 
+pub returns-clause-does : goal.returns-clause-does
+returns-clause-does g c =
+    let whole = take_all c.moves.action-index c.args.moves.now c.moves-test.false in
+    subst (λ moves. DoesAll c.args.self.now (moves_of moves) (replies_of c.moves.replies.items) c.moves.self) whole c.moves.invariant.0
+
 pub returns-clause-runs : goal.returns-clause-runs
 returns-clause-runs g c = λ world stands.
     let whole = take_all c.moves.action-index c.args.moves.now c.moves-test.false in
