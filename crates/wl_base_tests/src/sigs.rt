@@ -8,7 +8,7 @@ use wl_wire::{Iface, Kind};
 // Each interface with its version, its requests and its events, in the order of their opcodes. Arguments: i int,
 // u uint, f fixed, s string, o object, n new_id, a array, h descriptor; with `?` null is allowed. D: the message
 // destroys its target. `@k`: since version k, where that is not 1. Written from wayland.xml.
-const TABLE: [&str; 18] = [
+static TABLE: [&str; 18] = [
     "wl_display 1 | sync n(wl_callback); get_registry n(wl_registry) | error o(any) u s; delete_id u",
     "wl_registry 1 | bind u n(no interface) | global u s u; global_remove u",
     "wl_callback 1 | none | done u D",
@@ -48,29 +48,62 @@ fn put_interface<A: Allocator, B: Allocator>(
     }
 }
 
+/// How the text of a kind begins.
+fn letter(kind: Kind) -> &'static str {
+    match kind {
+        Kind::Int => " i",
+        Kind::Uint => " u",
+        Kind::Fixed => " f",
+        Kind::Str { null: true } => " ?s",
+        Kind::Str { null: false } => " s",
+        Kind::Array => " a",
+        Kind::Fd => " h",
+        Kind::Obj { null: true, .. } => " ?o",
+        Kind::Obj { null: false, .. } => " o",
+        Kind::New(_) => " n",
+    }
+}
+
+fn put_in_brackets<A: Allocator, B: Allocator>(
+    text: &mut String<B>,
+    tables: &Tables<A>,
+    iface: Option<Iface>,
+    none: &str,
+) -> Result<(), AllocError> {
+    put(text, b"(")?;
+    put_interface(text, tables, iface, none)?;
+    put(text, b")")
+}
+
 fn put_kind<A: Allocator, B: Allocator>(
     text: &mut String<B>,
     tables: &Tables<A>,
     kind: Kind,
 ) -> Result<(), AllocError> {
+    put(text, letter(kind).as_bytes())?;
     match kind {
-        Kind::Int => put(text, b" i"),
-        Kind::Uint => put(text, b" u"),
-        Kind::Fixed => put(text, b" f"),
-        Kind::Str { null } => put(text, if null { b" ?s".as_slice() } else { b" s" }),
-        Kind::Array => put(text, b" a"),
-        Kind::Fd => put(text, b" h"),
-        Kind::Obj { null, iface } => {
-            put(text, if null { b" ?o(".as_slice() } else { b" o(" })?;
-            put_interface(text, tables, iface, "any")?;
-            put(text, b")")
-        }
-        Kind::New(iface) => {
-            put(text, b" n(")?;
-            put_interface(text, tables, iface, "no interface")?;
-            put(text, b")")
-        }
+        Kind::Obj { iface, .. } => put_in_brackets(text, tables, iface, "any"),
+        Kind::New(iface) => put_in_brackets(text, tables, iface, "no interface"),
+        _ => Ok(()),
     }
+}
+
+fn put_message<A: Allocator, B: Allocator>(
+    text: &mut String<B>,
+    tables: &Tables<A>,
+    signature: &Signature<A>,
+) -> Result<(), AllocError> {
+    put(text, signature.name())?;
+    for kind in signature.kinds() {
+        put_kind(text, tables, *kind)?;
+    }
+    if signature.destroys() == Destroys::Target {
+        put(text, b" D")?;
+    }
+    if signature.since() != 1 {
+        write!(text, " @{}", signature.since())?;
+    }
+    Ok(())
 }
 
 fn put_messages<A: Allocator, B: Allocator>(
@@ -80,61 +113,42 @@ fn put_messages<A: Allocator, B: Allocator>(
     side: Side,
 ) -> Result<(), AllocError> {
     for opcode in 0u16..256 {
-        let signature = match tables.message(iface, side, opcode) {
-            Some(signature) => signature,
-            None => {
-                if opcode == 0 {
-                    put(text, b"none")?;
-                }
-                return Ok(());
+        match tables.message(iface, side, opcode) {
+            Some(signature) => {
+                put(text, if opcode == 0 { b"" } else { b"; ".as_slice() })?;
+                put_message(text, tables, signature)?;
             }
-        };
-        if opcode > 0 {
-            put(text, b"; ")?;
-        }
-        put(text, signature.name())?;
-        for kind in signature.kinds() {
-            put_kind(text, tables, *kind)?;
-        }
-        if signature.destroys() == Destroys::Target {
-            put(text, b" D")?;
-        }
-        if signature.since() != 1 {
-            write!(text, " @{}", signature.since())?;
+            None => return put(text, if opcode == 0 { b"none" } else { b"".as_slice() }),
         }
     }
     Ok(())
 }
 
-fn row<A: Allocator>(
-    alloc: Global,
+fn put_row<A: Allocator>(
+    text: &mut String,
     tables: &Tables<A>,
     iface: Iface,
-) -> Result<String, AllocError> {
-    let mut text = String::new(alloc);
-    put_interface(&mut text, tables, Some(iface), "")?;
+) -> Result<(), AllocError> {
+    put_interface(text, tables, Some(iface), "")?;
     write!(text, " {} | ", tables.version(iface).unwrap_or(0))?;
-    put_messages(&mut text, tables, iface, Side::Request)?;
-    put(&mut text, b" | ")?;
-    put_messages(&mut text, tables, iface, Side::Event)?;
-    Ok(text)
+    put_messages(text, tables, iface, Side::Request)?;
+    put(text, b" | ")?;
+    put_messages(text, tables, iface, Side::Event)
 }
 
 /// Whether this is the row of the interface at this place.
-fn has_row(alloc: Global, tables: &Tables, place: u16, wanted: &str) -> Result<bool, AllocError> {
-    let row = row(alloc, tables, Iface(place))?;
-    Ok(row.as_str() == wanted)
+fn has_row<A: Allocator>(alloc: Global, tables: &Tables<A>, place: u16, wanted: &str) -> bool {
+    let mut row = String::new(alloc);
+    put_row(&mut row, tables, Iface(place)).is_ok() && row.as_str() == wanted
 }
 
-fn has_all_rows(alloc: Global, tables: &Tables) -> Result<bool, AllocError> {
-    let mut place = 0u16;
-    for wanted in TABLE {
-        if !has_row(alloc, tables, place, wanted)? {
-            return Ok(false);
+fn has_all_rows(alloc: Global, tables: &Tables) -> bool {
+    for place in 0u16..18 {
+        if !has_row(alloc, tables, place, TABLE[place as usize]) {
+            return false;
         }
-        place = place.wrapping_add(1);
     }
-    Ok(true)
+    true
 }
 
 fn has_no_more(tables: &Tables) -> bool {
@@ -155,9 +169,17 @@ fn finds_by_name(tables: &Tables) -> bool {
 #[test]
 fn the_core_tables_are_those_of_the_documentation(rt: HostRuntime) -> Result<(), Fail> {
     let tables = Tables::core(rt.alloc())?;
-    let has_all_rows = has_all_rows(rt.alloc(), &tables);
-    assert!(rt; has_all_rows? && has_no_more(&tables) && finds_by_name(&tables));
+    assert!(rt; has_all_rows(rt.alloc(), &tables));
+    assert!(rt; has_no_more(&tables) && finds_by_name(&tables));
     Ok(())
+}
+
+/// Whether the tables are made, up to their last row.
+fn are_made(alloc: Global, memory: RefusingAllocator) -> bool {
+    match Tables::core(memory) {
+        Ok(tables) => has_row(alloc, &tables, 17, TABLE[17]),
+        Err(_) => false,
+    }
 }
 
 /// Whether the making is refused, where the allocation of this number is, with want of memory, and
@@ -173,9 +195,7 @@ fn is_made_at_last(
         return Ok(!memory.has_refused());
     }
     let is_refused = memory.has_refused() && memory.asked() == number.wrapping_add(1);
-    let tables = Tables::core(memory.clone()?)?;
-    let last = row(alloc, &tables, Iface(17))?;
-    Ok(is_refused && last.as_str() == TABLE[17])
+    Ok(is_refused && are_made(alloc, memory.clone()?))
 }
 
 /// How many allocations there are, each of which is refused in turn; none where that goes wrong.

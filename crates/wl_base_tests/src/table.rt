@@ -170,6 +170,36 @@ fn fill<T: Table>(table: &mut T, objects: u32) -> bool
         || closes(table, objects - 1) && closes(table, objects + 1) && closes(table, objects)
 }
 
+/// A table with so many objects, if it could be filled.
+fn filled<T: Table<Alloc = RefusingAllocator> + Drop>(
+    memory: &RefusingAllocator,
+    objects: u32,
+) -> Option<T>
+    requires { objects < 100 }
+{
+    let mut table = T::new(memory.clone().ok()?, DISPLAY).ok()?;
+    if fill(&mut table, objects) {
+        Some(table)
+    } else {
+        None
+    }
+}
+
+/// The object that an opening then gives, at its id where it is to be named.
+fn next_object(objects: u32, named: bool) -> Object
+    requires { objects < 100 }
+{
+    let id = if named || objects < 4 {
+        objects + 2
+    } else {
+        objects
+    };
+    Object {
+        id,
+        birth: (objects + 1) as u64,
+    }
+}
+
 /// Opens one more, at its id where it is to be named.
 fn open<T: Table>(table: &mut T, id: u32, named: bool) -> Result<Object, TableError> {
     if named {
@@ -203,22 +233,19 @@ fn is_refused_rightly<T: Table<Alloc = RefusingAllocator> + Drop>(
     objects: u32,
     named: bool,
     number: u64,
-) -> Result<bool, AllocError>
+) -> bool
     requires { objects < 100 }
 {
     memory.refuse_none();
-    let mut before = T::new(memory.clone()?, DISPLAY)?;
-    let mut table = T::new(memory.clone()?, DISPLAY)?;
-    let are_filled = fill(&mut before, objects) && fill(&mut table, objects);
-    let id = if named || objects < 4 {
-        objects + 2
-    } else {
-        objects
+    let Some(before) = filled::<T>(memory, objects) else {
+        return false;
     };
-    let birth = (objects + 1) as u64;
+    let Some(mut table) = filled::<T>(memory, objects) else {
+        return false;
+    };
+    let object = next_object(objects, named);
     memory.refuse_nth(number);
-    let object = Object { id, birth };
-    Ok(are_filled && opens_or_is_as_before(memory, &before, &mut table, object, named))
+    opens_or_is_as_before(memory, &before, &mut table, object, named)
 }
 
 /// How many allocations an opening asks for, where each of them is refused rightly in turn.
@@ -226,18 +253,18 @@ fn refused_in_turn<T: Table<Alloc = RefusingAllocator> + Drop>(
     memory: &RefusingAllocator,
     objects: u32,
     named: bool,
-) -> Result<Option<u64>, AllocError>
+) -> Option<u64>
     requires { objects < 100 }
 {
     for number in 0u64..20 {
-        if !is_refused_rightly::<T>(memory, objects, named, number)? {
-            return Ok(None);
+        if !is_refused_rightly::<T>(memory, objects, named, number) {
+            return None;
         }
         if !memory.has_refused() {
-            return Ok(Some(memory.asked()));
+            return Some(memory.asked());
         }
     }
-    Ok(None)
+    None
 }
 
 /// Whether the making of a table is refused just where its allocation of this number is.
@@ -271,44 +298,58 @@ fn is_made_in_the_end<T: Table<Alloc = RefusingAllocator> + Drop>(
 /// some.
 fn openings_are_refused<T: Table<Alloc = RefusingAllocator> + Drop>(
     memory: &RefusingAllocator,
-) -> Result<bool, AllocError> {
+) -> bool {
     let mut asked = 0u64;
     for objects in 0u32..30 {
         for named in [false, true] {
-            match refused_in_turn::<T>(memory, objects, named)? {
+            match refused_in_turn::<T>(memory, objects, named) {
                 Some(more) => asked = asked.wrapping_add(more),
-                None => return Ok(false),
+                None => return false,
             }
         }
     }
-    Ok(0 < asked)
+    0 < asked
+}
+
+/// Whether this holds of a new table.
+fn holds<F: FnOnce(&mut MapTable<Global>) -> bool>(
+    alloc: Global,
+    scene: F,
+) -> Result<bool, AllocError>
+    requires { F.IsAlwaysCallable scene }
+{
+    let mut table = MapTable::new(alloc, DISPLAY)?;
+    Ok(scene(&mut table))
 }
 
 #[test]
 fn map_table_reuses_ids(rt: HostRuntime) -> Result<(), Fail> {
-    let mut table = MapTable::new(rt.alloc(), DISPLAY)?;
-    assert!(rt; reuses_ids(&mut table));
+    assert!(rt; holds(rt.alloc(), reuses_ids)?);
     Ok(())
 }
 
 #[test]
 fn map_table_keeps_zombies(rt: HostRuntime) -> Result<(), Fail> {
-    let mut table = MapTable::new(rt.alloc(), DISPLAY)?;
-    assert!(rt; keeps_zombies(&mut table));
+    assert!(rt; holds(rt.alloc(), keeps_zombies)?);
     Ok(())
 }
 
 #[test]
 fn map_table_fills_up(rt: HostRuntime) -> Result<(), Fail> {
-    let mut table = MapTable::new(rt.alloc(), DISPLAY)?;
-    assert!(rt; fills_up(&mut table));
+    assert!(rt; holds(rt.alloc(), fills_up)?);
     Ok(())
+}
+
+/// Whether each allocation of a table's making and of its openings is refused rightly in turn.
+fn is_refused_in_turn<T: Table<Alloc = RefusingAllocator> + Drop>(
+    memory: &RefusingAllocator,
+) -> Result<bool, AllocError> {
+    Ok(is_made_in_the_end::<T>(memory)? && openings_are_refused::<T>(memory))
 }
 
 #[test]
 fn map_table_is_refused_in_turn(rt: HostRuntime) -> Result<(), Fail> {
     let memory = RefusingAllocator::new(rt.alloc())?;
-    assert!(rt; is_made_in_the_end::<MapTable<RefusingAllocator>>(&memory)?);
-    assert!(rt; openings_are_refused::<MapTable<RefusingAllocator>>(&memory)?);
+    assert!(rt; is_refused_in_turn::<MapTable<RefusingAllocator>>(&memory)?);
     Ok(())
 }

@@ -1,11 +1,12 @@
 //! Sessions worked out by hand, one or more for each rule that one can break, and want of memory.
 
 use refusing::RefusingAllocator;
-use std::alloc::Global;
+use std::alloc::{AllocError, Global};
+use std::process::Abort;
 use std::test::Fail;
 use wl_check::{Verdict, check, trace};
 use wl_objects::Fault;
-use wl_recording::{Direction, Recording};
+use wl_recording::{Direction, Recording, RecordingError};
 use wl_sigs::Tables;
 use wl_wire::ArgFault;
 
@@ -17,175 +18,196 @@ const SETUP: &str = "> 0100000001000c0002000000
 > 0300000000000c0004000000
 ";
 
-fn lawful(requests: usize, events: usize, to_server: usize, to_client: usize) -> Verdict {
-    Verdict::Lawful {
-        requests,
-        events,
-        left_to_server: to_server,
-        left_to_client: to_client,
+/// A verdict in short.
+#[derive(Clone, Copy)]
+enum Want {
+    /// How many requests and events are lawful, and how many bytes to the server and to the client
+    /// are left.
+    Lawful(usize, usize, usize, usize),
+    /// The number of the request that breaks a rule, where it begins, and the rule.
+    Request(usize, usize, Fault),
+    /// The same of an event.
+    Event(usize, usize, Fault),
+}
+
+use Want::{Event, Lawful, Request};
+
+impl Want {
+    fn verdict(self) -> Verdict {
+        match self {
+            Lawful(requests, events, left_to_server, left_to_client) => Verdict::Lawful {
+                requests,
+                events,
+                left_to_server,
+                left_to_client,
+            },
+            Request(index, offset, fault) => Verdict::Broken {
+                direction: Direction::ToServer,
+                index,
+                offset,
+                fault,
+            },
+            Event(index, offset, fault) => Verdict::Broken {
+                direction: Direction::ToClient,
+                index,
+                offset,
+                fault,
+            },
+        }
     }
 }
 
-fn request(index: usize, offset: usize, fault: Fault) -> Verdict {
-    Verdict::Broken {
-        direction: Direction::ToServer,
-        index,
-        offset,
-        fault,
-    }
-}
-
-fn event(index: usize, offset: usize, fault: Fault) -> Verdict {
-    Verdict::Broken {
-        direction: Direction::ToClient,
-        index,
-        offset,
-        fault,
-    }
+/// The verdict on a recording by the core tables.
+fn checked(alloc: Global, recording: &Recording) -> Option<Verdict> {
+    let tables = Tables::core(alloc).ok()?;
+    check(alloc, recording, &tables).ok()
 }
 
 /// The verdict on a recording that has this text behind another.
 fn verdict_of(alloc: Global, front: &str, text: &str) -> Option<Verdict> {
-    let tables = Tables::core(alloc).ok()?;
     let mut whole = Vec::from_slice(alloc, front.as_bytes()).ok()?;
     whole.extend_from_slice(text.as_bytes()).ok()?;
     let recording = Recording::parse(alloc, &whole).ok()?;
-    check(alloc, &recording, &tables).ok()
+    checked(alloc, &recording)
 }
+
+/// Asserts the verdict of each of these texts behind the one in front.
+fn assert_verdicts(rt: &impl Abort, alloc: Global, front: &str, cases: &[(&str, Want)]) {
+    for (text, want) in cases {
+        let verdict = verdict_of(alloc, front, text);
+        assert_eq!(rt; verdict, Some(want.verdict()), "at {text}");
+    }
+}
+
+/// Texts, each with its verdict.
+static RULES: [(&str, Want); 19] = [
+    // Nothing; get_registry, and delete_id of an id that was never used; half a message.
+    ("", Lawful(0, 0, 0, 0)),
+    ("> 0100000001000c0002000000", Lawful(1, 0, 0, 0)),
+    ("< 0100000001000c0002000000", Lawful(0, 1, 0, 0)),
+    ("> 01000000\n< 0100", Lawful(0, 0, 4, 2)),
+    // F1: sizes of 7 and 4100, as soon as the header is there; 4096 is waited for.
+    ("> 01000000000007", Lawful(0, 0, 7, 0)),
+    ("> 0100000000000700", Request(1, 0, Fault::BadSize)),
+    ("< 0100000000000410", Event(1, 0, Fault::BadSize)),
+    ("> 0100000000000010", Lawful(0, 0, 8, 0)),
+    // The message that an earlier piece completes stands before a bad size.
+    (
+        "> 0900000000000800\n< 0100000000000700",
+        Request(1, 0, Fault::UnknownObject),
+    ),
+    (
+        "> 09000000\n< 0100000000000700\n> 00000800",
+        Event(1, 0, Fault::BadSize),
+    ),
+    // F2, F3.
+    ("> 0900000000000800", Request(1, 0, Fault::UnknownObject)),
+    ("> 0100000002000800", Request(1, 0, Fault::UnknownMessage)),
+    // F4: no id; the whole argument is too short before its name is null.
+    (
+        "> 0100000001000800",
+        Request(1, 0, Fault::BadArgument(0, ArgFault::Short)),
+    ),
+    (
+        "> 0100000001000c0002000000\n> 02000000000010000100000000000000",
+        Request(2, 12, Fault::BadArgument(1, ArgFault::Short)),
+    ),
+    // F6: 0, 1, and two past the last.
+    (
+        "> 0100000001000c0000000000",
+        Request(1, 0, Fault::BadNewId(0)),
+    ),
+    (
+        "> 0100000001000c0001000000",
+        Request(1, 0, Fault::BadNewId(0)),
+    ),
+    (
+        "> 0100000001000c0003000000",
+        Request(1, 0, Fault::BadNewId(0)),
+    ),
+    // F7.
+    (
+        "> 01000000010010000200000000000000",
+        Request(1, 0, Fault::TrailingBytes),
+    ),
+    // A wl_display.error ends the session, and what follows is left, in both directions.
+    (
+        "< 010000000000180000000000000000000100000000000000010000000000\n> 0900000000000800",
+        Lawful(0, 1, 8, 6),
+    ),
+];
 
 #[test]
 fn each_rule_is_kept_or_broken(rt: HostRuntime) {
-    let cases = [
-        // Nothing; get_registry, and delete_id of an id that was never used; half a message.
-        ("", lawful(0, 0, 0, 0)),
-        ("> 0100000001000c0002000000", lawful(1, 0, 0, 0)),
-        ("< 0100000001000c0002000000", lawful(0, 1, 0, 0)),
-        ("> 01000000\n< 0100", lawful(0, 0, 4, 2)),
-        // F1: sizes of 7 and 4100, as soon as the header is there; 4096 is waited for.
-        ("> 01000000000007", lawful(0, 0, 7, 0)),
-        ("> 0100000000000700", request(1, 0, Fault::BadSize)),
-        ("< 0100000000000410", event(1, 0, Fault::BadSize)),
-        ("> 0100000000000010", lawful(0, 0, 8, 0)),
-        // The message that an earlier piece completes stands before a bad size.
-        (
-            "> 0900000000000800\n< 0100000000000700",
-            request(1, 0, Fault::UnknownObject),
-        ),
-        (
-            "> 09000000\n< 0100000000000700\n> 00000800",
-            event(1, 0, Fault::BadSize),
-        ),
-        // F2, F3.
-        ("> 0900000000000800", request(1, 0, Fault::UnknownObject)),
-        ("> 0100000002000800", request(1, 0, Fault::UnknownMessage)),
-        // F4: no id; the whole argument is too short before its name is null.
-        (
-            "> 0100000001000800",
-            request(1, 0, Fault::BadArgument(0, ArgFault::Short)),
-        ),
-        (
-            "> 0100000001000c0002000000\n> 02000000000010000100000000000000",
-            request(2, 12, Fault::BadArgument(1, ArgFault::Short)),
-        ),
-        // F6: 0, 1, and two past the last.
-        (
-            "> 0100000001000c0000000000",
-            request(1, 0, Fault::BadNewId(0)),
-        ),
-        (
-            "> 0100000001000c0001000000",
-            request(1, 0, Fault::BadNewId(0)),
-        ),
-        (
-            "> 0100000001000c0003000000",
-            request(1, 0, Fault::BadNewId(0)),
-        ),
-        // F7.
-        (
-            "> 01000000010010000200000000000000",
-            request(1, 0, Fault::TrailingBytes),
-        ),
-        // A wl_display.error ends the session, and what follows is left, in both directions.
-        (
-            "< 010000000000180000000000000000000100000000000000010000000000\n> 0900000000000800",
-            lawful(0, 1, 8, 6),
-        ),
-    ];
-    for (text, want) in cases {
-        assert_eq!(rt; verdict_of(rt.alloc(), "", text), Some(want), "at {text}");
-    }
+    assert_verdicts(&rt, rt.alloc(), "", &RULES);
 }
+
+/// Texts behind `SETUP`.
+static OBJECTS: [(&str, Want); 15] = [
+    ("", Lawful(3, 1, 0, 0)),
+    // The surface is destroyed: no request is for it, but an event may be.
+    (
+        "> 0400000000000800\n> 0400000006000800",
+        Request(5, 72, Fault::UnknownObject),
+    ),
+    (
+        "> 0400000000000800\n< 0400000002000c0001000000",
+        Lawful(4, 2, 0, 0),
+    ),
+    // Its id is held until the delete_id, which also ends an open object.
+    (
+        "> 0400000000000800\n> 0300000000000c0004000000",
+        Request(5, 72, Fault::BadNewId(0)),
+    ),
+    (
+        "> 0400000000000800\n< 0100000001000c0004000000\n> 0300000000000c0004000000",
+        Lawful(5, 2, 0, 0),
+    ),
+    (
+        "< 0100000001000c0004000000\n> 0300000000000c0004000000",
+        Lawful(4, 2, 0, 0),
+    ),
+    (
+        "< 0100000001000c0004000000\n< 0400000002000c0001000000",
+        Event(3, 48, Fault::UnknownObject),
+    ),
+    // delete_id of 1 and of an id never used change nothing.
+    (
+        "< 0100000001000c0001000000\n< 0100000001000c0063000000\n> 0100000000000c0005000000",
+        Lawful(4, 3, 0, 0),
+    ),
+    // done makes its callback ending, and may come again.
+    (
+        "> 0100000000000c0005000000\n< 0500000000000c0007000000\n< 0500000000000c0008000000",
+        Lawful(4, 3, 0, 0),
+    ),
+    (
+        "> 0100000000000c0005000000\n< 0500000000000c0007000000\n> 0100000000000c0005000000",
+        Request(5, 76, Fault::BadNewId(0)),
+    ),
+    // F5: a region that is unknown or no region, an output that is unknown; null where it may be.
+    (
+        "> 0400000004000c0009000000",
+        Request(4, 64, Fault::BadObject(0)),
+    ),
+    (
+        "> 0400000004000c0003000000",
+        Request(4, 64, Fault::BadObject(0)),
+    ),
+    (
+        "< 0400000000000c0009000000",
+        Event(2, 36, Fault::BadObject(0)),
+    ),
+    ("> 0400000004000c0000000000", Lawful(4, 1, 0, 0)),
+    (
+        "< 0400000000000c0000000000",
+        Event(2, 36, Fault::BadArgument(0, ArgFault::NullNotAllowed)),
+    ),
+];
 
 #[test]
 fn objects_are_held_until_their_delete_id(rt: HostRuntime) {
-    let cases = [
-        ("", lawful(3, 1, 0, 0)),
-        // The surface is destroyed: no request is for it, but an event may be.
-        (
-            "> 0400000000000800\n> 0400000006000800",
-            request(5, 72, Fault::UnknownObject),
-        ),
-        (
-            "> 0400000000000800\n< 0400000002000c0001000000",
-            lawful(4, 2, 0, 0),
-        ),
-        // Its id is held until the delete_id, which also ends an open object.
-        (
-            "> 0400000000000800\n> 0300000000000c0004000000",
-            request(5, 72, Fault::BadNewId(0)),
-        ),
-        (
-            "> 0400000000000800\n< 0100000001000c0004000000\n> 0300000000000c0004000000",
-            lawful(5, 2, 0, 0),
-        ),
-        (
-            "< 0100000001000c0004000000\n> 0300000000000c0004000000",
-            lawful(4, 2, 0, 0),
-        ),
-        (
-            "< 0100000001000c0004000000\n< 0400000002000c0001000000",
-            event(3, 48, Fault::UnknownObject),
-        ),
-        // delete_id of 1 and of an id never used change nothing.
-        (
-            "< 0100000001000c0001000000\n< 0100000001000c0063000000\n> 0100000000000c0005000000",
-            lawful(4, 3, 0, 0),
-        ),
-        // done makes its callback ending, and may come again.
-        (
-            "> 0100000000000c0005000000\n< 0500000000000c0007000000\n< 0500000000000c0008000000",
-            lawful(4, 3, 0, 0),
-        ),
-        (
-            "> 0100000000000c0005000000\n< 0500000000000c0007000000\n> 0100000000000c0005000000",
-            request(5, 76, Fault::BadNewId(0)),
-        ),
-        // F5: a region that is unknown or no region, an output that is unknown; null where it may be.
-        (
-            "> 0400000004000c0009000000",
-            request(4, 64, Fault::BadObject(0)),
-        ),
-        (
-            "> 0400000004000c0003000000",
-            request(4, 64, Fault::BadObject(0)),
-        ),
-        (
-            "< 0400000000000c0009000000",
-            event(2, 36, Fault::BadObject(0)),
-        ),
-        ("> 0400000004000c0000000000", lawful(4, 1, 0, 0)),
-        (
-            "< 0400000000000c0000000000",
-            event(2, 36, Fault::BadArgument(0, ArgFault::NullNotAllowed)),
-        ),
-    ];
-    for (text, want) in cases {
-        assert_eq!(rt;
-            verdict_of(rt.alloc(), SETUP, text),
-            Some(want),
-            "at {text}"
-        );
-    }
+    assert_verdicts(&rt, rt.alloc(), SETUP, &OBJECTS);
 }
 
 /// get_registry, which makes 2; the globals 1, wl_shm 2, and 3, wl_shm 1.
@@ -194,65 +216,61 @@ const GLOBALS: &str = "> 0100000001000c0002000000
 < 0200000000001c000300000007000000776c5f73686d000001000000
 ";
 
+/// Texts behind `GLOBALS`.
+static BINDS: [(&str, Want); 11] = [
+    (
+        "> 02000000000020000100000007000000776c5f73686d00000200000003000000",
+        Lawful(2, 2, 0, 0),
+    ),
+    // Also a global that was removed since, and a bind that begins before its global.
+    (
+        "< 0200000001000c0001000000\n> 02000000000020000100000007000000776c5f73686d00000200000003000000",
+        Lawful(2, 3, 0, 0),
+    ),
+    (
+        "> 0200000000002000\n< 0200000000001c000500000007000000776c5f73686d000002000000\n> 0500000007000000776c5f73686d00000200000003000000",
+        Lawful(2, 3, 0, 0),
+    ),
+    // F9: the version is above the global's, above the tables' or 0, and there is no such name.
+    (
+        "> 02000000000020000300000007000000776c5f73686d00000200000003000000",
+        Request(2, 12, Fault::BadBind),
+    ),
+    (
+        "< 0200000000001c000100000007000000776c5f73686d000003000000\n> 02000000000020000100000007000000776c5f73686d00000300000003000000",
+        Request(2, 12, Fault::BadBind),
+    ),
+    (
+        "> 02000000000020000100000007000000776c5f73686d00000000000003000000",
+        Request(2, 12, Fault::BadBind),
+    ),
+    (
+        "> 02000000000020000200000007000000776c5f73686d00000200000003000000",
+        Request(2, 12, Fault::BadBind),
+    ),
+    // An interface that is not in the tables may be advertised, and not bound.
+    (
+        "< 0200000000001c000900000007000000776c5f78797a000001000000\n> 02000000000020000900000007000000776c5f78797a00000100000003000000",
+        Request(2, 12, Fault::BadBind),
+    ),
+    // F8: create_pool takes a token, of this piece or of an earlier one, and of its direction.
+    (
+        "> 02000000000020000100000007000000776c5f73686d00000200000003000000\n> 03000000000010000400000000100000",
+        Request(3, 44, Fault::MissingDescriptor),
+    ),
+    (
+        "> 02000000000020000100000007000000776c5f73686d00000200000003000000 +1\n> 03000000000010000400000000100000",
+        Lawful(3, 2, 0, 0),
+    ),
+    (
+        "> 02000000000020000100000007000000776c5f73686d00000200000003000000\n< - +1\n> 0300000000001000\n> 0400000000100000 +1\n> 03000000000010000500000000100000",
+        Request(4, 60, Fault::MissingDescriptor),
+    ),
+];
+
 #[test]
 fn binds_follow_one_global(rt: HostRuntime) {
-    let cases = [
-        (
-            "> 02000000000020000100000007000000776c5f73686d00000200000003000000",
-            lawful(2, 2, 0, 0),
-        ),
-        // Also a global that was removed since, and a bind that begins before its global.
-        (
-            "< 0200000001000c0001000000\n> 02000000000020000100000007000000776c5f73686d00000200000003000000",
-            lawful(2, 3, 0, 0),
-        ),
-        (
-            "> 0200000000002000\n< 0200000000001c000500000007000000776c5f73686d000002000000\n> 0500000007000000776c5f73686d00000200000003000000",
-            lawful(2, 3, 0, 0),
-        ),
-        // F9: the version is above the global's, above the tables' or 0, and there is no such name.
-        (
-            "> 02000000000020000300000007000000776c5f73686d00000200000003000000",
-            request(2, 12, Fault::BadBind),
-        ),
-        (
-            "< 0200000000001c000100000007000000776c5f73686d000003000000\n> 02000000000020000100000007000000776c5f73686d00000300000003000000",
-            request(2, 12, Fault::BadBind),
-        ),
-        (
-            "> 02000000000020000100000007000000776c5f73686d00000000000003000000",
-            request(2, 12, Fault::BadBind),
-        ),
-        (
-            "> 02000000000020000200000007000000776c5f73686d00000200000003000000",
-            request(2, 12, Fault::BadBind),
-        ),
-        // An interface that is not in the tables may be advertised, and not bound.
-        (
-            "< 0200000000001c000900000007000000776c5f78797a000001000000\n> 02000000000020000900000007000000776c5f78797a00000100000003000000",
-            request(2, 12, Fault::BadBind),
-        ),
-        // F8: create_pool takes a token, of this piece or of an earlier one, and of its direction.
-        (
-            "> 02000000000020000100000007000000776c5f73686d00000200000003000000\n> 03000000000010000400000000100000",
-            request(3, 44, Fault::MissingDescriptor),
-        ),
-        (
-            "> 02000000000020000100000007000000776c5f73686d00000200000003000000 +1\n> 03000000000010000400000000100000",
-            lawful(3, 2, 0, 0),
-        ),
-        (
-            "> 02000000000020000100000007000000776c5f73686d00000200000003000000\n< - +1\n> 0300000000001000\n> 0400000000100000 +1\n> 03000000000010000500000000100000",
-            request(4, 60, Fault::MissingDescriptor),
-        ),
-    ];
-    for (text, want) in cases {
-        assert_eq!(rt;
-            verdict_of(rt.alloc(), GLOBALS, text),
-            Some(want),
-            "at {text}"
-        );
-    }
+    assert_verdicts(&rt, rt.alloc(), GLOBALS, &BINDS);
 }
 
 /// get_registry, which makes 2; the global 1, wl_display 1; its bind, which makes 3; and a sync
@@ -269,24 +287,18 @@ fn a_second_display_speaks_as_the_first(rt: HostRuntime) {
         // Its delete_id frees the id, also its own; its error ends the session.
         (
             "< 0300000001000c0004000000\n> 0100000000000c0004000000",
-            lawful(4, 2, 0, 0),
+            Lawful(4, 2, 0, 0),
         ),
         (
             "< 0300000001000c0003000000\n> 0100000000000c0003000000",
-            lawful(4, 2, 0, 0),
+            Lawful(4, 2, 0, 0),
         ),
         (
             "< 030000000000180000000000000000000100000000000000\n> 0900000000000800",
-            lawful(3, 2, 8, 0),
+            Lawful(3, 2, 8, 0),
         ),
     ];
-    for (text, want) in cases {
-        assert_eq!(rt;
-            verdict_of(rt.alloc(), TWO_DISPLAYS, text),
-            Some(want),
-            "at {text}"
-        );
-    }
+    assert_verdicts(&rt, rt.alloc(), TWO_DISPLAYS, &cases);
 }
 
 #[test]
@@ -298,9 +310,11 @@ fn a_message_is_newer_than_its_object(rt: HostRuntime) {
 > 0300000000000c0004000000
 > 040000000900180000000000000000000100000001000000
 ";
-    assert_eq!(rt;
-        verdict_of(rt.alloc(), "", text),
-        Some(request(4, 64, Fault::UnknownMessage))
+    assert_verdicts(
+        &rt,
+        rt.alloc(),
+        "",
+        &[(text, Request(4, 64, Fault::UnknownMessage))],
     );
 }
 
@@ -330,7 +344,8 @@ const LINES: &str = "-> wl_display@1.get_registry(new id wl_registry@2)
 <- wl_display@1.delete_id(5)
 ";
 
-fn traces(alloc: Global, text: &str, lines: &str, verdict: Verdict) -> bool {
+/// Whether a recording of this text is traced so.
+fn traces(alloc: Global, text: &str, lines: &str, want: Want) -> bool {
     let Ok(tables) = Tables::core(alloc) else {
         return false;
     };
@@ -338,150 +353,178 @@ fn traces(alloc: Global, text: &str, lines: &str, verdict: Verdict) -> bool {
         return false;
     };
     match trace(alloc, &recording, &tables) {
-        Ok((told, found)) => told.as_slice() == lines.as_bytes() && found == verdict,
+        Ok((told, found)) => told.as_slice() == lines.as_bytes() && found == want.verdict(),
         Err(_) => false,
     }
 }
 
+/// Texts, each with its lines and its verdict.
+static TRACES: [(&str, &str, Want); 7] = [
+    ("", "", Lawful(0, 0, 0, 0)),
+    (SESSION, LINES, Lawful(7, 5, 0, 0)),
+    (
+        "< 0100000001000c0002000000",
+        "<- wl_display@1.delete_id(2)\n",
+        Lawful(0, 1, 0, 0),
+    ),
+    // The message that breaks a rule is not printed.
+    (
+        "> 0100000001000c00020000000100000001000c0002000000\n> 0100000001000c0003000000",
+        "-> wl_display@1.get_registry(new id wl_registry@2)\n",
+        Request(2, 12, Fault::BadNewId(0)),
+    ),
+    // wl_display.error is the last that is printed. Its object is held, null or unknown.
+    (
+        "< 010000000000180001000000000000000100000000000000010000000000180001000000000000000100000000000000",
+        "<- wl_display@1.error(wl_display@1, 0, \"\")\n",
+        Lawful(0, 1, 0, 24),
+    ),
+    (
+        "< 010000000000180000000000000000000100000000000000",
+        "<- wl_display@1.error(nil, 0, \"\")\n",
+        Lawful(0, 1, 0, 0),
+    ),
+    (
+        "< 010000000000180009000000000000000100000000000000",
+        "<- wl_display@1.error(unknown@9, 0, \"\")\n",
+        Lawful(0, 1, 0, 0),
+    ),
+];
+
+/// Whether each of them is traced so.
+fn are_traced(alloc: Global) -> bool {
+    let mut all = true;
+    for (text, lines, want) in &TRACES {
+        all = traces(alloc, text, lines, *want) && all;
+    }
+    all
+}
+
 #[test]
 fn the_lines_end_with_the_verdict(rt: HostRuntime) {
-    assert!(rt; traces(rt.alloc(), "", "", lawful(0, 0, 0, 0)));
-    assert!(rt; traces(rt.alloc(), SESSION, LINES, lawful(7, 5, 0, 0)));
-    assert!(rt;
-        traces(
-            rt.alloc(),
-            "< 0100000001000c0002000000",
-            "<- wl_display@1.delete_id(2)\n",
-            lawful(0, 1, 0, 0)
-        )
-    );
-    // The message that breaks a rule is not printed.
-    assert!(rt;
-        traces(
-            rt.alloc(),
-            "> 0100000001000c00020000000100000001000c0002000000\n> 0100000001000c0003000000",
-            "-> wl_display@1.get_registry(new id wl_registry@2)\n",
-            request(2, 12, Fault::BadNewId(0))
-        )
-    );
-    // wl_display.error is the last that is printed. Its object is held, null or unknown.
-    assert!(rt;
-        traces(
-            rt.alloc(),
-            "< 010000000000180001000000000000000100000000000000010000000000180001000000000000000100000000000000",
-            "<- wl_display@1.error(wl_display@1, 0, \"\")\n",
-            lawful(0, 1, 0, 24)
-        )
-    );
-    assert!(rt;
-        traces(
-            rt.alloc(),
-            "< 010000000000180000000000000000000100000000000000",
-            "<- wl_display@1.error(nil, 0, \"\")\n",
-            lawful(0, 1, 0, 0)
-        )
-    );
-    assert!(rt;
-        traces(
-            rt.alloc(),
-            "< 010000000000180009000000000000000100000000000000",
-            "<- wl_display@1.error(unknown@9, 0, \"\")\n",
-            lawful(0, 1, 0, 0)
-        )
-    );
+    assert!(rt; are_traced(rt.alloc()));
 }
 
-#[test]
-fn tokens_are_counted_beyond_32_bits(rt: HostRuntime) -> Result<(), Fail> {
-    let tables = Tables::core(rt.alloc())?;
-    let mut text = Vec::from_slice(rt.alloc(), GLOBALS.as_bytes())?;
-    text.extend_from_slice(
-        b"> 02000000000020000100000007000000776c5f73686d00000200000003000000\n",
-    )?;
-    let Ok(mut recording) = Recording::parse(rt.alloc(), &text) else {
-        assert!(rt; false);
-        return Ok(());
-    };
-    // In 32 bits these would be none.
+/// Binds wl_shm, sends so many tokens that in 32 bits they would be none, and a create_pool, which
+/// takes one. Whether that is done.
+fn adds_tokens(recording: &mut Recording) -> bool {
+    let bind = b"\x02\0\0\0\0\0\x20\0\x01\0\0\0\x07\0\0\0wl_shm\0\0\x02\0\0\0\x03\0\0\0";
+    let create_pool = b"\x03\0\0\0\0\0\x10\0\x04\0\0\0\0\x10\0\0";
+    let mut all = recording.add(Direction::ToServer, bind, 0).is_ok();
     for _ in 0..65_537 {
-        recording.add(Direction::ToServer, &[], 65_535)?;
+        all = recording.add(Direction::ToServer, &[], 65_535).is_ok() && all;
     }
-    recording.add(Direction::ToServer, &[], 1)?;
-    recording.add(
-        Direction::ToServer,
-        b"\x03\0\0\0\0\0\x10\0\x04\0\0\0\0\x10\0\0",
-        0,
-    )?;
-    assert_eq!(rt; check(rt.alloc(), &recording, &tables)?, lawful(3, 2, 0, 0));
-    Ok(())
+    all && recording.add(Direction::ToServer, &[], 1).is_ok()
+        && recording.add(Direction::ToServer, create_pool, 0).is_ok()
+}
+
+/// Whether the create_pool is then lawful.
+fn counts_tokens(alloc: Global) -> bool {
+    let Ok(mut recording) = Recording::parse(alloc, GLOBALS.as_bytes()) else {
+        return false;
+    };
+    adds_tokens(&mut recording) && checked(alloc, &recording) == Some(Lawful(3, 2, 0, 0).verdict())
 }
 
 #[test]
-fn a_connection_has_so_many_ids(rt: HostRuntime) -> Result<(), Fail> {
-    let tables = Tables::core(rt.alloc())?;
-    let mut bytes = Vec::new(rt.alloc());
-    // A sync for each id that is left, and one more.
+fn tokens_are_counted_beyond_32_bits(rt: HostRuntime) {
+    assert!(rt; counts_tokens(rt.alloc()));
+}
+
+/// Puts a sync for each id that is left, and one more.
+fn put_syncs(bytes: &mut Vec<u8>) -> Result<(), AllocError> {
     for id in 2u32..1_048_578 {
         bytes.extend_from_slice(b"\x01\0\0\0\0\0\x0c\0")?;
         bytes.extend_from_slice(id.to_le_bytes().as_slice())?;
     }
-    let mut recording = Recording::new(rt.alloc());
-    recording.add(Direction::ToServer, &bytes, 0)?;
-    let verdict = check(rt.alloc(), &recording, &tables)?;
-    assert_eq!(rt;
-        verdict,
-        request(1_048_576, 12_582_900, Fault::TooManyObjects)
-    );
     Ok(())
+}
+
+/// The verdict on all of them, in one piece.
+fn verdict_of_syncs(alloc: Global) -> Result<Option<Verdict>, AllocError> {
+    let mut bytes = Vec::new(alloc);
+    put_syncs(&mut bytes)?;
+    let mut recording = Recording::new(alloc);
+    recording.add(Direction::ToServer, &bytes, 0)?;
+    Ok(checked(alloc, &recording))
+}
+
+#[test]
+fn a_connection_has_so_many_ids(rt: HostRuntime) -> Result<(), Fail> {
+    let want = Request(1_048_576, 12_582_900, Fault::TooManyObjects);
+    assert_eq!(rt; verdict_of_syncs(rt.alloc())?, Some(want.verdict()));
+    Ok(())
+}
+
+/// Whether this holds of the core tables and of the session in memory of which an allocation can be
+/// refused.
+fn holds<F: FnOnce(&RefusingAllocator, &Tables, &Recording<RefusingAllocator>) -> bool>(
+    alloc: Global,
+    scene: F,
+) -> Result<bool, RecordingError>
+    requires { F.IsAlwaysCallable scene }
+{
+    let tables = Tables::core(alloc)?;
+    let memory = RefusingAllocator::new(alloc)?;
+    let recording = Recording::parse(memory.clone()?, SESSION.as_bytes())?;
+    Ok(scene(&memory, &tables, &recording))
+}
+
+/// Whether want of memory is answered just where an allocation is refused, and the verdict in the
+/// end.
+fn is_checked_in_the_end(
+    memory: &RefusingAllocator,
+    tables: &Tables,
+    recording: &Recording<RefusingAllocator>,
+) -> bool {
+    for number in 0u64..40 {
+        let Ok(alloc) = memory.clone() else {
+            return false;
+        };
+        memory.refuse_nth(number);
+        match check(alloc, recording, tables) {
+            Ok(verdict) => {
+                return !memory.has_refused() && verdict == Lawful(7, 5, 0, 0).verdict();
+            }
+            Err(_) if memory.has_refused() => {}
+            Err(_) => return false,
+        }
+    }
+    false
 }
 
 #[test]
 fn a_check_with_each_allocation_refused(rt: HostRuntime) -> Result<(), Fail> {
-    let tables = Tables::core(rt.alloc())?;
-    let memory = RefusingAllocator::new(rt.alloc())?;
-    let Ok(recording) = Recording::parse(memory.clone()?, SESSION.as_bytes()) else {
-        assert!(rt; false);
-        return Ok(());
-    };
-    let mut asked = None;
-    for number in 0u64..40 {
+    assert!(rt; holds(rt.alloc(), is_checked_in_the_end)?);
+    Ok(())
+}
+
+/// The same of a trace, with its lines and the verdict in the end.
+fn is_traced_in_the_end(
+    memory: &RefusingAllocator,
+    tables: &Tables,
+    recording: &Recording<RefusingAllocator>,
+) -> bool {
+    for number in 0u64..60 {
+        let Ok(alloc) = memory.clone() else {
+            return false;
+        };
         memory.refuse_nth(number);
-        match check(memory.clone()?, &recording, &tables) {
-            Ok(verdict) => {
-                assert!(rt; !memory.has_refused());
-                assert_eq!(rt; verdict, lawful(7, 5, 0, 0));
-                asked = Some(memory.asked());
-                break;
+        match trace(alloc, recording, tables) {
+            Ok((lines, verdict)) => {
+                return !memory.has_refused()
+                    && lines.as_slice() == LINES.as_bytes()
+                    && verdict == Lawful(7, 5, 0, 0).verdict();
             }
-            Err(_) => assert!(rt; memory.has_refused()),
+            Err(_) if memory.has_refused() => {}
+            Err(_) => return false,
         }
     }
-    assert!(rt; asked.is_some());
-    Ok(())
+    false
 }
 
 #[test]
 fn a_trace_with_each_allocation_refused(rt: HostRuntime) -> Result<(), Fail> {
-    let tables = Tables::core(rt.alloc())?;
-    let memory = RefusingAllocator::new(rt.alloc())?;
-    let Ok(recording) = Recording::parse(memory.clone()?, SESSION.as_bytes()) else {
-        assert!(rt; false);
-        return Ok(());
-    };
-    let mut asked = None;
-    for number in 0u64..60 {
-        memory.refuse_nth(number);
-        match trace(memory.clone()?, &recording, &tables) {
-            Ok((lines, verdict)) => {
-                assert!(rt; !memory.has_refused());
-                assert_eq!(rt; lines.as_slice(), LINES.as_bytes());
-                assert_eq!(rt; verdict, lawful(7, 5, 0, 0));
-                asked = Some(memory.asked());
-                break;
-            }
-            Err(_) => assert!(rt; memory.has_refused()),
-        }
-    }
-    assert!(rt; asked.is_some());
+    assert!(rt; holds(rt.alloc(), is_traced_in_the_end)?);
     Ok(())
 }

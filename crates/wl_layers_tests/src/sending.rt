@@ -1,17 +1,16 @@
 //! What an end over the plain table answers to calls, and the bytes that it writes.
-ghost use Rattle.std.specs.Prelude.{◌≤◌};
-ghost use Rattle.wl_message.specs.Arrived.{AreSizes};
 
+use crate::shared::{End, holds, sizes};
 use refusing::RefusingAllocator;
-use std::alloc::{AllocError, Global};
+use std::alloc::AllocError;
 use std::test::Fail;
 use wl_end::Core;
-use wl_message::{Sizes, Taken};
+use wl_message::Taken;
 use wl_objects::{Arg, MapTable, Object, SendError, Table};
 use wl_sigs::{Side, Tables};
 use wl_wire::Iface;
 
-type End<'t> = Core<'t, MapTable<Global>>;
+const DISPLAY: Object = Object { id: 1, birth: 0 };
 
 const REGISTRY: Iface = Iface(1);
 
@@ -21,19 +20,6 @@ const SURFACE: Iface = Iface(7);
 
 const SHELL_SURFACE: Iface = Iface(17);
 
-/// An outbox of so many bytes, and of two tokens.
-fn sizes(out_bytes: usize) -> Sizes
-    requires { out_bytes ≤ 16777216 }
-    ensures { AreSizes result }
-{
-    Sizes {
-        out_bytes,
-        out_tokens: 2,
-        in_bytes: 4096,
-        in_tokens: 20,
-    }
-}
-
 /// Opens an object at the next id.
 fn open(end: &mut End<'_>, iface: Iface, version: u32) -> Result<Object, SendError> {
     // That the table is looked at shows that it is sound.
@@ -41,33 +27,32 @@ fn open(end: &mut End<'_>, iface: Iface, version: u32) -> Result<Object, SendErr
     end.open_new(Some(iface), version)?.ok_or(SendError::NoIds)
 }
 
-/// Whether this holds of a new end with an outbox of so many bytes.
-fn holds<F: FnOnce(&mut End<'_>) -> Result<bool, SendError>>(
-    alloc: Global,
-    out_bytes: usize,
-    scene: F,
-) -> Result<bool, Fail>
-    requires bytes { out_bytes ≤ 16777216 }
-    requires scene { F.IsAlwaysCallable scene }
-{
-    let tables = Tables::core(alloc)?;
-    let mut end = End::new(alloc, &tables, sizes(out_bytes))?;
-    Ok(scene(&mut end)?)
+/// Whether a message is answered so.
+fn is_answered(
+    end: &mut End<'_>,
+    side: Side,
+    target: Object,
+    opcode: u16,
+    args: &[Arg],
+    answer: Result<Option<Object>, SendError>,
+) -> bool {
+    end.send(side, target, opcode, args) == answer
 }
 
 /// Whether a request is refused so.
 fn refuses(end: &mut End<'_>, target: Object, opcode: u16, args: &[Arg], why: SendError) -> bool {
-    end.send(Side::Request, target, opcode, args) == Err(why)
+    is_answered(end, Side::Request, target, opcode, args, Err(why))
 }
 
 /// Whether there is no such event to send.
 fn lacks_event(end: &mut End<'_>, target: Object, opcode: u16, args: &[Arg]) -> bool {
-    end.send(Side::Event, target, opcode, args) == Err(SendError::NoSuchMessage)
+    let none = Err(SendError::NoSuchMessage);
+    is_answered(end, Side::Event, target, opcode, args, none)
 }
 
 /// Whether a request makes this object.
 fn makes(end: &mut End<'_>, target: Object, opcode: u16, args: &[Arg], made: Object) -> bool {
-    end.send(Side::Request, target, opcode, args) == Ok(Some(made))
+    is_answered(end, Side::Request, target, opcode, args, Ok(Some(made)))
 }
 
 /// Whether just these bytes and tokens are taken, where there are as many places for them.
@@ -86,21 +71,16 @@ fn gives<const BYTES: usize, const TOKENS: usize>(
     taken == wanted && some == bytes && some_tokens == tokens
 }
 
-fn fails_and_writes_nothing(end: &mut End<'_>) -> Result<bool, SendError> {
-    let display = end.display();
+fn fails_and_writes_nothing(end: &mut End<'_>) -> bool {
     if !end.failed {
         end.write_error(1, 1, b"bad");
     }
-    let error = [
-        1, 0, 0, 0, 0, 0, 24, 0, 1, 0, 0, 0, 1, 0, 0, 0, 4, 0, 0, 0, b'b', b'a', b'd', 0,
-    ];
+    let error = *b"\x01\0\0\0\0\0\x18\0\x01\0\0\0\x01\0\0\0\x04\0\0\0bad\0";
     // a target that it does not know comes behind that
     let unknown = Object { id: 9, birth: 9 };
-    Ok(
-        gives(end, error, [])
-            && refuses(end, display, 0, &[Arg::New], SendError::Failed)
-            && refuses(end, unknown, 0, &[Arg::New], SendError::Failed),
-    )
+    gives(end, error, [])
+        && refuses(end, DISPLAY, 0, &[Arg::New], SendError::Failed)
+        && refuses(end, unknown, 0, &[Arg::New], SendError::Failed)
 }
 
 #[test]
@@ -129,23 +109,21 @@ fn knows_what_is_stale(end: &mut End<'_>) -> bool {
 /// Whether there is no such opcode, and no message that other calls write: bind, delete_id and
 /// global_remove.
 fn knows_its_messages(end: &mut End<'_>, registry: Object) -> bool {
-    let display = end.display();
-    refuses(end, display, 2, &[], SendError::NoSuchMessage)
+    refuses(end, DISPLAY, 2, &[], SendError::NoSuchMessage)
         && refuses(end, registry, 0, &[], SendError::NoSuchMessage)
-        && lacks_event(end, display, 1, &[Arg::Uint(2)])
+        && lacks_event(end, DISPLAY, 1, &[Arg::Uint(2)])
         && lacks_event(end, registry, 1, &[Arg::Uint(1)])
 }
 
-fn judges_the_target_first(end: &mut End<'_>) -> Result<bool, SendError> {
-    let registry = open(end, REGISTRY, 1)?;
-    let surface = open(end, SURFACE, 2)?;
+fn judges_the_target_first(end: &mut End<'_>) -> bool {
+    let (Ok(registry), Ok(surface)) = (open(end, REGISTRY, 1), open(end, SURFACE, 2)) else {
+        return false;
+    };
     // set_buffer_scale came with version 3; the wrong argument is not looked at
-    Ok(
-        knows_what_is_stale(end)
-            && knows_its_messages(end, registry)
-            && refuses(end, surface, 8, &[Arg::Int(2)], SendError::TooOld)
-            && refuses(end, surface, 8, &[Arg::Uint(2)], SendError::TooOld),
-    )
+    knows_what_is_stale(end)
+        && knows_its_messages(end, registry)
+        && refuses(end, surface, 8, &[Arg::Int(2)], SendError::TooOld)
+        && refuses(end, surface, 8, &[Arg::Uint(2)], SendError::TooOld)
 }
 
 #[test]
@@ -155,11 +133,10 @@ fn the_target_and_its_message_are_judged_first(rt: HostRuntime) -> Result<(), Fa
 }
 
 fn counts_arguments(end: &mut End<'_>) -> bool {
-    let display = end.display();
-    refuses(end, display, 0, &[Arg::Uint(1)], SendError::WrongArgs(0))
+    refuses(end, DISPLAY, 0, &[Arg::Uint(1)], SendError::WrongArgs(0))
         && refuses(
             end,
-            display,
+            DISPLAY,
             0,
             &[Arg::New, Arg::New],
             SendError::WrongArgs(1),
@@ -190,15 +167,15 @@ fn judges_the_length(end: &mut End<'_>, shell_surface: Object) -> bool {
         && refuses(end, shell_surface, 8, &long, SendError::Full)
 }
 
-fn judges_arguments_in_order(end: &mut End<'_>) -> Result<bool, SendError> {
-    let surface = open(end, SURFACE, 2)?;
-    let shell_surface = open(end, SHELL_SURFACE, 1)?;
-    Ok(
-        counts_arguments(end)
-            && judges_objects_last(end, surface)
-            && judges_the_length(end, shell_surface)
-            && end.is_drained(),
-    )
+fn judges_arguments_in_order(end: &mut End<'_>) -> bool {
+    let (Ok(surface), Ok(shell_surface)) = (open(end, SURFACE, 2), open(end, SHELL_SURFACE, 1))
+    else {
+        return false;
+    };
+    counts_arguments(end)
+        && judges_objects_last(end, surface)
+        && judges_the_length(end, shell_surface)
+        && end.is_drained()
 }
 
 #[test]
@@ -211,22 +188,23 @@ fn arguments_are_judged_before_objects_and_objects_before_length(
 
 /// Whether two pools fit, and then, in the 12 bytes that are left, no third one but a callback.
 fn fills_up(end: &mut End<'_>, shm: Object) -> bool {
-    let display = end.display();
     let pool = [Arg::New, Arg::Fd(7), Arg::Int(4096)];
     makes(end, shm, 0, &pool, Object { id: 3, birth: 2 })
         && makes(end, shm, 0, &pool, Object { id: 4, birth: 3 })
         && refuses(end, shm, 0, &pool, SendError::Full)
-        && makes(end, display, 0, &[Arg::New], Object { id: 5, birth: 4 })
-        && refuses(end, display, 0, &[Arg::New], SendError::Full)
+        && makes(end, DISPLAY, 0, &[Arg::New], Object { id: 5, birth: 4 })
+        && refuses(end, DISPLAY, 0, &[Arg::New], SendError::Full)
 }
 
-fn fills_up_and_gives_all(end: &mut End<'_>) -> Result<bool, SendError> {
-    let shm = open(end, SHM, 1)?;
+fn fills_up_and_gives_all(end: &mut End<'_>) -> bool {
+    let Ok(shm) = open(end, SHM, 1) else {
+        return false;
+    };
     let bytes = [
         2, 0, 0, 0, 0, 0, 16, 0, 3, 0, 0, 0, 0, 16, 0, 0, 2, 0, 0, 0, 0, 0, 16, 0, 4, 0, 0, 0, 0,
         16, 0, 0, 1, 0, 0, 0, 0, 0, 12, 0, 5, 0, 0, 0,
     ];
-    Ok(fills_up(end, shm) && gives(end, bytes, [7, 7]))
+    fills_up(end, shm) && gives(end, bytes, [7, 7])
 }
 
 #[test]
@@ -235,24 +213,24 @@ fn bytes_and_tokens_have_to_be_free(rt: HostRuntime) -> Result<(), Fail> {
     Ok(())
 }
 
-/// What wl_callback.done(7) is answered for a new callback, and whether that lives on.
-fn done(end: &mut End<'_>) -> Result<(Result<Option<Object>, SendError>, bool), SendError> {
-    let callback = open(end, Iface(2), 1)?;
-    let answer = end.send(Side::Event, callback, 0, &[Arg::Uint(7)]);
-    Ok((answer, end.live(callback).is_some()))
+/// Whether wl_callback.done(7) is answered so for a new callback, and whether that then lives on.
+fn is_done(end: &mut End<'_>, answer: Result<Option<Object>, SendError>, lives: bool) -> bool {
+    match open(end, Iface(2), 1) {
+        Ok(callback) => {
+            is_answered(end, Side::Event, callback, 0, &[Arg::Uint(7)], answer)
+                && end.live(callback).is_some() == lives
+        }
+        Err(_) => false,
+    }
 }
 
-fn lacks_room_for_the_delete_id(end: &mut End<'_>) -> Result<bool, SendError> {
-    let (answer, lives) = done(end)?;
-    Ok(answer == Err(SendError::Full) && lives && end.is_drained())
+fn lacks_room_for_the_delete_id(end: &mut End<'_>) -> bool {
+    is_done(end, Err(SendError::Full), true) && end.is_drained()
 }
 
-fn writes_the_delete_id(end: &mut End<'_>) -> Result<bool, SendError> {
-    let (answer, lives) = done(end)?;
-    let bytes = [
-        2, 0, 0, 0, 0, 0, 12, 0, 7, 0, 0, 0, 1, 0, 0, 0, 1, 0, 12, 0, 2, 0, 0, 0,
-    ];
-    Ok(answer == Ok(None) && !lives && gives(end, bytes, []))
+fn writes_the_delete_id(end: &mut End<'_>) -> bool {
+    let bytes = *b"\x02\0\0\0\0\0\x0c\0\x07\0\0\0\x01\0\0\0\x01\0\x0c\0\x02\0\0\0";
+    is_done(end, Ok(None), false) && gives(end, bytes, [])
 }
 
 #[test]
@@ -263,15 +241,14 @@ fn a_destroying_event_needs_the_room_of_its_delete_id(rt: HostRuntime) -> Result
 }
 
 /// Whether a surface is destroyed by a request, and its id is not used again.
-fn leaves_a_zombie(end: &mut End<'_>) -> Result<bool, SendError> {
-    let display = end.display();
-    let surface = open(end, SURFACE, 6)?;
-    Ok(
-        end.send(Side::Request, surface, 0, &[])? == None
-            && end.live(surface).is_none()
-            && refuses(end, surface, 0, &[], SendError::Stale)
-            && makes(end, display, 0, &[Arg::New], Object { id: 3, birth: 2 }),
-    )
+fn leaves_a_zombie(end: &mut End<'_>) -> bool {
+    let Ok(surface) = open(end, SURFACE, 6) else {
+        return false;
+    };
+    is_answered(end, Side::Request, surface, 0, &[], Ok(None))
+        && end.live(surface).is_none()
+        && refuses(end, surface, 0, &[], SendError::Stale)
+        && makes(end, DISPLAY, 0, &[Arg::New], Object { id: 3, birth: 2 })
 }
 
 #[test]
@@ -282,23 +259,23 @@ fn a_destroying_request_leaves_a_zombie(rt: HostRuntime) -> Result<(), Fail> {
 
 /// Whether the last id is given; then there is no room and no id, and then no id.
 fn gives_the_last_id(end: &mut End<'_>) -> bool {
-    let display = end.display();
     let last = Object {
         id: 1_048_576,
         birth: 1_048_575,
     };
-    makes(end, display, 0, &[Arg::New], last)
-        && refuses(end, display, 0, &[Arg::New], SendError::Full)
+    makes(end, DISPLAY, 0, &[Arg::New], last)
+        && refuses(end, DISPLAY, 0, &[Arg::New], SendError::Full)
         && gives(end, [1, 0, 0, 0, 0, 0, 12, 0, 0, 0, 16, 0], [])
-        && refuses(end, display, 0, &[Arg::New], SendError::NoIds)
+        && refuses(end, DISPLAY, 0, &[Arg::New], SendError::NoIds)
         && end.is_drained()
 }
 
-fn uses_all_ids(end: &mut End<'_>) -> Result<bool, SendError> {
+fn uses_all_ids(end: &mut End<'_>) -> bool {
+    let mut all = true;
     for _ in 2u32..1_048_576 {
-        let _ = open(end, SURFACE, 1)?;
+        all = open(end, SURFACE, 1).is_ok() && all;
     }
-    Ok(gives_the_last_id(end))
+    all && gives_the_last_id(end)
 }
 
 #[test]
@@ -309,19 +286,23 @@ fn the_last_id_is_given_and_none_behind_it(rt: HostRuntime) -> Result<(), Fail> 
 
 type Short<'t> = Core<'t, MapTable<RefusingAllocator>>;
 
+/// What wl_display.sync is answered.
+fn sync(end: &mut Short<'_>) -> Result<Option<Object>, SendError> {
+    end.send(Side::Request, DISPLAY, 0, &[Arg::New])
+}
+
 /// Whether a call makes an object where no allocation was refused. Else whether the answer is want
 /// of memory, nothing has changed, and the same call makes the object with memory.
 fn makes_or_leaves_all(memory: &RefusingAllocator, end: &mut Short<'_>) -> bool {
-    let display = end.display();
     let made = Object { id: 2, birth: 1 };
-    let answer = end.send(Side::Request, display, 0, &[Arg::New]);
+    let answer = sync(end);
     if !memory.has_refused() {
         return answer == Ok(Some(made));
     }
     answer == Err(SendError::Memory)
         && end.is_drained()
         && end.live(made).is_none()
-        && end.send(Side::Request, display, 0, &[Arg::New]) == Ok(Some(made))
+        && sync(end) == Ok(Some(made))
 }
 
 /// The same of a new end, with the allocation of this number refused.

@@ -1,4 +1,6 @@
 //! An end over the plain table: its making, and what it takes in.
+ghost use Rattle.std.specs.Prelude.{◌≤◌};
+ghost use Rattle.wl_message.specs.Arrived.{AreSizes};
 
 use refusing::RefusingAllocator;
 use std::alloc::{AllocError, Global};
@@ -9,15 +11,37 @@ use wl_objects::{MapTable, Object};
 use wl_sigs::Tables;
 use wl_wire::Iface;
 
-const SIZES: Sizes = Sizes {
-    out_bytes: 64,
-    out_tokens: 2,
-    in_bytes: 4096,
-    in_tokens: 20,
-};
+pub(crate) type End<'t> = Core<'t, MapTable<Global>>;
+
+/// An outbox of so many bytes, and of two tokens.
+pub(crate) fn sizes(out_bytes: usize) -> Sizes
+    requires { out_bytes ≤ 16777216 }
+    ensures { AreSizes result }
+{
+    Sizes {
+        out_bytes,
+        out_tokens: 2,
+        in_bytes: 4096,
+        in_tokens: 20,
+    }
+}
+
+/// Whether this holds of a new end with an outbox of so many bytes.
+pub(crate) fn holds<F: FnOnce(&mut End<'_>) -> bool>(
+    alloc: Global,
+    out_bytes: usize,
+    scene: F,
+) -> Result<bool, AllocError>
+    requires bytes { out_bytes ≤ 16777216 }
+    requires scene { F.IsAlwaysCallable scene }
+{
+    let tables = Tables::core(alloc)?;
+    let mut end = End::new(alloc, &tables, sizes(out_bytes))?;
+    Ok(scene(&mut end))
+}
 
 /// Whether an end has just wl_display, at its first birth.
-fn has_the_display_alone(end: &Core<'_, MapTable<Global>>) -> bool {
+fn has_the_display_alone(end: &End<'_>) -> bool {
     let display = Object { id: 1, birth: 0 };
     end.display() == display
         && end.live(display) == Some((Iface(0), 1))
@@ -26,7 +50,7 @@ fn has_the_display_alone(end: &Core<'_, MapTable<Global>>) -> bool {
 }
 
 /// Whether bytes and tokens are taken in, as far as it has room, and nothing goes.
-fn takes_in(end: &mut Core<'_, MapTable<Global>>) -> bool {
+fn takes_in(end: &mut End<'_>) -> bool {
     let all = Fed {
         bytes: 4096,
         tokens: 20,
@@ -46,7 +70,7 @@ fn takes_in(end: &mut Core<'_, MapTable<Global>>) -> bool {
         && !end.is_drained()
 }
 
-fn begins(end: &mut Core<'_, MapTable<Global>>) -> bool {
+fn begins(end: &mut End<'_>) -> bool {
     let nothing = Taken {
         bytes: 0,
         tokens: 0,
@@ -57,7 +81,7 @@ fn begins(end: &mut Core<'_, MapTable<Global>>) -> bool {
 #[test]
 fn a_new_end_has_the_display_alone(rt: HostRuntime) -> Result<(), Fail> {
     let tables = Tables::core(rt.alloc())?;
-    let mut end = Core::<MapTable<Global>>::new(rt.alloc(), &tables, SIZES)?;
+    let mut end = Core::<MapTable<Global>>::new(rt.alloc(), &tables, sizes(64))?;
     assert!(rt; begins(&mut end));
     Ok(())
 }
@@ -67,7 +91,7 @@ fn a_new_end_has_the_display_alone(rt: HostRuntime) -> Result<(), Fail> {
 fn is_made(memory: &RefusingAllocator, tables: &Tables, number: u64) -> Result<bool, AllocError> {
     let alloc = memory.clone()?;
     memory.refuse_nth(number);
-    match Core::<MapTable<RefusingAllocator>>::new(alloc, tables, SIZES) {
+    match Core::<MapTable<RefusingAllocator>>::new(alloc, tables, sizes(64)) {
         Ok(end) => Ok(end.is_drained()),
         Err(_) => Ok(false),
     }
