@@ -161,7 +161,7 @@ fn stops_at<T: Table>(client: &mut Client<'_, T>, bytes: &[u8], why: NextError) 
 }
 
 /// Whether nothing waits, and the inbox has all its room.
-fn has_empty_boxes(client: &Plain<'_>) -> bool {
+fn has_empty_boxes<T: Table>(client: &Client<'_, T>) -> bool {
     let room = Fed {
         bytes: 4096,
         tokens: 20,
@@ -170,7 +170,7 @@ fn has_empty_boxes(client: &Plain<'_>) -> bool {
 }
 
 /// Whether wl_display is the only object, and the boxes are empty.
-fn has_the_display_alone(client: &mut Plain<'_>) -> bool {
+fn has_the_display_alone<T: Table>(client: &mut Client<'_, T>) -> bool {
     client.display() == Object { id: 1, birth: 0 }
         && client.live(REGISTRY).is_none()
         && client.table().len() == 1
@@ -189,7 +189,7 @@ fn fails(client: &mut Plain<'_>) -> bool {
 }
 
 /// Whether a failed client says so, and takes nothing in.
-fn reads_nothing_more(client: &mut Plain<'_>) -> bool {
+fn reads_nothing_more<T: Table>(client: &mut Client<'_, T>) -> bool {
     stops(client, NextError::Failed)
         && client.feed(b"more", &[1]) == NO_ROOM
         && client.in_room() == NO_ROOM

@@ -311,6 +311,16 @@ fn read_six(
     }
 }
 
+/// The turn of this number at this client, with a list of reports of its own.
+fn read_new(
+    memory: &RefusingAllocator,
+    client: &mut Refused<'_>,
+    number: u64,
+) -> Result<Turn, AllocError> {
+    let mut reports = Vec::new(memory.clone()?);
+    Ok(read_six(memory, client, &mut reports, number))
+}
+
 /// The turn of this number, at a client of its own.
 fn read_without(
     memory: &RefusingAllocator,
@@ -318,8 +328,7 @@ fn read_without(
     number: u64,
 ) -> Result<Turn, AllocError> {
     let mut client = Refused::new(memory.clone()?, tables, SIZES)?;
-    let mut reports = Vec::new(memory.clone()?);
-    Ok(read_six(memory, &mut client, &mut reports, number))
+    read_new(memory, &mut client, number)
 }
 
 /// The most reports that a turn kept that was refused memory; none where a turn was wrong, or none

@@ -59,28 +59,26 @@ fn run(alloc: Global, pair: &mut Plain<'_>, steps: &[Step]) -> Result<Vec<Reply>
     pair.run(moves.as_slice())
 }
 
+/// Does these moves. Whether there was memory for them.
+fn does(alloc: Global, pair: &mut Plain<'_>, steps: &[Step]) -> bool {
+    run(alloc, pair, steps).is_ok()
+}
+
 /// Whether this move is answered so.
-fn is_answer(
-    alloc: Global,
-    pair: &mut Plain<'_>,
-    step: Step,
-    said: Said,
-) -> Result<bool, AllocError> {
-    let replies = run(alloc, pair, &[step])?;
-    Ok(is_last(replies.as_slice(), said))
+fn is_answer(alloc: Global, pair: &mut Plain<'_>, step: Step, said: Said) -> bool {
+    match run(alloc, pair, &[step]) {
+        Ok(replies) => is_last(replies.as_slice(), said),
+        Err(_) => false,
+    }
 }
 
 /// Whether each of these moves is answered so, one after another.
-fn is_answered(
-    alloc: Global,
-    pair: &mut Plain<'_>,
-    script: &[(Step, Said)],
-) -> Result<bool, AllocError> {
+fn is_answered(alloc: Global, pair: &mut Plain<'_>, script: &[(Step, Said)]) -> bool {
     let mut is_so = true;
     for (step, said) in script {
-        is_so = is_answer(alloc, pair, *step, *said)? && is_so;
+        is_so = is_answer(alloc, pair, *step, *said) && is_so;
     }
-    Ok(is_so)
+    is_so
 }
 
 /// Whether the last of these replies says this.
@@ -114,9 +112,9 @@ const TURN: [Step; 18] = [
 ];
 
 /// All is carried to the server and read there, and then all is carried to the client and read.
-fn turn(alloc: Global, pair: &mut Plain<'_>) -> Result<(), AllocError> {
-    let _ = run(alloc, pair, &TURN)?;
-    Ok(())
+/// Whether there was memory for that.
+fn turn(alloc: Global, pair: &mut Plain<'_>) -> bool {
+    does(alloc, pair, &TURN)
 }
 
 /// Two globals, and a registry.
@@ -127,18 +125,18 @@ const GLOBALS: [Step; 3] = [
 ];
 
 /// The server gives the globals wl_compositor (name 1) and wl_seat (name 2), and the client makes a
-/// registry and is told of both.
-fn tell(alloc: Global, pair: &mut Plain<'_>) -> Result<(), AllocError> {
-    let _ = run(alloc, pair, &GLOBALS)?;
-    turn(alloc, pair)?;
-    let _ = run(alloc, pair, &[Step::Announce])?;
-    turn(alloc, pair)
+/// registry and is told of both. Whether there was memory for that.
+fn tell(alloc: Global, pair: &mut Plain<'_>) -> bool {
+    does(alloc, pair, &GLOBALS)
+        && turn(alloc, pair)
+        && does(alloc, pair, &[Step::Announce])
+        && turn(alloc, pair)
 }
 
 /// Whether this holds of a fresh pair over these tables, with boxes of these sizes.
 // (What owns a pair drops it at each way out, and each of these drops is a long proof. So no other
 // function owns one: each test does all it does behind a `&mut`, in a scene that it passes.)
-fn holds_over<F: FnOnce(Global, &Tables, &mut Plain<'_>) -> Result<bool, AllocError>>(
+fn holds_over<F: FnOnce(Global, &Tables, &mut Plain<'_>) -> bool>(
     alloc: Global,
     tables: &Tables,
     client: Sizes,
@@ -150,11 +148,11 @@ fn holds_over<F: FnOnce(Global, &Tables, &mut Plain<'_>) -> Result<bool, AllocEr
     requires server { AreSizes server }
 {
     let mut pair = Plain::new(alloc, tables, client, server)?;
-    scene(alloc, tables, &mut pair)
+    Ok(scene(alloc, tables, &mut pair))
 }
 
 /// Whether this holds of a fresh pair with boxes of these sizes.
-fn holds_between<F: FnOnce(Global, &Tables, &mut Plain<'_>) -> Result<bool, AllocError>>(
+fn holds_between<F: FnOnce(Global, &Tables, &mut Plain<'_>) -> bool>(
     alloc: Global,
     client: Sizes,
     server: Sizes,
@@ -169,7 +167,7 @@ fn holds_between<F: FnOnce(Global, &Tables, &mut Plain<'_>) -> Result<bool, Allo
 }
 
 /// Whether this holds of a fresh pair with large boxes.
-fn holds_of_pair<F: FnOnce(Global, &Tables, &mut Plain<'_>) -> Result<bool, AllocError>>(
+fn holds_of_pair<F: FnOnce(Global, &Tables, &mut Plain<'_>) -> bool>(
     alloc: Global,
     scene: F,
 ) -> Result<bool, AllocError>
@@ -192,10 +190,9 @@ const BINDING: [(Step, Said); 6] = [
 ];
 
 /// The client is told of both globals, does what `BINDING` says, and all is read: now nothing waits.
-fn set_up(alloc: Global, pair: &mut Plain<'_>) -> Result<(), AllocError> {
-    tell(alloc, pair)?;
-    let _ = is_answered(alloc, pair, &BINDING)?;
-    turn(alloc, pair)
+/// Whether all was answered as it should be.
+fn set_up(alloc: Global, pair: &mut Plain<'_>) -> bool {
+    tell(alloc, pair) && is_answered(alloc, pair, &BINDING) && turn(alloc, pair)
 }
 
 /// Whether nothing waits.
@@ -209,9 +206,14 @@ fn agrees<T: Table>(pair: &Pair<'_, T>) -> bool {
     pair.agree()
 }
 
+/// Whether nothing waits, and both ends have the same objects.
+fn is_at_rest<T: Table>(pair: &Pair<'_, T>) -> bool {
+    is_drained(pair) && agrees(pair)
+}
+
 /// Whether nothing waits, and both ends have the same objects, so many.
-fn is_settled(pair: &Plain<'_>, objects: usize) -> bool {
-    is_drained(pair) && agrees(pair) && pair.len() == objects
+fn is_settled<T: Table>(pair: &Pair<'_, T>, objects: usize) -> bool {
+    is_at_rest(pair) && pair.len() == objects
 }
 
 /// What is to be said of what was carried.
@@ -229,6 +231,14 @@ fn lawful(requests: usize, events: usize) -> Verdict {
     }
 }
 
+/// Whether this is to be said of what was carried.
+fn has_verdict(alloc: Global, tables: &Tables, pair: &Plain<'_>, carried: Verdict) -> bool {
+    match verdict(alloc, tables, pair) {
+        Ok(verdict) => verdict == carried,
+        Err(_) => false,
+    }
+}
+
 /// Whether both ends have settled on so many objects, and this is to be said of what was carried.
 fn has_ended(
     alloc: Global,
@@ -236,9 +246,8 @@ fn has_ended(
     pair: &Plain<'_>,
     objects: usize,
     carried: Verdict,
-) -> Result<bool, AllocError> {
-    let verdict = verdict(alloc, tables, pair)?;
-    Ok(is_settled(pair, objects) && verdict == carried)
+) -> bool {
+    is_settled(pair, objects) && has_verdict(alloc, tables, pair, carried)
 }
 
 /// Whether these are the bytes of what was carried last.

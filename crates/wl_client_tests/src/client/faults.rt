@@ -14,53 +14,68 @@ fn error_at(client: &mut Plain<'_>, bytes: &[u8]) -> Option<NextError> {
     read(client, bytes, &[]).err()
 }
 
-/// Whether these bytes are at this error, or are read where that is none, at a client with a
-/// registry, a compositor, a surface and a seat.
-fn judges(client: &mut Plain<'_>, bytes: &[u8], error: Option<NextError>) -> bool {
-    is_bound(client, 5) && reads(client, DELETE) && error_at(client, bytes) == error
-}
-
-/// Whether these bytes are at this error, or are read where that is none, at a client of their own.
-fn is_judged(alloc: Global, bytes: &[u8], error: Option<NextError>) -> Result<bool, AllocError> {
-    let tables = Tables::core(alloc)?;
-    let mut client = Plain::new(alloc, &tables, SIZES)?;
-    Ok(judges(&mut client, bytes, error))
-}
-
-/// Whether these bytes are at this fault.
-fn is_fault(alloc: Global, bytes: &[u8], fault: Fault) -> Result<bool, AllocError> {
+/// What is said of a fault behind the bytes read before.
+fn said_of(fault: Fault) -> NextError {
     let offset = BEFORE;
-    is_judged(alloc, bytes, Some(NextError::Fault { fault, offset }))
+    NextError::Fault { fault, offset }
 }
+
+/// Whether these bytes are at this fault, or are read where that is none, at a client with a
+/// registry, a compositor, a surface and a seat.
+fn judges(client: &mut Plain<'_>, bytes: &[u8], fault: Option<Fault>) -> bool {
+    is_bound(client, 5) && reads(client, DELETE) && error_at(client, bytes) == fault.map(said_of)
+}
+
+/// Whether these bytes are at this fault, or are read where that is none, at a client of their own.
+fn is_judged(alloc: Global, bytes: &[u8], fault: Option<Fault>) -> Result<bool, AllocError> {
+    holds_of_new(alloc, |client| judges(client, bytes, fault))
+}
+
+/// Headers, each with its fault, if it has one.
+const HEADERS: [(&[u8], Option<Fault>); 6] = [
+    // F1: 7 bytes, 4100 bytes, and not yet 4096 bytes
+    (b"\x01\0\0\0\0\0\x07\0", Some(Fault::BadSize)),
+    (b"\x01\0\0\0\0\0\x04\x10", Some(Fault::BadSize)),
+    (b"\x01\0\0\0\0\0\0\x10", None),
+    // F2
+    (b"\x09\0\0\0\0\0\x08\0", Some(Fault::UnknownObject)),
+    // F3: no such opcode; and preferred_buffer_scale, which came with version 6
+    (b"\x01\0\0\0\x02\0\x08\0", Some(Fault::UnknownMessage)),
+    (
+        b"\x04\0\0\0\x02\0\x0c\0\x01\0\0\0",
+        Some(Fault::UnknownMessage),
+    ),
+];
 
 #[test]
 fn headers_are_judged(rt: HostRuntime) -> Result<(), Fail> {
-    let alloc = rt.alloc();
-    // F1: 7 bytes, 4100 bytes, and not yet 4096 bytes
-    assert!(rt; is_fault(alloc, b"\x01\0\0\0\0\0\x07\0", Fault::BadSize)?);
-    assert!(rt; is_fault(alloc, b"\x01\0\0\0\0\0\x04\x10", Fault::BadSize)?);
-    assert!(rt; is_judged(alloc, b"\x01\0\0\0\0\0\0\x10", None)?);
-    // F2
-    assert!(rt; is_fault(alloc, b"\x09\0\0\0\0\0\x08\0", Fault::UnknownObject)?);
-    // F3: no such opcode; and preferred_buffer_scale, which came with version 6
-    let scale = b"\x04\0\0\0\x02\0\x0c\0\x01\0\0\0";
-    assert!(rt; is_fault(alloc, b"\x01\0\0\0\x02\0\x08\0", Fault::UnknownMessage)?);
-    assert!(rt; is_fault(alloc, scale, Fault::UnknownMessage)?);
+    for (case, (bytes, fault)) in HEADERS.iter().enumerate() {
+        assert!(rt; is_judged(rt.alloc(), bytes, *fault)?, "case {case}");
+    }
     Ok(())
 }
 
+/// Messages, each with the fault in its arguments.
+const ARGUMENTS: [(&[u8], Fault); 3] = [
+    // F4: the name of a seat without its NUL
+    (
+        b"\x05\0\0\0\x01\0\x10\0\x04\0\0\0seat",
+        Fault::BadArgument(0, ArgFault::NoEndingNul),
+    ),
+    // F5: a surface enters an object that is no output
+    (b"\x04\0\0\0\0\0\x0c\0\x05\0\0\0", Fault::BadObject(0)),
+    // F7
+    (
+        b"\x01\0\0\0\x01\0\x10\0\x01\0\0\0\x01\0\0\0",
+        Fault::TrailingBytes,
+    ),
+];
+
 #[test]
 fn arguments_are_judged(rt: HostRuntime) -> Result<(), Fail> {
-    let alloc = rt.alloc();
-    // F4: the name of a seat without its NUL
-    let name = b"\x05\0\0\0\x01\0\x10\0\x04\0\0\0seat";
-    assert!(rt; is_fault(alloc, name, Fault::BadArgument(0, ArgFault::NoEndingNul))?);
-    // F5: a surface enters an object that is no output
-    let enter = b"\x04\0\0\0\0\0\x0c\0\x05\0\0\0";
-    assert!(rt; is_fault(alloc, enter, Fault::BadObject(0))?);
-    // F7
-    let delete = b"\x01\0\0\0\x01\0\x10\0\x01\0\0\0\x01\0\0\0";
-    assert!(rt; is_fault(alloc, delete, Fault::TrailingBytes)?);
+    for (case, (bytes, fault)) in ARGUMENTS.iter().enumerate() {
+        assert!(rt; is_judged(rt.alloc(), bytes, Some(*fault))?, "case {case}");
+    }
     Ok(())
 }
 

@@ -1,13 +1,13 @@
 //! Each allocation of each call that may want memory is refused in turn.
+//!
+//! What a scene does is written for any table: where it is for the one of these tests, its proof is long.
 use super::events::is_error;
 use super::*;
 use refusing::RefusingAllocator;
+use std::alloc::Allocator;
 use wl_objects::Named;
 
 type Refused<'t> = Client<'t, MapTable<RefusingAllocator>>;
-
-/// A message that such a client read.
-type Report = Incoming<RefusingAllocator>;
 
 /// What came of a call of which one allocation was to be refused.
 #[derive(Drop)]
@@ -72,10 +72,9 @@ fn turn_of_new<F: FnOnce(&RefusingAllocator, &mut Refused<'_>, u64) -> Turn>(
     Ok(scene(memory, &mut client, number))
 }
 
-/// Whether a new client is drained.
-fn is_new_drained(alloc: RefusingAllocator, tables: &Tables) -> Result<bool, AllocError> {
-    let client = Refused::new(alloc, tables, SIZES)?;
-    Ok(client.is_drained())
+/// A look at a new client: it is drained, and all of its allocations were granted.
+fn look<T: Table>(memory: &RefusingAllocator, client: &mut Client<'_, T>, _number: u64) -> Turn {
+    granted(client.is_drained() && !memory.has_refused())
 }
 
 /// A making of a client, of which the allocation of this number is refused.
@@ -84,14 +83,11 @@ fn new_without(
     tables: &Tables,
     number: u64,
 ) -> Result<Turn, AllocError> {
-    let alloc = memory.clone()?;
     memory.refuse_nth(number);
-    let made = is_new_drained(alloc, tables);
-    let has_refused = memory.has_refused();
-    Ok(match made {
-        Ok(is_drained) => granted(is_drained && !has_refused),
-        Err(_) => refused(has_refused),
-    })
+    match turn_of_new(memory, tables, number, look) {
+        Ok(turn) => Ok(turn),
+        Err(_) => Ok(refused(memory.has_refused())),
+    }
 }
 
 #[test]
@@ -101,18 +97,22 @@ fn a_client_is_refused_each_of_its_allocations(rt: HostRuntime) -> Result<(), Fa
 }
 
 /// What a client answers where it is asked for a registry.
-fn ask(client: &mut Refused<'_>) -> Result<Option<Object>, SendError> {
+fn ask<T: Table>(client: &mut Client<'_, T>) -> Result<Option<Object>, SendError> {
     let display = client.display();
     send(client, display, 1, &[Arg::New])
 }
 
 /// Whether nothing waits, there is no registry, and a registry can be made.
-fn makes_a_registry_later(client: &mut Refused<'_>) -> bool {
+fn makes_a_registry_later<T: Table>(client: &mut Client<'_, T>) -> bool {
     client.is_drained() && client.live(REGISTRY).is_none() && ask(client) == Ok(Some(REGISTRY))
 }
 
 /// A request at this client, of which the allocation of this number is refused.
-fn send_without(memory: &RefusingAllocator, client: &mut Refused<'_>, number: u64) -> Turn {
+fn send_without<T: Table>(
+    memory: &RefusingAllocator,
+    client: &mut Client<'_, T>,
+    number: u64,
+) -> Turn {
     memory.refuse_nth(number);
     let answer = ask(client);
     let has_refused = memory.has_refused();
@@ -155,7 +155,7 @@ fn first_turn<F: FnOnce(&RefusingAllocator, &mut Refused<'_>, u64) -> Turn>(
 const ERROR: &[u8; 24] = b"\x01\0\0\0\0\0\x18\0\x01\0\0\0\x02\0\0\0\x04\0\0\0bad\0";
 
 /// Whether the next message is the error of wl_display.
-fn tells_error(client: &mut Refused<'_>) -> bool {
+fn tells_error<T: Table>(client: &mut Client<'_, T>) -> bool {
     match client.next() {
         Ok(Some(report)) => is_error(&report, 1, Named::Live(Object { id: 1, birth: 0 })),
         _ => false,
@@ -163,7 +163,11 @@ fn tells_error(client: &mut Refused<'_>) -> bool {
 }
 
 /// An error that is refused its text, and told once there is memory.
-fn error_stays(memory: &RefusingAllocator, client: &mut Refused<'_>, number: u64) -> Turn {
+fn error_stays<T: Table>(
+    memory: &RefusingAllocator,
+    client: &mut Client<'_, T>,
+    number: u64,
+) -> Turn {
     memory.refuse_nth(number);
     refused(stops_at(client, ERROR, NextError::Memory) && tells_error(client))
 }
@@ -176,7 +180,7 @@ fn an_error_that_finds_no_memory_stays(rt: HostRuntime) -> Result<(), Fail> {
 
 /// Tells a client of the compositor and the seat, and uses the room made for ids. Whether all went
 /// well.
-fn is_crowded(client: &mut Refused<'_>) -> bool {
+fn is_crowded<T: Table>(client: &mut Client<'_, T>) -> bool {
     let display = client.display();
     is_told(client)
         && sends(client, display, 0, &[Arg::New])
@@ -187,20 +191,24 @@ fn is_crowded(client: &mut Refused<'_>) -> bool {
 const BOUND: Object = Object { id: 5, birth: 4 };
 
 /// What a client answers where it binds the compositor.
-fn bind_compositor(client: &mut Refused<'_>) -> Result<Object, SendError> {
+fn bind_compositor<T: Table>(client: &mut Client<'_, T>) -> Result<Object, SendError> {
     bind(client, 1, b"wl_compositor", 6)
 }
 
 /// Whether nothing but the requests of a crowded client waits, nothing more is live, and the
 /// compositor can be bound.
-fn binds_later(client: &mut Refused<'_>) -> bool {
+fn binds_later<T: Table>(client: &mut Client<'_, T>) -> bool {
     client.goes(100, 0).bytes == 36
         && client.live(BOUND).is_none()
         && bind_compositor(client) == Ok(BOUND)
 }
 
 /// A bind at this client, once it is crowded, of which the allocation of this number is refused.
-fn crowded_bind_without(memory: &RefusingAllocator, client: &mut Refused<'_>, number: u64) -> Turn {
+fn crowded_bind_without<T: Table>(
+    memory: &RefusingAllocator,
+    client: &mut Client<'_, T>,
+    number: u64,
+) -> Turn {
     if !is_crowded(client) {
         return Turn::Wrong;
     }
@@ -239,7 +247,7 @@ enum Told {
 }
 
 /// Whether the report is the event that tells of the compositor.
-fn tells_compositor(report: &Report) -> bool {
+fn tells_compositor<A: Allocator>(report: &Incoming<A>) -> bool {
     match report {
         Incoming::Event {
             target,
@@ -251,7 +259,7 @@ fn tells_compositor(report: &Report) -> bool {
 }
 
 /// What the next message tells of the compositor.
-fn tells(client: &mut Refused<'_>) -> Told {
+fn tells<T: Table>(client: &mut Client<'_, T>) -> Told {
     match client.next() {
         Ok(Some(report)) if tells_compositor(&report) => Told::Whole,
         Err(NextError::Memory) => Told::NoMemory,
@@ -260,14 +268,18 @@ fn tells(client: &mut Refused<'_>) -> Told {
 }
 
 /// Whether the event that tells of the compositor still waits, has taught nothing, and is told.
-fn tells_later(client: &mut Refused<'_>) -> bool {
+fn tells_later<T: Table>(client: &mut Client<'_, T>) -> bool {
     client.in_room().bytes == 4060
         && bind_compositor(client) == Err(SendError::BadBind)
         && matches!(tells(client), Told::Whole)
 }
 
 /// A reading of a global at this client, of which the allocation of this number is refused.
-fn tell_without(memory: &RefusingAllocator, client: &mut Refused<'_>, number: u64) -> Turn {
+fn tell_without<T: Table>(
+    memory: &RefusingAllocator,
+    client: &mut Client<'_, T>,
+    number: u64,
+) -> Turn {
     let display = client.display();
     if !sends(client, display, 1, &[Arg::New]) {
         return Turn::Wrong;
@@ -300,7 +312,7 @@ fn an_event_that_finds_no_memory_stays(rt: HostRuntime) -> Result<(), Fail> {
 }
 
 /// Whether the report is wl_display.delete_id: of an object, or of an id that names none.
-fn is_delete(report: &Report, of: Option<Object>) -> bool {
+fn is_delete<A: Allocator>(report: &Incoming<A>, of: Option<Object>) -> bool {
     match report {
         Incoming::Deleted { object } => of == Some(*object),
         Incoming::Stray { id } => of == None && *id == 4,
@@ -309,7 +321,7 @@ fn is_delete(report: &Report, of: Option<Object>) -> bool {
 }
 
 /// Whether the next message is wl_display.delete_id: of an object, or of an id that names none.
-fn deletes(client: &mut Refused<'_>, of: Option<Object>) -> bool {
+fn deletes<T: Table>(client: &mut Client<'_, T>, of: Option<Object>) -> bool {
     match client.next() {
         Ok(Some(report)) => is_delete(&report, of),
         _ => false,
@@ -317,7 +329,7 @@ fn deletes(client: &mut Refused<'_>, of: Option<Object>) -> bool {
 }
 
 /// Whether the report is wl_pointer.frame, which has no arguments.
-fn is_frame(report: &Report, pointer: Object) -> bool {
+fn is_frame<A: Allocator>(report: &Incoming<A>, pointer: Object) -> bool {
     match report {
         Incoming::Event {
             target,
@@ -333,7 +345,7 @@ const FRAME: &[u8; 32] =
     b"\x04\0\0\0\x05\0\x08\0\x01\0\0\0\x01\0\x0c\0\x04\0\0\0\x01\0\0\0\x01\0\x0c\0\x04\0\0\0";
 
 /// Whether the pointer's frame is told first, once all came.
-fn reads_frame(client: &mut Refused<'_>, pointer: Object) -> bool {
+fn reads_frame<T: Table>(client: &mut Client<'_, T>, pointer: Object) -> bool {
     match read(client, FRAME, &[]) {
         Ok(Some(report)) => is_frame(&report, pointer),
         _ => false,
@@ -341,9 +353,9 @@ fn reads_frame(client: &mut Refused<'_>, pointer: Object) -> bool {
 }
 
 /// Whether a frame, the end of the pointer and a stray delete are read, and no memory is asked for.
-fn reads_without_memory(
+fn reads_without_memory<T: Table>(
     memory: &RefusingAllocator,
-    client: &mut Refused<'_>,
+    client: &mut Client<'_, T>,
     pointer: Object,
 ) -> bool {
     reads_frame(client, pointer)
@@ -353,13 +365,17 @@ fn reads_without_memory(
 }
 
 /// The pointer of a seat of version 9, at the id 4 where the registry was told of it.
-fn pointer(client: &mut Refused<'_>) -> Result<Option<Object>, SendError> {
+fn pointer<T: Table>(client: &mut Client<'_, T>) -> Result<Option<Object>, SendError> {
     let seat = bind(client, 2, b"wl_seat", 9)?;
     send(client, seat, 0, &[Arg::New])
 }
 
 /// A reading of reports without arguments, of which the allocation of this number is refused.
-fn reads_without(memory: &RefusingAllocator, client: &mut Refused<'_>, number: u64) -> Turn {
+fn reads_without<T: Table>(
+    memory: &RefusingAllocator,
+    client: &mut Client<'_, T>,
+    number: u64,
+) -> Turn {
     if !is_told(client) {
         return Turn::Wrong;
     }

@@ -34,14 +34,16 @@ fn is_the_error(reply: Option<&Reply>) -> bool {
 }
 
 /// Whether the client reads the error that the server posts.
-fn reads_the_error(alloc: Global, pair: &mut Plain<'_>) -> Result<bool, AllocError> {
+fn reads_the_error(alloc: Global, pair: &mut Plain<'_>) -> bool {
     let steps = [
         Step::Fail(SURFACE, 6),
         Step::ToClient(ALL),
         Step::ClientNext,
     ];
-    let replies = run(alloc, pair, &steps)?;
-    Ok(is_the_error(replies.last()))
+    match run(alloc, pair, &steps) {
+        Ok(replies) => is_the_error(replies.last()),
+        Err(_) => false,
+    }
 }
 
 /// Neither end does anything more.
@@ -57,16 +59,12 @@ const FAILED: [(Step, Said); 8] = [
 ];
 
 /// Whether the client reads an error, and neither end does more.
-fn ends_by_an_error(
-    alloc: Global,
-    tables: &Tables,
-    pair: &mut Plain<'_>,
-) -> Result<bool, AllocError> {
-    set_up(alloc, pair)?;
-    let is_read = reads_the_error(alloc, pair)?;
-    let is_over = is_answered(alloc, pair, &FAILED)?;
-    // the error itself is lawful
-    Ok(is_read && is_over && verdict(alloc, tables, pair)? == lawful(7, 3))
+fn ends_by_an_error(alloc: Global, tables: &Tables, pair: &mut Plain<'_>) -> bool {
+    set_up(alloc, pair)
+        && reads_the_error(alloc, pair)
+        && is_answered(alloc, pair, &FAILED)
+        // the error itself is lawful
+        && has_verdict(alloc, tables, pair, lawful(7, 3))
 }
 
 #[test]
@@ -91,15 +89,15 @@ const POSTED: [(Step, Said); 5] = [
 ];
 
 /// Whether a text that is too long is refused, and sets no mark.
-fn is_too_long(alloc: Global, pair: &mut Plain<'_>) -> Result<bool, AllocError> {
-    let is_refused = is_answered(alloc, pair, &TOO_LONG)?;
-    Ok(is_refused && pair.ended_at().is_none())
+fn is_too_long(alloc: Global, pair: &mut Plain<'_>) -> bool {
+    is_answered(alloc, pair, &TOO_LONG) && pair.ended_at().is_none()
 }
 
 /// Whether the first error that is accepted sets the mark, and the carries after it do not move it.
-fn is_marked(alloc: Global, pair: &mut Plain<'_>) -> Result<bool, AllocError> {
-    let is_posted = is_answered(alloc, pair, &POSTED)?;
-    Ok(is_posted && has_mark(pair, PIECES) && pair.recording().pieces().len() == PIECES + 2)
+fn is_marked(alloc: Global, pair: &mut Plain<'_>) -> bool {
+    is_answered(alloc, pair, &POSTED)
+        && has_mark(pair, PIECES)
+        && pair.recording().pieces().len() == PIECES + 2
 }
 
 /// Whether the mark stands behind so many pieces.
@@ -111,14 +109,8 @@ fn has_mark(pair: &Plain<'_>, pieces: usize) -> bool {
 }
 
 /// Whether just the first error that is accepted sets the mark.
-fn sets_the_mark(
-    alloc: Global,
-    _tables: &Tables,
-    pair: &mut Plain<'_>,
-) -> Result<bool, AllocError> {
-    set_up(alloc, pair)?;
-    let is_too_long = is_too_long(alloc, pair)?;
-    Ok(is_marked(alloc, pair)? && is_too_long)
+fn sets_the_mark(alloc: Global, _tables: &Tables, pair: &mut Plain<'_>) -> bool {
+    set_up(alloc, pair) && is_too_long(alloc, pair) && is_marked(alloc, pair)
 }
 
 #[test]
@@ -145,64 +137,59 @@ const CARRIED_AND_POSTED: [Step; 3] = [
 ];
 
 /// Whether this is the text of a recording.
-fn has_text(recording: &Recording, text: &[u8]) -> Result<bool, AllocError> {
-    let told = recording.to_text()?;
-    Ok(told.as_slice() == text)
+fn has_text(recording: &Recording, text: &[u8]) -> bool {
+    match recording.to_text() {
+        Ok(told) => told.as_slice() == text,
+        Err(_) => false,
+    }
 }
 
 /// Whether the text of a recording begins with this, and goes on.
-fn goes_on(recording: &Recording, begin: &[u8]) -> Result<bool, AllocError> {
-    let text = recording.to_text()?;
-    Ok(text.len() > begin.len() && text.as_slice().starts_with(begin))
+fn goes_on(recording: &Recording, begin: &[u8]) -> bool {
+    match recording.to_text() {
+        Ok(text) => text.len() > begin.len() && text.as_slice().starts_with(begin),
+        Err(_) => false,
+    }
+}
+
+/// Whether a recording is lawful, with seven requests and three events.
+fn is_lawful(alloc: Global, tables: &Tables, recording: &Recording) -> bool {
+    match check(alloc, recording, tables) {
+        Ok(verdict) => verdict == lawful(7, 3),
+        Err(_) => false,
+    }
 }
 
 /// Whether what the mark counts has this text, and is lawful.
-fn is_before_the_mark(
-    alloc: Global,
-    tables: &Tables,
-    recording: &Recording,
-    text: &[u8],
-) -> Result<bool, AllocError> {
-    let begin = begin_of(alloc, recording, PIECES + 1)?;
-    is_lawful_text(alloc, tables, &begin, text)
-}
-
-/// Whether a recording has this text, and is lawful.
-fn is_lawful_text(
-    alloc: Global,
-    tables: &Tables,
-    recording: &Recording,
-    text: &[u8],
-) -> Result<bool, AllocError> {
-    let has_text = has_text(recording, text)?;
-    let verdict = check(alloc, recording, tables)?;
-    Ok(has_text && verdict == lawful(7, 3))
+fn is_before_the_mark(alloc: Global, tables: &Tables, recording: &Recording, text: &[u8]) -> bool {
+    match begin_of(alloc, recording, PIECES + 1) {
+        Ok(begin) => has_text(&begin, text) && is_lawful(alloc, tables, &begin),
+        Err(_) => false,
+    }
 }
 
 /// Whether all that was recorded before an error, which is this, stays as it is, is what the mark
 /// counts, and is lawful.
-fn keeps(
-    alloc: Global,
-    tables: &Tables,
-    pair: &mut Plain<'_>,
-    before: &[u8],
-) -> Result<bool, AllocError> {
-    turn(alloc, pair)?;
-    let goes_on = goes_on(pair.recording(), before)?;
-    let is_before = is_before_the_mark(alloc, tables, pair.recording(), before)?;
-    Ok(has_mark(pair, PIECES + 1) && goes_on && is_before)
+fn keeps(alloc: Global, tables: &Tables, pair: &mut Plain<'_>, before: &[u8]) -> bool {
+    turn(alloc, pair)
+        && goes_on(pair.recording(), before)
+        && is_before_the_mark(alloc, tables, pair.recording(), before)
+        && has_mark(pair, PIECES + 1)
+}
+
+/// Whether what is recorded by now stays, once more is carried.
+fn keeps_its_text(alloc: Global, tables: &Tables, pair: &mut Plain<'_>) -> bool {
+    match pair.recording().to_text() {
+        Ok(before) => keeps(alloc, tables, pair, before.as_slice()),
+        Err(_) => false,
+    }
 }
 
 /// Whether what was recorded stays, once more is carried.
-fn keeps_what_was_before(
-    alloc: Global,
-    tables: &Tables,
-    pair: &mut Plain<'_>,
-) -> Result<bool, AllocError> {
-    set_up(alloc, pair)?;
-    let _ = run(alloc, pair, &CARRIED_AND_POSTED)?;
-    let before = pair.recording().to_text()?;
-    keeps(alloc, tables, pair, before.as_slice())
+fn keeps_what_was_before(alloc: Global, tables: &Tables, pair: &mut Plain<'_>) -> bool {
+    set_up(alloc, pair)
+        && does(alloc, pair, &CARRIED_AND_POSTED)
+        && keeps_its_text(alloc, tables, pair)
 }
 
 #[test]

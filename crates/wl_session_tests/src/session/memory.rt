@@ -19,7 +19,7 @@ fn holds_refusing<F: FnOnce(&RefusingAllocator, &Tables) -> Result<bool, AllocEr
 }
 
 /// Whether this holds of a fresh pair over this allocator.
-fn holds_of_short<F: FnOnce(&RefusingAllocator, &mut Short<'_>) -> Result<bool, AllocError>>(
+fn holds_of_short<F: FnOnce(&RefusingAllocator, &mut Short<'_>) -> bool>(
     memory: &RefusingAllocator,
     tables: &Tables,
     scene: F,
@@ -27,12 +27,12 @@ fn holds_of_short<F: FnOnce(&RefusingAllocator, &mut Short<'_>) -> Result<bool, 
     requires { F.IsAlwaysCallable scene }
 {
     let mut pair = Short::new(memory.clone()?, tables, SIZES, SIZES)?;
-    scene(memory, &mut pair)
+    Ok(scene(memory, &mut pair))
 }
 
 /// Whether nothing waits, and both ends agree.
-fn is_fresh(_memory: &RefusingAllocator, pair: &mut Short<'_>) -> Result<bool, AllocError> {
-    Ok(is_drained(pair) && agrees(pair))
+fn is_fresh(_memory: &RefusingAllocator, pair: &mut Short<'_>) -> bool {
+    is_at_rest(pair)
 }
 
 /// Whether a pair is made with the allocation of this number refused.
@@ -228,18 +228,27 @@ fn was_recorded(pair: &Short<'_>, first: &[u8], second: &[u8]) -> bool {
     }
 }
 
-/// The client asks for a sync, of which three bytes go.
-fn begin(memory: &RefusingAllocator, pair: &mut Short<'_>) -> Result<(), AllocError> {
+/// A sync, and a carry of three bytes.
+fn begun_sync(memory: &RefusingAllocator) -> Result<Moves, AllocError> {
     let mut moves = only_sync(memory)?;
     moves.push(Move::CarryToServer(3))?;
-    let _ = pair.run(moves.as_slice())?;
-    Ok(())
+    Ok(moves)
+}
+
+/// The client asks for a sync, of which three bytes go. Whether there was memory for that.
+fn begin(memory: &RefusingAllocator, pair: &mut Short<'_>) -> bool {
+    match begun_sync(memory) {
+        Ok(moves) => pair.run(moves.as_slice()).is_ok(),
+        Err(_) => false,
+    }
 }
 
 /// Whether the rest is refused each of its allocations, and then it goes.
-fn carries_the_rest(memory: &RefusingAllocator, pair: &mut Short<'_>) -> Result<bool, AllocError> {
-    let moves = only_carry(memory, 5)?;
-    Ok(is_refused_until(memory, pair, moves.as_slice(), Said::Moved(5, 0)))
+fn carries_the_rest(memory: &RefusingAllocator, pair: &mut Short<'_>) -> bool {
+    match only_carry(memory, 5) {
+        Ok(moves) => is_refused_until(memory, pair, moves.as_slice(), Said::Moved(5, 0)),
+        Err(_) => false,
+    }
 }
 
 /// One piece is recorded, and a request waits in part.
@@ -250,11 +259,11 @@ const BEGUN: Place = Place {
 };
 
 /// Whether a carry is refused each of its allocations, and then it is one piece.
-fn carries_at_last(memory: &RefusingAllocator, pair: &mut Short<'_>) -> Result<bool, AllocError> {
-    begin(memory, pair)?;
-    let has_begun = is_at(pair, BEGUN);
-    let carries = carries_the_rest(memory, pair)?;
-    Ok(has_begun && carries && was_recorded(pair, b"\x01\0\0", b"\0\0\0\x0c\0"))
+fn carries_at_last(memory: &RefusingAllocator, pair: &mut Short<'_>) -> bool {
+    begin(memory, pair)
+        && is_at(pair, BEGUN)
+        && carries_the_rest(memory, pair)
+        && was_recorded(pair, b"\x01\0\0", b"\0\0\0\x0c\0")
 }
 
 /// The same of a fresh pair.
@@ -275,13 +284,18 @@ const FRESH: Place = Place {
     objects: 1,
 };
 
-/// Whether a request is refused each of its allocations, and then it makes an object.
-fn sends_at_last(memory: &RefusingAllocator, pair: &mut Short<'_>) -> Result<bool, AllocError> {
-    let is_fresh = is_at(pair, FRESH);
-    let moves = only_sync(memory)?;
+/// Whether a sync is refused each of its allocations, and then it makes an object.
+fn syncs_at_last(memory: &RefusingAllocator, pair: &mut Short<'_>) -> bool {
     let made = Said::Made(Object { id: 2, birth: 1 });
-    let is_refused = is_refused_until(memory, pair, moves.as_slice(), made);
-    Ok(is_fresh && is_refused && pair.len() == 2)
+    match only_sync(memory) {
+        Ok(moves) => is_refused_until(memory, pair, moves.as_slice(), made),
+        Err(_) => false,
+    }
+}
+
+/// Whether a request is refused each of its allocations, and then there is one object more.
+fn sends_at_last(memory: &RefusingAllocator, pair: &mut Short<'_>) -> bool {
+    is_at(pair, FRESH) && syncs_at_last(memory, pair) && pair.len() == 2
 }
 
 /// The same of a fresh pair.

@@ -152,34 +152,28 @@ fn advance(
     pair: &mut Plain<'_>,
     numbers: &mut Numbers,
     made: &mut Vec<(Object, Iface)>,
-) -> Result<bool, AllocError> {
+) -> bool {
     let (step, iface) = numbers.step(made.as_slice());
-    let replies = run(alloc, pair, &[step])?;
-    keep(made, replies.as_slice(), iface)
+    match run(alloc, pair, &[step]) {
+        Ok(replies) => keep(made, replies.as_slice(), iface),
+        Err(_) => false,
+    }
 }
 
 /// Keeps what was made, as an object of this interface. Whether the answers are sound.
-fn keep(
-    made: &mut Vec<(Object, Iface)>,
-    replies: &[Reply],
-    iface: Iface,
-) -> Result<bool, AllocError> {
+fn keep(made: &mut Vec<(Object, Iface)>, replies: &[Reply], iface: Iface) -> bool {
     match replies.last() {
         Some(reply) => keep_made(made, say(reply), iface),
-        None => Ok(false),
+        None => false,
     }
 }
 
-/// Keeps the object that this says was made. Whether it is sound.
-fn keep_made(
-    made: &mut Vec<(Object, Iface)>,
-    said: Said,
-    iface: Iface,
-) -> Result<bool, AllocError> {
-    if let Said::Made(object) = said {
-        made.push((object, iface))?;
+/// Keeps the object that this says was made. Whether it is sound, and there was memory to keep it.
+fn keep_made(made: &mut Vec<(Object, Iface)>, said: Said, iface: Iface) -> bool {
+    match said {
+        Said::Made(object) => made.push((object, iface)).is_ok(),
+        _ => is_sound(said),
     }
-    Ok(is_sound(said))
 }
 
 /// The globals of each session.
@@ -190,11 +184,10 @@ const FIRST: [Step; 3] = [
 ];
 
 /// Some globals, and 1,500 moves by these numbers. Whether all were answered soundly.
-fn act(alloc: Global, pair: &mut Plain<'_>, seed: u64) -> Result<bool, AllocError> {
-    let _ = run(alloc, pair, &FIRST)?;
+fn act(alloc: Global, pair: &mut Plain<'_>, seed: u64) -> bool {
     let mut numbers = Numbers { state: seed };
     let mut made = Vec::new(alloc);
-    advance_often(alloc, pair, &mut numbers, &mut made)
+    does(alloc, pair, &FIRST) && advance_often(alloc, pair, &mut numbers, &mut made)
 }
 
 /// 1,500 moves by these numbers. Whether all were answered soundly.
@@ -203,12 +196,12 @@ fn advance_often(
     pair: &mut Plain<'_>,
     numbers: &mut Numbers,
     made: &mut Vec<(Object, Iface)>,
-) -> Result<bool, AllocError> {
+) -> bool {
     let mut are_sound = true;
     for _ in 0..1500 {
-        are_sound = advance(alloc, pair, numbers, made)? && are_sound;
+        are_sound = advance(alloc, pair, numbers, made) && are_sound;
     }
-    Ok(are_sound)
+    are_sound
 }
 
 /// All that waits is carried, as far as there is room, and some of it is read.
@@ -221,9 +214,11 @@ const CARRY_AND_READ: [Step; 5] = [
 ];
 
 /// Carries and reads. Whether all was answered soundly.
-fn carry_and_read(alloc: Global, pair: &mut Plain<'_>) -> Result<bool, AllocError> {
-    let replies = run(alloc, pair, &CARRY_AND_READ)?;
-    Ok(are_sound(replies.as_slice()))
+fn carry_and_read(alloc: Global, pair: &mut Plain<'_>) -> bool {
+    match run(alloc, pair, &CARRY_AND_READ) {
+        Ok(replies) => are_sound(replies.as_slice()),
+        Err(_) => false,
+    }
 }
 
 /// Whether all of these replies are sound.
@@ -236,15 +231,15 @@ fn are_sound(replies: &[Reply]) -> bool {
 }
 
 /// Carries and reads until nothing waits. Whether all was answered soundly.
-fn settle(alloc: Global, pair: &mut Plain<'_>) -> Result<bool, AllocError> {
+fn settle(alloc: Global, pair: &mut Plain<'_>) -> bool {
     let mut are_sound = true;
     for _ in 0..1000 {
-        are_sound = carry_and_read(alloc, pair)? && are_sound;
+        are_sound = carry_and_read(alloc, pair) && are_sound;
         if is_drained(pair) {
             break;
         }
     }
-    Ok(are_sound)
+    are_sound
 }
 
 /// Whether a recording of at least so many requests and events is lawful, with no bytes left.
@@ -260,17 +255,20 @@ fn is_lawful(verdict: Verdict, least: usize) -> bool {
     }
 }
 
+/// Whether what was carried is lawful, with at least a hundred requests and events.
+fn was_lawful(alloc: Global, tables: &Tables, pair: &Plain<'_>) -> bool {
+    match verdict(alloc, tables, pair) {
+        Ok(verdict) => is_lawful(verdict, 100),
+        Err(_) => false,
+    }
+}
+
 /// Whether all is answered soundly with these numbers, and both ends agree in the end.
-fn agrees_in_the_end(
-    alloc: Global,
-    tables: &Tables,
-    pair: &mut Plain<'_>,
-    seed: u64,
-) -> Result<bool, AllocError> {
-    let acts = act(alloc, pair, seed)?;
-    let settles = settle(alloc, pair)?;
-    let is_lawful = is_lawful(verdict(alloc, tables, pair)?, 100);
-    Ok(acts && settles && is_drained(pair) && agrees(pair) && is_lawful)
+fn agrees_in_the_end(alloc: Global, tables: &Tables, pair: &mut Plain<'_>, seed: u64) -> bool {
+    act(alloc, pair, seed)
+        && settle(alloc, pair)
+        && is_at_rest(pair)
+        && was_lawful(alloc, tables, pair)
 }
 
 /// The same of a fresh pair.

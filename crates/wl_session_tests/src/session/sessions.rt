@@ -5,22 +5,17 @@ use wl_objects::{Got, Named, SendError};
 use wl_wire::Fixed;
 
 /// Whether all is made as it should be, and not read yet.
-fn makes_all(alloc: Global, pair: &mut Plain<'_>) -> Result<bool, AllocError> {
-    let is_made = is_answered(alloc, pair, &BINDING)?;
-    Ok(is_made && !is_drained(pair) && !agrees(pair))
+fn makes_all(alloc: Global, pair: &mut Plain<'_>) -> bool {
+    is_answered(alloc, pair, &BINDING) && !is_drained(pair) && !agrees(pair)
 }
 
 /// Whether all is made as it should be, and both ends agree once it is read.
-fn makes_all_as_expected(
-    alloc: Global,
-    tables: &Tables,
-    pair: &mut Plain<'_>,
-) -> Result<bool, AllocError> {
-    tell(alloc, pair)?;
-    let is_made = makes_all(alloc, pair)?;
-    turn(alloc, pair)?;
-    let has_ended = has_ended(alloc, tables, pair, 8, lawful(7, 2))?;
-    Ok(is_made && has_ended && pair.ended_at().is_none())
+fn makes_all_as_expected(alloc: Global, tables: &Tables, pair: &mut Plain<'_>) -> bool {
+    tell(alloc, pair)
+        && makes_all(alloc, pair)
+        && turn(alloc, pair)
+        && has_ended(alloc, tables, pair, 8, lawful(7, 2))
+        && pair.ended_at().is_none()
 }
 
 #[test]
@@ -90,24 +85,21 @@ const LEFT: [(Step, Said); 5] = [
 ];
 
 /// Whether the enter names an object that is dead by now.
-fn enters_the_dead(alloc: Global, pair: &mut Plain<'_>) -> Result<bool, AllocError> {
-    let replies = run(alloc, pair, &ENTERING)?;
-    Ok(is_enter(replies.last(), Named::Dead(SURFACE)) && !agrees(pair))
+fn enters_the_dead(alloc: Global, pair: &mut Plain<'_>) -> bool {
+    match run(alloc, pair, &ENTERING) {
+        Ok(replies) => is_enter(replies.last(), Named::Dead(SURFACE)) && !agrees(pair),
+        Err(_) => false,
+    }
 }
 
 /// Whether a dead object is named, and then its id is used again.
-fn names_the_dead(
-    alloc: Global,
-    tables: &Tables,
-    pair: &mut Plain<'_>,
-) -> Result<bool, AllocError> {
-    set_up(alloc, pair)?;
-    let is_dead = enters_the_dead(alloc, pair)?;
-    let is_left = is_answered(alloc, pair, &LEFT)?;
-    let is_deleted = was_carried(pair, b"\x01\0\0\0\x01\0\x0c\0\x04\0\0\0");
-    turn(alloc, pair)?;
-    let has_ended = has_ended(alloc, tables, pair, 8, lawful(9, 4))?;
-    Ok(is_dead && is_left && is_deleted && has_ended)
+fn names_the_dead(alloc: Global, tables: &Tables, pair: &mut Plain<'_>) -> bool {
+    set_up(alloc, pair)
+        && enters_the_dead(alloc, pair)
+        && is_answered(alloc, pair, &LEFT)
+        && was_carried(pair, b"\x01\0\0\0\x01\0\x0c\0\x04\0\0\0")
+        && turn(alloc, pair)
+        && has_ended(alloc, tables, pair, 8, lawful(9, 4))
 }
 
 #[test]
@@ -159,24 +151,21 @@ const RELEASED: [(Step, Said); 5] = [
 ];
 
 /// Whether the next event is the keymap of the other keyboard with this token.
-fn reads_keymap(alloc: Global, pair: &mut Plain<'_>, token: u32) -> Result<bool, AllocError> {
-    let replies = run(alloc, pair, &[Step::ClientNext])?;
-    Ok(is_keymap(replies.last(), token))
+fn reads_keymap(alloc: Global, pair: &mut Plain<'_>, token: u32) -> bool {
+    match run(alloc, pair, &[Step::ClientNext]) {
+        Ok(replies) => is_keymap(replies.last(), token),
+        Err(_) => false,
+    }
 }
 
 /// Whether each keymap comes with its own token, the discarded one too.
-fn gives_each_its_token(
-    alloc: Global,
-    tables: &Tables,
-    pair: &mut Plain<'_>,
-) -> Result<bool, AllocError> {
-    set_up(alloc, pair)?;
-    let is_discarded = is_answered(alloc, pair, &RELEASING)?;
-    let is_read = reads_keymap(alloc, pair, 8)?;
-    let is_released = is_answered(alloc, pair, &RELEASED)?;
-    turn(alloc, pair)?;
-    let has_ended = has_ended(alloc, tables, pair, 8, lawful(9, 5))?;
-    Ok(is_discarded && is_read && is_released && has_ended)
+fn gives_each_its_token(alloc: Global, tables: &Tables, pair: &mut Plain<'_>) -> bool {
+    set_up(alloc, pair)
+        && is_answered(alloc, pair, &RELEASING)
+        && reads_keymap(alloc, pair, 8)
+        && is_answered(alloc, pair, &RELEASED)
+        && turn(alloc, pair)
+        && has_ended(alloc, tables, pair, 8, lawful(9, 5))
 }
 
 #[test]
@@ -206,16 +195,11 @@ const SYNCED: [(Step, Said); 8] = [
 const DONE: &[u8; 24] = b"\x02\0\0\0\0\0\x0c\0\x07\0\0\0\x01\0\0\0\x01\0\x0c\0\x02\0\0\0";
 
 /// Whether a callback ends, and the next one has its id.
-fn uses_an_id_again(
-    alloc: Global,
-    tables: &Tables,
-    pair: &mut Plain<'_>,
-) -> Result<bool, AllocError> {
-    let is_synced = is_answered(alloc, pair, &SYNCED)?;
-    let is_done = was_carried(pair, DONE);
-    turn(alloc, pair)?;
-    let has_ended = has_ended(alloc, tables, pair, 2, lawful(2, 2))?;
-    Ok(is_synced && is_done && has_ended)
+fn uses_an_id_again(alloc: Global, tables: &Tables, pair: &mut Plain<'_>) -> bool {
+    is_answered(alloc, pair, &SYNCED)
+        && was_carried(pair, DONE)
+        && turn(alloc, pair)
+        && has_ended(alloc, tables, pair, 2, lawful(2, 2))
 }
 
 #[test]
@@ -238,15 +222,10 @@ const DROPPED: [(Step, Said); 7] = [
 ];
 
 /// Whether a callback is dropped, and no event comes.
-fn drops_a_callback(
-    alloc: Global,
-    tables: &Tables,
-    pair: &mut Plain<'_>,
-) -> Result<bool, AllocError> {
-    set_up(alloc, pair)?;
-    let is_dropped = is_answered(alloc, pair, &DROPPED)?;
-    let has_ended = has_ended(alloc, tables, pair, 8, lawful(8, 3))?;
-    Ok(is_dropped && has_ended)
+fn drops_a_callback(alloc: Global, tables: &Tables, pair: &mut Plain<'_>) -> bool {
+    set_up(alloc, pair)
+        && is_answered(alloc, pair, &DROPPED)
+        && has_ended(alloc, tables, pair, 8, lawful(8, 3))
 }
 
 #[test]
@@ -296,22 +275,19 @@ const WITHDRAWN: [(Step, Said); 4] = [
 ];
 
 /// Whether the next request is the bind, as this object.
-fn reads_bind(alloc: Global, pair: &mut Plain<'_>, object: Object) -> Result<bool, AllocError> {
-    let replies = run(alloc, pair, &[Step::ServerNext])?;
-    Ok(is_bound(replies.last(), object))
+fn reads_bind(alloc: Global, pair: &mut Plain<'_>, object: Object) -> bool {
+    match run(alloc, pair, &[Step::ServerNext]) {
+        Ok(replies) => is_bound(replies.last(), object),
+        Err(_) => false,
+    }
 }
 
 /// Whether a bind of a withdrawn global is read.
-fn binds_what_is_withdrawn(
-    alloc: Global,
-    tables: &Tables,
-    pair: &mut Plain<'_>,
-) -> Result<bool, AllocError> {
-    set_up(alloc, pair)?;
-    let is_withdrawn = is_answered(alloc, pair, &WITHDRAWN)?;
-    let is_bound = reads_bind(alloc, pair, NEXT)?;
-    let has_ended = has_ended(alloc, tables, pair, 9, lawful(8, 2))?;
-    Ok(is_withdrawn && is_bound && has_ended)
+fn binds_what_is_withdrawn(alloc: Global, tables: &Tables, pair: &mut Plain<'_>) -> bool {
+    set_up(alloc, pair)
+        && is_answered(alloc, pair, &WITHDRAWN)
+        && reads_bind(alloc, pair, NEXT)
+        && has_ended(alloc, tables, pair, 9, lawful(8, 2))
 }
 
 #[test]
