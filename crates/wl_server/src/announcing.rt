@@ -173,6 +173,3 @@ impl<'t, T: Table> Server<'t, T> {
         Ok(told.count)
     }
 }
-
-#[cfg(test)]
-mod tests;

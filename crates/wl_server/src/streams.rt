@@ -109,6 +109,3 @@ impl<'t, T: Table> Server<'t, T> {
         Ok(())
     }
 }
-
-#[cfg(test)]
-mod tests;

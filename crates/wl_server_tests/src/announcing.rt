@@ -2,10 +2,10 @@
 ghost use Rattle.std.specs.Prelude.{◌≤◌};
 ghost use Rattle.wl_message.specs.Arrived.{AreSizes};
 
-use crate::tests::{TestCore, TestServer, are_read, holds_of, holds_once, writes};
+use crate::server::{TestServer, are_read, holds_of, writes};
 use std::test::Fail;
 use wl_message::Sizes;
-use wl_objects::{Made, Object, SendError};
+use wl_objects::SendError;
 use wl_wire::Iface;
 
 const COMPOSITOR: Iface = Iface(3);
@@ -15,10 +15,6 @@ const SEAT: Iface = Iface(9);
 /// wl_registry.global of name 1, a wl_compositor of version 6, to object 2.
 const COMPOSITOR_TOLD: &[u8; 36] =
     b"\x02\0\0\0\0\0\x24\0\x01\0\0\0\x0e\0\0\0wl_compositor\0\0\0\x06\0\0\0";
-
-/// The same to object 3.
-const COMPOSITOR_TOLD_TO_3: &[u8; 36] =
-    b"\x03\0\0\0\0\0\x24\0\x01\0\0\0\x0e\0\0\0wl_compositor\0\0\0\x06\0\0\0";
 
 /// wl_registry.global of name 2, a wl_seat of version 9, to object 2.
 const SEAT_TOLD: &[u8; 28] = b"\x02\0\0\0\0\0\x1c\0\x02\0\0\0\x08\0\0\0wl_seat\0\x09\0\0\0";
@@ -105,45 +101,17 @@ fn a_withdrawn_global_is_removed_where_it_was_told(rt: HostRuntime) -> Result<()
     Ok(())
 }
 
-/// Opens a second wl_display, of version 5, as object 2. Whether that is done.
-fn opens_a_display(core: &mut TestCore<'_>) -> bool {
-    let made = Made {
-        id: 2,
-        iface: Iface(0),
-        version: 5,
-    };
-    core.open(made).is_ok()
-}
-
-/// Whether a registry that is made at that display is told of a wl_compositor.
-fn tells_a_registry_of_another_display(server: &mut TestServer<'_>) -> bool {
-    let is_given = server.add_global(COMPOSITOR, 6) == Ok(1);
-    server.feed(&[2, 0, 0, 0, 1, 0, 12, 0, 3, 0, 0, 0], &[]);
-    is_given
-        && are_read(server, 1)
-        && server.live(Object { id: 3, birth: 2 }) == Some((Iface(1), 5))
-        && server.announce() == Ok(1)
-        && writes(server, COMPOSITOR_TOLD_TO_3)
-}
-
-// The core tables have one request that makes a registry, but any object of its interface takes it.
-#[test]
-fn a_registry_of_another_display_is_told(rt: HostRuntime) -> Result<(), Fail> {
-    assert!(rt;
-        holds_once(
-            rt.alloc(),
-            opens_a_display,
-            tells_a_registry_of_another_display
-        )?
-    );
-    Ok(())
-}
+/// wl_display.error of code 7 at the display itself.
+const POSTED: &[u8; 24] = b"\x01\0\0\0\0\0\x18\0\x01\0\0\0\x07\0\0\0\x03\0\0\0no\0\0";
 
 /// Whether a server that has failed refuses to announce, and writes nothing.
 fn refuses_to_announce(server: &mut TestServer<'_>) -> bool {
-    let has_registries = has_registries(server, 2);
-    server.core.failed = true;
-    has_registries && server.announce() == Err(SendError::Failed) && server.is_drained()
+    let display = server.display();
+    has_registries(server, 2)
+        && server.post_error(display, 7, b"no") == Ok(())
+        && writes(server, POSTED)
+        && server.announce() == Err(SendError::Failed)
+        && server.is_drained()
 }
 
 #[test]

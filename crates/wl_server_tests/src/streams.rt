@@ -1,12 +1,12 @@
 //! Pieces of a stream, read at a server.
-use crate::tests::{TestServer, holds_of_memory, is_the_bind};
-use crate::{Request, Server};
+use crate::server::{TestServer, holds_of_memory, is_the_bind};
 use refusing::RefusingAllocator;
 use std::alloc::{AllocError, Global};
 use std::test::Fail;
 use wl_end::ReadAll;
 use wl_message::{Fed, Piece, Sizes};
 use wl_objects::{Fault, MapTable, NextError, Object};
+use wl_server::{Request, Server};
 use wl_sigs::Tables;
 
 type Refused<'t> = Server<'t, MapTable<RefusingAllocator>>;
