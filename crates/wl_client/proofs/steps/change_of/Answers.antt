@@ -6,3 +6,6 @@ pub returns-in-Target-Zombie-clause-changed : goal.returns-in-Target-Zombie-clau
 returns-in-Target-Zombie-clause-changed g c =
     let same = zombied_same (g.T.Table.view c.args.table.now) c.args.message.now.target.id c.args.message.now.entry c.requires.row (search c.in-Target-Zombie.is-1) in
     sym same ∙ search rules
+
+pub returns-in-Target-Live-clause-changed : goal.returns-in-Target-Live-clause-changed
+returns-in-Target-Live-clause-changed g c = search rules

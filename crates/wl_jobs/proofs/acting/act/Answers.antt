@@ -1,3 +1,4 @@
+use Rattle.std.proofs.Common.{rules}
 use Rattle.wl_jobs.proofs.acting.act.Goals as goal
 
 -- where there is an output, no line is bad
@@ -6,3 +7,6 @@ returns-in-Ok-write_through-clause-bad g c = λ text n known bad reads. cc (c.in
 
 pub returns-in-Ok-clause-bad : goal.returns-in-Ok-clause-bad
 returns-in-Ok-clause-bad g c = λ text n known bad reads. cc (c.in-Ok.ensures.bad text n known bad reads)
+
+pub returns-in-Ok-write_through-clause-done : goal.returns-in-Ok-write_through-clause-done
+returns-in-Ok-write_through-clause-done g c = search rules

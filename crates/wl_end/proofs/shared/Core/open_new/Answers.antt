@@ -1,4 +1,4 @@
-use Rattle.std.proofs.Common.{sym, subst}
+use Rattle.std.proofs.Common.{sym, subst, rules}
 use Rattle.wl_table.specs.View.{Sound}
 use Rattle.wl_end.specs.Core.{Core}
 use Rattle.wl_end.proofs.Displays.{HasDisplay-opening_next}
@@ -12,3 +12,6 @@ invariant_of-self g c = record {
   no_error = c.self.invariant.no_error;
   whole = c.self.invariant.whole;
 }
+
+pub returns-clause-answer : goal.returns-clause-answer
+returns-clause-answer g c = search rules

@@ -1,4 +1,4 @@
-use Rattle.std.proofs.Common.{◌≡◌, ◌+◌, ℕ, List, true, take, length, sym, subst, ap, ◌∙◌, arith}
+use Rattle.std.proofs.Common.{◌≡◌, ◌+◌, ℕ, List, true, take, length, sym, subst, ap, ◌∙◌, arith, rules}
 use Rattle.std.specs.Prelude.{Option, is_some}
 use Rattle.std.proofs.Common.{Ok, Err}
 use Rattle.std.proofs.lemmas.Result.{err_from_is_err_and}
@@ -74,3 +74,6 @@ returns-clause-ok g c =
     let w = written-known c.args.self.now c.open_new.new.self c.write_call.new.self c.args.side c.args.target c.args.opcode c.args.args.now c.args.signature.now c.args.entry c.in_ok-new.new c.call_makes.result
     (take c.tokens_of-count.result c.tokens_of-count.new.tokens) c.requires.passes c.requires.entry iface c.in_ok-new.ensures.ok c.in_ok-new.ensures.id c.write_call.ensures tokens in
     ended-known c.args.self.now c.write_call.new.self c.end_target.new.self c.args.side c.args.target c.args.opcode c.args.args.now c.args.signature.now c.destroys-2.result w c.end_target.ensures c.destroys-2.ensures
+
+pub returns-then-not-fits-clause-err : goal.returns-then-not-fits-clause-err
+returns-then-not-fits-clause-err g c = search rules

@@ -7,3 +7,6 @@ pub returns-then-not-are_same-clause-drained : goal.returns-then-not-are_same-cl
 returns-then-not-are_same-clause-drained g c = λ world s e d.
     let a = same_at _ _ c.loop-id.id (agree_drained c.args.self.now world s e d) in
     search rules
+
+pub returns-then-not-are_same-clause-exact : goal.returns-then-not-are_same-clause-exact
+returns-then-not-are_same-clause-exact g c = search rules
