@@ -1,2 +1,5 @@
 pub mod Rows
 pub mod Freed
+pub mod Chain
+pub mod SlotRows
+pub mod SlotViews

@@ -8,8 +8,10 @@
 pub mod laws;
 mod map_table;
 mod object;
+mod slot_table;
 mod table;
 
 pub use map_table::MapTable;
 pub use object::{Entry, Object, State, TableError};
+pub use slot_table::SlotTable;
 pub use table::Table;

@@ -4,14 +4,12 @@ ghost use Rattle.std.specs.Ordering.{nat_cmp};
 ghost use Rattle.std.specs.FinMap.{from_entries, insert as with_row};
 ghost use Rattle.wl_table.specs.View.{View, free_or_next, has_room, next_id, opened_at, times, without};
 
+use super::table::MAX_IDS;
 use super::{Entry, Object, State, Table, TableError};
 use std::alloc::{AllocError, Allocator, Global};
 use std::collections::BTreeMap;
 use std::marker::Model;
 use wl_wire::Iface;
-
-/// The most ids that a connection has, id 1 counted.
-const MAX_IDS: u32 = 1_048_576;
 
 /// A table of objects in an ordered map, with a list of the freed ids.
 #[derive(Drop)]

@@ -7,6 +7,9 @@ use super::{Entry, Object, TableError};
 use std::alloc::{AllocError, Allocator};
 use wl_wire::Iface;
 
+/// The most ids that a connection has, id 1 counted.
+pub(crate) const MAX_IDS: u32 = 1_048_576;
+
 /// The objects of one end: a row for each id in use, the list of freed ids, latest first, the
 /// number of ids ever used, and the number of births.
 ///
