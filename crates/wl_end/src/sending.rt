@@ -208,6 +208,8 @@ impl<'t, T: Table> Core<'t, T> {
         ensures answer { Gives SendError.Memory (opens_object (checked self.old.tables side self.old.view target opcode (given args.now))) (send_answer self.old side target opcode (given args.now)) result }
         ensures ok { OnOk result (self.new ≡ after_send self.old side target opcode (given args.now)) }
         ensures err { OnErr result (self.new ≡ self.old) }
+        // Always so, and known because the tables were asked.
+        ensures valid { IfOk result (λ _. Valid self.old.tables) }
     {
         if self.failed {
             return Err(SendError::Failed);

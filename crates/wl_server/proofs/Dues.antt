@@ -88,7 +88,7 @@ marked_in-own d r e =
     let same : nat_eq r.object.birth d.object.birth ≡ true = eq-eqb r.object.birth d.object.birth (ap (λ (o : Object). o.birth) (sym e)) in
     rw same refl
 
-either-object : (b : Bool) (o : Owing) (r : Registry) → (if b then marked o r else r).object ≡ r.object
+pub either-object : (b : Bool) (o : Owing) (r : Registry) → (if b then marked o r else r).object ≡ r.object
 either-object true o r = marked-object o r
 either-object false o r = refl
 

@@ -1,6 +1,6 @@
 -- What stands in front of a server's waiting bytes, and that it can be taken.
-use Rattle.std.proofs.Common.{◌≡◌, ◌≢◌, ◌⊎◌, ℕ, zero, suc, ◌+◌, ◌<◌, ◌≤◌, Bool, true, false, List, [], ◌∷◌, ◌++◌, length, take, drop, map, get_or, Some, None, refl, sym, ap, subst, ◌∙◌, inl, inr, arith, append_assoc, rules}
-use Rattle.std.specs.Prelude.{Option, not, ◌&&◌, nat_lt, slice_get, IsOk, IsTrue, is_some}
+use Rattle.std.proofs.Common.{◌≡◌, ◌≢◌, ℕ, zero, suc, ◌≤◌, Bool, true, false, List, [], ◌∷◌, ◌++◌, length, take, drop, Some, refl, sym, ap, subst, ◌∙◌, inl, inr, arith, append_assoc, rules}
+use Rattle.std.specs.Prelude.{Option, not, ◌&&◌, nat_lt, slice_get, IsOk, IsTrue}
 use Rattle.std.specs.Option.{option_and_then}
 use Rattle.std.specs.declared.result.Result.{Result}
 use Rattle.std.specs.declared.result.Result.TheVariants.{Ok, Err}
@@ -27,16 +27,16 @@ use Rattle.wl_objects.specs.declared.error.Fault.TheVariants as faults
 use Rattle.wl_objects.specs.declared.error.NextError.{NextError}
 use Rattle.wl_objects.specs.declared.error.NextError.TheVariants as errors
 use Rattle.wl_table.specs.declared.object.Entry.{Entry}
-use Rattle.wl_table.specs.View.{View, look, is_held}
-use Rattle.wl_objects.specs.Reading.{descriptors, is_descriptor_kind, reports_of, Reported}
+use Rattle.wl_table.specs.View.{View, look}
+use Rattle.wl_objects.specs.Reading.{descriptors, Reported}
 use Rattle.wl_objects.specs.Messages.{Received, received, reader_of, is_bind}
 use Rattle.wl_end.specs.Core.{Core, HasDisplay}
 use Rattle.wl_end.specs.Receiving.{Found, found, found_at, found_in, header_of, has_arguments, is_none}
 use Rattle.wl_end.specs.Sending.{delete_id_len, fits}
 use Rattle.wl_end.specs.Outcomes.{Gives}
-use Rattle.wl_end.proofs.Receivings.{IsReceived, is_received, reports-same, SameFirst}
-use Rattle.wl_server.specs.State.{State, Global}
-use Rattle.wl_server.specs.Requests.{request, judged, is_good_bind_of, destroys_it}
+use Rattle.wl_end.proofs.Receivings.{is_received, reports-same, SameFirst}
+use Rattle.wl_server.specs.State.{Global}
+use Rattle.wl_server.specs.Requests.{request, judged, is_good_bind_of}
 use Rattle.wl_server.specs.Steps.{Step, step_of, step_with, step_found, front_step, state_of, CanTake}
 
 -- A whole message stands in front, of this header and body, with so many tokens waiting.
@@ -150,7 +150,9 @@ can_take core h body waiting tokens m v d s e f =
       whole = s.whole;
       tokens = omega (arith, r.tokens, s.tokens);
       few = omega (arith, fewer_kinds m.signature.kinds, few_kinds core.tables v m.entry.iface.0 h.opcode m.signature r.signature);
-      held = ap is_some row;
+      entry = m.entry;
+      row = row;
+      birth = sym r.birth;
       not_display = λ t. display_lasts core.tables v core.view d m.target.id h.opcode m.entry m.signature row r.signature t;
       room = room_for core m.signature.destroys f;
     }

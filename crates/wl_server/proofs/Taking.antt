@@ -1,18 +1,17 @@
 -- What a server is after the step of a request.
-use Rattle.std.proofs.Common.{◌≡◌, ◌≢◌, ◌⊎◌, ℕ, suc, ◌+◌, ◌≤◌, Bool, true, false, List, [], ◌∷◌, ◌++◌, Some, None, refl, sym, ap, subst, ◌∙◌, inl, inr, arith, rules, eqb, cond}
-use Rattle.std.specs.Prelude.{Option, not, ◌&&◌, nat_eq, nat_lt, if◌then◌else◌, IsOk, IsTrue, is_some}
+use Rattle.std.proofs.Common.{◌≡◌, ◌≢◌, ◌⊎◌, ℕ, ◌+◌, Bool, true, false, List, [], ◌∷◌, ◌++◌, Some, None, refl, sym, ap, subst, ◌∙◌, inl, inr, arith, rules, eqb, cond}
+use Rattle.std.specs.Prelude.{Option, not, nat_eq, if◌then◌else◌, IsOk, IsTrue, is_some}
 use Rattle.std.specs.List.{filter}
 use Rattle.std.specs.declared.result.Result.{Result}
 use Rattle.std.specs.declared.result.Result.TheVariants.{Ok, Err}
 use Rattle.wl_sigs.specs.declared.signature.Destroys.{Destroys}
 use Rattle.wl_sigs.specs.declared.signature.Destroys.TheVariants.{Nothing, Target}
-use Rattle.wl_sigs.specs.Tables.{destroys_target}
 use Rattle.wl_wire.specs.declared.kind.Kind.{Kind}
 use Rattle.wl_table.specs.declared.object.Entry.{Entry}
 use Rattle.wl_objects.specs.declared.error.Fault.{Fault}
 use Rattle.wl_objects.specs.declared.error.NextError.{NextError}
 use Rattle.wl_objects.specs.declared.error.NextError.TheVariants as errors
-use Rattle.wl_table.specs.View.{View, is_held, look, opened_at}
+use Rattle.wl_table.specs.View.{View, is_held, look}
 use Rattle.wl_table.specs.Views.{look-opened_at}
 use Rattle.wl_objects.specs.Messages.{Made, made, opens, same_iface}
 use Rattle.wl_sigs.specs.Fixed.{registry}
@@ -20,37 +19,31 @@ use Rattle.wl_end.specs.Core.{Core}
 use Rattle.wl_end.specs.Receiving.{Found, has_arguments, is_none}
 use Rattle.wl_end.specs.Outcomes.{Gives, left}
 use Rattle.wl_server.specs.State.{State, Global, Registry, RiseFrom, with_core, untold}
-use Rattle.wl_server.specs.Requests.{Report, request, is_out_full, next_answer, after_next, answer_found, state_found, state_past, made_in, registries_after, without_registry}
+use Rattle.wl_server.specs.Requests.{Report, request, is_out_full, next_answer, after_next, answer_found, state_found, state_past, made_in, registries_after}
+use Rattle.wl_server.specs.Registries.{without_registry, registry_birth}
 use Rattle.wl_server.specs.Steps.{Step, step_of, step_found, front_step, after_front, after_step, report_by, core_by, core_told, registries_by, state_of}
-use Rattle.wl_server.proofs.Risings.{rise-below, rise-new, rise-without}
+use Rattle.wl_server.proofs.Risings.{rise-below, rise-new}
 
 -- ---- the registries
 
 -- taking one out keeps those of other births
-pub without-filter : (birth : ℕ) (registries : List Registry) → filter (λ (r : Registry). not (nat_eq r.object.birth birth)) registries ≡ without_registry true birth registries
+pub without-filter : (birth : ℕ) (registries : List Registry) → filter (λ (r : Registry). not (nat_eq r.object.birth birth)) registries ≡ without_registry registry_birth true birth registries
 without-filter birth [] = refl
 without-filter birth (r ∷ registries) = by_test (nat_eq r.object.birth birth) (without-filter birth registries)
   where
-    by_test : (b : Bool) → filter (λ (r : Registry). not (nat_eq r.object.birth birth)) registries ≡ without_registry true birth registries
+    by_test : (b : Bool) → filter (λ (r : Registry). not (nat_eq r.object.birth birth)) registries ≡ without_registry registry_birth true birth registries
         → cond (not b) (r ∷ filter (λ (r : Registry). not (nat_eq r.object.birth birth)) registries) (filter (λ (r : Registry). not (nat_eq r.object.birth birth)) registries)
-        ≡ (if b then without_registry true birth registries else r ∷ without_registry true birth registries)
+        ≡ (if b then without_registry registry_birth true birth registries else r ∷ without_registry registry_birth true birth registries)
     by_test true h = h
     by_test false h = ap (λ (l : List Registry). r ∷ l) h
 
-rise-opened : (core : Core) (registries : List Registry) (made : Option Made) → RiseFrom 0 core.view.births registries → RiseFrom 0 (opens core.view made).births (registries_after core registries made)
+pub rise-opened : (core : Core) (registries : List Registry) (made : Option Made) → RiseFrom 0 core.view.births registries → RiseFrom 0 (opens core.view made).births (registries_after core registries made)
 rise-opened core registries None r = r
 rise-opened core registries (Some m) r = by_test (same_iface m.iface registry)
   where
     by_test : (b : Bool) → RiseFrom 0 (core.view.births + 1) (if b then registries ++ untold (record { id = m.id; birth = core.view.births }) ∷ [] else registries)
     by_test true = rise-new 0 m.id core.view.births registries r
     by_test false = rise-below 0 core.view.births (core.view.births + 1) registries (omega arith) r
-
-pub rise-step : (core : Core) (registries : List Registry) (step : Step) → RiseFrom 0 core.view.births registries → RiseFrom 0 (core_by core step).view.births (registries_by core registries step)
-rise-step core registries step r = by_case step.destroys
-  where
-    by_case : (d : Destroys) → RiseFrom 0 (core_by core (record step { destroys = d })).view.births (registries_by core registries (record step { destroys = d }))
-    by_case Nothing = rise-opened core registries step.made r
-    by_case Target = rise-without 0 (opens core.view step.made).births step.report.target.birth (registries_after core registries step.made) (rise-opened core registries step.made r)
 
 -- ---- the target is still there
 

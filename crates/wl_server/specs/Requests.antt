@@ -1,11 +1,10 @@
 -- What a server reads, and what it makes of it.
-use Rattle.std.specs.Prelude.{ℕ, Bool, true, false, ◌&&◌, not, nat_eq, nat_lt, nat_le, bytes_eq, if◌then◌else◌, List, [], ◌∷◌, ◌++◌, codes, Option, Some, None}
+use Rattle.std.specs.Prelude.{ℕ, Bool, false, ◌&&◌, not, nat_lt, nat_le, bytes_eq, if◌then◌else◌, List, [], ◌∷◌, codes, Option, Some, None}
 use Rattle.std.specs.declared.result.Result.{Result}
 use Rattle.std.specs.declared.result.Result.TheVariants.{Ok, Err}
 use Rattle.wl_wire.specs.Argument.{Argument, Uint, NewNamed}
 use Rattle.wl_sigs.specs.declared.signature.Side.TheVariants.{Request as request_side}
 use Rattle.wl_sigs.specs.Tables.{Interface, interface_at, destroys_target}
-use Rattle.wl_sigs.specs.Fixed.{registry}
 use Rattle.wl_message.specs.Outgoing.{room_of}
 use Rattle.wl_table.specs.declared.object.Object.{Object}
 use Rattle.wl_objects.specs.declared.error.Fault.{Fault}
@@ -13,11 +12,12 @@ use Rattle.wl_objects.specs.declared.error.Fault.TheVariants as faults
 use Rattle.wl_objects.specs.declared.error.NextError.{NextError}
 use Rattle.wl_objects.specs.declared.error.NextError.TheVariants as errors
 use Rattle.wl_objects.specs.Reading.{Reported}
-use Rattle.wl_objects.specs.Messages.{Received, Made, made, is_bind, same_iface, Server as server, after}
+use Rattle.wl_objects.specs.Messages.{Received, Made, made, is_bind, Server as server, after}
 use Rattle.wl_end.specs.Core.{Core, with_view}
 use Rattle.wl_end.specs.Receiving.{Found, found, reported, past_found}
 use Rattle.wl_end.specs.Sending.{with_following, with_error_event, delete_id_len}
 use Rattle.wl_server.specs.State.{State, Global, Registry, global_of, untold, with_core}
+use Rattle.wl_server.specs.Registries.{with_registry, without_registry, registry_birth}
 
 -- What a server reports.
 pub record Report : Type 0 where
@@ -96,19 +96,12 @@ core_after core f =
 -- a new registry was told nothing yet
 abbrev pub registries_after : Core → List Registry → Option Made → List Registry
 registries_after core registries None = registries
-registries_after core registries (Some m) =
-    if same_iface m.iface registry then registries ++ untold (record { id = m.id; birth = core.view.births }) ∷ [] else registries
-
--- a registry that ends is owed nothing any more
-abbrev pub without_registry : Bool → ℕ → List Registry → List Registry
-without_registry false birth registries = registries
-without_registry true birth [] = []
-without_registry true birth (r ∷ registries) = if nat_eq r.object.birth birth then without_registry true birth registries else r ∷ without_registry true birth registries
+registries_after core registries (Some m) = with_registry m.iface (untold (record { id = m.id; birth = core.view.births })) registries
 
 abbrev pub state_past : State → Found → State
 state_past state f = record state {
   core = core_after state.core f;
-  registries = without_registry (destroys_it f.message) f.message.target.birth (registries_after state.core state.registries (made_in state.core f.message));
+  registries = without_registry registry_birth (destroys_it f.message) f.message.target.birth (registries_after state.core state.registries (made_in state.core f.message));
 }
 
 -- ---- reading the next message, where memory is not wanted

@@ -1,17 +1,16 @@
 -- How a server reads a request: what it makes of the message in front, and then what the reading leaves.
-use Rattle.std.specs.Prelude.{◌≡◌, ◌≢◌, ℕ, ◌≤◌, Bool, true, false, if◌then◌else◌, List, [], length, Option, Some, None, IsTrue}
+use Rattle.std.specs.Prelude.{◌≡◌, ◌≢◌, ℕ, ◌≤◌, if◌then◌else◌, List, [], length, Option, Some, None, IsTrue}
 use Rattle.std.specs.declared.result.Result.{Result}
 use Rattle.std.specs.declared.result.Result.TheVariants.{Ok, Err}
-use Rattle.wl_sigs.specs.declared.signature.Side.TheVariants.{Request as request_side}
 use Rattle.wl_sigs.specs.declared.signature.Destroys.{Destroys}
 use Rattle.wl_sigs.specs.declared.signature.Destroys.TheVariants.{Nothing, Target}
 use Rattle.wl_sigs.specs.Tables.{Interface, destroys_target}
 use Rattle.wl_message.specs.Cut.{usual_limit, front, Whole}
-use Rattle.wl_table.specs.declared.object.Object.{Object}
+use Rattle.wl_table.specs.declared.object.Entry.{Entry}
 use Rattle.wl_objects.specs.declared.error.Fault.{Fault}
 use Rattle.wl_objects.specs.declared.error.NextError.{NextError}
 use Rattle.wl_objects.specs.declared.error.NextError.TheVariants as errors
-use Rattle.wl_table.specs.View.{View, is_held, closed}
+use Rattle.wl_table.specs.View.{View, look, closed}
 use Rattle.wl_objects.specs.declared.reading.Received.{Received as Read}
 use Rattle.wl_objects.specs.Reading.{reports_of, descriptors}
 use Rattle.wl_objects.specs.Messages.{Made, Received, made, reader_of, opens}
@@ -20,7 +19,8 @@ use Rattle.wl_end.specs.Receiving.{Found, takes}
 use Rattle.wl_end.specs.Sending.{with_delete_id, with_error_event, fits, delete_id_len}
 use Rattle.wl_server.specs.declared.step.Step.{Step as OwnedStep}
 use Rattle.wl_server.specs.State.{State, Global, Registry, with_core}
-use Rattle.wl_server.specs.Requests.{Report, request, report, made_in, is_out_full, registries_after, without_registry, fault_code, fault_message}
+use Rattle.wl_server.specs.Requests.{Report, request, report, made_in, is_out_full, registries_after, fault_code, fault_message}
+use Rattle.wl_server.specs.Registries.{without_registry, registry_birth}
 use Rattle.wl_server.specs.Seen.{report_of}
 
 -- what a request is and does: its report, its numbers of bytes and tokens, the object that it makes, and whether it destroys its target
@@ -72,13 +72,15 @@ step_found core (Ok (Some f)) = if is_out_full core f then Err errors.OutFull el
 abbrev pub front_step : State → Result (Option Step) NextError
 front_step state = step_found state.core (request state)
 
--- A step can be taken: its message stands in front, its tokens wait, its target has a row; and where it destroys that, the target is
--- not wl_display and there is room for the delete_id.
+-- A step can be taken: its message stands in front, its tokens wait, its target has the row of its birth; and where it destroys that,
+-- the target is not wl_display and there is room for the delete_id.
 pub record CanTake (core : Core) (step : Step) : Type 0 where
   pub whole : front usual_limit core.inbox.bytes ≡ Whole step.size
   pub tokens : step.tokens ≤ length core.inbox.tokens
   pub few : step.tokens ≤ 20
-  pub held : IsTrue (is_held core.view step.report.target.id)
+  pub entry : Entry
+  pub row : look core.view step.report.target.id ≡ Some entry
+  pub birth : entry.birth ≡ step.report.target.birth
   pub not_display : step.destroys ≡ Target → step.report.target.id ≢ 1
   pub room : step.destroys ≡ Target → IsTrue (fits core.outbox delete_id_len 0)
 
@@ -95,7 +97,7 @@ core_by core step = core_without step.destroys step.report.target.id (past (with
 
 -- the registries after a request
 abbrev pub registries_by : Core → List Registry → Step → List Registry
-registries_by core registries step = without_registry (destroys_target step.destroys) step.report.target.birth (registries_after core registries step.made)
+registries_by core registries step = without_registry registry_birth (destroys_target step.destroys) step.report.target.birth (registries_after core registries step.made)
 
 abbrev pub after_step : State → Step → State
 after_step state step = record state { core = core_by state.core step; registries = registries_by state.core state.registries step }

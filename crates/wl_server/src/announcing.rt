@@ -4,6 +4,7 @@ ghost use Rattle.wl_wire.specs.Spelling.{IsText};
 ghost use Rattle.wl_objects.specs.declared.error.SendError.TheVariants as refusals;
 ghost use Rattle.wl_end.specs.Core.{IsOrdinary};
 ghost use Rattle.wl_server.specs.State.{RiseFrom, mark_of, with_mark};
+ghost use Rattle.wl_server.specs.Registries.{HasRegistries};
 ghost use Rattle.wl_server.specs.Announcing.{Fitting, Removal, Telling, after_announce, due_to, name_at, owed_in, owes_removal, owes_telling};
 ghost use Rattle.wl_server.specs.Tellings.{IsTold, IsWritten};
 
@@ -163,6 +164,8 @@ impl<'t, T: Table> Server<'t, T> {
     /// that were withdrawn, then of those that are new to it, by rising name. Stops at the first
     /// event that does not fit, and answers how many were written. Takes no memory.
     pub fn announce(&mut self) -> Result<usize, SendError>
+        // Each open registry is told: it stands among the server's, whose births rise.
+        ensures registries { HasRegistries self.old.core.view self.old.registries }
         ensures ok { IfOk result (λ count. (self.old.core.failed ≡ false) × Fitting self.old count × (self.new ≡ after_announce self.old count)) }
         ensures err { IfErr result (λ why. (why ≡ refusals.Failed) × (self.old.core.failed ≡ true) × (self.new ≡ self.old)) }
     {

@@ -9,7 +9,8 @@ ghost use Rattle.wl_end.specs.Core.{with_view};
 ghost use Rattle.wl_end.specs.Outcomes.{Gives, left};
 ghost use Rattle.wl_end.specs.Receiving.{has_arguments, is_none};
 ghost use Rattle.wl_end.specs.Sending.{delete_id_len, fits};
-ghost use Rattle.wl_server.specs.Requests.{request, is_good_bind_of, next_answer, after_next, registries_after, without_registry};
+ghost use Rattle.wl_server.specs.Requests.{request, is_good_bind_of, next_answer, after_next, registries_after};
+ghost use Rattle.wl_server.specs.Registries.{without_registry, registry_birth};
 ghost use Rattle.wl_server.specs.Seen.{report_in};
 ghost use Rattle.wl_server.specs.Steps.{core_by, core_told, core_without, registries_by, steps_in, step_in, front_step, state_of, step_with, received_now, CanTake};
 
@@ -152,7 +153,7 @@ fn end<T: Table>(
     requires not_display { destroys ≡ Destroys.Target → target.id ≢ 1 }
     requires room { destroys ≡ Destroys.Target → IsTrue (fits core.old.outbox delete_id_len 0) }
     ensures core { core.new ≡ core_without destroys target.id core.old }
-    ensures registries { registries.new.items ≡ without_registry (destroys_target destroys) target.birth registries.old.items }
+    ensures registries { registries.new.items ≡ without_registry registry_birth (destroys_target destroys) target.birth registries.old.items }
 {
     match destroys {
         Destroys::Nothing => {}
@@ -166,7 +167,7 @@ fn end<T: Table>(
 
 /// Takes out the registry of this birth, if it is one.
 fn remove<A: Allocator + Drop>(registries: &mut Vec<OpenRegistry<A>, A>, birth: u64)
-    ensures { registries.new.items ≡ without_registry true birth registries.old.items }
+    ensures { registries.new.items ≡ without_registry registry_birth true birth registries.old.items }
 {
     registries.retain(|registry| registry.object.birth != birth);
 }

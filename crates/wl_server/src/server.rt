@@ -32,7 +32,8 @@ impl<'t, T: Table> Model for Server<'t, T> {
     ghost use Rattle.std.specs.Prelude.{◌≤◌, length};
     ghost use Rattle.std.specs.Coded.{codes};
     ghost use Rattle.wl_table.specs.View.{view_code};
-    ghost use Rattle.wl_server.specs.State.{State, RiseFrom};
+    ghost use Rattle.wl_server.specs.State.{State};
+    ghost use Rattle.wl_server.specs.Registries.{HasRegistries, BirthsAreOnce};
 
     ghost Value = { State };
 
@@ -42,7 +43,8 @@ impl<'t, T: Table> Model for Server<'t, T> {
 
     ghost invariant = { λ s. record {
       few : length s.globals.items ≤ 1024;
-      rising : RiseFrom 0 s.core.view.births s.registries.items;
+      registries : HasRegistries s.core.view s.registries.items;
+      births : BirthsAreOnce s.core.view;
     } };
 }
 

@@ -27,6 +27,7 @@ use Rattle.wl_server.specs.State as server
 use Rattle.wl_server.specs.State.{Global, Registry, global_of, max_globals}
 use Rattle.wl_server.specs.Calls.{can_be_global, version_in}
 use Rattle.wl_server.specs.Announcing.{Owing, Removal, Telling, owes_removal, owes_telling, owings, owed_to, Due, due_to, owed_in, owed, name_at, opcode_of, values_of, with_dues, marked, marked_in, all_marked}
+use Rattle.wl_server.proofs.Registries.{has_marked}
 use Rattle.wl_world.specs.Meant.{Born, Known, Message, Coming, Event, Arg, renamed, rearg, born_of, birth_of, wire, tokens, made_in, objects}
 use Rattle.wl_world.specs.World.{World, Each, event_written}
 use Rattle.wl_world.specs.Pair.{PairState, Announce, with_server, with_server_core, Announces, announced, refused}
@@ -324,6 +325,7 @@ marked_stands p w asked told s d = record {
   globals = s.globals;
   few_globals = s.few_globals;
   open_registries = registries_marked (server_rows p.server.core.view) d p.server.registries s.open_registries;
+  all_registries = has_marked p.server.core.view d p.server.registries s.all_registries;
 }
 
 pub record Told (p : PairState) (w : World) (asked : List (Message Known)) (ds : List Due) (after_all : PairState) : Type 0 where

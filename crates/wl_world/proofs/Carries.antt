@@ -54,6 +54,7 @@ to_server_stands p w asked told most s = record {
   globals = s.globals;
   few_globals = s.few_globals;
   open_registries = s.open_registries;
+  all_registries = s.all_registries;
 }
 
 to_client_stands : (p : PairState) (w : World) (asked : List (Message Known)) (told : List (Coming Known)) (most : ℕ) → StandsBy p w asked told
@@ -87,6 +88,7 @@ to_client_stands p w asked told most s = record {
   globals = s.globals;
   few_globals = s.few_globals;
   open_registries = s.open_registries;
+  all_registries = s.all_registries;
 }
 
 pub carry_to_server_keeps : (p : PairState) (w : World) (asked : List (Message Known)) (told : List (Coming Known)) → StandsBy p w asked told → NotEnded p w → (most : ℕ) (reply : Carried) (p' : PairState)

@@ -231,6 +231,7 @@ event_stands p w m cs asked s n i y =
       globals = s.globals;
       few_globals = s.few_globals;
       open_registries = s.open_registries;
+      all_registries = s.all_registries;
     }
 
 -- ---- a delete
@@ -378,4 +379,5 @@ delete_stands p w x cs asked s n i =
       globals = s.globals;
       few_globals = s.few_globals;
       open_registries = s.open_registries;
+      all_registries = s.all_registries;
     }

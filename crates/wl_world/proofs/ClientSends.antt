@@ -121,4 +121,5 @@ ask_stands p w asked told s m c =
       globals = s.globals;
       few_globals = s.few_globals;
       open_registries = s.open_registries;
+      all_registries = s.all_registries;
     }

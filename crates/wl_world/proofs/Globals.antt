@@ -12,7 +12,6 @@ use Rattle.wl_server.specs.State.{Global, global_of, max_globals}
 use Rattle.wl_server.specs.Requests.{bind_fits}
 use Rattle.wl_server.specs.Calls.{can_be_global, add_refusal, withdraw_refusal, with_global, next_name, withdrawn, without_at, after_withdraw}
 use Rattle.wl_client.specs.declared.globals.Global.{Global as Remembered}
-use Rattle.wl_client.specs.State as client
 use Rattle.wl_world.specs.Meant.{Known, Message, Coming, Event, Delete}
 use Rattle.wl_world.specs.World.{World, Each}
 use Rattle.wl_world.specs.Pair.{PairState, AddGlobal, Withdraw, with_server, Adds, added, refused, no_memory, Calls, done}
@@ -99,6 +98,7 @@ given_stands p w asked told s more g e l = record {
   globals = e;
   few_globals = l;
   open_registries = s.open_registries;
+  all_registries = s.all_registries;
 }
 
 -- ---- one more

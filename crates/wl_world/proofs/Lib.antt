@@ -28,4 +28,5 @@ pub mod ClientBind
 pub mod Records
 pub mod Steps
 pub mod Plain
+pub mod Worlds
 pub mod Samples

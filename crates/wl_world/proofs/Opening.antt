@@ -17,6 +17,7 @@ use Rattle.wl_table.specs.Views.{look-opening}
 use Rattle.wl_table.specs.Sounds.{Sound-opening}
 use Rattle.wl_objects.specs.Messages.{is_empty}
 use Rattle.wl_end.specs.Core.{Core, is_drained}
+use Rattle.wl_server.proofs.Registries.{has_none}
 use Rattle.wl_world.specs.Meant.{Known, Message, Coming, birth_of, spelled, spelled_coming, plain, live_entry}
 use Rattle.wl_world.specs.World.{World, Open, put, nothing, display_born, opening}
 use Rattle.wl_world.specs.Pair.{PairState, Move, Reply, new_pair, drained}
@@ -89,6 +90,7 @@ new_stands tables client_sizes server_sizes v = stands [] [] (refl, refl) (recor
   globals = tt;
   few_globals = lit≤ tt;
   open_registries = tt;
+  all_registries = has_none;
 })
   where
     live_row : (e : Entry) (s : State) → s ≡ states.Live → as_row s (plain e) ≡ Open (plain e)

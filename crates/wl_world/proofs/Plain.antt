@@ -1,20 +1,20 @@
 -- What a standing pair's messages in flight say in plain words.
-use Rattle.std.proofs.Common.{◌++◌, ◌∷◌, [], ◌≡◌, ℕ, ◌<◌, ◌≤◌, Bool, List, ◌⊎◌, inl, inr, sym, ◌∙◌, ap, subst, arith, ◌≢◌}
+use Rattle.std.proofs.Common.{true, false, ◌++◌, ◌∷◌, [], ◌≡◌, ℕ, ◌<◌, ◌≤◌, Bool, List, ◌⊎◌, inl, inr, sym, ◌∙◌, ap, subst, arith, ◌≢◌}
 use Rattle.std.specs.declared.option.Option.{Option}
 use Rattle.std.specs.declared.option.Option.TheVariants.{None, Some}
 use Rattle.wl_world.specs.Meant.{Born, Known}
 use Rattle.wl_world.specs.World.{Row, Open, Ending, Each}
-use Rattle.wl_world.specs.Flight.{Rows, at, Ask, Make, Tell, Delete, at_client, Held, Reads, done, name, end, delete, Tied, drained, use_, make, destroy, Meets}
+use Rattle.wl_world.specs.Flight.{Rows, at, Ask, Make, Destroy, Tell, Delete, at_client, Held, Reads, done, name, end, delete, Tied, drained, use_, make, destroy, Meets}
 use Rattle.wl_world.specs.Plain.{tell_id, ask_id, In}
 use Rattle.wl_world.proofs.Deeds.{put_tells, put_same, held_at_client, held_other, held_some}
 
-kept_end : (v : Rows Row) (x y : Known) → Held v y → Held (at v y.id (Some (Ending y.born))) x → Held v x
+pub kept_end : (v : Rows Row) (x y : Known) → Held v y → Held (at v y.id (Some (Ending y.born))) x → Held v x
 kept_end v x y a h = elim (put_tells v.rows y.id (Some (Ending y.born)) x.id) [
   | inl p ↦ (let e : x.born ≡ y.born = grind arith in let k : ◌≡◌ {A = Known} y x = λ i. record { id = sym p.0 i; born = sym e i } in subst (Held v) k a)
   | inr p ↦ elim h [ inl q ↦ inl (sym p.1 ∙ q) | inr q ↦ inr (sym p.1 ∙ q) ]
 ]
 
-kept_delete : (v : Rows Row) (x : Known) (i : ℕ) → Held (at v i None) x → Held v x
+pub kept_delete : (v : Rows Row) (x : Known) (i : ℕ) → Held (at v i None) x → Held v x
 kept_delete v x i h = elim (put_tells v.rows i None x.id) [
   | inl p ↦ elim h [ inl q ↦ absurd (cc (p.1, q)) | inr q ↦ absurd (cc (p.1, q)) ]
   | inr p ↦ elim h [ inl q ↦ inl (sym p.1 ∙ q) | inr q ↦ inr (sym p.1 ∙ q) ]
@@ -22,6 +22,15 @@ kept_delete v x i h = elim (put_tells v.rows i None x.id) [
 
 held_some_row : (m : Rows Row) (x : Known) → Held m x → m.rows x.id ≡ None → ⊥
 held_some_row m x h n = elim h [ inl p ↦ cc (p, n) | inr p ↦ cc (p, n) ]
+
+no_ending : (o : Option Born) (e : Born) → at_client o ≡ Some (Ending e) → ⊥
+no_ending None e h = cc h
+no_ending (Some x) e h = cc h
+
+-- it is ending, and of an interface without a destroying event
+pub record Asked (test : Born → Bool) (m : Rows Row) (n : Known) : Type 0 where
+  pub ending : m.rows n.id ≡ Some (Ending n.born)
+  pub test_is : test n.born ≡ false
 
 module _ {test : Born → Bool} where
   -- a free id at the client occurs in no event in flight
@@ -144,3 +153,91 @@ module _ {test : Born → Bool} where
 
   pub not_made_counted : {es : List Tell} {qs : List Ask} {v : Rows Row} {s : Rows Born} (x : Known) → Meets test es qs v s → In (Make x) qs → x.born.birth < s.births → ⊥
   not_made_counted x m h l = let k = make_new x m.tied h in absurd (omega (arith, k, l))
+
+  -- ---- what is ending
+
+  ending_read : {es : List Tell} {v w : Rows Row} (n : Known) → Reads test es v w → v.rows n.id ≡ Some (Ending n.born) → In (Delete n) es ⊎ (w.rows n.id ≡ Some (Ending n.born))
+  ending_read n done h = inr h
+  ending_read n (name a r) h = elim (ending_read n r h) [ inl p ↦ inl (inr p) | inr p ↦ inr p ]
+  ending_read n (end {v = v} {x = x} b a r) h =
+      elim (ending_read n r (elim (put_tells v.rows x.id (Some (Ending x.born)) n.id) [
+        | inl p ↦ (let e : n.born ≡ x.born = grind arith in p.1 ∙ ap (λ (k : Born). Some (Ending k)) (sym e))
+        | inr p ↦ p.1 ∙ h
+      ]))
+      [ inl p ↦ inl (inr p) | inr p ↦ inr p ]
+  ending_read n (delete {v = v} {x = x} z a b r) h = elim (put_tells v.rows x.id None n.id) [
+    | inl p ↦ let e : n.born ≡ x.born = grind arith in
+        let q : ◌≡◌ {A = Known} n x = λ i. record { id = p.0 i; born = e i } in
+        inl (inl (ap Delete q))
+    | inr p ↦ elim (ending_read n r (p.1 ∙ h)) [ inl q ↦ inl (inr q) | inr q ↦ inr q ]
+  ]
+
+  ending_asked : {qs : List Ask} {s : Rows Born} {m : Rows Row} (n : Known) → Tied test qs s m → m.rows n.id ≡ Some (Ending n.born) → In (Destroy n) qs
+  ending_asked n (drained {s = s} rows u b) h = absurd (no_ending (s.rows n.id) n.born (sym (rows n.id) ∙ h))
+  ending_asked n (use_ a b t) h = inr (ending_asked n t h)
+  ending_asked n (make a t) h = inr (ending_asked n t h)
+  ending_asked n (destroy {m = m} {x = x} z a b c t) h = elim (put_tells m.rows x.id None n.id) [
+    | inl p ↦ let e : n.born ≡ x.born = grind arith in
+        let q : ◌≡◌ {A = Known} n x = λ i. record { id = p.0 i; born = e i } in
+        inl (ap Destroy q)
+    | inr p ↦ inr (ending_asked n t (p.1 ∙ h))
+  ]
+
+  pub ending_where : {es : List Tell} {qs : List Ask} {v : Rows Row} {s : Rows Born} (n : Known) → Meets test es qs v s → v.rows n.id ≡ Some (Ending n.born) → In (Delete n) es ⊎ In (Destroy n) qs
+  ending_where n m h = elim (ending_read n m.reads h) [ inl p ↦ inl p | inr p ↦ inr (ending_asked n m.tied p) ]
+
+  asked_ending : {qs : List Ask} {s : Rows Born} {m : Rows Row} (n : Known) → Tied test qs s m → In (Destroy n) qs → Asked test m n
+  asked_ending n (drained r u b) i = absurd i
+  asked_ending n (use_ a b t) i = elim i [ inl p ↦ absurd (cc p) | inr p ↦ asked_ending n t p ]
+  asked_ending n (make a t) i = elim i [ inl p ↦ absurd (cc p) | inr p ↦ asked_ending n t p ]
+  asked_ending n (destroy {m = m} {x = x} z a b c t) i = elim i [
+    | inl p ↦ (let e : x ≡ n = cc p in subst (Asked test m) e (record { ending = c; test_is = b }))
+    | inr p ↦ (let k = asked_ending n t p in record {
+      ending = elim (put_tells m.rows x.id None n.id) [ inl q ↦ absurd (cc (q.1, k.ending)) | inr q ↦ sym q.1 ∙ k.ending ];
+      test_is = k.test_is;
+    })
+  ]
+
+  open_read : {es : List Tell} {v w : Rows Row} (n : Known) → Reads test es v w → v.rows n.id ≡ Some (Open n.born) → w.rows n.id ≡ Some (Ending n.born) → test n.born ≡ true
+  open_read n done h k = absurd (cc (h, k))
+  open_read n (name a r) h k = open_read n r h k
+  open_read n (end {v = v} {x = x} b a r) h k = elim (put_tells v.rows x.id (Some (Ending x.born)) n.id) [
+    | inl p ↦ let e : n.born ≡ x.born = elim a [ inl q ↦ cc (h, q, p.0) | inr q ↦ absurd (cc (h, q, p.0)) ] in ap test e ∙ b
+    | inr p ↦ open_read n r (p.1 ∙ h) k
+  ]
+  open_read n (delete {v = v} {x = x} z a b r) h k = elim (put_tells v.rows x.id None n.id) [
+    | inl p ↦ absurd (cc (free_mid n.id r p.1, k))
+    | inr p ↦ open_read n r (p.1 ∙ h) k
+  ]
+
+  pub open_unasked : {es : List Tell} {qs : List Ask} {v : Rows Row} {s : Rows Born} (n : Known) → Meets test es qs v s → v.rows n.id ≡ Some (Open n.born) → In (Destroy n) qs → ⊥
+  open_unasked n m h i = let k = asked_ending n m.tied i in cc (open_read n m.reads h k.ending, k.test_is)
+
+  -- a destroying event alone makes an open object's delete come before its turn
+  pub open_deleted : {es : List Tell} {v w : Rows Row} (n : Known) → Reads test es v w → v.rows n.id ≡ Some (Open n.born) → In (Delete n) es → test n.born ≡ true
+  open_deleted n done h i = absurd i
+  open_deleted n (name a r) h i = elim i [ inl p ↦ absurd (cc p) | inr p ↦ open_deleted n r h p ]
+  open_deleted n (end {v = v} {x = x} b a r) h i = elim i [
+    | inl p ↦ absurd (cc p)
+    | inr p ↦ elim (put_tells v.rows x.id (Some (Ending x.born)) n.id) [
+      | inl q ↦ let e : n.born ≡ x.born = elim a [ inl k ↦ cc (h, k, q.0) | inr k ↦ absurd (cc (h, k, q.0)) ] in ap test e ∙ b
+      | inr q ↦ open_deleted n r (q.1 ∙ h) p
+    ]
+  ]
+  open_deleted n (delete {v = v} {x = x} z a b r) h i = elim i [
+    | inl p ↦ (let e : n ≡ x = cc p in elim b [
+      | inl q ↦ ap (λ (k : Known). test k.born) e ∙ q
+      | inr q ↦ absurd (let k : v.rows n.id ≡ v.rows x.id = ap (λ (m : Known). v.rows m.id) e in cc (h, q, k))
+    ])
+    | inr p ↦ elim (put_tells v.rows x.id None n.id) [
+      | inl q ↦ absurd (held_some_row (at v x.id None) n (deleted_held n r p).0 q.1)
+      | inr q ↦ open_deleted n r (q.1 ∙ h) p
+    ]
+  ]
+
+  -- what a request in flight destroys the client holds, and no delete of it is in flight
+  pub destroyed_held : {es : List Tell} {qs : List Ask} {v : Rows Row} {s : Rows Born} (n : Known) → Meets test es qs v s → In (Destroy n) qs → Held v n
+  destroyed_held n m i = held_before n m.reads (inr (asked_ending n m.tied i).ending)
+
+  pub not_destroyed_deleted : {es : List Tell} {qs : List Ask} {v : Rows Row} {s : Rows Born} (n : Known) → Meets test es qs v s → In (Destroy n) qs → In (Delete n) es → ⊥
+  not_destroyed_deleted n m i d = let k = (asked_ending n m.tied i).ending in let g = (deleted_held n m.reads d).1 in cc (k, g)

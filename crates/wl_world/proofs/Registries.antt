@@ -1,26 +1,32 @@
 -- The open registries, by ids and by births.
-use Rattle.std.proofs.Common.{◌≡◌, ◌≢◌, ℕ, ◌≤◌, Bool, true, false, cond, List, [], ◌∷◌, ◌++◌, map, refl, sym, ap, ◌∙◌, arith}
+use Rattle.std.proofs.Common.{◌≡◌, ◌≢◌, ℕ, ◌≤◌, Bool, true, false, cond, List, [], ◌∷◌, ◌++◌, map, refl, sym, ap, subst, ◌∙◌, arith}
 use Rattle.std.specs.Prelude.{option_map, nat_eq}
 use Rattle.std.specs.declared.option.Option.{Option}
 use Rattle.std.specs.declared.option.Option.TheVariants.{None, Some}
 use Rattle.std.proofs.lemmas.Bool.{eqb-true, eqb-false}
 use Rattle.wl_wire.specs.declared.kind.Iface.{Iface}
-use Rattle.wl_sigs.specs.Tables.{Interface, interface_at}
+use Rattle.wl_sigs.specs.Tables.{Interface, interface_at, destroys_target}
 use Rattle.wl_sigs.specs.Fixed.{registry}
 use Rattle.wl_sigs.specs.Valid.{Valid}
-use Rattle.wl_objects.specs.Messages.{same_iface}
+use Rattle.wl_sigs.specs.declared.signature.Destroys.{Destroys}
+use Rattle.wl_sigs.specs.declared.signature.Destroys.TheVariants.{Nothing, Target}
+use Rattle.wl_table.specs.View.{View, Sound, closed}
+use Rattle.wl_objects.specs.Messages.{same_iface, opens, Server as server_end, after}
 use Rattle.wl_end.specs.Core.{Core}
 use Rattle.wl_server.specs.State as server
 use Rattle.wl_server.specs.State.{untold}
-use Rattle.wl_server.specs.Requests.{registries_after, without_registry}
+use Rattle.wl_server.specs.Registries.{without_registry, registry_birth, HasRegistries}
+use Rattle.wl_server.specs.Requests.{registries_after}
+use Rattle.wl_server.proofs.Registries.{has_opened, has_closed, has_fewer, only_there, births_of_sound}
 use Rattle.wl_server.specs.Calls.{ends_by_event}
 use Rattle.wl_world.specs.Meant.{Born, Known, born_of}
-use Rattle.wl_world.specs.World.{Marks, put, Each, IfThere, with_registry, without_registry as without_marks}
+use Rattle.wl_world.specs.World.{Marks, put, Each, IfThere, marks_birth, registries_after as marks_after}
 use Rattle.wl_world.specs.Flight.{Rows, at, made, server_rows, Fresh}
 use Rattle.wl_world.specs.Stands.{IsRegistry, marks_of, by_event}
 use Rattle.wl_world.proofs.Deeds.{put_tells}
 use Rattle.wl_world.proofs.Wholes.{ThereRow, server_makes, server_ends}
 use Rattle.wl_world.proofs.Readings.{made_of}
+use Rattle.wl_world.proofs.Afters.{HeldRow}
 
 -- ---- the marks
 
@@ -33,7 +39,7 @@ marks_cond true xs ys = refl
 marks_cond false xs ys = refl
 
 pub marks_with : (c : Core) (rs : List server.Registry) (n : Option Known) → IfThere (λ x. x.born.birth ≡ c.view.births) n
-    → map marks_of (registries_after c rs (option_map made_of n)) ≡ with_registry (option_map born_of n) (map marks_of rs)
+    → map marks_of (registries_after c rs (option_map made_of n)) ≡ marks_after (option_map born_of n) (map marks_of rs)
 marks_with c rs None h = refl
 marks_with c rs (Some x) h =
     let r : server.Registry = untold (record { id = x.id; birth = c.view.births }) in
@@ -41,11 +47,11 @@ marks_with c rs (Some x) h =
     ∙ ap (λ (l : List Marks). cond (same_iface x.born.iface registry) l (map marks_of rs))
     (map_more marks_of rs r ∙ ap (λ (b : ℕ). map marks_of rs ++ record { birth = b; told = r.told; removed = r.removed } ∷ []) (sym h))
 
-pub marks_without : (b : Bool) (birth : ℕ) (rs : List server.Registry) → map marks_of (without_registry b birth rs) ≡ without_marks b birth (map marks_of rs)
+pub marks_without : (b : Bool) (birth : ℕ) (rs : List server.Registry) → map marks_of (without_registry registry_birth b birth rs) ≡ without_registry marks_birth b birth (map marks_of rs)
 marks_without false birth rs = refl
 marks_without true birth [] = refl
 marks_without true birth (r ∷ rs) =
-    marks_cond (nat_eq r.object.birth birth) (without_registry true birth rs) (r ∷ without_registry true birth rs)
+    marks_cond (nat_eq r.object.birth birth) (without_registry registry_birth true birth rs) (r ∷ without_registry registry_birth true birth rs)
     ∙ ap (λ (l : List Marks). cond (nat_eq r.object.birth birth) l (marks_of r ∷ l)) (marks_without true birth rs)
 
 -- ---- each is an object of the server
@@ -102,10 +108,10 @@ registry_if : (s : Rows Born) (x : Known) (r : server.Registry) (b : Bool) (rest
 registry_if s x r true rest e t h k = k
 registry_if s x r false rest e t h k = (registry_apart s x r t (eqb-false r.object.birth x.born.birth e) h, k)
 
-pub registries_ended : (s : Rows Born) (b : Bool) (x : Known) (rs : List server.Registry) → ThereRow s x → Each (IsRegistry s) rs → Each (IsRegistry (server_ends b x s)) (without_registry b x.born.birth rs)
+pub registries_ended : (s : Rows Born) (b : Bool) (x : Known) (rs : List server.Registry) → ThereRow s x → Each (IsRegistry s) rs → Each (IsRegistry (server_ends b x s)) (without_registry registry_birth b x.born.birth rs)
 registries_ended s false x rs t h = h
 registries_ended s true x [] t h = tt
-registries_ended s true x (r ∷ rs) t h = registry_if s x r (nat_eq r.object.birth x.born.birth) (without_registry true x.born.birth rs) refl t h.0 (registries_ended s true x rs t h.1)
+registries_ended s true x (r ∷ rs) t h = registry_if s x r (nat_eq r.object.birth x.born.birth) (without_registry registry_birth true x.born.birth rs) refl t h.0 (registries_ended s true x rs t h.1)
 
 -- ---- an object with a destroying event is no registry
 
@@ -126,3 +132,20 @@ pub registries_not : (tables : List Interface) → Valid tables → (s : Rows Bo
 registries_not tables v s false x rs t e h = h
 registries_not tables v s true x [] t e h = tt
 registries_not tables v s true x (r ∷ rs) t e h = (registry_not tables v s x r t (e refl) h.0, registries_not tables v s true x rs t e h.1)
+
+-- ---- each object of the interface stands in the list
+
+pub has_read : (c : Core) (rs : List server.Registry) (n : Option Known) (x : Known) (what : Destroys) (b : Bool) → destroys_target what ≡ b → Sound c.view → HeldRow c.view x → HasRegistries c.view rs
+    → HasRegistries (after server_end c.view (option_map made_of n) what x.id) (without_registry registry_birth b x.born.birth (registries_after c rs (option_map made_of n)))
+has_read c rs n x Nothing b d s r h =
+    subst (λ (k : Bool). HasRegistries (opens c.view (option_map made_of n)) (without_registry registry_birth k x.born.birth (registries_after c rs (option_map made_of n)))) d
+    (has_opened c rs (option_map made_of n) h)
+has_read c rs n x Target b d s r h =
+    let v = opens c.view (option_map made_of n) in
+    subst (λ (k : Bool). HasRegistries (closed v x.id) (without_registry registry_birth k x.born.birth (registries_after c rs (option_map made_of n)))) d
+    (has_closed v (registries_after c rs (option_map made_of n)) x.id x.born.birth
+    (only_there c.view (option_map made_of n) x.id x.born.birth r.entry (births_of_sound c.view s) r.there (ap (λ (b : Born). b.birth) r.same)) (has_opened c rs (option_map made_of n) h))
+
+pub has_told_one : (v : View) (rs : List server.Registry) (what : Destroys) (id : ℕ) → HasRegistries v rs → HasRegistries (after server_end v None what id) rs
+has_told_one v rs Nothing id h = h
+has_told_one v rs Target id h = has_fewer v rs id h

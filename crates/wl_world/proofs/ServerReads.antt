@@ -24,9 +24,10 @@ use Rattle.wl_end.specs.Receiving.{Found, found}
 use Rattle.wl_end.specs.Sending.{with_following}
 use Rattle.wl_server.specs.State as server
 use Rattle.wl_server.specs.State.{global_of}
-use Rattle.wl_server.specs.Requests.{judged, request, is_good_bind, made_in as made_by_message, state_past, registries_after, without_registry}
+use Rattle.wl_server.specs.Requests.{judged, request, is_good_bind, made_in as made_by_message, state_past, registries_after}
+use Rattle.wl_server.specs.Registries.{without_registry, registry_birth}
 use Rattle.wl_world.specs.Meant.{Event, Delete, Born, Known, Message, Coming, Arg, renamed, recoming, rearg, born_of, birth_of, wire, tokens, spelled, spelled_coming, made_in, objects, plain, live_entry}
-use Rattle.wl_world.specs.World.{World, display_born, Open, Each, IfThere, delete, request_read, gone, born_into, same, with_registry, without_registry as without_marks}
+use Rattle.wl_world.specs.World.{World, display_born, Open, Each, IfThere, delete, request_read, gone, born_into, same, marks_birth, registries_after as marks_after}
 use Rattle.wl_world.specs.Pair.{PairState, with_server}
 use Rattle.wl_world.specs.Answers.{rows_of_server}
 use Rattle.wl_world.specs.Flight.{Rows, Fresh, Tied, all_asks, server_rows, as_row}
@@ -36,7 +37,7 @@ use Rattle.wl_world.proofs.Wholes.{ThereRow, server_makes, server_ends, asks_at,
 use Rattle.wl_world.proofs.Sets.{server_made, server_ended, there_kept}
 use Rattle.wl_world.proofs.Channels.{pops, pushed}
 use Rattle.wl_world.proofs.Afters.{there_row, server_after, server_sound, server_live, made_map}
-use Rattle.wl_world.proofs.Registries.{marks_with, marks_without, registries_made, registries_ended}
+use Rattle.wl_world.proofs.Registries.{marks_with, marks_without, registries_made, registries_ended, has_read}
 use Rattle.wl_world.proofs.Readings.{HeldAt, AllMet, made_of, made_read, tokens_taken, bytes_whole}
 use Rattle.wl_world.proofs.Findings.{the_found, the_message, finds, all_met, news_free}
 
@@ -117,7 +118,7 @@ left_core c m n what = record c {
 abbrev pub left_state : server.State → Message Known → ℕ → Destroys → server.State
 left_state st m n what = record st {
   core = left_core st.core m n what;
-  registries = without_registry m.destroys m.target.born.birth (registries_after st.core st.registries (option_map made_of (made_in m.args)));
+  registries = without_registry registry_birth m.destroys m.target.born.birth (registries_after st.core st.registries (option_map made_of (made_in m.args)));
 }
 
 pub left_is : (st : server.State) (m : Message Known) (n : ℕ) (entry : Entry) (f : Fits st.core.tables request_side m) → plain entry ≡ m.target.born
@@ -130,9 +131,9 @@ left_is st m n entry f s =
     let d : destroys_target f.signature.destroys ≡ m.destroys = sym f.destroys in
     (λ i. record st {
       core = with_following (d i) m.target.id (with_view (past st.core n (count i)) (after server_end st.core.view (made i) f.signature.destroys m.target.id));
-      registries = without_registry (d i) (birth i) (registries_after st.core st.registries (made i));
+      registries = without_registry registry_birth (d i) (birth i) (registries_after st.core st.registries (made i));
     })
-    ∙ ap (λ (c : Core). record st { core = c; registries = without_registry m.destroys m.target.born.birth (registries_after st.core st.registries (option_map made_of (made_in m.args))) })
+    ∙ ap (λ (c : Core). record st { core = c; registries = without_registry registry_birth m.destroys m.target.born.birth (registries_after st.core st.registries (option_map made_of (made_in m.args))) })
     (followed m.destroys m.target (with_view (past st.core n (length (tokens m.args))) (after server_end st.core.view (option_map made_of (made_in m.args)) f.signature.destroys m.target.id)))
 
 -- ---- deletes follow
@@ -219,8 +220,8 @@ server_read_stands p w m ms told s n a up =
       server_lives = s.server_lives;
       remembered = s.remembered;
       given = s.given;
-      registries = rw world_new (ap (λ (l : List _). without_marks m.destroys m.target.born.birth (with_registry (option_map born_of new) l)) s.registries
-          ∙ ap (without_marks m.destroys m.target.born.birth) (sym (marks_with p.server.core p.server.registries new (births_of v new a.new)))
+      registries = rw world_new (ap (λ (l : List _). without_registry marks_birth m.destroys m.target.born.birth (marks_after (option_map born_of new) l)) s.registries
+          ∙ ap (without_registry marks_birth m.destroys m.target.born.birth) (sym (marks_with p.server.core p.server.registries new (births_of v new a.new)))
           ∙ sym (marks_without m.destroys m.target.born.birth (registries_after p.server.core p.server.registries (option_map made_of new))));
       remembers = s.remembers;
       globals = s.globals;
@@ -228,6 +229,7 @@ server_read_stands p w m ms told s n a up =
       open_registries = subst (λ (r : Rows Born). Each (IsRegistry r) (left_state p.server m n what).registries) (sym rows)
           (registries_ended (server_makes (server_rows v) new) m.destroys m.target (registries_after p.server.core p.server.registries (option_map made_of new)) (there_kept (server_rows v) new m.target a.new a.target)
           (registries_made p.server.core p.server.registries new a.new f.new_version s.open_registries));
+      all_registries = has_read p.server.core p.server.registries new m.target what m.destroys d s.server_sound (there_row v m.target a.target) s.all_registries;
     }
 
 -- ---- what is answered

@@ -12,6 +12,7 @@ use Rattle.wl_table.specs.View.{look, closed}
 use Rattle.wl_table.specs.Views.{look-closed}
 use Rattle.wl_objects.specs.Messages.{Server as server_end, after}
 use Rattle.wl_end.specs.Core.{Core}
+use Rattle.wl_server.proofs.Registries.{has_fewer}
 use Rattle.wl_world.specs.Meant.{Born, Known, Message, Coming, Event, Delete, renamed, recoming, born_of, birth_of, wire, spelled, spelled_coming, objects, plain, live_entry}
 use Rattle.wl_world.specs.World.{World, display_born, Each, delete, event_written, dropped, gone, put}
 use Rattle.wl_world.specs.Pair.{PairState, with_server_core}
@@ -22,7 +23,7 @@ use Rattle.wl_world.proofs.Sets.{server_ended}
 use Rattle.wl_world.proofs.Channels.{pushed}
 use Rattle.wl_world.proofs.Bridges.{server_closed}
 use Rattle.wl_world.proofs.Afters.{there_row, server_after, server_sound, server_live, closed_live}
-use Rattle.wl_world.proofs.Registries.{registries_not}
+use Rattle.wl_world.proofs.Registries.{registries_not, has_told_one}
 use Rattle.wl_world.proofs.Readings.{bytes_whole}
 use Rattle.wl_world.proofs.Rules.{display_plain}
 use Rattle.wl_world.proofs.ServerReads.{follow_more, follow_delete, begins_delete, test_of, delete_whole, map_delete, delete_fits, display_after}
@@ -98,6 +99,7 @@ tell_stands p w asked told s m c =
       few_globals = s.few_globals;
       open_registries = subst (λ (r : Rows Born). Each (IsRegistry r) p.server.registries) (sym rows)
           (registries_not p.server.core.tables s.valid (server_rows v) m.destroys m.target p.server.registries c.target c.ends s.open_registries);
+      all_registries = has_told_one v p.server.registries what m.target.id s.all_registries;
     }
 
 -- ---- an object is dropped
@@ -148,4 +150,5 @@ drop_stands p w asked told s x h e low =
       few_globals = s.few_globals;
       open_registries = subst (λ (r : Rows Born). Each (IsRegistry r) p.server.registries) (sym rows)
           (registries_not p.server.core.tables s.valid (server_rows v) true x p.server.registries h (λ k. e) s.open_registries);
+      all_registries = has_fewer v p.server.registries x.id s.all_registries;
     }

@@ -22,6 +22,7 @@ use Rattle.wl_objects.specs.Writing.{message_len}
 use Rattle.wl_objects.specs.Messages.{made_by, is_error, is_delete_id, is_bind, same_iface}
 use Rattle.wl_server.specs.State as server
 use Rattle.wl_server.specs.State.{global_of, max_globals}
+use Rattle.wl_server.specs.Registries.{HasRegistries}
 use Rattle.wl_server.specs.Requests.{bind_fits}
 use Rattle.wl_server.specs.Calls.{ends_by_event, can_be_global}
 use Rattle.wl_server.specs.Announcing.{name_at}
@@ -196,7 +197,9 @@ pub record StandsBy (p : PairState) (w : World) (asked : List (Message Known)) (
   pub remembers : Each (λ g. WasGiven p.server.globals g.name g.iface g.version) p.client.globals
   pub globals : Each (IsGlobal p.server.core.tables) p.server.globals
   pub few_globals : length p.server.globals ≤ max_globals
+  -- the open registries are the server's objects of interface wl_registry, by rising birth
   pub open_registries : Each (IsRegistry (server_rows p.server.core.view)) p.server.registries
+  pub all_registries : HasRegistries p.server.core.view p.server.registries
 
 -- The pair stands for the world: an ended world stands with every pair.
 pub data Stands (p : PairState) (w : World) : Type 0 where

@@ -7,6 +7,7 @@ use Rattle.wl_objects.specs.Messages.{same_iface}
 use Rattle.wl_client.specs.declared.globals.Global.{Global as Remembered}
 use Rattle.wl_client.specs.Reports.{globals_told}
 use Rattle.wl_server.specs.State.{Global, max_globals}
+use Rattle.wl_server.specs.Registries.{with_registry, without_registry}
 use Rattle.wl_server.specs.Calls.{ends_by_event}
 use Rattle.wl_world.specs.Meant.{Born, Message, Coming, Event, Delete, objects, made_in, Arg}
 
@@ -93,16 +94,16 @@ abbrev pub is_registry : Born → Bool
 is_registry x = same_iface x.iface registry
 
 -- a new registry was told nothing
-abbrev pub with_registry : Option Born → List Marks → List Marks
-with_registry None registries = registries
-with_registry (Some x) registries =
-    if is_registry x then registries ++ record { birth = x.birth; told = replicate max_globals false; removed = replicate max_globals false } ∷ [] else registries
+abbrev pub untold : Born → Marks
+untold x = record { birth = x.birth; told = replicate max_globals false; removed = replicate max_globals false }
 
--- one that is closed is owed nothing
-abbrev pub without_registry : Bool → ℕ → List Marks → List Marks
-without_registry false birth registries = registries
-without_registry true birth [] = []
-without_registry true birth (r ∷ registries) = if nat_eq r.birth birth then without_registry true birth registries else r ∷ without_registry true birth registries
+abbrev pub marks_birth : Marks → ℕ
+marks_birth r = r.birth
+
+-- the open registries after a request that makes this
+abbrev pub registries_after : Option Born → List Marks → List Marks
+registries_after None registries = registries
+registries_after (Some x) registries = with_registry x.iface (untold x) registries
 
 -- ---- what the client learns of globals
 
@@ -140,7 +141,7 @@ request_read w m rest = record w {
   requests = rest;
   events = w.events ++ delete m.destroys m.target;
   server = gone m.destroys m.target (born_into same (made_in m.args) w.server);
-  registries = without_registry m.destroys m.target.birth (with_registry (made_in m.args) w.registries);
+  registries = without_registry marks_birth m.destroys m.target.birth (registries_after (made_in m.args) w.registries);
 }
 
 abbrev pub event_written : World → Message Born → World

@@ -1,21 +1,21 @@
 //! What the two ends keep, whatever is done with them.
-ghost use Rattle.std.specs.Prelude.{◌≡◌, ◌⊎◌, ◌<◌, ℕ, Bool, List, ◌++◌, ◌∷◌, [], true, false, None, Some, Err};
+ghost use Rattle.std.specs.Prelude.{◌≡◌, ◌⊎◌, ℕ, List, ◌++◌, ◌∷◌, [], true, false, None, Some, Err};
 ghost use Rattle.wl_sigs.specs.Tables.{Interface};
+ghost use Rattle.wl_sigs.specs.Fixed.{registry};
 ghost use Rattle.wl_sigs.specs.Valid.{Valid};
+ghost use Rattle.wl_table.specs.View.{look};
 ghost use Rattle.wl_message.specs.declared.amounts.Sizes.{Sizes};
 ghost use Rattle.wl_objects.specs.declared.error.Fault.{Fault};
 ghost use Rattle.wl_objects.specs.declared.error.NextError.TheVariants as errors;
 ghost use Rattle.wl_client.specs.Reports as client_reads;
 ghost use Rattle.wl_server.specs.Requests as server_reads;
-ghost use Rattle.wl_world.specs.Meant.{Born, Known};
-ghost use Rattle.wl_world.specs.World.{World, opening, Each, Row};
 ghost use Rattle.wl_end.specs.Core.{Core, feeds};
+ghost use Rattle.wl_world.specs.World.{World, opening, Each, Ending, IsOpen, IsThere};
 ghost use Rattle.wl_world.specs.Pair.{PairState, Move, Reply, Does, new_pair, drained, carries, carried_bytes, carried_tokens, all_of};
-ghost use Rattle.wl_world.specs.Flight.{Rows, Tell, Ask, Make, Delete, Held, Meets};
-ghost use Rattle.wl_world.specs.Stands.{Stands};
+ghost use Rattle.wl_world.specs.Stands.{Stands, by_event};
 ghost use Rattle.wl_world.specs.Runs.{Runs, DoesAll, IsMove, Agree, Keeps};
 ghost use Rattle.wl_world.specs.Samples.{CallbackLives, DeadArgument};
-ghost use Rattle.wl_world.specs.Plain.{tell_id, ask_id, In};
+ghost use Rattle.wl_world.specs.Plain.{StandsIn, OfEach, OnTheWay, IsNowhere, IsHeld, IsSomewhere, DeleteComes, MakeComes, DestroyComes, IsLast, IsTold, IdsAreOf, BirthsAreOf};
 
 /// A new pair stands for the opening world.
 pub fn new_stands()
@@ -67,49 +67,71 @@ pub fn server_meets_no_fault()
         → server_reads.next_answer pair.server ≡ Err (errors.Fault fault offset) → ⊥ }
 {}
 
-/// An id that is free at the client occurs in nothing in flight.
+/// An id that is free at the client occurs in nothing that is on the way.
 pub fn free_nowhere()
-    ensures { (test : Born → Bool) (events : List Tell) (requests : List Ask) (client : Rows Row) (server : Rows Born) (id : ℕ)
-        → Meets test events requests client server → client.rows id ≡ None
-        → Each (λ t. (tell_id t ≡ id) → ⊥) events × Each (λ a. (ask_id a ≡ id) → ⊥) requests }
+    ensures { (id : ℕ) → OnTheWay (λ pair asked told.
+        look pair.client.core.view id ≡ None → IsNowhere id asked told) }
 {}
 
-/// What the client holds has its delete in flight, is open at the server, or is made by a request
-/// in flight.
+/// What the client holds has its delete on the way, is open at the server, or is made by a request
+/// on the way.
 pub fn held_where()
-    ensures { (test : Born → Bool) (events : List Tell) (requests : List Ask) (client : Rows Row) (server : Rows Born) (object : Known)
-        → Meets test events requests client server → Held client object
-        → In (Delete object) events ⊎ (server.rows object.id ≡ Some object.born) ⊎ In (Make object) requests }
+    ensures { OfEach (λ pair world object. IsHeld world object → IsSomewhere world object) }
+{}
+
+/// And back: what has its delete on the way, is open at the server or is made on the way, the
+/// client holds.
+pub fn held_back()
+    ensures { OfEach (λ pair world object. IsSomewhere world object → IsHeld world object) }
+{}
+
+/// Only one of these holds of an object.
+pub fn only_one()
+    ensures open_or_deleted { OfEach (λ pair world object.
+        IsThere world.server object → DeleteComes world object → ⊥) }
+    ensures made_or_deleted { OfEach (λ pair world object.
+        MakeComes world object → DeleteComes world object → ⊥) }
+    ensures made_or_open { OfEach (λ pair world object.
+        MakeComes world object → IsThere world.server object → ⊥) }
+{}
+
+/// What is ending at the client has its destroying request or its delete on the way, never both.
+/// What is open there has no destroying request on the way, and its delete only where its interface
+/// has a destroying event.
+pub fn ending_where()
+    ensures ending { OfEach (λ pair world object. world.client object.birth ≡ Some (Ending object)
+        → DeleteComes world object ⊎ DestroyComes world object) }
+    ensures one { OfEach (λ pair world object.
+        DeleteComes world object → DestroyComes world object → ⊥) }
+    ensures is_open { OfEach (λ pair world object.
+        IsOpen world.client object → DestroyComes world object → ⊥) }
+    ensures event { OfEach (λ pair world object. IsOpen world.client object
+        → DeleteComes world object → by_event pair.server.core.tables object ≡ true) }
+{}
+
+/// Nothing behind a delete on the way names its object.
+pub fn deleted_last()
+    ensures { OfEach (λ pair world object. IsLast world object) }
+{}
+
+/// The ids used at the client are those used at the server and those of the objects that are made
+/// on the way; so are the births that each has counted.
+pub fn counted_where()
+    ensures ids { OnTheWay (λ pair asked told. IdsAreOf pair asked) }
+    ensures births { (pair : PairState) (world : World)
+        → StandsIn pair world → BirthsAreOf pair world }
+{}
+
+/// Each registry that is open at the server is one of those that are told of globals.
+pub fn registries_are_told()
+    ensures { OfEach (λ pair world object.
+        IsThere world.server object → object.iface ≡ registry → IsTold world object) }
 {}
 
 /// What a carry takes out of one end fits into the other, which takes all of it in.
 pub fn carry_is_whole()
     ensures { (from to : Core) (most : ℕ)
         → feeds to (carried_bytes from (carries from to most)) (carried_tokens from (carries from to most)) ≡ all_of (carries from to most) }
-{}
-
-/// And back: what has its delete in flight, is open at the server or is made in flight, the client holds.
-pub fn held_back()
-    ensures { (test : Born → Bool) (events : List Tell) (requests : List Ask) (client : Rows Row) (server : Rows Born) (object : Known)
-        → Meets test events requests client server
-        → In (Delete object) events ⊎ (server.rows object.id ≡ Some object.born) ⊎ In (Make object) requests → Held client object }
-{}
-
-/// Only one of these holds of an object: what is open at the server or made in flight has no delete in
-/// flight, and what is made in flight has a birth that the server has not counted.
-pub fn only_one()
-    ensures open_or_deleted { (test : Born → Bool) (events : List Tell) (requests : List Ask) (client : Rows Row) (server : Rows Born) (object : Known)
-        → Meets test events requests client server → server.rows object.id ≡ Some object.born → In (Delete object) events → ⊥ }
-    ensures made_or_deleted { (test : Born → Bool) (events : List Tell) (requests : List Ask) (client : Rows Row) (server : Rows Born) (object : Known)
-        → Meets test events requests client server → In (Make object) requests → In (Delete object) events → ⊥ }
-    ensures made_or_counted { (test : Born → Bool) (events : List Tell) (requests : List Ask) (client : Rows Row) (server : Rows Born) (object : Known)
-        → Meets test events requests client server → In (Make object) requests → object.born.birth < server.births → ⊥ }
-{}
-
-/// Nothing behind a delete in flight names the id of its object.
-pub fn deleted_last()
-    ensures { (test : Born → Bool) (before after : List Tell) (requests : List Ask) (client : Rows Row) (server : Rows Born) (object : Known)
-        → Meets test (before ++ Delete object ∷ after) requests client server → Each (λ t. (tell_id t ≡ object.id) → ⊥) after }
 {}
 
 /// A history that there is: a callback is made, done with, and forgotten.

@@ -1,5 +1,5 @@
 use Rattle.std.proofs.Common.{◌≡◌, sym, ap, subst, ◌∙◌, rules}
-use Rattle.std.specs.Prelude.{IsTrue}
+use Rattle.std.specs.Prelude.{IsTrue, is_some}
 use Rattle.wl_table.specs.View.{View, is_held}
 use Rattle.wl_objects.specs.Messages.{opens}
 use Rattle.wl_end.specs.Core.{Core}
@@ -11,7 +11,7 @@ end-requires-clause-held g c =
     let id = c.args.step.now.report.target.id in
     let view : c.pass.new.self.view ≡ opens c.args.core.now.view c.args.step.now.made =
     ap (λ (core : Core). core.view) c.pass.ensures.state ∙ ap (λ (core : Core). core.view) c.in_ok-open_made.ensures.core in
-    subst (λ (v : View). IsTrue (is_held v id)) (sym view) (held-opened c.args.core.now.view c.args.step.now.made id c.requires.held)
+    subst (λ (v : View). IsTrue (is_held v id)) (sym view) (held-opened c.args.core.now.view c.args.step.now.made id (ap is_some c.requires.row))
 
 pub returns-clause-core : goal.returns-clause-core
 returns-clause-core g c = search rules

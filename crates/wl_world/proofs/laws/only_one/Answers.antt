@@ -1,5 +1,9 @@
-use Rattle.wl_world.proofs.Plain.{not_open_deleted, not_made_deleted, not_made_counted}
+use Rattle.wl_world.proofs.Worlds.{in_world, open_not_deleted, made_not_deleted, made_not_open}
 use Rattle.wl_world.proofs.laws.only_one.Goals as goal
 
 pub returns : goal.returns
-returns c = record { open_or_deleted = λ test es qs v s x m h d. not_open_deleted x m h d; made_or_deleted = λ test es qs v s x m h d. not_made_deleted x m h d; made_or_counted = λ test es qs v s x m h l. not_made_counted x m h l }
+returns c = record {
+  open_or_deleted = λ pair world object h i j. in_world pair world h (λ asked told s. open_not_deleted pair world asked told s object i j);
+  made_or_deleted = λ pair world object h i j. in_world pair world h (λ asked told s. made_not_deleted pair world asked told s object i j);
+  made_or_open = λ pair world object h i j. in_world pair world h (λ asked told s. made_not_open pair world asked told s object i j);
+}

@@ -1,21 +1,24 @@
 use Rattle.std.proofs.Common.{◌≡◌, List, length, take, drop, ◌++◌, sym, subst, ap, ◌∙◌, arith}
 use Rattle.std.proofs.lemmas.List.{take_at}
 use Rattle.wl_end.specs.Core.{Core, IsOrdinary}
-use Rattle.wl_server.specs.State.{Global, Registry, RiseFrom, State}
+use Rattle.wl_server.specs.State.{Global, Registry, State}
+use Rattle.wl_server.specs.Registries.{HasRegistries}
 use Rattle.wl_server.specs.Announcing.{Fitting, after_announce, owed_in}
 use Rattle.wl_server.specs.Tellings.{IsTold}
-use Rattle.wl_server.proofs.Progresses.{finished, rising-told}
+use Rattle.wl_server.proofs.Progresses.{finished}
+use Rattle.wl_server.proofs.Registries.{has_told, births_told}
 use Rattle.wl_server.proofs.server.Server.announce.Goals as goal
 
 pub invariant_of-self : goal.invariant_of-self
 invariant_of-self g c =
     let len : length c.tell_all-told.new.registries ≡ c.self.inside.registries.len = omega (arith, c.tell_all-told.auto.registries, c.deref_mut.ensures.len, c.self.inside.registries.ok.0) in
     let all : take c.self.inside.registries.len (c.tell_all-told.new.registries ++ drop (length c.tell_all-told.new.registries) c.self.inside.registries.items) ≡ c.tell_all-told.new.registries = take_at _ _ _ len in
+    let told = subst (λ (rs : List Registry). IsTold c.self.inside.core rs (owed_in c.deref.result.now rs) c.tell_all-told.result c.tell_all-told.new.core c.tell_all-told.new.registries) c.deref_mut.ensures.value c.tell_all-told.ensures in
+    let has = has_told c.self.inside.core c.self.inside.registries.items _ _ c.tell_all-told.new.core c.tell_all-told.new.registries told c.self.invariant.registries in
     record {
       few = c.self.invariant.few;
-      rising = subst (RiseFrom 0 c.tell_all-told.new.core.view.births) (sym all)
-          (rising-told c.self.inside.core _ _ _ c.tell_all-told.new.core c.tell_all-told.new.registries c.tell_all-told.ensures
-          (subst (RiseFrom 0 c.self.inside.core.view.births) (sym c.deref_mut.ensures.value) c.self.invariant.rising));
+      registries = subst (HasRegistries c.tell_all-told.new.core.view) (sym all) has;
+      births = births_told c.self.inside.core _ _ _ c.tell_all-told.new.core c.tell_all-told.new.registries told c.self.invariant.births;
     }
 
 pub returns : goal.returns
@@ -29,6 +32,7 @@ returns g c =
     (subst (λ (gs : List Global). IsTold state.core c.deref_mut.result.now (owed_in gs c.deref_mut.result.now) c.tell_all-told.result c.tell_all-told.new.core c.tell_all-told.new.registries) c.deref.ensures.value c.tell_all-told.ensures) in
     let f = finished state c.tell_all-told.result c.tell_all-told.new.core c.tell_all-told.new.registries ordinary told in
     record {
+      registries = subst (λ (s : State). HasRegistries s.core.view s.registries) c.self.view_is c.self.invariant.registries;
       ok = (
         ap (λ (s : State). s.core.failed) (sym c.self.view_is) ∙ (sym (λ i. (c.self-inside.view_is i).core.failed) ∙ c.if-self.false),
         subst (λ (s : State). Fitting s c.tell_all-told.result.count) c.self.view_is f.0,

@@ -1,5 +1,20 @@
-use Rattle.std.proofs.Common.{rules}
+use Rattle.std.proofs.Common.{rules, sym, ap, subst, arith, []}
+use Rattle.wl_sigs.specs.Fixed.{display}
+use Rattle.wl_table.specs.View.{View, opening}
+use Rattle.wl_table.specs.Sounds.{Sound-opening}
+use Rattle.wl_end.specs.Core.{Core}
+use Rattle.wl_server.specs.Registries.{HasRegistries, BirthsAreOnce}
+use Rattle.wl_server.proofs.Registries.{has_none, births_of_sound}
 use Rattle.wl_server.proofs.server.Server.new.Goals as goal
 
 pub returns : goal.returns
 returns c = search rules
+
+pub invariant_of-result : goal.invariant_of-result
+invariant_of-result g c =
+    let view = ap (λ (k : Core). k.view) c.in_ok-core.ensures in
+    record {
+      few = grind (arith, c.new-globals.ensures.items);
+      registries = subst (HasRegistries c.in_ok-core.core.view) (sym c.new-registries.ensures.items) (subst (λ (v : View). HasRegistries v []) (sym view) has_none);
+      births = subst BirthsAreOnce (sym view) (births_of_sound (opening display) (Sound-opening display));
+    }

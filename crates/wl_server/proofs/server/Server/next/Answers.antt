@@ -1,4 +1,4 @@
-use Rattle.std.proofs.Common.{◌≡◌, Bool, true, false, None, Some, Ok, Err, sym, ap, subst, ◌∙◌, refl}
+use Rattle.std.proofs.Common.{◌≡◌, true, false, None, Some, sym, ap, subst, ◌∙◌}
 use Rattle.std.specs.Prelude.{Option, Result, OnOk, OnErr, is_err}
 use Rattle.std.specs.declared.result.Result.TheVariants.{Ok as ok, Err as err}
 use Rattle.wl_objects.specs.declared.error.NextError.{NextError}
@@ -6,10 +6,12 @@ use Rattle.wl_objects.specs.declared.error.NextError.TheVariants.{Memory}
 use Rattle.wl_end.specs.Core.{Core}
 use Rattle.wl_end.specs.Outcomes.{Gives, left}
 use Rattle.wl_end.specs.Receiving.{has_arguments}
-use Rattle.wl_server.specs.State.{State, with_core, Registry, RiseFrom}
+use Rattle.wl_server.specs.State.{State, with_core}
+use Rattle.wl_server.specs.Registries.{HasRegistries, BirthsAreOnce}
 use Rattle.wl_server.specs.Requests.{Report, request, next_answer, after_next}
-use Rattle.wl_server.specs.Steps.{Step, step_in, steps_in, front_step, core_by, registries_by, core_told}
-use Rattle.wl_server.proofs.Taking.{seen-by, gives-front, leaves-err, leaves-some, memory-wanted, rise-step}
+use Rattle.wl_server.specs.Steps.{step_in, front_step, core_by, registries_by, core_told, CanTake}
+use Rattle.wl_server.proofs.Taking.{seen-by, gives-front, leaves-err, leaves-some, memory-wanted}
+use Rattle.wl_server.proofs.Registries.{has_step, births_step}
 use Rattle.wl_server.proofs.server.Server.next.Goals as goal
 
 on_ok : {X E P : Type 0} (r : Result X E) → is_err r ≡ false → OnOk r P → P
@@ -59,10 +61,12 @@ invariant_of-self-2 g c =
     let core : c.make_step.new.core ≡ core_by c.self.inside.core step = on_ok c.make_step.result is_ok c.make_step.ensures.core ∙ ap (λ (k : Core). core_by k step) c.in-Ok-Some.ensures.same in
     let registries : c.make_step.new.registries.items ≡ registries_by c.self.inside.core c.self.inside.registries.items step =
     on_ok c.make_step.result is_ok c.make_step.ensures.registries ∙ ap (λ (k : Core). registries_by k c.self.inside.registries.items step) c.in-Ok-Some.ensures.same in
+    let can : CanTake c.self.inside.core step = rw c.in-Ok-Some.field-0-is at c.in-Ok-Some.ensures.can in
     record {
       few = c.self.invariant.few;
-      rising = subst (λ (k : Core). RiseFrom 0 k.view.births c.make_step.new.registries.items) (sym core)
-          (subst (RiseFrom 0 (core_by c.self.inside.core step).view.births) (sym registries) (rise-step c.self.inside.core c.self.inside.registries.items step c.self.invariant.rising));
+      registries = subst (λ (k : Core). HasRegistries k.view c.make_step.new.registries.items) (sym core)
+          (subst (HasRegistries (core_by c.self.inside.core step).view) (sym registries) (has_step c.self.inside.core c.self.inside.registries.items step can c.self.invariant.births c.self.invariant.registries));
+      births = subst (λ (k : Core). BirthsAreOnce k.view) (sym core) (births_step c.self.inside.core step c.self.invariant.births);
     }
 
 pub returns-clause-answer : goal.returns-clause-answer

@@ -1,24 +1,32 @@
-use Rattle.std.proofs.Common.{◌≡◌, ℕ, List, sym, subst}
-use Rattle.std.specs.Prelude.{Result, OnOk, OnErr}
+use Rattle.std.proofs.Common.{◌≡◌, sym, subst}
+use Rattle.std.specs.Prelude.{Result, IfOk, OnOk, OnErr}
 use Rattle.std.specs.declared.result.Result.TheVariants.{Ok, Err}
+use Rattle.wl_sigs.specs.Valid.{Valid}
 use Rattle.wl_sigs.specs.declared.signature.Side.TheVariants.{Event}
 use Rattle.wl_objects.specs.Writing.{given}
 use Rattle.wl_end.specs.Core.{Core}
 use Rattle.wl_end.specs.Sending.{after_send}
-use Rattle.wl_server.specs.State.{Registry, RiseFrom}
-use Rattle.wl_server.proofs.Births.{rise-sent}
+use Rattle.wl_server.specs.Registries.{HasRegistries, BirthsAreOnce}
+use Rattle.wl_server.proofs.Registries.{has_sent, births_sent}
 use Rattle.wl_server.proofs.server.Server.send.Goals as goal
 
-by_result : {X E : Type 0} (r : Result X E) (before after sent : Core) (registries : List Registry) → OnOk r (after ≡ sent) → OnErr r (after ≡ before)
-    → (after ≡ sent → RiseFrom 0 after.view.births registries) → RiseFrom 0 before.view.births registries → RiseFrom 0 after.view.births registries
-by_result (Ok x) before after sent registries ok err f r = f ok
-by_result (Err why) before after sent registries ok err f r = subst (λ (k : Core). RiseFrom 0 k.view.births registries) (sym err) r
+-- what held of the end before holds of it after, where it does after an accepted call
+by_result : {X E : Type 0} (P : Core → Type 0) (r : Result X E) (before now sent : Core) → OnOk r (now ≡ sent) → OnErr r (now ≡ before) → IfOk r (λ _. Valid before.tables)
+    → (Valid before.tables → now ≡ sent → P now) → P before → P now
+by_result P (Ok x) before now sent ok err v f h = f v ok
+by_result P (Err why) before now sent ok err v f h = subst P (sym err) h
 
 pub invariant_of-self : goal.invariant_of-self
 invariant_of-self g c =
     let list = given c.args.args.now in
+    let core = c.self.inside.core in
+    let now = c.send.new.self in
+    let sent = after_send core Event c.args.target c.args.opcode list in
+    let e = c.send.ensures in
     record {
       few = c.self.invariant.few;
-      rising = by_result c.send.result c.self.inside.core c.send.new.self (after_send c.self.inside.core Event c.args.target c.args.opcode list) c.self.inside.registries.items c.send.ensures.ok c.send.ensures.err
-          (λ e. rise-sent c.self.inside.core c.send.new.self c.self.inside.registries.items Event c.args.target c.args.opcode list e c.self.invariant.rising) c.self.invariant.rising;
+      registries = by_result (λ (k : Core). HasRegistries k.view c.self.inside.registries.items) c.send.result core now sent e.ok e.err e.valid
+          (λ v is. has_sent core now c.self.inside.registries.items c.args.target c.args.opcode list v is c.self.invariant.registries) c.self.invariant.registries;
+      births = by_result (λ (k : Core). BirthsAreOnce k.view) c.send.result core now sent e.ok e.err e.valid
+          (λ v is. births_sent core now c.args.target c.args.opcode list v is c.self.invariant.births) c.self.invariant.births;
     }

@@ -1,0 +1,40 @@
+-- The open registries, in the order of their births, whatever is kept of each.
+use Rattle.std.specs.Prelude.{◌≡◌, ◌⊎◌, ℕ, ◌<◌, Bool, true, false, nat_eq, if◌then◌else◌, List, [], ◌∷◌, ◌++◌, Some}
+use Rattle.wl_wire.specs.declared.kind.Iface.{Iface}
+use Rattle.wl_sigs.specs.Fixed.{registry}
+use Rattle.wl_table.specs.declared.object.Object.{Object}
+use Rattle.wl_table.specs.declared.object.Entry.{Entry}
+use Rattle.wl_table.specs.View.{View, look}
+use Rattle.wl_objects.specs.Messages.{same_iface}
+use Rattle.wl_server.specs.State.{Registry, RiseFrom}
+
+-- The registries after an object of this interface was opened: a new registry stands last.
+abbrev pub with_registry : {R : Type 0} → Iface → R → List R → List R
+with_registry iface new registries = if same_iface iface registry then registries ++ new ∷ [] else registries
+
+-- The registries after the object of this birth ended, where it did: one that ends is owed nothing any more.
+abbrev pub without_registry : {R : Type 0} → (R → ℕ) → Bool → ℕ → List R → List R
+without_registry birth_in false birth registries = registries
+without_registry birth_in true birth [] = []
+without_registry birth_in true birth (r ∷ registries) =
+    if nat_eq (birth_in r) birth then without_registry birth_in true birth registries else r ∷ without_registry birth_in true birth registries
+
+abbrev pub registry_birth : Registry → ℕ
+registry_birth r = r.object.birth
+
+-- ---- the registries of a server
+
+-- this object stands among the registries
+abbrev pub IsAmong : Object → List Registry → Type 0
+IsAmong object [] = ⊥
+IsAmong object (r ∷ registries) = (r.object ≡ object) ⊎ IsAmong object registries
+
+-- Each object of interface wl_registry stands among these, and their births rise.
+pub record HasRegistries (view : View) (registries : List Registry) : Type 0 where
+  pub rising : RiseFrom 0 view.births registries
+  pub all : (id : ℕ) (e : Entry) → look view id ≡ Some e → e.iface ≡ registry → IsAmong (record { id = id; birth = e.birth }) registries
+
+-- Each birth in a table was counted, and is that of one id.
+pub record BirthsAreOnce (view : View) : Type 0 where
+  pub counted : (id : ℕ) (e : Entry) → look view id ≡ Some e → e.birth < view.births
+  pub one : (id other : ℕ) (e d : Entry) → look view id ≡ Some e → look view other ≡ Some d → e.birth ≡ d.birth → id ≡ other
