@@ -1,3 +1,4 @@
 pub mod View
 pub mod Views
 pub mod Sounds
+pub mod Errors
