@@ -3,6 +3,7 @@
 ghost use Rattle.std.specs.Prelude.{◌≡◌};
 ghost use Rattle.wl_objects.specs.Texts.{argument_fault_number};
 
+use std::error::Error;
 use std::fmt::{self, Display, Formatter};
 use wl_wire::ArgFault;
 
@@ -115,3 +116,53 @@ fn argument_fault_number(fault: ArgFault) -> u8
         ArgFault::InnerNul => 4,
     }
 }
+
+impl Error for Fault {}
+
+impl Display for SendError {
+    ghost use Rattle.std.specs.Prelude.{Some};
+    ghost use Rattle.wl_objects.specs.Texts.{send_error_text};
+
+    ghost output = { λ error. Some (send_error_text error) };
+
+    fn fmt<W: fmt::Write>(&self, f: &mut Formatter<W>) -> fmt::Result {
+        match self {
+            SendError::Failed => f.write_str("this end has failed"),
+            SendError::Stale => f.write_str("target is not live"),
+            SendError::NoSuchMessage => f.write_str("no such message"),
+            SendError::TooOld => f.write_str("message is newer than its target"),
+            SendError::WrongArgs(place) => write!(f, "argument {place} does not fit the signature"),
+            SendError::BadObject(place) => {
+                write!(f, "argument {place} is no live object of its interface")
+            }
+            SendError::BadBind => f.write_str("no such global at this version"),
+            SendError::TooLong => f.write_str("message is too long"),
+            SendError::Full => f.write_str("outbox is full"),
+            SendError::NoIds => f.write_str("no more objects can be opened"),
+            SendError::Memory => f.write_str("out of memory"),
+            SendError::NotDroppable => f.write_str("object does not end by an event"),
+        }
+    }
+}
+
+impl Error for SendError {}
+
+impl Display for NextError {
+    ghost use Rattle.std.specs.Prelude.{Some};
+    ghost use Rattle.wl_objects.specs.Texts.{next_error_text};
+
+    ghost output = { λ error. Some (next_error_text error) };
+
+    fn fmt<W: fmt::Write>(&self, f: &mut Formatter<W>) -> fmt::Result {
+        match self {
+            NextError::Fault { fault, offset } => {
+                write!(f, "{fault}, in the message at byte {offset}")
+            }
+            NextError::Failed => f.write_str("this end has failed"),
+            NextError::Memory => f.write_str("out of memory"),
+            NextError::OutFull => f.write_str("outbox has no room for delete_id"),
+        }
+    }
+}
+
+impl Error for NextError {}

@@ -4,3 +4,4 @@ pub mod Core
 pub mod Valid
 pub mod Rules
 pub mod Written
+pub mod Opcodes

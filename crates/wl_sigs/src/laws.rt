@@ -1,5 +1,8 @@
 //! Laws of valid tables. They do nothing: their contracts state facts about the definitions.
 ghost use Rattle.std.specs.Prelude.{◌≡◌, ◌↔◌, ℕ, List, true};
+ghost use Rattle.wl_sigs.specs.declared.signature.Side.{Side};
+ghost use Rattle.wl_sigs.specs.Core.{core_tables};
+ghost use Rattle.wl_sigs.specs.Opcodes.{opcodes, opcodes_in};
 ghost use Rattle.wl_sigs.specs.Rules.{keep_rules};
 ghost use Rattle.wl_sigs.specs.Tables.{Interface, interface_at, place_of};
 ghost use Rattle.wl_sigs.specs.Valid.{Valid, HasFixedThree};
@@ -13,4 +16,11 @@ pub fn valid_where_tests_pass()
 /// In valid tables each interface is the one that is found by its name.
 pub fn found_by_its_name()
     ensures { (tables : List Interface) (place : ℕ) (i : Interface) → Valid tables → interface_at tables place ≡ Some i → place_of tables i.name ≡ Some (record { 0 = place }) }
+{}
+
+/// Each constant of `request` and `event` is the opcode at which the core tables have the message of
+/// its name, and each message of the core tables has its constant.
+#[tactic(auto, unfolding(crate::specs::Core::core_tables))]
+pub fn opcodes_are_of_their_names()
+    ensures { (side : Side) → opcodes side ≡ opcodes_in core_tables side }
 {}

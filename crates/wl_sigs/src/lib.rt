@@ -6,11 +6,13 @@
 #![tactic(auto)]
 
 mod core_interfaces;
+pub mod event;
 mod interface;
 mod laws;
+pub mod request;
 mod signature;
 mod tables;
 
-pub use laws::{found_by_its_name, valid_where_tests_pass};
+pub use laws::{found_by_its_name, opcodes_are_of_their_names, valid_where_tests_pass};
 pub use signature::{Destroys, Side, Signature};
 pub use tables::Tables;

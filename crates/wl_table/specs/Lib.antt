@@ -2,3 +2,4 @@ pub mod View
 pub mod Views
 pub mod Sounds
 pub mod Slots
+pub mod Errors

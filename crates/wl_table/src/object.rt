@@ -1,4 +1,7 @@
 //! What a table keeps of an object, how callers name one, and why none was opened.
+
+use std::error::Error;
+use std::fmt::{self, Display, Formatter};
 use wl_wire::Iface;
 
 /// Whether an object lives.
@@ -46,3 +49,21 @@ pub enum TableError {
     /// O4: there is no memory for the entry or for its later closing.
     Memory,
 }
+
+impl Display for TableError {
+    ghost use Rattle.std.specs.Prelude.{Some};
+    ghost use Rattle.wl_table.specs.Errors.{table_error_text};
+
+    ghost output = { λ error. Some (table_error_text error) };
+
+    fn fmt<W: fmt::Write>(&self, f: &mut Formatter<W>) -> fmt::Result {
+        f.write_str(match self {
+            TableError::NoIds => "no more objects can be opened",
+            TableError::NotNext => "id is neither freed nor the next",
+            TableError::InUse => "id is in use",
+            TableError::Memory => "out of memory",
+        })
+    }
+}
+
+impl Error for TableError {}

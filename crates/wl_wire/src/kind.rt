@@ -1,5 +1,8 @@
 //! What kind of argument a signature asks for, and why bytes are none of that kind.
 
+use std::error::Error;
+use std::fmt::{self, Display, Formatter};
+
 /// An interface, by its place in the signature tables, counted from 0.
 #[derive(Clone, Copy, Debug, PartialEq, Eq)]
 pub struct Iface(pub u16);
@@ -49,3 +52,37 @@ pub enum ReadError {
     /// There is no memory for the value's bytes.
     Memory,
 }
+
+impl Display for ArgFault {
+    ghost use Rattle.std.specs.Prelude.{Some};
+    ghost use Rattle.wl_wire.specs.Errors.{arg_fault_text};
+
+    ghost output = { λ fault. Some (arg_fault_text fault) };
+
+    fn fmt<W: fmt::Write>(&self, f: &mut Formatter<W>) -> fmt::Result {
+        f.write_str(match self {
+            ArgFault::Short => "argument is cut short",
+            ArgFault::NullNotAllowed => "null is not allowed",
+            ArgFault::NoEndingNul => "string does not end with a NUL",
+            ArgFault::InnerNul => "string has a NUL inside",
+        })
+    }
+}
+
+impl Error for ArgFault {}
+
+impl Display for ReadError {
+    ghost use Rattle.std.specs.Prelude.{Some};
+    ghost use Rattle.wl_wire.specs.Errors.{read_error_text};
+
+    ghost output = { λ error. Some (read_error_text error) };
+
+    fn fmt<W: fmt::Write>(&self, f: &mut Formatter<W>) -> fmt::Result {
+        match self {
+            ReadError::Arg(fault) => write!(f, "{fault}"),
+            ReadError::Memory => f.write_str("out of memory"),
+        }
+    }
+}
+
+impl Error for ReadError {}
