@@ -5,7 +5,7 @@ ghost use Rattle.std.specs.Prelude.{◌<◌};
 use refusing::RefusingAllocator;
 use std::alloc::{AllocError, Allocator, Global};
 use std::test::Fail;
-use wl_table::{Entry, MapTable, Object, State, Table, TableError};
+use wl_table::{Entry, MapTable, Object, SlotTable, State, Table, TableError};
 use wl_wire::Iface;
 
 const DISPLAY: Iface = Iface(0);
@@ -137,17 +137,45 @@ fn is_full<T: Table>(table: &mut T) -> bool {
         && counts(table, 1_048_576, 1_048_576, 1_048_576)
 }
 
-/// Whether all ids come to be used, and one that is freed is the next.
+/// Frees the ids from 2 on, below this id. Whether each was in use.
+fn closes_below<T: Table>(table: &mut T, limit: u32) -> bool {
+    for id in 2..limit {
+        if !closes(table, id) {
+            return false;
+        }
+    }
+    true
+}
+
+/// Whether the ids below this one come again, the greatest first, but for the one that is in use.
+fn opens_downwards<T: Table>(table: &mut T, limit: u32, in_use: u32) -> bool {
+    for back in 2..limit {
+        let id = limit - back + 1;
+        let birth = table.births();
+        if id != in_use && !opens(table, 1, id, birth) {
+            return false;
+        }
+    }
+    true
+}
+
+/// Whether all ids come to be used, and one that is freed is the next; and where many are freed,
+/// an object is opened in their middle, and the others come in their order.
 fn fills_up<T: Table>(table: &mut T) -> bool {
     opens_below(table, 1_048_577)
         && is_full(table)
         && closes(table, 77)
         && table.can_open()
         && opens(table, 1, 77, 1_048_576)
+        && closes_below(table, 10_002)
+        && opens_at(table, 5_001, 1_048_577)
+        && opens_downwards(table, 10_002, 5_001)
+        && !table.can_open()
+        && counts(table, 1_048_576, 1_048_576, 1_058_577)
 }
 
 /// Whether two tables have the same entries under the same ids, and the same counts.
-fn are_same<T: Table>(one: &T, other: &T) -> bool {
+fn are_same<T: Table, U: Table>(one: &T, other: &U) -> bool {
     if one.used() != other.used() || one.births() != other.births() || one.len() != other.len() {
         return false;
     }
@@ -311,35 +339,6 @@ fn openings_are_refused<T: Table<Alloc = RefusingAllocator> + Drop>(
     0 < asked
 }
 
-/// Whether this holds of a new table.
-fn holds<F: FnOnce(&mut MapTable<Global>) -> bool>(
-    alloc: Global,
-    scene: F,
-) -> Result<bool, AllocError>
-    requires { F.IsAlwaysCallable scene }
-{
-    let mut table = MapTable::new(alloc, DISPLAY)?;
-    Ok(scene(&mut table))
-}
-
-#[test]
-fn map_table_reuses_ids(rt: HostRuntime) -> Result<(), Fail> {
-    assert!(rt; holds(rt.alloc(), reuses_ids)?);
-    Ok(())
-}
-
-#[test]
-fn map_table_keeps_zombies(rt: HostRuntime) -> Result<(), Fail> {
-    assert!(rt; holds(rt.alloc(), keeps_zombies)?);
-    Ok(())
-}
-
-#[test]
-fn map_table_fills_up(rt: HostRuntime) -> Result<(), Fail> {
-    assert!(rt; holds(rt.alloc(), fills_up)?);
-    Ok(())
-}
-
 /// Whether each allocation of a table's making and of its openings is refused rightly in turn.
 fn is_refused_in_turn<T: Table<Alloc = RefusingAllocator> + Drop>(
     memory: &RefusingAllocator,
@@ -347,9 +346,164 @@ fn is_refused_in_turn<T: Table<Alloc = RefusingAllocator> + Drop>(
     Ok(is_made_in_the_end::<T>(memory)? && openings_are_refused::<T>(memory))
 }
 
+/// Whether this holds of a new table.
+fn holds<T: Table<Alloc = Global> + Drop, F: FnOnce(&mut T) -> bool>(
+    alloc: Global,
+    scene: F,
+) -> Result<bool, AllocError>
+    requires { F.IsAlwaysCallable scene }
+{
+    let mut table = T::new(alloc, DISPLAY)?;
+    Ok(scene(&mut table))
+}
+
+#[test]
+fn map_table_reuses_ids(rt: HostRuntime) -> Result<(), Fail> {
+    assert!(rt; holds(rt.alloc(), reuses_ids::<MapTable<Global>>)?);
+    Ok(())
+}
+
+#[test]
+fn slot_table_reuses_ids(rt: HostRuntime) -> Result<(), Fail> {
+    assert!(rt; holds(rt.alloc(), reuses_ids::<SlotTable<Global>>)?);
+    Ok(())
+}
+
+#[test]
+fn map_table_keeps_zombies(rt: HostRuntime) -> Result<(), Fail> {
+    assert!(rt; holds(rt.alloc(), keeps_zombies::<MapTable<Global>>)?);
+    Ok(())
+}
+
+#[test]
+fn slot_table_keeps_zombies(rt: HostRuntime) -> Result<(), Fail> {
+    assert!(rt; holds(rt.alloc(), keeps_zombies::<SlotTable<Global>>)?);
+    Ok(())
+}
+
+#[test]
+fn map_table_fills_up(rt: HostRuntime) -> Result<(), Fail> {
+    assert!(rt; holds(rt.alloc(), fills_up::<MapTable<Global>>)?);
+    Ok(())
+}
+
+#[test]
+fn slot_table_fills_up(rt: HostRuntime) -> Result<(), Fail> {
+    assert!(rt; holds(rt.alloc(), fills_up::<SlotTable<Global>>)?);
+    Ok(())
+}
+
 #[test]
 fn map_table_is_refused_in_turn(rt: HostRuntime) -> Result<(), Fail> {
     let memory = RefusingAllocator::new(rt.alloc())?;
     assert!(rt; is_refused_in_turn::<MapTable<RefusingAllocator>>(&memory)?);
+    Ok(())
+}
+
+#[test]
+fn slot_table_is_refused_in_turn(rt: HostRuntime) -> Result<(), Fail> {
+    let memory = RefusingAllocator::new(rt.alloc())?;
+    assert!(rt; is_refused_in_turn::<SlotTable<RefusingAllocator>>(&memory)?);
+    Ok(())
+}
+
+const WANT_OF_MEMORY: Reply = Reply::Opened(Err(TableError::Memory));
+
+/// One call of a table.
+#[derive(Clone, Copy)]
+enum Move {
+    OpenNext,
+    OpenAt(u32),
+    End(u32),
+    Close(u32),
+}
+
+/// What a call returned. An end and a closing are made only where they are allowed, and say
+/// whether they were.
+#[derive(Clone, Copy, PartialEq)]
+enum Reply {
+    Opened(Result<Object, TableError>),
+    Made(bool),
+}
+
+/// The move that a number stands for.
+fn move_of(drawn: u32) -> Move {
+    let id = drawn / 8 % 100;
+    match drawn % 8 {
+        0 | 1 => Move::OpenNext,
+        2 | 3 => Move::OpenAt(id),
+        4 => Move::End(id),
+        _ => Move::Close(id),
+    }
+}
+
+fn reply_of<T: Table>(table: &mut T, next: Move) -> Reply {
+    match next {
+        Move::OpenNext => Reply::Opened(table.open_next(CALLBACK, 1)),
+        Move::OpenAt(id) => Reply::Opened(table.open_at(id, CALLBACK, 1)),
+        Move::End(id) => Reply::Made(ends(table, id)),
+        Move::Close(id) => Reply::Made(closes(table, id)),
+    }
+}
+
+/// How often each kind of reply came.
+#[derive(Clone, Copy, PartialEq)]
+struct Replies {
+    opened: u32,
+    not_next: u32,
+    in_use: u32,
+    made: u32,
+}
+
+impl Replies {
+    fn count(&mut self, reply: Reply) {
+        let counter = match reply {
+            Reply::Opened(Ok(_)) => &mut self.opened,
+            Reply::Opened(Err(TableError::NotNext)) => &mut self.not_next,
+            Reply::Opened(Err(TableError::InUse)) => &mut self.in_use,
+            Reply::Made(true) => &mut self.made,
+            _ => return,
+        };
+        *counter = counter.saturating_add(1);
+    }
+}
+
+/// Whether two tables reply alike to 2,000 moves, never with want of memory, and are the same in
+/// the end. The moves are drawn from a fixed sequence of numbers; 19 of them open an object in the
+/// midst of the freed ids.
+fn reply_alike<T: Table, U: Table>(one: &mut T, other: &mut U) -> bool {
+    let mut replies = Replies {
+        opened: 0,
+        not_next: 0,
+        in_use: 0,
+        made: 0,
+    };
+    let mut state = 1u32;
+    for _ in 0u32..2000 {
+        state = state.wrapping_mul(1_664_525).wrapping_add(1_013_904_223);
+        let next = move_of(state / 65_536);
+        let reply = reply_of(one, next);
+        if reply != reply_of(other, next) || reply == WANT_OF_MEMORY {
+            return false;
+        }
+        replies.count(reply);
+    }
+    let wanted = Replies {
+        opened: 568,
+        not_next: 119,
+        in_use: 367,
+        made: 640,
+    };
+    are_same(one, other) && replies == wanted && counts(one, 99, 84, 569)
+}
+
+#[test]
+fn both_tables_reply_alike(rt: HostRuntime) -> Result<(), Fail> {
+    let mut map = MapTable::new(rt.alloc(), DISPLAY)?;
+    let mut slots = SlotTable::new(rt.alloc(), DISPLAY)?;
+    let alike = reply_alike(&mut map, &mut slots);
+    drop(map);
+    drop(slots);
+    assert!(rt; alike);
     Ok(())
 }

@@ -1,5 +1,5 @@
 -- The chain of freed ids: what taking an id out, putting one first, and writes elsewhere make of it.
-use Rattle.std.proofs.Common.{◌≡◌, ◌≢◌, ℕ, zero, suc, ◌<◌, ◌≤◌, List, [], ◌∷◌, refl, sym, ◌∙◌, ap, cond, Bool, true, false, length, arith, eqb, ⊎_elim}
+use Rattle.std.proofs.Common.{◌≡◌, ◌≢◌, ℕ, zero, suc, ◌+◌, ◌<◌, ◌≤◌, List, [], ◌∷◌, ◌++◌, refl, sym, ◌∙◌, ap, cond, Bool, true, false, length, arith, eqb, ⊎_elim}
 use Rattle.std.proofs.lemmas.Bool.{cases_eq}
 use Rattle.std.proofs.lemmas.Grind.{common_steps}
 use Rattle.std.proofs.lemmas.Bool.Decides.{nat_tests}
@@ -9,7 +9,8 @@ use Rattle.wl_table.specs.declared.slot_table.Slot.{Slot}
 use Rattle.wl_table.specs.declared.slot_table.Slot.TheVariants.{Free}
 use Rattle.wl_table.specs.View.{times, without, first_or}
 use Rattle.wl_table.specs.Views.{times-without, without-absent}
-use Rattle.wl_table.specs.Slots.{slot_at, older_of, newer_of, with_older, with_newer, next_in, followed, IsChain}
+use Rattle.wl_table.proofs.Freed.{times-append}
+use Rattle.wl_table.specs.Slots.{slot_at, older_of, newer_of, last_or, with_older, with_newer, next_in, followed, IsChain, IsPut, IsOlderSet, IsNewerSet}
 
 -- Neighbours in a list.
 
@@ -68,6 +69,28 @@ newer_without head id q (x ∷ xs) once null one in_q other =
     let h = newer_without x id q xs tail in
     grind (arith, common_steps, nat_tests, here, w, n, a, h, null, one, in_q, other)
 
+-- What the neighbours are, in a list that is split at an id.
+
+older_in : (id : ℕ) (front rest : List ℕ) → times id front ≡ 0 → older_of id (front ++ id ∷ rest) ≡ first_or 0 rest
+older_in id [] rest out = grind (arith, common_steps, nat_tests)
+older_in id (x ∷ xs) rest out = let h = older_in id xs rest in grind (arith, common_steps, nat_tests, h, out)
+
+newer_in : (head id : ℕ) (front rest : List ℕ) → times id front ≡ 0 → newer_of head id (front ++ id ∷ rest) ≡ last_or head front
+newer_in head id [] rest out = grind (arith, common_steps, nat_tests)
+newer_in head id (x ∷ xs) rest out = let h = newer_in x id xs rest in grind (arith, common_steps, nat_tests, h, out)
+
+-- the slot of an id in the chain holds the last of those before it and the first of those after it, 0 where there is none
+pub neighbours : (slots : List Slot) (first id : ℕ) (front rest : List ℕ) → IsChain slots first (front ++ id ∷ rest)
+    → slot_at slots id ≡ Some (Free (last_or 0 front) (first_or 0 rest))
+neighbours slots first id front rest c =
+    let t = times-append id front (id ∷ rest) in
+    let one = c.once id in
+    let here : times id (id ∷ rest) ≡ 1 + times id rest = grind (arith, common_steps, nat_tests) in
+    let out : times id front ≡ 0 = omega arith in
+    let newer = newer_in 0 id front rest out in
+    let older = older_in id front rest out in
+    c.linked id (omega arith) ∙ (λ i. Some (Free (newer i) (older i)))
+
 -- Following the chain.
 
 pub length-followed : (n : ℕ) (slots : List Slot) (id : ℕ) → length (followed n slots id) ≡ n
@@ -119,8 +142,8 @@ pick_newer false x n o = refl
 -- an id is taken out: its neighbours become each other's
 pub taken_out : (old mid new : List Slot) (first after id n o : ℕ) (ids : List ℕ)
     → IsChain old first ids → 0 < times id ids → slot_at old id ≡ Some (Free n o)
-    → ((q : ℕ) → slot_at mid q ≡ cond (eqb q n) (with_older o (slot_at old q)) (slot_at old q))
-    → ((q : ℕ) → slot_at new q ≡ cond (eqb q o) (with_newer n (slot_at mid q)) (slot_at mid q))
+    → IsOlderSet n o old mid
+    → IsNewerSet o n mid new
     → after ≡ cond (eqb n 0) o first
     → IsChain new after (without id ids)
 taken_out old mid new first after id n o ids c stands at_id to_mid to_new to_after =
@@ -155,8 +178,8 @@ first_slot b d first head n o s eb ed e =
 -- an id is put first
 pub with_first : (old mid new : List Slot) (first id : ℕ) (ids : List ℕ)
     → IsChain old first ids → times id ids ≡ 0
-    → ((q : ℕ) → slot_at mid q ≡ cond (eqb q first) (with_newer id (slot_at old q)) (slot_at old q))
-    → ((q : ℕ) → slot_at new q ≡ cond (eqb q id) (Some (Free 0 first)) (slot_at mid q))
+    → IsNewerSet first id old mid
+    → IsPut id (Free 0 first) mid new
     → IsChain new id (id ∷ ids)
 with_first old mid new first id ids c none to_mid to_new = record {
   begins = refl;

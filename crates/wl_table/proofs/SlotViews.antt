@@ -6,16 +6,15 @@ use Rattle.std.proofs.lemmas.Bool.Decides.{nat_tests}
 use Rattle.std.specs.Ordering.{nat_cmp}
 use Rattle.std.specs.FinMap.{FinMap, get, insert, remove}
 use Rattle.std.specs.declared.option.Option.{Option}
-use Rattle.std.specs.declared.option.Option.TheVariants.{None, Some}
+use Rattle.std.specs.declared.option.Option.TheVariants.{Some}
 use Rattle.wl_wire.specs.declared.kind.Iface.{Iface}
 use Rattle.wl_table.specs.declared.object.Entry.{Entry}
-use Rattle.wl_table.specs.declared.object.State.TheVariants.{Live}
 use Rattle.wl_table.specs.declared.slot_table.Slot.{Slot}
 use Rattle.wl_table.specs.declared.slot_table.Slot.TheVariants.{Free}
 use Rattle.wl_table.specs.View.{View, Sound, is_held, times, without, free_or_next, opening, opened_at, closed, zombie, with_zombie, zombied}
 use Rattle.wl_table.specs.Views.{in_row, in_list, at_null, unused, place_of, times-without, length-without, without-absent, free_or_next-rows, is_free}
 use Rattle.wl_table.specs.Sounds.{used_of_freed}
-use Rattle.wl_table.specs.Slots.{slot_at, row, row_in, row_at, rows_from, followed, view_of, IsChain, Holds}
+use Rattle.wl_table.specs.Slots.{slot_at, row, row_in, rows_from, followed, view_of, new_row, IsChain, IsPut, IsTakenOut, IsPutFirst, HasSameRows, HasNoRowAt, Holds}
 use Rattle.wl_table.proofs.Rows.{same_view}
 use Rattle.wl_table.proofs.Chain.{length-followed, follows, kept}
 use Rattle.wl_table.proofs.SlotRows.{get_row, rows_with, rows_without, slot_used, slot_push}
@@ -73,7 +72,7 @@ chained_is_free view id h = grind (arith, common_steps, nat_tests, h)
 
 -- A new table.
 
-pub becomes_opening : (display : Iface) → Becomes (row (record { birth = 0; iface = display; version = 1; state = Live }) ∷ []) 0 0 1 (opening display)
+pub becomes_opening : (display : Iface) → Becomes (row (new_row 0 display 1) ∷ []) 0 0 1 (opening display)
 becomes_opening display = record {
   stands_for = refl;
   chain = record { begins = refl; once = λ id. omega arith; linked = λ id p. absurd (omega arith) };
@@ -83,14 +82,14 @@ becomes_opening display = record {
 pub becomes_reopened : (old mid new : List Slot) (first after free births id : ℕ) (iface : Iface) (version : ℕ)
     → Holds old first free births
     → 0 < times id (followed free old first)
-    → ((ids : List ℕ) → IsChain old first ids → 0 < times id ids → IsChain mid after (without id ids))
-    → ((q : ℕ) → row_at mid q ≡ row_at old q)
-    → ((q : ℕ) → slot_at new q ≡ cond (eqb q id) (Some (row (record { birth = births; iface = iface; version = version; state = Live }))) (slot_at mid q))
+    → IsTakenOut id old first mid after
+    → HasSameRows old mid
+    → IsPut id (row (new_row births iface version)) mid new
     → length new ≡ length old
     → Becomes new after (free - 1) (births + 1) (opened_at (view_of old first free births) id iface version)
 becomes_reopened old mid new first after free births id iface version h stands taken rows put long =
     let ids = followed free old first in
-    let e : Entry = record { birth = births; iface = iface; version = version; state = Live } in
+    let e : Entry = new_row births iface version in
     let one = h.chain.once id in
     let chain : IsChain new after (without id ids) = kept mid new after (without id ids) (taken ids h.chain stands) (λ q p.
     let t = times-without id q ids in
@@ -109,12 +108,12 @@ becomes_reopened old mid new first after free births id iface version h stands t
 -- An opening at the next new id: its row was pushed.
 pub becomes_opened : (old new : List Slot) (first free births : ℕ) (iface : Iface) (version : ℕ)
     → Holds old first free births
-    → new ≡ old ++ row (record { birth = births; iface = iface; version = version; state = Live }) ∷ []
+    → new ≡ old ++ row (new_row births iface version) ∷ []
     → Becomes new first free (births + 1) (opened_at (view_of old first free births) (length old + 1) iface version)
 becomes_opened old new first free births iface version h pushed =
     let ids = followed free old first in
     let id : ℕ = length old + 1 in
-    let e : Entry = record { birth = births; iface = iface; version = version; state = Live } in
+    let e : Entry = new_row births iface version in
     let put = λ (q : ℕ). ap (λ (s : List Slot). slot_at s q) pushed ∙ slot_push old (row e) q in
     let none : times (length old + 1) ids ≡ 0 = ⊎_elim
     (λ z. z)
@@ -138,8 +137,8 @@ becomes_opened old new first free births iface version h pushed =
 pub becomes_closed : (old new : List Slot) (first after free births id : ℕ)
     → Holds old first free births
     → is_held (view_of old first free births) id ≡ true
-    → ((ids : List ℕ) → IsChain old first ids → times id ids ≡ 0 → IsChain new after (id ∷ ids))
-    → ((q : ℕ) → row_at new q ≡ cond (eqb q id) None (row_at old q))
+    → IsPutFirst id old first new after
+    → HasNoRowAt id old new
     → length new ≡ length old
     → Becomes new after (free + 1) births (closed (view_of old first free births) id)
 becomes_closed old new first after free births id h held put rows long =
@@ -155,7 +154,7 @@ becomes_closed old new first after free births id h held put rows long =
 pub becomes_zombied : (old new : List Slot) (first free births id : ℕ) (e : Entry)
     → Holds old first free births
     → slot_at old id ≡ Some (row e)
-    → ((q : ℕ) → slot_at new q ≡ cond (eqb q id) (Some (row (zombie e))) (slot_at old q))
+    → IsPut id (row (zombie e)) old new
     → length new ≡ length old
     → Becomes new first free births (zombied (view_of old first free births) id)
 becomes_zombied old new first free births id e h at put long =

@@ -2,14 +2,20 @@
 use Rattle.std.specs.Prelude.{◌≡◌, ℕ, zero, suc, ◌+◌, ◌<◌, ◌≤◌, cond, eqb, List, [], ◌∷◌, length, Option, Some, None, slice_get}
 use Rattle.std.specs.Ordering.{nat_cmp}
 use Rattle.std.specs.FinMap.{FinMap, insert, empty}
+use Rattle.wl_wire.specs.declared.kind.Iface.{Iface}
 use Rattle.wl_table.specs.declared.object.Entry.{Entry}
+use Rattle.wl_table.specs.declared.object.State.TheVariants.{Live}
 use Rattle.wl_table.specs.declared.slot_table.Slot.{Slot}
 use Rattle.wl_table.specs.declared.slot_table.Slot.TheVariants.{Row, Free}
-use Rattle.wl_table.specs.View.{View, Sound, times, first_or}
+use Rattle.wl_table.specs.View.{View, Sound, times, without, first_or}
 
 -- the slot that holds a row
 abbrev pub row : Entry → Slot
 row e = Row e.birth e.version e.iface e.state
+
+-- the row of a new object
+abbrev pub new_row : ℕ → Iface → ℕ → Entry
+new_row birth iface version = record { birth = birth; iface = iface; version = version; state = Live }
 
 -- the slot of an id: id 1 has the first, and id 0 has none
 abbrev pub slot_at : List Slot → ℕ → Option Slot
@@ -44,8 +50,14 @@ abbrev pub newer_of : ℕ → ℕ → List ℕ → ℕ
 newer_of head id [] = 0
 newer_of head id (x ∷ xs) = cond (eqb x id) head (newer_of x id xs)
 
+-- the last of a list, or what stands before it
+abbrev pub last_or : ℕ → List ℕ → ℕ
+last_or before [] = before
+last_or before (x ∷ xs) = last_or x xs
+
 -- The slots hold a chain that begins at `first` and spells the ids in their order: the slot of each id holds its
--- neighbours both ways, 0 where it has none.
+-- neighbours both ways, 0 where it has none. (`neighbours` of proofs/Chain.antt is the law: in ids that are split as
+-- `front ++ id ∷ rest` they are the last of `front` and the first of `rest`.)
 pub record IsChain (slots : List Slot) (first : ℕ) (ids : List ℕ) : Type 0 where
   pub begins : first ≡ first_or 0 ids
   pub once : (id : ℕ) → times id ids ≤ 1
@@ -61,6 +73,35 @@ abbrev pub with_newer : ℕ → Option Slot → Option Slot
 with_newer newer None = None
 with_newer newer (Some (Row birth version iface state)) = Some (Row birth version iface state)
 with_newer newer (Some (Free n o)) = Some (Free newer o)
+
+-- What the steps of a call make of the slots. They speak of the slots before and after it.
+
+-- a slot was put at an id, and the others stayed
+abbrev pub IsPut : ℕ → Slot → List Slot → List Slot → Type 0
+IsPut id slot old new = (q : ℕ) → slot_at new q ≡ cond (eqb q id) (Some slot) (slot_at old q)
+
+-- a freed id got another neighbour on either side
+abbrev pub IsOlderSet : ℕ → ℕ → List Slot → List Slot → Type 0
+IsOlderSet id older old new = (q : ℕ) → slot_at new q ≡ cond (eqb q id) (with_older older (slot_at old q)) (slot_at old q)
+
+abbrev pub IsNewerSet : ℕ → ℕ → List Slot → List Slot → Type 0
+IsNewerSet id newer old new = (q : ℕ) → slot_at new q ≡ cond (eqb q id) (with_newer newer (slot_at old q)) (slot_at old q)
+
+-- whatever chain with the id began at `first`, it goes on without the id, and begins at `after`
+abbrev pub IsTakenOut : ℕ → List Slot → ℕ → List Slot → ℕ → Type 0
+IsTakenOut id old first new after = (ids : List ℕ) → IsChain old first ids → 0 < times id ids → IsChain new after (without id ids)
+
+-- whatever chain without the id began at `first`, the id now stands before it
+abbrev pub IsPutFirst : ℕ → List Slot → ℕ → List Slot → ℕ → Type 0
+IsPutFirst id old first new after = (ids : List ℕ) → IsChain old first ids → times id ids ≡ 0 → IsChain new after (id ∷ ids)
+
+-- each id has the row that it had
+abbrev pub HasSameRows : List Slot → List Slot → Type 0
+HasSameRows old new = (q : ℕ) → row_at new q ≡ row_at old q
+
+-- an id has no row, and each other the row that it had
+abbrev pub HasNoRowAt : ℕ → List Slot → List Slot → Type 0
+HasNoRowAt id old new = (q : ℕ) → row_at new q ≡ cond (eqb q id) None (row_at old q)
 
 -- the id to which a slot leads on
 abbrev pub next_in : Option Slot → ℕ

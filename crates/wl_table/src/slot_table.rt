@@ -1,7 +1,7 @@
 //! A table of objects in a vector of slots.
-ghost use Rattle.std.specs.Prelude.{◌≡◌, ◌≤◌, ◌<◌, ◌+◌, ℕ, List, ◌∷◌, Some, None, OnOk, OnErr, IfOk, IfErr, IsTrue, length, eqb, if◌then◌else◌};
-ghost use Rattle.wl_table.specs.View.{View, free_or_next, has_room, next_id, opened_at, times, without};
-ghost use Rattle.wl_table.specs.Slots.{slot_at, row, row_at, with_older, with_newer, IsChain};
+ghost use Rattle.std.specs.Prelude.{◌≡◌, ◌≤◌, ◌<◌, ◌+◌, OnOk, OnErr, IfOk, IfErr, IsTrue, length, eqb, if◌then◌else◌};
+ghost use Rattle.wl_table.specs.View.{View, free_or_next, has_room, next_id, opened_at, times};
+ghost use Rattle.wl_table.specs.Slots.{row, new_row, slot_at, IsPut, IsOlderSet, IsNewerSet, IsTakenOut, IsPutFirst, HasSameRows, HasNoRowAt};
 
 use super::table::MAX_IDS;
 use super::{Entry, Object, State, Table, TableError};
@@ -34,7 +34,7 @@ const _: () = prove!(size_of::<Slot>() == 24);
 impl Slot {
     /// The row of a new object.
     fn live(birth: u64, iface: Iface, version: u32) -> Slot
-        ensures { result ≡ row (record { birth = birth; iface = iface; version = version; state = State.Live }) }
+        ensures { result ≡ row (new_row birth iface version) }
     {
         Slot::Row {
             birth,
@@ -86,7 +86,7 @@ fn slot_of(slots: &[Slot], id: u32) -> Option<Slot>
 fn put(slots: &mut [Slot], id: u32, slot: Slot)
     requires some { 0 < id }
     requires used { id ≤ length slots.old }
-    ensures { (q : ℕ) → slot_at slots.new q ≡ (if eqb q id then Some slot else slot_at slots.old q) }
+    ensures { IsPut id slot slots.old slots.new }
 {
     slots[id as usize - 1] = slot;
 }
@@ -94,7 +94,7 @@ fn put(slots: &mut [Slot], id: u32, slot: Slot)
 /// Makes `older` the neighbour on the older side of a freed id, or, where the id is 0, the first
 /// of the chain.
 fn set_older(slots: &mut [Slot], first: &mut u32, id: u32, older: u32)
-    ensures slots { (q : ℕ) → slot_at slots.new q ≡ (if eqb q id then with_older older (slot_at slots.old q) else slot_at slots.old q) }
+    ensures slots { IsOlderSet id older slots.old slots.new }
     ensures first { first.new ≡ (if eqb id 0 then older else first.old) }
 {
     if id == 0 {
@@ -106,7 +106,7 @@ fn set_older(slots: &mut [Slot], first: &mut u32, id: u32, older: u32)
 
 /// Makes `newer` the neighbour on the newer side of a freed id. Does nothing where the id is 0.
 fn set_newer(slots: &mut [Slot], id: u32, newer: u32)
-    ensures { (q : ℕ) → slot_at slots.new q ≡ (if eqb q id then with_newer newer (slot_at slots.old q) else slot_at slots.old q) }
+    ensures { IsNewerSet id newer slots.old slots.new }
 {
     if let Some(Slot::Free { older, .. }) = slot_of(slots, id) {
         put(slots, id, Slot::Free { newer, older });
@@ -115,8 +115,8 @@ fn set_newer(slots: &mut [Slot], id: u32, newer: u32)
 
 /// Takes a freed id out of the chain, wherever it stands: its neighbours become each other's.
 fn take_out(slots: &mut [Slot], first: &mut u32, id: u32)
-    ensures chain { (ids : List ℕ) → IsChain slots.old first.old ids → 0 < times id ids → IsChain slots.new first.new (without id ids) }
-    ensures rows { (q : ℕ) → row_at slots.new q ≡ row_at slots.old q }
+    ensures chain { IsTakenOut id slots.old first.old slots.new first.new }
+    ensures rows { HasSameRows slots.old slots.new }
 {
     let Some(Slot::Free { newer, older }) = slot_of(slots, id) else {
         return;
@@ -129,8 +129,8 @@ fn take_out(slots: &mut [Slot], first: &mut u32, id: u32)
 fn put_first(slots: &mut [Slot], first: &mut u32, id: u32)
     requires some { 0 < id }
     requires used { id ≤ length slots.old }
-    ensures chain { (ids : List ℕ) → IsChain slots.old first.old ids → times id ids ≡ 0 → IsChain slots.new first.new (id ∷ ids) }
-    ensures rows { (q : ℕ) → row_at slots.new q ≡ (if eqb q id then None else row_at slots.old q) }
+    ensures chain { IsPutFirst id slots.old first.old slots.new first.new }
+    ensures rows { HasNoRowAt id slots.old slots.new }
 {
     let older = *first;
     set_newer(slots, older, id);
@@ -168,7 +168,8 @@ impl<A: Allocator> SlotTable<A> {
     fn open_new(&mut self, iface: Iface, version: u32) -> Result<Object, TableError>
         requires room { IsTrue (has_room self.old (self.old.used + 1)) }
         ensures ok { OnOk result (self.new ≡ opened_at self.old (self.old.used + 1) iface version) }
-        ensures object { IfOk result (λ object. object ≡ record { id = self.old.used + 1; birth = self.old.births }) }
+        ensures id { IfOk result (λ object. object.id ≡ self.old.used + 1) }
+        ensures birth { IfOk result (λ object. object.birth ≡ self.old.births) }
         ensures err { OnErr result (self.new ≡ self.old) }
         ensures memory { IfErr result (λ e. e ≡ TableError.Memory) }
     {

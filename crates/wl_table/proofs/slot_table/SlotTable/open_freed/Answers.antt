@@ -2,10 +2,9 @@ use Rattle.std.proofs.Common.{◌≡◌, ◌<◌, ◌+◌, ◌-◌, List, sym, �
 use Rattle.std.proofs.lemmas.List.{with_items_is}
 use Rattle.wl_table.specs.declared.slot_table.Slot.{Slot}
 use Rattle.std.specs.Vec.{with_items}
-use Rattle.wl_table.specs.declared.object.State.TheVariants.{Live}
 use Rattle.wl_table.specs.View.{View, opened_at, has_room, times}
 use Rattle.wl_table.specs.Sounds.{Sound-opened_at}
-use Rattle.wl_table.specs.Slots.{slot_at, row, row_at, view_of, IsChain, Holds}
+use Rattle.wl_table.specs.Slots.{slot_at, row, new_row, row_at, view_of, IsChain, Holds}
 use Rattle.wl_table.proofs.SlotViews.{holds_of, becomes_reopened, chained_is_free}
 use Rattle.wl_table.proofs.slot_table.SlotTable.open_freed.Goals as goal
 
@@ -19,7 +18,7 @@ invariant_of-self g c =
     (λ ids chain in_it. c.take_out.ensures.chain ids (subst (λ (s : List Slot). IsChain s c.self.inside.first_free ids) (sym value) chain) in_it)
     (λ q. c.take_out.ensures.rows q ∙ ap (λ (s : List Slot). row_at s q) value)
     (λ q. c.put.ensures q ∙ ap (λ (s : Slot). cond (eqb q c.args.id) (Some s) (slot_at c.deref_mut-2.result.now q)) c.live.ensures
-    ∙ ap (λ (s : List Slot). cond (eqb q c.args.id) (Some (row (record { birth = c.self.inside.births; iface = c.args.iface; version = c.args.version; state = Live }))) (slot_at s q)) mid)
+    ∙ ap (λ (s : List Slot). cond (eqb q c.args.id) (Some (row (new_row c.self.inside.births c.args.iface c.args.version))) (slot_at s q)) mid)
     long in
     let room = subst (λ (v : View). has_room v c.args.id ≡ true) (sym c.self.view_is) c.requires.room in
     let new = with_items_is (with_items c.self.inside.slots c.take_out.new.slots) c.put.new.slots (omega (arith, c.self.inside.slots.ok.0)) in
@@ -36,7 +35,7 @@ returns-clause-table g c =
     (λ ids chain in_it. c.take_out.ensures.chain ids (subst (λ (s : List Slot). IsChain s c.self.inside.first_free ids) (sym value) chain) in_it)
     (λ q. c.take_out.ensures.rows q ∙ ap (λ (s : List Slot). row_at s q) value)
     (λ q. c.put.ensures q ∙ ap (λ (s : Slot). cond (eqb q c.args.id) (Some s) (slot_at c.deref_mut-2.result.now q)) c.live.ensures
-    ∙ ap (λ (s : List Slot). cond (eqb q c.args.id) (Some (row (record { birth = c.self.inside.births; iface = c.args.iface; version = c.args.version; state = Live }))) (slot_at s q)) mid)
+    ∙ ap (λ (s : List Slot). cond (eqb q c.args.id) (Some (row (new_row c.self.inside.births c.args.iface c.args.version))) (slot_at s q)) mid)
     long in
     let new = with_items_is (with_items c.self.inside.slots c.take_out.new.slots) c.put.new.slots (omega (arith, c.self.inside.slots.ok.0)) in
     ap (λ (s : List Slot). view_of s c.take_out.new.first (c.self.inside.free - 1) (c.self.inside.births + 1)) new
