@@ -1,13 +1,11 @@
 -- How a server reads a request: what it makes of the message in front, and then what the reading leaves.
-use Rattle.std.specs.Prelude.{◌≡◌, ◌≢◌, ℕ, ◌≤◌, Bool, true, false, if◌then◌else◌, List, [], length, Option, Some, None, IsTrue}
+use Rattle.std.specs.Prelude.{◌≡◌, ◌≢◌, ℕ, ◌≤◌, Bool, if◌then◌else◌, List, [], length, Option, Some, None, IsTrue}
 use Rattle.std.specs.declared.result.Result.{Result}
 use Rattle.std.specs.declared.result.Result.TheVariants.{Ok, Err}
-use Rattle.wl_sigs.specs.declared.signature.Side.TheVariants.{Request as request_side}
 use Rattle.wl_sigs.specs.declared.signature.Destroys.{Destroys}
 use Rattle.wl_sigs.specs.declared.signature.Destroys.TheVariants.{Nothing, Target}
 use Rattle.wl_sigs.specs.Tables.{Interface, destroys_target}
 use Rattle.wl_message.specs.Cut.{usual_limit, front, Whole}
-use Rattle.wl_table.specs.declared.object.Object.{Object}
 use Rattle.wl_objects.specs.declared.error.Fault.{Fault}
 use Rattle.wl_objects.specs.declared.error.NextError.{NextError}
 use Rattle.wl_objects.specs.declared.error.NextError.TheVariants as errors
@@ -16,11 +14,12 @@ use Rattle.wl_objects.specs.declared.reading.Received.{Received as Read}
 use Rattle.wl_objects.specs.Reading.{reports_of, descriptors}
 use Rattle.wl_objects.specs.Messages.{Made, Received, made, reader_of, opens}
 use Rattle.wl_end.specs.Core.{Core, past, with_view}
+use Rattle.wl_end.specs.Outcomes.{Gives, answers_with}
 use Rattle.wl_end.specs.Receiving.{Found, takes}
 use Rattle.wl_end.specs.Sending.{with_delete_id, with_error_event, fits, delete_id_len}
 use Rattle.wl_server.specs.declared.step.Step.{Step as OwnedStep}
 use Rattle.wl_server.specs.State.{State, Global, Registry, with_core}
-use Rattle.wl_server.specs.Requests.{Report, request, report, made_in, is_out_full, registries_after, without_registry, fault_code, fault_message}
+use Rattle.wl_server.specs.Requests.{Report, request, report, needs_memory, made_in, is_out_full, registries_after, without_registry, fault_code, fault_message}
 use Rattle.wl_server.specs.Seen.{report_of}
 
 -- what a request is and does: its report, its numbers of bytes and tokens, the object that it makes, and whether it destroys its target
@@ -47,6 +46,10 @@ step_with tables view tokens opcode size message = record {
 -- a message that was read, without where it lies
 abbrev pub received_now : Read → Received
 received_now read = record { target = read.target; entry = read.entry; signature = read.signature.now; values = read.values }
+
+-- whether the report of a step needs memory
+abbrev pub step_needs : Step → Bool
+step_needs step = needs_memory step.report
 
 -- what the code's own step is
 abbrev pub step_in : {A : Type 0} → OwnedStep A → Step
@@ -81,6 +84,10 @@ pub record CanTake (core : Core) (step : Step) : Type 0 where
   pub held : IsTrue (is_held core.view step.report.target.id)
   pub not_display : step.destroys ≡ Target → step.report.target.id ≢ 1
   pub room : step.destroys ≡ Target → IsTrue (fits core.outbox delete_id_len 0)
+
+-- what is known of the request in front where memory can be refused
+abbrev pub IsFront : State → Result (Option Step) NextError → Type 0
+IsFront state result = Gives errors.Memory (answers_with step_needs (front_step state)) (front_step state) result
 
 -- ---- what the reading leaves
 
