@@ -2,7 +2,7 @@
 use Rattle.std.proofs.Common.{◌≡◌, ℕ, ◌≤◌, List, [], ◌++◌, length, take, drop, sym, ap, ◌∙◌, subst, arith}
 use Rattle.std.proofs.lemmas.List.{take-append-drop, append_assoc, take-take}
 use Rattle.std.proofs.lemmas.List.Sums.{count_by-le-length}
-use Rattle.std.specs.Prelude.{not, if◌then◌else◌}
+use Rattle.std.specs.Prelude.{if◌then◌else◌}
 use Rattle.std.specs.declared.option.Option.{Option}
 use Rattle.std.specs.declared.option.Option.TheVariants.{Some}
 use Rattle.std.specs.declared.result.Result.TheVariants.{Ok, Err}
@@ -22,11 +22,11 @@ use Rattle.wl_table.specs.View.{View}
 use Rattle.wl_objects.specs.Reading.{descriptors, is_descriptor_kind}
 use Rattle.wl_objects.specs.Messages.{Received, received, reader_of}
 use Rattle.wl_end.specs.Core.{Core}
-use Rattle.wl_end.specs.Receiving.{Found, found, found_at, found_in, has_arguments, takes, header_of}
+use Rattle.wl_end.specs.Receiving.{Found, found, found_at, found_in, takes, header_of}
 use Rattle.wl_client.specs.declared.reading.Step.{Step}
 use Rattle.wl_client.specs.declared.reading.Stop.{Stop}
 use Rattle.wl_client.specs.declared.reading.Stop.TheVariants as stops
-use Rattle.wl_client.specs.Reports.{Report, Event, Discarded, is_error_event, is_delete_event, deleted_id, error_report, delete_report, plain_report}
+use Rattle.wl_client.specs.Reports.{Report, Event, Discarded, needs_memory, is_error_event, is_delete_event, deleted_id, error_report, delete_report, plain_report}
 use Rattle.wl_client.specs.Steps.{end_with, report_by}
 use Rattle.wl_client.proofs.Firsts.{reports_first}
 use Rattle.wl_end.proofs.Receivings.{is_received}
@@ -69,24 +69,33 @@ report_first view n tokens f v t =
 few_taken : (ks : List Kind) → descriptors ks ≤ length ks
 few_taken ks = count_by-le-length is_descriptor_kind ks
 
+-- a message has at most twenty values and takes at most twenty tokens
+record FewOf (m : Received) : Type 0 where
+  values : length m.values ≤ 20
+  taken : takes m ≤ 20
+
+few_of : (core : Core) (h : Header) (body : List ℕ) (waiting : ℕ) (m : Received) → Valid core.tables → received core.tables event_side (reader_of core.view) h body waiting ≡ Ok m → FewOf m
+few_of core h body waiting m v e =
+    let p = is_received core.tables event_side (reader_of core.view) h body waiting m e in
+    let small : length m.signature.kinds ≤ 20 = v.small.arguments event_side m.entry.iface.0 h.opcode m.signature p.signature in
+    record { values = omega (arith, p.values); taken = omega (arith, few_taken m.signature.kinds) }
+
 pub step_is : {A : Type 0} (core : Core) (h : Header) (body : List ℕ) (waiting : ℕ) (step : Step A) → Valid core.tables → IsFrame core h body waiting
     → IsStepOf core.tables core.view (take 20 core.inbox.tokens) h (received core.tables event_side (reader_of core.view) h body waiting) (Ok step)
     → IsFront core (found core event_side) (Ok (Some step))
 step_is core h body waiting step v f s =
     let m = s.0 in
     let p = is_received core.tables event_side (reader_of core.view) h body waiting m s.1 in
-    let small : length m.signature.kinds ≤ 20 = v.small.arguments event_side m.entry.iface.0 h.opcode m.signature p.signature in
-    let few : takes m ≤ 20 = omega (arith, few_taken m.signature.kinds) in
-    let values : length m.values ≤ 20 = omega (arith, p.values) in (
+    let b = few_of core h body waiting m v s.1 in (
       headed h m,
       found_frame core event_side h body waiting f ∙ ap (found_in h.size h.opcode) s.1,
       record {
         message = f.whole;
-        few = few;
+        few = b.taken;
         waiting = omega (arith, p.tokens, f.tokens);
       },
       record {
-        report = s.2.report ∙ report_first core.view 20 core.inbox.tokens (headed h m) values few;
+        report = s.2.report ∙ report_first core.view 20 core.inbox.tokens (headed h m) b.values b.taken;
         objects = s.2.objects;
         can = s.2.can;
         globals = s.2.globals;
@@ -96,12 +105,17 @@ step_is core h body waiting step v f s =
       },
     )
 
-pub stop_is : (A : Type 0) (core : Core) (h : Header) (body : List ℕ) (waiting : ℕ) (stop : Stop) → IsFrame core h body waiting
+pub stop_is : (A : Type 0) (core : Core) (h : Header) (body : List ℕ) (waiting : ℕ) (stop : Stop) → Valid core.tables → IsFrame core h body waiting
     → IsStepOf {A = A} core.tables core.view (take 20 core.inbox.tokens) h (received core.tables event_side (reader_of core.view) h body waiting) (Err stop)
     → IsFront {A = A} core (found core event_side) (Err stop)
-stop_is A core h body waiting (stops.Fault fault) f s = found_frame core event_side h body waiting f ∙ ap (found_in h.size h.opcode) s
-stop_is A core h body waiting stops.Memory f s =
-    ap has_arguments (found_frame core event_side h body waiting f ∙ ap (found_in h.size h.opcode) s.1) ∙ ap not s.2
+stop_is A core h body waiting (stops.Fault fault) v f s = found_frame core event_side h body waiting f ∙ ap (found_in h.size h.opcode) s
+stop_is A core h body waiting stops.Memory v f s =
+    let m = s.0 in
+    let b = few_of core h body waiting m v s.1 in (
+      headed h m,
+      found_frame core event_side h body waiting f ∙ ap (found_in h.size h.opcode) s.1,
+      ap needs_memory (sym (report_first core.view 20 core.inbox.tokens (headed h m) b.values b.taken)) ∙ s.2,
+    )
 
 -- ---- as the code has it
 
@@ -116,10 +130,10 @@ step_told core before o f first step same e t h v w s =
     (step_is core f.header f.body.now f.tokens step v (framed core o f e t h)
     (subst (λ (l : List ℕ). IsStepOf core.tables core.view l f.header (received core.tables event_side (reader_of core.view) f.header f.body.now f.tokens) (Ok step)) w s))
 
-pub stop_told : (A : Type 0) (core before : Core) (o : Option Frame) (f : Frame) (first : List ℕ) (stop : Stop) → core ≡ before → o ≡ Some f → Tells core.inbox (Ok o) → IsHeader f.header
+pub stop_told : (A : Type 0) (core before : Core) (o : Option Frame) (f : Frame) (first : List ℕ) (stop : Stop) → core ≡ before → o ≡ Some f → Tells core.inbox (Ok o) → IsHeader f.header → Valid core.tables
     → first ≡ take 20 core.inbox.tokens → IsStepOf {A = A} core.tables core.view first f.header (received core.tables event_side (reader_of core.view) f.header f.body.now f.tokens) (Err stop)
     → IsFront {A = A} before (found before event_side) (Err stop)
-stop_told A core before o f first stop same e t h w s =
+stop_told A core before o f first stop same e t h v w s =
     subst (λ (c : Core). IsFront {A = A} c (found c event_side) (Err stop)) same
-    (stop_is A core f.header f.body.now f.tokens stop (framed core o f e t h)
+    (stop_is A core f.header f.body.now f.tokens stop v (framed core o f e t h)
     (subst (λ (l : List ℕ). IsStepOf {A = A} core.tables core.view l f.header (received core.tables event_side (reader_of core.view) f.header f.body.now f.tokens) (Err stop)) w s))

@@ -18,12 +18,13 @@ use Rattle.wl_end.specs.Core.{Core}
 use Rattle.wl_end.specs.Receiving.{Found, found}
 use Rattle.wl_end.specs.Outcomes.{Gives, left}
 use Rattle.wl_end.proofs.Coming.{is_found, past_shorter, none_short}
+use Rattle.wl_end.proofs.Receivings.{some_report}
 use Rattle.wl_end.proofs.Appended.{kept_again, kept_more, behind_again, more_behind}
 use Rattle.wl_client.specs.declared.incoming.Incoming.{Incoming}
 use Rattle.wl_client.specs.Seen.{report_of, report_in}
 use Rattle.wl_client.specs.State.{State}
-use Rattle.wl_client.specs.Reports.{Report, Event, Discarded, Deleted, Stray, Error, report, plain_report, error_report, delete_report, deleted, deleted_id, is_error_event, is_delete_event, answer_found, next_answer, state_found, after_next}
-use Rattle.wl_client.specs.Streams.{is_last, Reads, none, fault, error, next, ReadsSome, nothing, more, ReadsUntil, WaitingIsRead, appended}
+use Rattle.wl_client.specs.Reports.{Report, IsNext, needs_memory, Event, Discarded, Deleted, Stray, Error, report, plain_report, error_report, delete_report, deleted, deleted_id, is_error_event, is_delete_event, answer_found, next_answer, state_found, after_next}
+use Rattle.wl_client.specs.Streams.{is_last, Reads, none, fault, error, next, ReadsSome, nothing, more, ReadsUntil, HasReport, WaitingIsRead, appended}
 use Rattle.wl_client.proofs.Comings.{Read, read, answers, leaves, failed_answer, not_failed, some_then, some_reads, some_one}
 
 -- ---- which report is the last
@@ -109,14 +110,16 @@ never_by state why (Ok (Some f)) n e = cc e
 never : (state : State) (why : NextError) → state.core.failed ≡ false → ((what : Fault) (offset : ℕ) → why ≢ errors.Fault what offset) → next_answer state ≢ Err why
 never state why s n e = never_by state why (found state.core event_side) n (sym (answers state s) ∙ e)
 
-pub told_error : (state new : State) (wants : Bool) (why : NextError) → state.core.failed ≡ false → Told state wants (Err why) → new ≡ left {R = Option Report} state (after_next state) (Err why) → ReadsUntil state [] (Some why) new
-told_error state new wants (errors.Fault what offset) s (inl e) l = subst (λ (x : State). Reads state [] (Some (errors.Fault what offset)) x) (sym l) (fault (sym e))
-told_error state new wants (errors.Fault what offset) s (inr e) l = absurd (cc e.0)
-told_error state new wants errors.Failed s (inl e) l = absurd (never state errors.Failed s (λ what offset h. cc h) (sym e))
-told_error state new wants errors.Failed s (inr e) l = absurd (cc e.0)
-told_error state new wants errors.Memory s t l = subst (λ (x : State). ReadsSome state [] x) (sym l) nothing
-told_error state new wants errors.OutFull s (inl e) l = absurd (never state errors.OutFull s (λ what offset h. cc h) (sym e))
-told_error state new wants errors.OutFull s (inr e) l = absurd (cc e.0)
+pub told_error : (state new : State) (why : NextError) → state.core.failed ≡ false → IsNext state (Err why) → new ≡ left {R = Option Report} state (after_next state) (Err why) → ReadsUntil state [] (Some why) new
+told_error state new (errors.Fault what offset) s (inl e) l = subst (λ (x : State). Reads state [] (Some (errors.Fault what offset)) x) (sym l) (fault (sym e))
+told_error state new (errors.Fault what offset) s (inr e) l = absurd (cc e.0)
+told_error state new errors.Failed s (inl e) l = absurd (never state errors.Failed s (λ what offset h. cc h) (sym e))
+told_error state new errors.Failed s (inr e) l = absurd (cc e.0)
+told_error state new errors.Memory s (inl e) l = absurd (never state errors.Memory s (λ what offset h. cc h) (sym e))
+told_error state new errors.Memory s (inr e) l = (let some = some_report needs_memory (next_answer state) e.1 in
+    subst (λ (x : State). ReadsUntil state [] (Some errors.Memory) x) (sym l) (nothing, (some.0, some.1)))
+told_error state new errors.OutFull s (inl e) l = absurd (never state errors.OutFull s (λ what offset h. cc h) (sym e))
+told_error state new errors.OutFull s (inr e) l = absurd (cc e.0)
 
 -- ---- going on
 
@@ -124,12 +127,18 @@ pub until_then : (state middle last : State) (reports others : List Report) (sto
 until_then state middle last reports others None h g = some_reads h g
 until_then state middle last reports others (Some (errors.Fault what offset)) h g = some_reads h g
 until_then state middle last reports others (Some errors.Failed) h g = some_reads h g
-until_then state middle last reports others (Some errors.Memory) h g = some_then h g
+until_then state middle last reports others (Some errors.Memory) h g = (some_then h g.0, g.1)
 until_then state middle last reports others (Some errors.OutFull) h g = some_reads h g
 
 -- a stop, where nothing more was read
 pub stopped : (state middle last : State) (reports : List Report) (why : NextError) → ReadsSome state reports middle → ReadsUntil middle [] (Some why) last → ReadsUntil state reports (Some why) last
 stopped state middle last reports why h g = subst (λ (l : List Report). ReadsUntil state l (Some why) last) (append-nil reports) (until_then state middle last reports [] (Some why) h g)
+
+-- what is read where there is no room for a report
+pub waiting_then : {X : Type 0} (state middle last : State) (reports : List Report) (r : Result X (Option NextError)) → ReadsSome state reports middle → WaitingIsRead middle [] r last → WaitingIsRead state reports r last
+waiting_then state middle last reports (Ok x) h g = (subst (λ (l : List Report). ReadsSome state l last) (append-nil reports) (some_then h g.0), g.1)
+waiting_then state middle last reports (Err stop) h g =
+    (subst (λ (l : List Report). ReadsUntil state l stop last) (append-nil reports) (until_then state middle last reports [] stop h g.0), g.1)
 
 -- one report more
 pub one_more : (state middle : State) (reports : List Report) (r : Report) → ReadsSome state reports middle → next_answer middle ≡ Ok (Some r) → is_last r ≡ false → ReadsSome state (reports ++ r ∷ []) (after_next middle)
@@ -177,8 +186,17 @@ reads_last state middle new xs before reserved after x h e l n k r p =
     (subst (λ (rs : List Report). Reads state rs None (after_next middle)) (sym reports) (last_one state middle (appended xs before) (report_of x) h e n))
 
 -- a stop
-pub reads_stop : {A : Type 0} (state middle new : State) (xs before reserved : List (Incoming A)) (wants : Bool) (why : NextError) → ReadsSome state (appended xs before) middle → middle.core.failed ≡ false
-    → Told middle wants (Err why) → new ≡ left {R = Option Report} middle (after_next middle) (Err why) → reserved ≡ before → ReadsUntil state (appended xs reserved) (Some why) new
-reads_stop state middle new xs before reserved wants why h s t l r =
-    let until = stopped state middle new (appended xs before) why h (told_error middle new wants why s t l) in
+pub reads_stop : {A : Type 0} (state middle new : State) (xs before reserved : List (Incoming A)) (why : NextError) → ReadsSome state (appended xs before) middle → middle.core.failed ≡ false
+    → IsNext middle (Err why) → new ≡ left {R = Option Report} middle (after_next middle) (Err why) → reserved ≡ before → ReadsUntil state (appended xs reserved) (Some why) new
+reads_stop state middle new xs before reserved why h s t l r =
+    let until = stopped state middle new (appended xs before) why h (told_error middle new why s t l) in
     subst (λ rs. ReadsUntil state (appended xs rs) (Some why) new) (sym r) until
+
+-- nothing is read where there is nothing to report
+pub nothing_read : {A : Type 0} (state new : State) (some : Option (Incoming A)) → (HasReport state → ⊥) → IsNext state (report_in (Ok some)) → new ≡ left state (after_next state) (report_in (Ok some))
+    → ReadsSome state [] new × (next_answer new ≡ Ok None)
+nothing_read state new (Some x) n t l = absurd (n (report_of x, told_report state new _ (report_of x) t))
+nothing_read state new None n t l =
+    let e = told_none state new _ t in
+    let both : State → Type 0 = λ (s : State). ReadsSome state [] s × (next_answer s ≡ Ok None) in
+    subst both (sym (l ∙ none_leaves state e)) (nothing, e)

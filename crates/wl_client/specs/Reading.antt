@@ -10,12 +10,12 @@ use Rattle.wl_table.specs.View.{View}
 use Rattle.wl_objects.specs.Messages.{Received}
 use Rattle.wl_message.specs.Cut.{Whole, front, usual_limit}
 use Rattle.wl_end.specs.Core.{Core}
-use Rattle.wl_end.specs.Receiving.{Found, has_arguments, is_none, takes}
+use Rattle.wl_end.specs.Receiving.{Found, takes}
 use Rattle.wl_client.specs.declared.reading.Step.{Step}
 use Rattle.wl_client.specs.declared.reading.Stop.{Stop}
 use Rattle.wl_client.specs.declared.reading.Stop.TheVariants as stops
 use Rattle.wl_client.specs.State.{Global}
-use Rattle.wl_client.specs.Reports.{Report, is_error_event}
+use Rattle.wl_client.specs.Reports.{Report, report, is_error_event, needs_memory}
 use Rattle.wl_client.specs.Seen.{report_of}
 use Rattle.wl_client.specs.Steps.{report_by, view_by, globals_by, changed, CanChange, learnt}
 
@@ -33,10 +33,10 @@ pub record IsStep {A : Type 0} (tables : List Interface) (view : View) (tokens :
 abbrev pub headed : Header → Received → Found
 headed header m = record { size = header.size; opcode = header.opcode; message = m }
 
--- What comes of the message in front, which is this to its reader: its step; its fault; or no memory for its arguments.
+-- What comes of the message in front, which is this to its reader: its step; its fault; or no memory for a report that needs some.
 abbrev pub IsStepOf : {A : Type 0} → List Interface → View → List ℕ → Header → Result Received Fault → Result (Step A) Stop → Type 0
 IsStepOf tables view tokens header r (Err (stops.Fault fault)) = r ≡ Err fault
-IsStepOf tables view tokens header r (Err stops.Memory) = (m : Received) × (r ≡ Ok m) × (is_none m.signature.kinds ≡ false)
+IsStepOf tables view tokens header r (Err stops.Memory) = (m : Received) × (r ≡ Ok m) × (needs_memory (report_by view tokens (headed header m)) ≡ true)
 IsStepOf tables view tokens header r (Ok step) = (m : Received) × (r ≡ Ok m) × IsStep tables view tokens (headed header m) step
 
 -- the message in front can be taken: it is whole, and its tokens wait
@@ -49,7 +49,7 @@ pub record CanTake (core : Core) (f : Found) : Type 0 where
 abbrev pub IsFront : {A : Type 0} → Core → Result (Option Found) Fault → Result (Option (Step A)) Stop → Type 0
 IsFront core r (Ok None) = r ≡ Ok None
 IsFront core r (Ok (Some step)) = (f : Found) × (r ≡ Ok (Some f)) × CanTake core f × IsStep core.tables core.view core.inbox.tokens f step
-IsFront core r (Err stops.Memory) = has_arguments r ≡ true
+IsFront core r (Err stops.Memory) = (f : Found) × (r ≡ Ok (Some f)) × (needs_memory (report core f) ≡ true)
 IsFront core r (Err (stops.Fault fault)) = r ≡ Err fault
 
 -- what is reported by a step

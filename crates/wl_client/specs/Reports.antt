@@ -1,5 +1,5 @@
 -- What a client reads, and what it makes of it.
-use Rattle.std.specs.Prelude.{ℕ, Bool, ◌&&◌, not, nat_eq, nat_lt, if◌then◌else◌, List, [], ◌∷◌, ◌++◌, length, map, filter, Option, Some, None, is_some, unwrap_or, slice_get}
+use Rattle.std.specs.Prelude.{ℕ, Bool, true, false, ◌&&◌, not, nat_eq, nat_lt, if◌then◌else◌, List, [], ◌∷◌, ◌++◌, length, map, filter, Option, Some, None, is_some, unwrap_or, slice_get}
 use Rattle.std.specs.declared.result.Result.{Result}
 use Rattle.std.specs.declared.result.Result.TheVariants.{Ok, Err}
 use Rattle.wl_wire.specs.declared.kind.Iface.{Iface}
@@ -20,7 +20,8 @@ use Rattle.wl_objects.specs.Writing.{is_live}
 use Rattle.wl_objects.specs.Reading.{Reported, named_at}
 use Rattle.wl_objects.specs.Messages.{Received, reader_of, is_error, is_delete_id, same_iface, Client as client, after, after_delete_id}
 use Rattle.wl_end.specs.Core.{Core, with_view, with_failure}
-use Rattle.wl_end.specs.Receiving.{Found, found, reported, own_tokens, past_found}
+use Rattle.wl_end.specs.Outcomes.{Gives, answers_with}
+use Rattle.wl_end.specs.Receiving.{Found, found, reported, own_tokens, past_found, is_none}
 use Rattle.wl_client.specs.State.{State, Global, max_globals, is_named, global_of, with_core}
 
 -- What a client reports.
@@ -96,6 +97,12 @@ report core f =
     else if is_delete_event f then delete_report core (deleted_id f)
     else plain_report core f.opcode f.message f.message.entry.state
 
+-- whether a report needs memory: for an event's arguments, or for the text of wl_display.error
+abbrev pub needs_memory : Report → Bool
+needs_memory (Event target opcode args) = not (is_none args)
+needs_memory (Error id named code text) = true
+needs_memory _ = false
+
 -- ---- what it leaves
 
 abbrev pub view_after : Core → Found → View
@@ -163,3 +170,7 @@ state_found state (Ok (Some f)) = state_past state f
 -- What `next` leaves: a fault makes the client fail, and so does wl_display.error once it is reported.
 abbrev pub after_next : State → State
 after_next state = if state.core.failed then state else state_found state (found state.core event_side)
+
+-- What `next` answers where memory can be refused: no memory stands only in place of a report that needs some.
+abbrev pub IsNext : State → Result (Option Report) NextError → Type 0
+IsNext state result = Gives errors.Memory (answers_with needs_memory (next_answer state)) (next_answer state) result

@@ -41,9 +41,13 @@ pub data ReadsSome : State → List Report → State → Type 0 where
 abbrev pub arrived : State → List ℕ → List ℕ → State
 arrived state bytes tokens = with_core state (with_arrived state.core bytes tokens)
 
--- where memory was refused some of what waits is read, else all of it
+-- a message stands in front that can be read and reported
+abbrev pub HasReport : State → Type 0
+HasReport state = (report : Report) × (next_answer state ≡ Ok (Some report))
+
+-- Where memory was refused some of what waits is read, up to a message that can be read; else all of it.
 abbrev pub ReadsUntil : State → List Report → Option NextError → State → Type 0
-ReadsUntil state reports (Some errors.Memory) last = ReadsSome state reports last
+ReadsUntil state reports (Some errors.Memory) last = ReadsSome state reports last × HasReport last
 ReadsUntil state reports stop last = Reads state reports stop last
 
 -- Pieces are read, up to where the answer tells: as if all that was taken of them had come at once.

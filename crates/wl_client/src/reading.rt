@@ -6,10 +6,10 @@ ghost use Rattle.wl_sigs.specs.Valid.{Valid};
 ghost use Rattle.wl_message.specs.Cut.{Whole, front, usual_limit};
 ghost use Rattle.wl_objects.specs.Messages.{reader_of, received};
 ghost use Rattle.wl_end.specs.Core.{HasDisplay};
-ghost use Rattle.wl_end.specs.Outcomes.{Gives, left};
-ghost use Rattle.wl_end.specs.Receiving.{found, has_arguments};
+ghost use Rattle.wl_end.specs.Outcomes.{left};
+ghost use Rattle.wl_end.specs.Receiving.{found};
 ghost use Rattle.wl_client.specs.State.{Global as Told};
-ghost use Rattle.wl_client.specs.Reports.{after_next, next_answer};
+ghost use Rattle.wl_client.specs.Reports.{IsNext, after_next};
 ghost use Rattle.wl_client.specs.Seen.{report_in};
 ghost use Rattle.wl_client.specs.Steps.{CanChange, state_of, stepped};
 ghost use Rattle.wl_client.specs.Reading.{IsFront, IsStepOf, step_in, taught};
@@ -49,10 +49,11 @@ impl<'t, T: Table> Client<'t, T> {
     /// Reads the next message, once it is whole; none before.
     ///
     /// A fault makes the client fail for good, and so does wl_display.error once it is reported.
-    /// Where there is no memory for the report the message stays and can be read again; that may
-    /// be only where it has arguments.
+    /// Where there is no memory for the report the message stays and can be read again. That can
+    /// be only at an `Event` that has arguments and at an `Error`: `Discarded`, `Deleted`, `Stray`
+    /// and an event without arguments take no memory.
     pub fn next(&mut self) -> Result<Option<Incoming<T::Alloc>>, NextError>
-        ensures answer { Gives NextError.Memory (has_arguments (found self.old.core event_side)) (next_answer self.old) (report_in result) }
+        ensures answer { IsNext self.old (report_in result) }
         ensures state { self.new ≡ left self.old (after_next self.old) (report_in result) }
     {
         match read(&self.alloc, &mut self.core)? {
@@ -70,7 +71,7 @@ fn read<T: Table>(
     alloc: &T::Alloc,
     core: &mut Core<'_, T>,
 ) -> Result<Option<Step<T::Alloc>>, NextError>
-    ensures answer { Gives NextError.Memory (has_arguments (found core.old event_side)) (next_answer (state_of core.old [])) (step_in result) }
+    ensures answer { IsNext (state_of core.old []) (step_in result) }
     ensures state { (globals : List Told) → state_of core.new (taught globals result) ≡ left (state_of core.old globals) (after_next (state_of core.old globals)) (step_in result) }
 {
     if core.failed {
@@ -92,7 +93,7 @@ fn read<T: Table>(
 }
 
 /// What the message in front comes to, once it is whole. Nothing changes.
-fn step_in_front<T: Table>(
+pub(crate) fn step_in_front<T: Table>(
     alloc: &T::Alloc,
     core: &mut Core<'_, T>,
 ) -> Result<Option<Step<T::Alloc>>, Stop>

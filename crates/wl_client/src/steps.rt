@@ -1,13 +1,9 @@
 //! The steps in which a client reads a message.
 ghost use Rattle.std.specs.Prelude.{◌≡◌, ◌≢◌, List, [], true, false, IfOk, OnErr, Some};
-ghost use Rattle.wl_sigs.specs.declared.signature.Side.TheVariants.{Event as event_side};
 ghost use Rattle.wl_table.specs.View.{look};
-ghost use Rattle.wl_objects.specs.Reading.{reports_of};
-ghost use Rattle.wl_objects.specs.Messages.{is_error, reader_of};
 ghost use Rattle.wl_end.specs.Core.{HasDisplay, with_view};
-ghost use Rattle.wl_end.specs.Receiving.{is_none};
 ghost use Rattle.wl_client.specs.State.{Global as Told};
-ghost use Rattle.wl_client.specs.Reports.{delete_report, error_report};
+ghost use Rattle.wl_client.specs.Reports.{delete_report, error_report, needs_memory};
 ghost use Rattle.wl_client.specs.Seen.{report_of};
 ghost use Rattle.wl_client.specs.Steps.{CanChange, changed, end_with, found_as, globals_by, learnt, report_by, view_by};
 
@@ -18,8 +14,8 @@ use crate::values::{id_at, number_at, text_at};
 use std::alloc::{AllocError, Allocator};
 use wl_end::Core;
 use wl_objects::{
-    Gots, Object, REGISTRY, Received, State, Table, Values, descriptors, is_delete_id, is_error,
-    named, report_arguments,
+    Object, REGISTRY, Received, State, Table, Values, descriptors, is_delete_id, is_error, named,
+    report_arguments,
 };
 use wl_sigs::{Destroys, Side, Tables};
 use wl_wire::Bytes;
@@ -104,7 +100,8 @@ pub(crate) fn lesson_of(tables: &Tables, opcode: u16, message: &Received<'_, '_>
     }
 }
 
-/// What is reported of a message, in memory of its own, where these tokens wait.
+/// What is reported of a message, in memory of its own, where these tokens wait. Memory is taken
+/// only for the arguments of an event, where there are some, and for the text of an error.
 pub(crate) fn report<A: Allocator + Clone + Drop, T: Table>(
     alloc: &A,
     table: &T,
@@ -112,10 +109,8 @@ pub(crate) fn report<A: Allocator + Clone + Drop, T: Table>(
     message: &Received<'_, '_>,
     waiting: &Tokens,
 ) -> Result<Incoming<A>, AllocError>
-    requires error { is_error event_side message.now.entry.iface opcode ≡ true → is_none message.now.signature.now.kinds ≡ false }
-    requires values { is_none message.now.signature.now.kinds ≡ true → message.now.values ≡ [] }
     ensures ok { IfOk result (λ report. report_of report ≡ report_by (T.view table.now) waiting.now (found_as opcode message.now)) }
-    ensures err { OnErr result (is_none message.now.signature.now.kinds ≡ false) }
+    ensures err { OnErr result (needs_memory (report_by (T.view table.now) waiting.now (found_as opcode message.now)) ≡ true) }
 {
     if is_error(Side::Event, message.entry.iface, opcode) {
         return error_report(alloc, table, &message.values);
@@ -133,26 +128,9 @@ pub(crate) fn report<A: Allocator + Clone + Drop, T: Table>(
         State::Live => Ok(Incoming::Event {
             target,
             opcode,
-            args: arguments(alloc, table, message, waiting)?,
+            args: report_arguments(alloc, table, &message.values, waiting.as_slice())?,
         }),
     }
-}
-
-/// The arguments of a message. Memory is taken only where there are some.
-fn arguments<A: Allocator + Clone + Drop, T: Table>(
-    alloc: &A,
-    table: &T,
-    message: &Received<'_, '_>,
-    waiting: &Tokens,
-) -> Result<Gots<A>, AllocError>
-    requires { is_none message.now.signature.now.kinds ≡ true → message.now.values ≡ [] }
-    ensures ok { IfOk result (λ args. args ≡ reports_of (reader_of (T.view table.now)) waiting.now message.now.values) }
-    ensures err { OnErr result (is_none message.now.signature.now.kinds ≡ false) }
-{
-    if message.signature.kinds().is_empty() {
-        return Ok(Gots::none());
-    }
-    report_arguments(alloc.clone()?, table, &message.values, waiting.as_slice())
 }
 
 /// The report of wl_display.error.

@@ -4,10 +4,11 @@ ghost use Rattle.wl_message.specs.Arrived.{free_tokens};
 ghost use Rattle.wl_message.specs.InStep.{part};
 ghost use Rattle.wl_end.specs.Core.{no_room};
 ghost use Rattle.wl_client.specs.Seen.{report_of};
-ghost use Rattle.wl_client.specs.Streams.{is_last, appended, WaitingIsRead, PieceIsRead, ReadsAll};
+ghost use Rattle.wl_client.specs.Streams.{is_last, appended, HasReport, WaitingIsRead, PieceIsRead, ReadsAll};
 
 use crate::client::Client;
 use crate::incoming::Incoming;
+use crate::reading::{Stop, step_in_front};
 use std::alloc::Allocator;
 use wl_end::ReadAll;
 use wl_message::Piece;
@@ -18,9 +19,10 @@ impl<'t, T: Table> Client<'t, T> {
     ///
     /// All that waits is read before each piece and at the end. A piece is taken in as far as it
     /// fits, and the rest of it after what waits was read again. Room for a report is made before
-    /// its message is read, and where that is refused `stop` is `Memory`. It ends early where no
-    /// message can be read, after wl_display.error, and before a piece whose tokens do not all fit;
-    /// what was read before stays read.
+    /// its message is read. `stop` is `Memory` where that room or the report's own memory is refused,
+    /// and then the message stands in front and can be read again. It ends early where no message
+    /// can be read, after wl_display.error, and before a piece whose tokens do not all fit; what was
+    /// read before stays read.
     pub fn read_all(
         &mut self,
         pieces: &[Piece<'_>],
@@ -75,7 +77,7 @@ impl<'t, T: Table> Client<'t, T> {
     {
         'messages: loop {
             if reports.reserve(1).is_err() {
-                return Err(Some(NextError::Memory));
+                return self.read_without_room();
             }
             match self.next() {
                 Err(why) => return Err(Some(why)),
@@ -88,6 +90,35 @@ impl<'t, T: Table> Client<'t, T> {
                     }
                 }
             }
+        }
+    }
+
+    /// Reads where there is no room for a report: `Memory` where there would be one. A fault is
+    /// found all the same, and so is that nothing waits.
+    fn read_without_room(&mut self) -> Result<(), Option<NextError>>
+        requires { self.old.core.failed ≡ false }
+        ensures { WaitingIsRead self.old [] result self.new }
+    {
+        if self.has_report() {
+            return Err(Some(NextError::Memory));
+        }
+        match self.next() {
+            Err(why) => Err(Some(why)),
+            Ok(_) => Ok(()),
+        }
+    }
+
+    /// Whether a message stands in front that can be read and reported. Nothing changes.
+    fn has_report(&mut self) -> bool
+        requires { self.old.core.failed ≡ false }
+        ensures same { self.new ≡ self.old }
+        ensures yes { result ≡ true → HasReport self.old }
+        ensures no { result ≡ false → HasReport self.old → ⊥ }
+    {
+        match step_in_front(&self.alloc, &mut self.core) {
+            Ok(Some(_)) => true,
+            Err(Stop::Memory) => true,
+            _ => false,
         }
     }
 

@@ -235,6 +235,8 @@ fn too_many_tokens_end_the_reading(rt: HostRuntime) -> Result<(), Fail> {
 enum Turn {
     /// It never asked for that one, and read all.
     Granted,
+    /// It was refused room while nothing waited, and read all.
+    Spared,
     /// It said so, kept so many reports, and read the others once there was memory.
     Refused(usize),
     Wrong,
@@ -262,15 +264,6 @@ fn are_all(reports: &[Incoming<RefusingAllocator>]) -> bool {
 /// Whether these pieces are all read, and the reports are all then.
 fn reads_all(client: &mut Refused<'_>, pieces: &[Piece<'_>], reports: &mut Reports) -> bool {
     client.read_all(pieces, reports) == ReadAll::ended(pieces.len(), None) && are_all(reports)
-}
-
-/// What came of a reading that was refused no memory, and ended so.
-fn granted(end: ReadAll, reports: &Reports) -> Turn {
-    if end == ReadAll::ended(6, None) && are_all(reports) {
-        Turn::Granted
-    } else {
-        Turn::Wrong
-    }
 }
 
 /// What came of a reading of pieces that was refused memory, and ended so, once the others are read.
@@ -304,10 +297,12 @@ fn read_six(
     let end = client.read_all(&pieces, reports);
     let has_refused = memory.has_refused();
     memory.refuse_none();
-    if has_refused {
-        refused(client, &pieces, reports, end)
-    } else {
-        granted(end, reports)
+    let is_read = end == ReadAll::ended(6, None) && are_all(reports);
+    match (has_refused, is_read) {
+        (false, true) => Turn::Granted,
+        (true, true) => Turn::Spared,
+        (true, false) => refused(client, &pieces, reports, end),
+        (false, false) => Turn::Wrong,
     }
 }
 
@@ -338,6 +333,7 @@ fn most_kept(memory: &RefusingAllocator, tables: &Tables) -> Result<Option<usize
     for number in 0u64..100 {
         match read_without(memory, tables, number)? {
             Turn::Refused(kept) => most = kept.max(most),
+            Turn::Spared => {}
             Turn::Granted => return Ok(Some(most)),
             Turn::Wrong => return Ok(None),
         }

@@ -1,5 +1,5 @@
 -- What is known of a message that was received.
-use Rattle.std.proofs.Common.{◌≡◌, ℕ, zero, suc, ◌<◌, ◌≤◌, Bool, true, false, List, [], ◌∷◌, length, drop, get_or, Some, None, refl, sym, ap, subst, ◌∙◌, arith}
+use Rattle.std.proofs.Common.{◌≡◌, ◌≢◌, ℕ, zero, suc, ◌<◌, ◌≤◌, Bool, true, false, List, [], ◌∷◌, length, drop, get_or, Some, None, refl, sym, ap, subst, ◌∙◌, arith}
 use Rattle.std.specs.Prelude.{Option, not, nat_lt, if◌then◌else◌}
 use Rattle.std.specs.declared.result.Result.{Result}
 use Rattle.std.specs.declared.result.Result.TheVariants.{Ok, Err}
@@ -17,6 +17,9 @@ use Rattle.wl_objects.specs.declared.error.Fault.{Fault}
 use Rattle.wl_objects.specs.declared.error.Fault.TheVariants as faults
 use Rattle.wl_objects.specs.Reading.{Reader, kind_at, value_fault, unless, judged, before, and_those, arguments_at, forgiving, descriptors, first_or, tokens_after, report_of, reports_of}
 use Rattle.wl_objects.specs.Messages.{Received, is_empty, is_error, received_whole, received_as, received_by, received}
+use Rattle.wl_objects.specs.declared.error.NextError.{NextError}
+use Rattle.wl_end.specs.Receiving.{is_none}
+use Rattle.wl_end.specs.Outcomes.{answers_with}
 
 -- What a message that was received says: its target has a row, its signature is that of the target's interface, its tokens wait, and
 -- it has no more values than its signature has kinds.
@@ -148,3 +151,15 @@ reports-same r (suc n) a b (value ∷ values) l h =
     let one : report_of r (first_or a 0) value ≡ report_of r (first_or b 0) value = ap (λ t. report_of r t value) (first-at a ∙ (h 0 (omega arith) ∙ sym (first-at b))) in
     let more = reports-same r n (tokens_after value a) (tokens_after value b) values (omega arith) (lefts n a b value h) in
     λ i. one i ∷ more i
+
+-- ---- a message with arguments is reported with some
+
+pub some_reported : (r : Reader) (tokens : List ℕ) (values : List Argument) → values ≢ [] → not (is_none (reports_of r tokens values)) ≡ true
+some_reported r tokens [] h = absurd (h refl)
+some_reported r tokens (v ∷ values) h = refl
+
+-- what a read answers, where that is a report of some kind
+pub some_report : {R : Type 0} (is : R → Bool) (x : Result (Option R) NextError) → answers_with is x ≡ true → (report : R) × (x ≡ Ok (Some report)) × (is report ≡ true)
+some_report is (Ok (Some report)) h = (report, refl, h)
+some_report is (Ok None) h = absurd (cc h)
+some_report is (Err why) h = absurd (cc h)

@@ -1,5 +1,5 @@
 -- What a call answers and leaves where memory can be wanted.
-use Rattle.std.specs.Prelude.{◌≡◌, ◌⊎◌, Bool, true, IsOk, Option, Some, None}
+use Rattle.std.specs.Prelude.{◌≡◌, ◌⊎◌, Bool, true, false, IsOk, Option, Some, None}
 use Rattle.std.specs.declared.result.Result.{Result}
 use Rattle.std.specs.declared.result.Result.TheVariants.{Ok, Err}
 use Rattle.wl_objects.specs.declared.error.NextError.{NextError}
@@ -8,6 +8,11 @@ use Rattle.wl_objects.specs.declared.error.NextError.TheVariants as errors
 -- A call answers as it should; or, where that is an acceptance and memory can be wanted for it, that there is no memory.
 abbrev pub Gives : {X E : Type 0} → E → Bool → Result X E → Result X E → Type 0
 Gives memory wants answer result = (result ≡ answer) ⊎ ((result ≡ Err memory) × (wants ≡ true) × IsOk answer)
+
+-- whether a read answers a report, and one of this kind
+abbrev pub answers_with : {R : Type 0} → (R → Bool) → Result (Option R) NextError → Bool
+answers_with is (Ok (Some report)) = is report
+answers_with is _ = false
 
 -- what a read leaves: want of memory changes nothing
 abbrev pub left : {S R : Type 0} → S → S → Result R NextError → S

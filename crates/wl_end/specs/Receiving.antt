@@ -1,5 +1,5 @@
 -- What an end finds in front of its waiting bytes.
-use Rattle.std.specs.Prelude.{ℕ, ◌%◌, ◌/◌, Bool, true, false, not, List, [], ◌∷◌, take, drop, length, Option, Some, None}
+use Rattle.std.specs.Prelude.{ℕ, ◌%◌, ◌/◌, Bool, true, false, List, [], ◌∷◌, take, drop, length, Option, Some, None}
 use Rattle.std.specs.declared.result.Result.{Result}
 use Rattle.std.specs.declared.result.Result.TheVariants.{Ok, Err}
 use Rattle.wl_wire.specs.declared.header.Header.{Header}
@@ -56,8 +56,3 @@ past_found core f = past core f.size (takes f.message)
 abbrev pub is_none : {X : Type 0} → List X → Bool
 is_none [] = true
 is_none (x ∷ xs) = false
-
--- whether a message was found that has arguments
-abbrev pub has_arguments : Result (Option Found) Fault → Bool
-has_arguments (Ok (Some f)) = not (is_none f.message.signature.kinds)
-has_arguments _ = false

@@ -40,7 +40,7 @@ fn reports<F: FnOnce(&[Got]) -> bool>(
     let Ok(received) = receive(tables, side, table, header, body, 0) else {
         return false;
     };
-    let Ok(reported) = report_arguments(alloc, table, &received.values, &[]) else {
+    let Ok(reported) = report_arguments(&alloc, table, &received.values, &[]) else {
         return false;
     };
     received.target == Object { id: 2, birth: 1 } && is_right(reported.as_slice())

@@ -32,9 +32,17 @@ holding ifaces = record {
   forgives = false;
 }
 
--- a request in front of a server that holds these, where no token waits
+-- the same, where the connection has no room for a new object
+abbrev pub full : List Iface → Reader
+full ifaces = record (holding ifaces) { new_id = λ id. new_id_of (nat_eq id (length ifaces + 1)) false }
+
+-- a request in front of a reader, where no token waits
+abbrev pub request_to : Reader → ℕ → ℕ → List ℕ → Result (List Argument) Fault
+request_to reader object opcode body = values_in (received core_tables Request reader (record { object = object; size = 8; opcode = opcode }) body 0)
+
+-- a request in front of a server that holds these
 abbrev pub request : List Iface → ℕ → ℕ → List ℕ → Result (List Argument) Fault
-request ifaces object opcode body = values_in (received core_tables Request (holding ifaces) (record { object = object; size = 8; opcode = opcode }) body 0)
+request ifaces = request_to (holding ifaces)
 
 -- wl_display alone
 abbrev pub fresh : List Iface
@@ -50,6 +58,10 @@ with_callback = display ∷ registry ∷ callback ∷ []
 -- or a wl_shm at id 3
 abbrev pub with_shm : List Iface
 with_shm = display ∷ registry ∷ (record { 0 = 4 }) ∷ []
+
+-- or a wl_surface at id 3
+abbrev pub with_surface : List Iface
+with_surface = display ∷ registry ∷ (record { 0 = 7 }) ∷ []
 
 -- name 1; a string of 14 bytes, the last of them 0, with 2 bytes of padding; version 6; id 4
 abbrev pub bind_body : ℕ → List ℕ

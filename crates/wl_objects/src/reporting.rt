@@ -1,5 +1,5 @@
 //! The arguments of a message as its reader reports them.
-ghost use Rattle.std.specs.Prelude.{◌≡◌, [], ◌∷◌, ◌++◌, IfOk};
+ghost use Rattle.std.specs.Prelude.{◌≡◌, ◌≢◌, [], ◌∷◌, ◌++◌, IfOk, OnErr};
 ghost use Rattle.std.specs.Option.{option_map_or};
 ghost use Rattle.wl_wire.specs.Argument.{lent};
 ghost use Rattle.wl_table.specs.View.{look};
@@ -68,22 +68,26 @@ impl<A: Allocator> Gots<A> {
 
 /// The arguments of a received message as they are reported, before the message changes the
 /// table: objects by the births that the table gives them, a new object by the birth that it will
-/// get, descriptors by the tokens in order.
+/// get, descriptors by the tokens in order. Of no arguments the report takes no memory.
 pub fn report_arguments<A: Allocator + Clone + Drop, T: Table>(
-    alloc: A,
+    alloc: &A,
     table: &T,
     values: &Values<'_>,
     tokens: &[u32],
 ) -> Result<Gots<A>, AllocError>
-    ensures { IfOk result (λ reported. reported ≡ reports_of (reader_of (T.view table.now)) tokens.now values.now) }
+    ensures ok { IfOk result (λ reported. reported ≡ reports_of (reader_of (T.view table.now)) tokens.now values.now) }
+    ensures err { OnErr result (values.now ≢ []) }
 {
+    if values.is_empty() {
+        return Ok(Gots::none());
+    }
     let mut items = Vec::new(alloc.clone()?);
     let mut left = values.again();
     let mut waiting = tokens;
     'left: while let Some(value) = left.next() {
         let token = next_token(waiting);
         waiting = tokens_after(&value, waiting);
-        items.push(report_of(&alloc, table, token, value)?)?;
+        items.push(report_of(alloc, table, token, value)?)?;
     }
     Ok(Gots::from_vec(items))
 }

@@ -2,9 +2,9 @@
 //! nothing.
 ghost use Rattle.std.specs.Prelude.{◌≡◌, [], ◌∷◌, codes, Ok, Err};
 ghost use Rattle.wl_wire.specs.declared.kind.ArgFault.TheVariants.{NoEndingNul};
-ghost use Rattle.wl_wire.specs.Argument.{Uint, New, NewNamed};
-ghost use Rattle.wl_objects.specs.declared.error.Fault.TheVariants.{UnknownObject, UnknownMessage, BadArgument, BadNewId, TrailingBytes, MissingDescriptor};
-ghost use Rattle.wl_objects.specs.Samples.{request, fresh, with_registry, with_callback, with_shm, bind_body};
+ghost use Rattle.wl_wire.specs.Argument.{Uint, Obj, New, NewNamed};
+ghost use Rattle.wl_objects.specs.declared.error.Fault.TheVariants.{UnknownObject, UnknownMessage, BadArgument, BadObject, BadNewId, TrailingBytes, MissingDescriptor, TooManyObjects};
+ghost use Rattle.wl_objects.specs.Samples.{request, request_to, full, fresh, with_registry, with_callback, with_shm, with_surface, bind_body};
 
 /// wl_display.get_registry of id 2 and wl_display.sync of id 3, in front of a server that has read
 /// nothing; then of id 2, which is in use, in front of one that has a registry there.
@@ -32,4 +32,14 @@ pub fn faults()
     ensures message { request fresh 1 2 [] ≡ Err UnknownMessage }
     ensures bytes { request fresh 1 0 (2 ∷ 0 ∷ 0 ∷ 0 ∷ 0 ∷ 0 ∷ 0 ∷ 0 ∷ []) ≡ Err TrailingBytes }
     ensures descriptor { request with_shm 3 0 (4 ∷ 0 ∷ 0 ∷ 0 ∷ 16 ∷ 0 ∷ 0 ∷ 0 ∷ []) ≡ Err MissingDescriptor }
+{}
+
+/// wl_surface.set_opaque_region of no region; of the registry, which is no wl_region; and of an id
+/// that names no object. Then wl_display.sync of the next id, where there is no room for an object.
+#[tactic(auto, unfolding(wl_sigs::specs::Core::core_tables))]
+pub fn object_faults()
+    ensures null { request with_surface 3 4 (0 ∷ 0 ∷ 0 ∷ 0 ∷ []) ≡ Ok (Obj 0 ∷ []) }
+    ensures other { request with_surface 3 4 (2 ∷ 0 ∷ 0 ∷ 0 ∷ []) ≡ Err (BadObject 0) }
+    ensures unknown { request with_surface 3 4 (9 ∷ 0 ∷ 0 ∷ 0 ∷ []) ≡ Err (BadObject 0) }
+    ensures full { request_to (full with_registry) 1 0 (3 ∷ 0 ∷ 0 ∷ 0 ∷ []) ≡ Err TooManyObjects }
 {}

@@ -1,5 +1,5 @@
 //! The values of one message's arguments, one after another.
-ghost use Rattle.std.specs.Prelude.{◌≡◌, ◌∷◌, [], MatchOption};
+ghost use Rattle.std.specs.Prelude.{◌≡◌, ◌↔◌, ◌∷◌, [], IsTrue, MatchOption};
 ghost use Rattle.wl_wire.specs.Argument.{lent};
 ghost use Rattle.wl_objects.specs.Reading.{values_at, kind_at};
 
@@ -36,6 +36,13 @@ impl<'a> Values<'a> {
             body,
             forgives,
         }
+    }
+
+    /// Whether no value is left.
+    pub fn is_empty(&self) -> bool
+        ensures { IsTrue result ↔ (self.now ≡ []) }
+    {
+        self.again().next().is_none()
     }
 
     /// Takes out the first value.

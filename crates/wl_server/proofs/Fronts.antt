@@ -31,13 +31,13 @@ use Rattle.wl_table.specs.View.{View, look}
 use Rattle.wl_objects.specs.Reading.{descriptors, Reported}
 use Rattle.wl_objects.specs.Messages.{Received, received, reader_of, is_bind}
 use Rattle.wl_end.specs.Core.{Core, HasDisplay}
-use Rattle.wl_end.specs.Receiving.{Found, found, found_at, found_in, header_of, has_arguments, is_none}
+use Rattle.wl_end.specs.Receiving.{Found, found, found_at, found_in, header_of}
 use Rattle.wl_end.specs.Sending.{delete_id_len, fits}
-use Rattle.wl_end.specs.Outcomes.{Gives}
-use Rattle.wl_end.proofs.Receivings.{is_received, reports-same, SameFirst}
+use Rattle.wl_end.specs.Outcomes.{answers_with}
+use Rattle.wl_end.proofs.Receivings.{is_received, reports-same, SameFirst, some_reported}
 use Rattle.wl_server.specs.State.{Global}
 use Rattle.wl_server.specs.Requests.{request, judged, is_good_bind_of}
-use Rattle.wl_server.specs.Steps.{Step, step_of, step_with, step_found, front_step, state_of, CanTake}
+use Rattle.wl_server.specs.Steps.{Step, step_of, step_with, step_found, front_step, state_of, CanTake, step_needs, IsFront}
 
 -- A whole message stands in front, of this header and body, with so many tokens waiting.
 pub record Stands (core : Core) (h : Header) (body : List ℕ) (waiting : ℕ) : Type 0 where
@@ -75,7 +75,7 @@ request_is : (core : Core) (globals : List Global) (h : Header) (body : List ℕ
 request_is core globals h body waiting s r e = ap (judged (state_of core globals)) (found_is core h body waiting s r e)
 
 abbrev pub Answers : Core → List Global → Result (Option Step) NextError → Type 0
-Answers core globals result = Gives errors.Memory (has_arguments (request (state_of core globals))) (front_step (state_of core globals)) result
+Answers core globals result = IsFront (state_of core globals) result
 
 answers_as : (core : Core) (globals : List Global) (x : Result (Option Found) Fault) (result : Result (Option Step) NextError) → request (state_of core globals) ≡ x → result ≡ step_found core x → Answers core globals result
 answers_as core globals x result e h = inl (h ∙ sym (ap (step_found core) e))
@@ -108,11 +108,12 @@ front_ok core globals h body waiting m s e b f = ap (step_found core) (request_s
 
 pub answers_memory : (core : Core) (globals : List Global) (h : Header) (body : List ℕ) (waiting : ℕ) (m : Received) → Stands core h body waiting → Ok m ≡ read_by core h body waiting
     → is_bad core.tables globals h.opcode m ≡ false → (destroys_target m.signature.destroys && nat_lt (room_of core.outbox) delete_id_len) ≡ false
-    → is_none m.signature.kinds ≡ false → Answers core globals (Err errors.Memory)
+    → m.values ≢ [] → Answers core globals (Err errors.Memory)
 answers_memory core globals h body waiting m s e b f k =
-    let wants : has_arguments (request (state_of core globals)) ≡ true = ap has_arguments (request_some core globals h body waiting m s e b) ∙ ap not k in
+    let needs : answers_with step_needs (front_step (state_of core globals)) ≡ true =
+    ap (answers_with step_needs) (front_ok core globals h body waiting m s e b f) ∙ some_reported (reader_of core.view) core.inbox.tokens m.values k in
     let ok : IsOk (front_step (state_of core globals)) = subst IsOk (sym (front_ok core globals h body waiting m s e b f)) (search rules) in
-    inr (refl, wants, ok)
+    inr (refl, needs, ok)
 
 -- ---- what is known of a request that was read
 

@@ -1,5 +1,5 @@
 -- What a server does as it goes on reading.
-use Rattle.std.proofs.Common.{◌≡◌, ◌≢◌, ℕ, ◌+◌, ◌<◌, ◌≤◌, ◌⊎◌, inl, inr, Bool, true, false, cond, List, [], ◌∷◌, ◌++◌, length, map, take, drop, refl, sym, ap, subst, ◌∙◌, arith}
+use Rattle.std.proofs.Common.{◌≡◌, ◌≢◌, ℕ, ◌<◌, inl, inr, Bool, true, false, cond, List, [], ◌∷◌, ◌++◌, length, take, refl, sym, ap, subst, ◌∙◌}
 use Rattle.std.specs.declared.option.Option.{Option}
 use Rattle.std.specs.declared.option.Option.TheVariants.{None, Some}
 use Rattle.std.specs.declared.result.Result.{Result}
@@ -18,13 +18,14 @@ use Rattle.wl_end.specs.Sending.{with_following}
 use Rattle.wl_end.specs.Streams.{waiting}
 use Rattle.wl_end.specs.Outcomes.{Gives, left}
 use Rattle.wl_end.proofs.Coming.{is_found, past_shorter, none_short}
+use Rattle.wl_end.proofs.Receivings.{some_report}
 use Rattle.wl_end.proofs.Appended.{kept_again, kept_more, behind_again, more_behind}
 use Rattle.wl_server.specs.declared.request.Request.{Request}
 use Rattle.wl_server.specs.Seen.{report_of, report_in}
 use Rattle.wl_server.specs.State.{State}
-use Rattle.wl_server.specs.Requests.{Report, report, judged, request, is_good_bind, destroys_it, made_in, is_out_full, state_past, answer_found, next_answer, state_found, after_next}
-use Rattle.wl_server.specs.Streams.{Reads, none, fault, full, next, ReadsSome, nothing, more, ReadsUntil, WaitingIsRead, appended}
-use Rattle.wl_server.proofs.Comings.{Read, read, answers, leaves, failed_answer, not_failed, waits_past, some_then, some_reads, some_one}
+use Rattle.wl_server.specs.Requests.{Report, IsNext, needs_memory, report, judged, request, destroys_it, made_in, is_out_full, state_past, answer_found, next_answer, state_found, after_next}
+use Rattle.wl_server.specs.Streams.{Reads, fault, full, ReadsSome, nothing, ReadsUntil, HasReport, WaitingIsRead, appended}
+use Rattle.wl_server.proofs.Comings.{read, answers, leaves, not_failed, waits_past, some_then, some_reads, some_one}
 
 -- ---- what is read next
 
@@ -106,27 +107,29 @@ pub told_none : (state new : State) (wants : Bool) → Told state wants (Ok None
 told_none state new wants (inl e) = sym e
 told_none state new wants (inr e) = absurd (cc e.0)
 
-never_room : (core : Core) (f : Found) (b : Bool) → cond b (Err errors.OutFull) (Ok (Some (report core f))) ≢ Err errors.Failed
-never_room core f true e = cc e
-never_room core f false e = cc e
+never_room : (core : Core) (f : Found) (b : Bool) (why : NextError) → why ≢ errors.OutFull → cond b (Err errors.OutFull) (Ok (Some (report core f))) ≢ Err why
+never_room core f true why o e = o (sym (cc e))
+never_room core f false why o e = cc e
 
-never_by : (state : State) (x : Result (Option Found) Fault) → answer_found state.core x ≢ Err errors.Failed
-never_by state (Err what) e = cc e
-never_by state (Ok None) e = cc e
-never_by state (Ok (Some f)) e = never_room state.core f (is_out_full state.core f) e
+never_by : (state : State) (why : NextError) (x : Result (Option Found) Fault) → why ≢ errors.OutFull → ((what : Fault) (offset : ℕ) → why ≢ errors.Fault what offset) → answer_found state.core x ≢ Err why
+never_by state why (Err what) o n e = n what state.core.read (sym (cc e))
+never_by state why (Ok None) o n e = cc e
+never_by state why (Ok (Some f)) o n e = never_room state.core f (is_out_full state.core f) why o e
 
--- a server that has not failed does not answer that it has
-never : (state : State) → state.core.failed ≡ false → next_answer state ≢ Err errors.Failed
-never state s e = never_by state (request state) (sym (answers state s) ∙ e)
+-- a server that has not failed answers no error but a fault and that its outbox is full
+never : (state : State) (why : NextError) → state.core.failed ≡ false → why ≢ errors.OutFull → ((what : Fault) (offset : ℕ) → why ≢ errors.Fault what offset) → next_answer state ≢ Err why
+never state why s o n e = never_by state why (request state) o n (sym (answers state s) ∙ e)
 
-pub told_error : (state new : State) (wants : Bool) (why : NextError) → state.core.failed ≡ false → Told state wants (Err why) → new ≡ left {R = Option Report} state (after_next state) (Err why) → ReadsUntil state [] (Some why) new
-told_error state new wants (errors.Fault what offset) s (inl e) l = subst (λ (x : State). Reads state [] (Some (errors.Fault what offset)) x) (sym l) (fault (sym e))
-told_error state new wants (errors.Fault what offset) s (inr e) l = absurd (cc e.0)
-told_error state new wants errors.Failed s (inl e) l = absurd (never state s (sym e))
-told_error state new wants errors.Failed s (inr e) l = absurd (cc e.0)
-told_error state new wants errors.Memory s t l = subst (λ (x : State). ReadsSome state [] x) (sym l) nothing
-told_error state new wants errors.OutFull s (inl e) l = subst (λ (x : State). Reads state [] (Some errors.OutFull) x) (sym (l ∙ full_leaves state (sym e))) (full (sym e))
-told_error state new wants errors.OutFull s (inr e) l = absurd (cc e.0)
+pub told_error : (state new : State) (why : NextError) → state.core.failed ≡ false → IsNext state (Err why) → new ≡ left {R = Option Report} state (after_next state) (Err why) → ReadsUntil state [] (Some why) new
+told_error state new (errors.Fault what offset) s (inl e) l = subst (λ (x : State). Reads state [] (Some (errors.Fault what offset)) x) (sym l) (fault (sym e))
+told_error state new (errors.Fault what offset) s (inr e) l = absurd (cc e.0)
+told_error state new errors.Failed s (inl e) l = absurd (never state errors.Failed s (λ h. cc h) (λ what offset h. cc h) (sym e))
+told_error state new errors.Failed s (inr e) l = absurd (cc e.0)
+told_error state new errors.Memory s (inl e) l = absurd (never state errors.Memory s (λ h. cc h) (λ what offset h. cc h) (sym e))
+told_error state new errors.Memory s (inr e) l = (let some = some_report needs_memory (next_answer state) e.1 in
+    subst (λ (x : State). ReadsUntil state [] (Some errors.Memory) x) (sym l) (nothing, (some.0, some.1)))
+told_error state new errors.OutFull s (inl e) l = subst (λ (x : State). Reads state [] (Some errors.OutFull) x) (sym (l ∙ full_leaves state (sym e))) (full (sym e))
+told_error state new errors.OutFull s (inr e) l = absurd (cc e.0)
 
 -- ---- going on
 
@@ -134,12 +137,17 @@ pub until_then : (state middle last : State) (reports others : List Report) (sto
 until_then state middle last reports others None h g = some_reads h g
 until_then state middle last reports others (Some (errors.Fault what offset)) h g = some_reads h g
 until_then state middle last reports others (Some errors.Failed) h g = some_reads h g
-until_then state middle last reports others (Some errors.Memory) h g = some_then h g
+until_then state middle last reports others (Some errors.Memory) h g = (some_then h g.0, g.1)
 until_then state middle last reports others (Some errors.OutFull) h g = some_reads h g
 
 -- a stop, where nothing more was read
 pub stopped : (state middle last : State) (reports : List Report) (why : NextError) → ReadsSome state reports middle → ReadsUntil middle [] (Some why) last → ReadsUntil state reports (Some why) last
 stopped state middle last reports why h g = subst (λ (l : List Report). ReadsUntil state l (Some why) last) (append-nil reports) (until_then state middle last reports [] (Some why) h g)
+
+-- what is read where there is no room for a report
+pub waiting_then : {X : Type 0} (state middle last : State) (reports : List Report) (r : Result X NextError) → ReadsSome state reports middle → WaitingIsRead middle [] r last → WaitingIsRead state reports r last
+waiting_then state middle last reports (Ok x) h g = (subst (λ (l : List Report). ReadsSome state l last) (append-nil reports) (some_then h g.0), g.1)
+waiting_then state middle last reports (Err why) h g = stopped state middle last reports why h g
 
 -- one report more
 pub one_more : (state middle : State) (reports : List Report) (r : Report) → ReadsSome state reports middle → next_answer middle ≡ Ok (Some r) → ReadsSome state (reports ++ r ∷ []) (after_next middle)
@@ -176,10 +184,10 @@ reads_more state middle new xs before reserved after x h e l k r p =
     (subst (λ (rs : List Report). ReadsSome state rs (after_next middle)) (sym reports) (one_more state middle (appended xs before) (report_of x) h e))
 
 -- a stop
-pub reads_stop : {A : Type 0} (state middle new : State) (xs before reserved : List (Request A)) (wants : Bool) (why : NextError) → ReadsSome state (appended xs before) middle → middle.core.failed ≡ false
-    → Told middle wants (Err why) → new ≡ left {R = Option Report} middle (after_next middle) (Err why) → reserved ≡ before → ReadsUntil state (appended xs reserved) (Some why) new
-reads_stop state middle new xs before reserved wants why h s t l r =
-    let until = stopped state middle new (appended xs before) why h (told_error middle new wants why s t l) in
+pub reads_stop : {A : Type 0} (state middle new : State) (xs before reserved : List (Request A)) (why : NextError) → ReadsSome state (appended xs before) middle → middle.core.failed ≡ false
+    → IsNext middle (Err why) → new ≡ left {R = Option Report} middle (after_next middle) (Err why) → reserved ≡ before → ReadsUntil state (appended xs reserved) (Some why) new
+reads_stop state middle new xs before reserved why h s t l r =
+    let until = stopped state middle new (appended xs before) why h (told_error middle new why s t l) in
     subst (λ rs. ReadsUntil state (appended xs rs) (Some why) new) (sym r) until
 
 -- nothing more
@@ -190,3 +198,26 @@ reads_end state middle new xs before reserved wants some h n t l r =
     let same : new ≡ middle = l ∙ ap (λ (o : Option (Request _)). left middle (after_next middle) (report_in (Ok o))) n ∙ none_leaves middle e in
     let both : State → Type 0 = λ (s : State). ReadsSome state (appended xs reserved) s × (next_answer s ≡ Ok None) in
     subst both (sym same) (subst (λ rs. ReadsSome state (appended xs rs) middle) (sym r) h, e)
+
+-- nothing is read where there is nothing to report
+pub nothing_read : {A : Type 0} (state new : State) (some : Option (Request A)) → (HasReport state → ⊥) → IsNext state (report_in (Ok some)) → new ≡ left state (after_next state) (report_in (Ok some))
+    → ReadsSome state [] new × (next_answer new ≡ Ok None)
+nothing_read state new (Some x) n t l = absurd (n (report_of x, told_report state new _ (report_of x) t))
+nothing_read state new None n t l =
+    let e = told_none state new _ t in
+    let both : State → Type 0 = λ (s : State). ReadsSome state [] s × (next_answer s ≡ Ok None) in
+    subst both (sym (l ∙ none_leaves state e)) (nothing, e)
+
+-- ---- what the request in front comes to
+
+pub has_one : (state : State) (r : Report) → IsNext state (Ok (Some r)) → HasReport state
+has_one state r t = (r, told_report state state _ r t)
+
+-- memory is refused in place of a report
+pub has_some : (state : State) → state.core.failed ≡ false → IsNext state (Err errors.Memory) → HasReport state
+has_some state s (inl e) = absurd (never state errors.Memory s (λ h. cc h) (λ what offset h. cc h) (sym e))
+has_some state s (inr e) = let some = some_report needs_memory (next_answer state) e.1 in (some.0, some.1)
+
+pub has_none : (state : State) (x : Result (Option Report) NextError) → IsNext state x → x ≢ Err errors.Memory → ((r : Report) → x ≢ Ok (Some r)) → HasReport state → ⊥
+has_none state x (inl e) m n h = n h.0 (e ∙ h.1)
+has_none state x (inr e) m n h = m e.0

@@ -14,7 +14,8 @@ use Rattle.wl_objects.specs.declared.error.NextError.TheVariants as errors
 use Rattle.wl_objects.specs.Reading.{Reported}
 use Rattle.wl_objects.specs.Messages.{Received, Made, made, is_bind, Server as server, after}
 use Rattle.wl_end.specs.Core.{Core, with_view}
-use Rattle.wl_end.specs.Receiving.{Found, found, reported, past_found}
+use Rattle.wl_end.specs.Outcomes.{Gives, answers_with}
+use Rattle.wl_end.specs.Receiving.{Found, found, reported, past_found, is_none}
 use Rattle.wl_end.specs.Sending.{with_following, with_error_event, delete_id_len}
 use Rattle.wl_server.specs.State.{State, Global, Registry, global_of, untold, with_core}
 use Rattle.wl_server.specs.Registries.{with_registry, without_registry, registry_birth}
@@ -109,6 +110,10 @@ state_past state f = record state {
 abbrev pub report : Core → Found → Report
 report core f = record { target = f.message.target; opcode = f.opcode; args = reported core f.message }
 
+-- whether a report needs memory, which is for its arguments
+abbrev pub needs_memory : Report → Bool
+needs_memory report = not (is_none report.args)
+
 -- a destroying request needs room for its delete_id
 abbrev pub is_out_full : Core → Found → Bool
 is_out_full core f = destroys_it f.message && nat_lt (room_of core.outbox) delete_id_len
@@ -130,3 +135,7 @@ state_found state (Ok (Some f)) = if is_out_full state.core f then state else st
 -- What `next` leaves.
 abbrev pub after_next : State → State
 after_next state = if state.core.failed then state else state_found state (request state)
+
+-- What `next` answers where memory can be refused: no memory stands only in place of a report that needs some.
+abbrev pub IsNext : State → Result (Option Report) NextError → Type 0
+IsNext state result = Gives errors.Memory (answers_with needs_memory (next_answer state)) (next_answer state) result

@@ -15,11 +15,12 @@ use Rattle.wl_objects.specs.declared.reading.Received.{Received as Read}
 use Rattle.wl_objects.specs.Reading.{reports_of, descriptors}
 use Rattle.wl_objects.specs.Messages.{Made, Received, made, reader_of, opens}
 use Rattle.wl_end.specs.Core.{Core, past, with_view}
+use Rattle.wl_end.specs.Outcomes.{Gives, answers_with}
 use Rattle.wl_end.specs.Receiving.{Found, takes}
 use Rattle.wl_end.specs.Sending.{with_delete_id, with_error_event, fits, delete_id_len}
 use Rattle.wl_server.specs.declared.step.Step.{Step as OwnedStep}
 use Rattle.wl_server.specs.State.{State, Global, Registry, with_core}
-use Rattle.wl_server.specs.Requests.{Report, request, report, made_in, is_out_full, registries_after, fault_code, fault_message}
+use Rattle.wl_server.specs.Requests.{Report, request, report, made_in, is_out_full, registries_after, fault_code, fault_message, needs_memory}
 use Rattle.wl_server.specs.Registries.{without_registry, registry_birth}
 use Rattle.wl_server.specs.Seen.{report_of}
 
@@ -47,6 +48,10 @@ step_with tables view tokens opcode size message = record {
 -- a message that was read, without where it lies
 abbrev pub received_now : Read → Received
 received_now read = record { target = read.target; entry = read.entry; signature = read.signature.now; values = read.values }
+
+-- whether the report of a step needs memory
+abbrev pub step_needs : Step → Bool
+step_needs step = needs_memory step.report
 
 -- what the code's own step is
 abbrev pub step_in : {A : Type 0} → OwnedStep A → Step
@@ -83,6 +88,10 @@ pub record CanTake (core : Core) (step : Step) : Type 0 where
   pub birth : entry.birth ≡ step.report.target.birth
   pub not_display : step.destroys ≡ Target → step.report.target.id ≢ 1
   pub room : step.destroys ≡ Target → IsTrue (fits core.outbox delete_id_len 0)
+
+-- what is known of the request in front where memory can be refused
+abbrev pub IsFront : State → Result (Option Step) NextError → Type 0
+IsFront state result = Gives errors.Memory (answers_with step_needs (front_step state)) (front_step state) result
 
 -- ---- what the reading leaves
 

@@ -8,7 +8,6 @@ use Rattle.wl_message.specs.InStep.{Part, Need, InStep}
 use Rattle.wl_objects.specs.declared.error.Fault.{Fault}
 use Rattle.wl_objects.specs.declared.error.NextError.{NextError}
 use Rattle.wl_objects.specs.declared.error.NextError.TheVariants as errors
-use Rattle.wl_message.specs.declared.amounts.Fed.{Fed}
 use Rattle.wl_end.specs.declared.streams.ReadAll.{ReadAll}
 use Rattle.wl_end.specs.Core.{with_arrived, no_room}
 use Rattle.wl_end.specs.Streams.{Wants, IsTaken, taken_bytes, taken_tokens, NoneFits}
@@ -35,9 +34,13 @@ pub data ReadsSome : State → List Report → State → Type 0 where
 abbrev pub arrived : State → List ℕ → List ℕ → State
 arrived state bytes tokens = with_core state (with_arrived state.core bytes tokens)
 
--- where memory was refused some of what waits is read, else all of it
+-- a message stands in front that can be read and reported
+abbrev pub HasReport : State → Type 0
+HasReport state = (report : Report) × (next_answer state ≡ Ok (Some report))
+
+-- Where memory was refused some of what waits is read, up to a message that can be read; else all of it.
 abbrev pub ReadsUntil : State → List Report → Option NextError → State → Type 0
-ReadsUntil state reports (Some errors.Memory) last = ReadsSome state reports last
+ReadsUntil state reports (Some errors.Memory) last = ReadsSome state reports last × HasReport last
 ReadsUntil state reports stop last = Reads state reports stop last
 
 -- Pieces are read, up to where the answer tells: as if all that was taken of them had come at once.

@@ -2,17 +2,15 @@
 ghost use Rattle.std.specs.Prelude.{◌≡◌, ◌≢◌, Some, None, [], IsTrue, OnOk, true, false, not, ◌&&◌, nat_lt, IfOk, IfSome, OnErr};
 ghost use Rattle.wl_sigs.specs.declared.signature.Side.TheVariants.{Request as request_side};
 ghost use Rattle.wl_sigs.specs.Tables.{destroys_target};
-ghost use Rattle.wl_objects.specs.Reading.{reports_of};
-ghost use Rattle.wl_objects.specs.Messages.{is_bind, opens, reader_of};
+ghost use Rattle.wl_objects.specs.Messages.{is_bind, opens};
 ghost use Rattle.wl_table.specs.View.{is_held};
 ghost use Rattle.wl_end.specs.Core.{with_view};
-ghost use Rattle.wl_end.specs.Outcomes.{Gives, left};
-ghost use Rattle.wl_end.specs.Receiving.{has_arguments, is_none};
+ghost use Rattle.wl_end.specs.Outcomes.{left};
 ghost use Rattle.wl_end.specs.Sending.{delete_id_len, fits};
-ghost use Rattle.wl_server.specs.Requests.{request, is_good_bind_of, next_answer, after_next, registries_after};
+ghost use Rattle.wl_server.specs.Requests.{is_good_bind_of, after_next, registries_after, IsNext};
 ghost use Rattle.wl_server.specs.Registries.{without_registry, registry_birth};
 ghost use Rattle.wl_server.specs.Seen.{report_in};
-ghost use Rattle.wl_server.specs.Steps.{core_by, core_told, core_without, registries_by, steps_in, step_in, front_step, state_of, step_with, received_now, CanTake};
+ghost use Rattle.wl_server.specs.Steps.{core_by, core_told, core_without, registries_by, steps_in, step_in, IsFront, state_of, step_with, received_now, CanTake};
 
 use crate::advertised::{Advertised, OpenRegistry};
 use crate::faults::{fault_code, fault_message};
@@ -23,7 +21,7 @@ use crate::step::Step;
 use std::alloc::{AllocError, Allocator};
 use wl_end::{Core, MAX_TOKENS};
 use wl_objects::{
-    Fault, Gots, Made, NextError, Object, REGISTRY, Received, Table, descriptors, is_bind,
+    Fault, Made, NextError, Object, REGISTRY, Received, Table, descriptors, is_bind,
     made_by_message, receive, report_arguments,
 };
 use wl_sigs::{Destroys, Side, Tables};
@@ -40,10 +38,10 @@ impl<'t, T: Table> Server<'t, T> {
     ///
     /// A request that destroys an object closes it and writes its delete_id at once. A fault makes
     /// the server fail for good, and the error event is the last that it writes. Where there is no
-    /// room for the delete_id, or no memory, the request stays and can be read again; memory is
-    /// wanted only where it has arguments.
+    /// room for the delete_id, or no memory, the request stays and can be read again. A request
+    /// without arguments takes no memory; one that opens an object has arguments.
     pub fn next(&mut self) -> Result<Option<Request<T::Alloc>>, NextError>
-        ensures answer { Gives NextError.Memory (has_arguments (request self.old)) (next_answer self.old) (report_in result) }
+        ensures answer { IsNext self.old (report_in result) }
         ensures state { self.new ≡ left self.old (after_next self.old) (report_in result) }
     {
         if self.core.failed {
@@ -173,12 +171,12 @@ fn remove<A: Allocator + Drop>(registries: &mut Vec<OpenRegistry<A>, A>, birth: 
 }
 
 /// What stands in front: nothing that is whole, or a request that can be taken. Nothing changes.
-fn front<T: Table>(
+pub(crate) fn front<T: Table>(
     core: &mut Core<'_, T>,
     globals: &[Advertised],
     alloc: &T::Alloc,
 ) -> Result<Option<Step<T::Alloc>>, NextError>
-    ensures answer { Gives NextError.Memory (has_arguments (request (state_of core.old globals.now))) (front_step (state_of core.old globals.now)) (steps_in result) }
+    ensures answer { IsFront (state_of core.old globals.now) (steps_in result) }
     ensures can { IfOk result (λ found. IfSome found (λ step. CanTake core.old (step_in step))) }
     ensures same { core.new ≡ core.old }
 {
@@ -241,7 +239,8 @@ fn is_out_full(room: usize, message: &Received<'_, '_>) -> bool
     message.signature.destroys() == Destroys::Target && room < DELETE_ID_LEN
 }
 
-/// What a message is and does, where these tokens wait first.
+/// What a message is and does, where these tokens wait first. Memory is taken only for its
+/// arguments, where there are some.
 fn step_of<A: Allocator + Clone + Drop, T: Table>(
     alloc: &A,
     tables: &Tables,
@@ -250,37 +249,19 @@ fn step_of<A: Allocator + Clone + Drop, T: Table>(
     header: Header,
     message: &Received<'_, '_>,
 ) -> Result<Step<A>, AllocError>
-    requires { is_none message.now.signature.now.kinds ≡ true → message.now.values ≡ [] }
     ensures ok { IfOk result (λ step. step_in step ≡ step_with tables.now (T.view table.now) tokens.now header.opcode header.size (received_now message.now)) }
-    ensures err { OnErr result (is_none message.now.signature.now.kinds ≡ false) }
+    ensures err { OnErr result (message.now.values ≢ []) }
 {
     let kinds = message.signature.kinds();
     Ok(Step {
         report: Request {
             target: message.target,
             opcode: header.opcode,
-            args: arguments(alloc, table, tokens, message)?,
+            args: report_arguments(alloc, table, &message.values, tokens)?,
         },
         size: header.size,
         tokens: descriptors(kinds),
         made: made_by_message(tables, message.entry.version, kinds, &message.values),
         destroys: message.signature.destroys(),
     })
-}
-
-/// The arguments of a message. Memory is taken only where there are some.
-fn arguments<A: Allocator + Clone + Drop, T: Table>(
-    alloc: &A,
-    table: &T,
-    tokens: &[u32],
-    message: &Received<'_, '_>,
-) -> Result<Gots<A>, AllocError>
-    requires { is_none message.now.signature.now.kinds ≡ true → message.now.values ≡ [] }
-    ensures ok { IfOk result (λ args. args ≡ reports_of (reader_of (T.view table.now)) tokens.now message.now.values) }
-    ensures err { OnErr result (is_none message.now.signature.now.kinds ≡ false) }
-{
-    if message.signature.kinds().is_empty() {
-        return Ok(Gots::none());
-    }
-    report_arguments(alloc.clone()?, table, &message.values, tokens)
 }

@@ -3,8 +3,9 @@ ghost use Rattle.std.specs.Prelude.{◌≡◌, ◌≤◌, true, false, [], lengt
 ghost use Rattle.wl_message.specs.Arrived.{free_tokens};
 ghost use Rattle.wl_message.specs.InStep.{part};
 ghost use Rattle.wl_end.specs.Core.{no_room};
-ghost use Rattle.wl_server.specs.Streams.{appended, WaitingIsRead, PieceIsRead, ReadsAll};
+ghost use Rattle.wl_server.specs.Streams.{appended, HasReport, WaitingIsRead, PieceIsRead, ReadsAll};
 
+use crate::receiving::front;
 use crate::request::Request;
 use crate::server::Server;
 use wl_end::ReadAll;
@@ -16,9 +17,9 @@ impl<'t, T: Table> Server<'t, T> {
     ///
     /// All that waits is read before each piece and at the end. A piece is taken in as far as it
     /// fits, and the rest of it after what waits was read again. Room for a report is made before
-    /// its message is read, and where that is refused `stop` is `Memory`. It ends early where no
-    /// message can be read, and before a piece whose tokens do not all fit; what was read before
-    /// stays read.
+    /// its message is read. `stop` is `Memory` where that room or the report's own memory is refused,
+    /// and then the message stands in front and can be read again. It ends early where no message
+    /// can be read, and before a piece whose tokens do not all fit; what was read before stays read.
     pub fn read_all(
         &mut self,
         pieces: &[Piece<'_>],
@@ -73,13 +74,42 @@ impl<'t, T: Table> Server<'t, T> {
     {
         'messages: loop {
             if reports.reserve(1).is_err() {
-                return Err(NextError::Memory);
+                return self.read_without_room();
             }
             match self.next() {
                 Err(why) => return Err(why),
                 Ok(None) => return Ok(()),
                 Ok(Some(report)) => reports.push_reserved(report),
             }
+        }
+    }
+
+    /// Reads where there is no room for a report: `Memory` where there would be one. A fault is
+    /// found all the same, and so is that nothing waits.
+    fn read_without_room(&mut self) -> Result<(), NextError>
+        requires { self.old.core.failed ≡ false }
+        ensures { WaitingIsRead self.old [] result self.new }
+    {
+        if self.has_report() {
+            return Err(NextError::Memory);
+        }
+        match self.next() {
+            Err(why) => Err(why),
+            Ok(_) => Ok(()),
+        }
+    }
+
+    /// Whether a message stands in front that can be read and reported. Nothing changes.
+    fn has_report(&mut self) -> bool
+        requires { self.old.core.failed ≡ false }
+        ensures same { self.new ≡ self.old }
+        ensures yes { result ≡ true → HasReport self.old }
+        ensures no { result ≡ false → HasReport self.old → ⊥ }
+    {
+        match front(&mut self.core, &self.globals, &self.alloc) {
+            Ok(Some(_)) => true,
+            Err(NextError::Memory) => true,
+            _ => false,
         }
     }
 

@@ -181,7 +181,7 @@ fn too_many_tokens_end_the_reading(rt: HostRuntime) -> Result<(), Fail> {
 enum Went {
     /// None was refused, and all was read.
     Granted,
-    /// One was, and the rest was read once there was memory.
+    /// One was, and the rest was read once there was memory; or nothing waited then, and all was read.
     Later,
     Wrong,
 }
@@ -209,13 +209,15 @@ fn read_short(
     let end = server.read_all(&[piece(REGISTRY), piece(SYNC)], reports);
     let was_refused = memory.has_refused();
     memory.refuse_none();
-    if !was_refused {
-        if end == ReadAll::ended(2, None) && reports.len() == 2 {
-            return Went::Granted;
-        }
-        return Went::Wrong;
+    let is_read = end == ReadAll::ended(2, None) && reports.len() == 2;
+    if is_read {
+        return if was_refused {
+            Went::Later
+        } else {
+            Went::Granted
+        };
     }
-    let stopped = end.stop == Some(NextError::Memory) && end.part == NOTHING;
+    let stopped = was_refused && end.stop == Some(NextError::Memory) && end.part == NOTHING;
     if stopped && goes_on(server, reports, end) {
         Went::Later
     } else {

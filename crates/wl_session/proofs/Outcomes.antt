@@ -12,8 +12,8 @@ use Rattle.wl_objects.specs.declared.error.NextError.TheVariants as errors
 use Rattle.wl_objects.specs.declared.error.Fault.{Fault}
 use Rattle.wl_sigs.specs.declared.signature.Side.TheVariants.{Event as event_side}
 use Rattle.wl_end.specs.Core.{Core}
-use Rattle.wl_end.specs.Receiving.{Found, found, has_arguments}
-use Rattle.wl_end.specs.Outcomes.{Gives, left, refusal_in}
+use Rattle.wl_end.specs.Receiving.{Found, found}
+use Rattle.wl_end.specs.Outcomes.{Gives, answers_with, left, refusal_in}
 use Rattle.wl_client.specs.Seen.{new_in}
 use Rattle.wl_client.specs.State as client
 use Rattle.wl_client.specs.Reports as events
@@ -23,6 +23,7 @@ use Rattle.wl_server.specs.declared.request.GlobalError.{GlobalError}
 use Rattle.wl_server.specs.declared.request.GlobalError.TheVariants as global_errors
 use Rattle.wl_server.specs.Calls.{ok_unless, error_refusal, after_error}
 use Rattle.wl_server.specs.Announcing.{Fitting, after_announce}
+use Rattle.wl_end.proofs.Receivings.{some_report}
 use Rattle.wl_world.specs.Pair.{PairState, with_server, marked, after_post, Writes, Calls, Adds, Announces, Nexts, accepted, refused, no_memory, done, added, announced, answered}
 
 -- ---- a write
@@ -133,22 +134,17 @@ left_is before after (Err errors.Failed) h = refl
 left_is before after (Err errors.Memory) h = absurd (h refl)
 left_is before after (Err errors.OutFull) h = refl
 
--- a report that memory may be wanted for
-abbrev pub Reports : {R : Type 0} → Result (Option R) NextError → Type 0
-Reports {R = R} answer = (report : R) × (answer ≡ Ok (Some report))
-
-pub nexts : {S R : Type 0} (f : S → PairState) (answer : Result (Option R) NextError) (what : Result (Option Found) Fault) (before after now : S) (result : Result (Option R) NextError)
-    → (answer ≡ Err errors.Memory → ⊥) → (IsOk answer → has_arguments what ≡ true → Reports answer)
-    → Gives errors.Memory (has_arguments what) answer result → now ≡ left before after result → Nexts answer what (f before) (f after) result (f now)
-nexts {S = S} {R = R} f answer what before after now result never reports (inl e) h =
+pub nexts : {S R : Type 0} (f : S → PairState) (needs : R → Bool) (answer : Result (Option R) NextError) (before after now : S) (result : Result (Option R) NextError)
+    → (answer ≡ Err errors.Memory → ⊥) → Gives errors.Memory (answers_with needs answer) answer result → now ≡ left before after result → Nexts needs answer (f before) (f after) result (f now)
+nexts {S = S} {R = R} f needs answer before after now result never (inl e) h =
     let l : now ≡ after = h ∙ ap (left before after) e ∙ left_is before after answer never in
-    subst (λ (s : S). Nexts answer what (f before) (f after) result (f s)) (sym l)
-    (subst (λ (r : Result (Option R) NextError). Nexts answer what (f before) (f after) r (f after)) (sym e) answered)
-nexts {S = S} {R = R} f answer what before after now result never reports (inr k) h =
+    subst (λ (s : S). Nexts needs answer (f before) (f after) result (f s)) (sym l)
+    (subst (λ (r : Result (Option R) NextError). Nexts needs answer (f before) (f after) r (f after)) (sym e) answered)
+nexts {S = S} {R = R} f needs answer before after now result never (inr k) h =
     let l : now ≡ before = h ∙ ap (left before after) k.0 in
-    let report = reports k.2 k.1 in
-    subst (λ (s : S). Nexts answer what (f before) (f after) result (f s)) (sym l)
-    (subst (λ (r : Result (Option R) NextError). Nexts answer what (f before) (f after) r (f before)) (sym k.0) (no_memory report.1 k.1))
+    let some = some_report needs answer k.1 in
+    subst (λ (s : S). Nexts needs answer (f before) (f after) result (f s)) (sym l)
+    (subst (λ (r : Result (Option R) NextError). Nexts needs answer (f before) (f after) r (f before)) (sym k.0) (no_memory some.1 some.2))
 
 -- ---- what a client's and a server's read answers
 
@@ -163,15 +159,6 @@ client_at core r false h = client_found core r h
 
 pub client_never : (state : client.State) → events.next_answer state ≡ Err errors.Memory → ⊥
 client_never state = client_at state.core (found state.core event_side) state.core.failed
-
-client_report : (core : Core) (r : Result (Option Found) Fault) (b : Bool) → IsOk (cond b (Err errors.Failed) (events.answer_found core r)) → has_arguments r ≡ true → Reports (cond b (Err errors.Failed) (events.answer_found core r))
-client_report core r true k h = absurd (cc k)
-client_report core (Err fault) false k h = absurd (cc h)
-client_report core (Ok None) false k h = absurd (cc h)
-client_report core (Ok (Some f)) false k h = (events.report core f, refl)
-
-pub client_reports : (state : client.State) → IsOk (events.next_answer state) → has_arguments (found state.core event_side) ≡ true → Reports (events.next_answer state)
-client_reports state = client_report state.core (found state.core event_side) state.core.failed
 
 server_full : (core : Core) (f : Found) (b : Bool) → cond b (Err errors.OutFull) (Ok (Some (requests.report core f))) ≡ Err errors.Memory → ⊥
 server_full core f true h = cc h
@@ -188,16 +175,3 @@ server_at core r false h = server_found core r h
 
 pub server_never : (state : server.State) → requests.next_answer state ≡ Err errors.Memory → ⊥
 server_never state = server_at state.core (requests.request state) state.core.failed
-
-server_room : (core : Core) (f : Found) (b : Bool) → IsOk (cond b (Err errors.OutFull) (Ok (Some (requests.report core f)))) → Reports (cond b (Err errors.OutFull) (Ok (Some (requests.report core f))))
-server_room core f true k = absurd (cc k)
-server_room core f false k = (requests.report core f, refl)
-
-server_report : (core : Core) (r : Result (Option Found) Fault) (b : Bool) → IsOk (cond b (Err errors.Failed) (requests.answer_found core r)) → has_arguments r ≡ true → Reports (cond b (Err errors.Failed) (requests.answer_found core r))
-server_report core r true k h = absurd (cc k)
-server_report core (Err fault) false k h = absurd (cc h)
-server_report core (Ok None) false k h = absurd (cc h)
-server_report core (Ok (Some f)) false k h = server_room core f (requests.is_out_full core f) k
-
-pub server_reports : (state : server.State) → IsOk (requests.next_answer state) → has_arguments (requests.request state) ≡ true → Reports (requests.next_answer state)
-server_reports state = server_report state.core (requests.request state) state.core.failed

@@ -1,12 +1,10 @@
 -- A move of the client's reading.
 use Rattle.std.proofs.Common.{◌≡◌, ◌≢◌, ℕ, true, false, List, [], ◌∷◌, ◌++◌, map, length, take, refl, sym, ap, subst, ◌∙◌}
-use Rattle.std.specs.Prelude.{not}
 use Rattle.std.specs.declared.option.Option.{Option}
 use Rattle.std.specs.declared.option.Option.TheVariants.{None, Some}
 use Rattle.std.specs.declared.result.Result.{Result}
 use Rattle.std.specs.declared.result.Result.TheVariants.{Ok}
 use Rattle.std.proofs.lemmas.List.{take_at}
-use Rattle.wl_wire.specs.declared.kind.Kind.{Kind}
 use Rattle.wl_sigs.specs.declared.signature.Side.TheVariants.{Event as event_side}
 use Rattle.wl_sigs.specs.Tables.{Interface, destroys_target}
 use Rattle.wl_sigs.specs.Tables as sigs
@@ -14,19 +12,18 @@ use Rattle.wl_message.specs.Cut.{usual_limit, front, Front, More, Bad, Whole, Ha
 use Rattle.wl_table.specs.declared.object.Entry.{Entry}
 use Rattle.wl_table.specs.declared.object.State.{State}
 use Rattle.wl_table.specs.declared.object.State.TheVariants as states
-use Rattle.wl_objects.specs.declared.error.Fault.{Fault}
 use Rattle.wl_objects.specs.declared.error.NextError.{NextError}
 use Rattle.wl_objects.specs.Reading.{descriptors}
-use Rattle.wl_end.specs.Receiving.{Found, found, found_at, reported, is_none}
-use Rattle.wl_client.specs.Reports.{Report, report, plain_report, answer_found, next_answer, state_found, after_next, state_past}
+use Rattle.wl_end.specs.Receiving.{Found, found, found_at, reported}
+use Rattle.wl_client.specs.Reports.{Report, report, needs_memory, plain_report, answer_found, next_answer, state_found, after_next, state_past}
 use Rattle.wl_client.specs.Reports as reports
-use Rattle.wl_world.specs.Meant.{Known, Message, Coming, Event, Delete, Arg, renamed, recoming, rearg, born_of, birth_of, tokens, plain, live_entry}
+use Rattle.wl_world.specs.Meant.{Known, Born, Message, Coming, Event, Delete, renamed, recoming, rearg, born_of, birth_of, tokens, plain, live_entry}
 use Rattle.wl_world.specs.World.{World, Row, Open, Ending, event_read, delete_read, Steps, reads_event, reads_delete, ReadEvent}
 use Rattle.wl_world.specs.World as world
 use Rattle.wl_world.specs.Pair.{PairState, ClientNext, with_client, Nexts, answered, no_memory}
-use Rattle.wl_world.specs.Answers.{NotEnded, before, ReportsArgs, ReportsComing}
+use Rattle.wl_world.specs.Answers.{NotEnded, before, ReportsArgs, ReportsComing, NeedsMemory}
 use Rattle.wl_world.specs.Flight.{as_row}
-use Rattle.wl_world.specs.Stands.{stands, StandsBy, AreOf}
+use Rattle.wl_world.specs.Stands.{stands, StandsBy}
 use Rattle.wl_world.specs.Runs.{Keeps}
 use Rattle.wl_world.proofs.Channels.{pops, never_bad}
 use Rattle.wl_world.proofs.Afters.{tokens_map}
@@ -48,10 +45,15 @@ idle p l e =
     let r : found p.client.core event_side ≡ Ok None = ap (found_at p.client.core event_side) e in
     (rw (l, r) refl, rw (l, r) refl)
 
-kinds_some : (tables : List Interface) (version : ℕ) (ks : List Kind) (args : List (Arg Known)) → AreOf tables version ks args → not (is_none ks) ≡ true → map (rearg born_of) args ≢ []
-kinds_some tables version [] args f h = λ e. cc h
-kinds_some tables version (k ∷ ks) [] f h = absurd f
-kinds_some tables version (k ∷ ks) (a ∷ args) f h = λ e. cc e
+-- ---- a report that needs memory
+
+is_some_event : (w : World) (m : Message Born) (r : Report) → ReportsComing w (Event m) r → needs_memory r ≡ true → NeedsMemory w (Event m)
+is_some_event w m (reports.Event target opcode []) t h = absurd (cc h)
+is_some_event w m (reports.Event target opcode (a ∷ args)) t h = (t.0, λ e. cc (t.3, e))
+is_some_event w m (reports.Discarded target opcode own) t h = absurd (cc h)
+is_some_event w m (reports.Deleted object) t h = absurd (cc h)
+is_some_event w m (reports.Stray id) t h = absurd (cc h)
+is_some_event w m (reports.Error id named code text) t h = absurd t
 
 -- ---- an event
 
@@ -79,8 +81,8 @@ reports_it p w m cs asked s n i =
 
 keeps_event : (p : PairState) (w : World) (m : Message Known) (cs : List (Coming Known)) (asked : List (Message Known)) (s : StandsBy p w asked (Event m ∷ cs)) (n : ℕ) → NotEnded p w
     → front usual_limit p.client.core.inbox.bytes ≡ Whole n → (i : InEvent p w m cs asked s n) → (reply : Result (Option Report) NextError) (p' : PairState)
-    → (Nexts (next_answer p.client) (found p.client.core event_side) p (with_client p (after_next p.client)) reply p')
-    → Nexts (Ok (Some (report p.client.core (the_found n m i.target.entry s.told_fit.0.fits.signature)))) (Ok (Some (the_found n m i.target.entry s.told_fit.0.fits.signature))) p
+    → (Nexts needs_memory (next_answer p.client) p (with_client p (after_next p.client)) reply p')
+    → Nexts needs_memory (Ok (Some (report p.client.core (the_found n m i.target.entry s.told_fit.0.fits.signature)))) p
     (with_client p (after_event p.client m n s.told_fit.0.fits.signature.destroys (teaches m i.target.entry))) reply p'
     → Keeps p w ClientNext (ClientNext reply) p'
 keeps_event p w m cs asked s n z e i reply p' d answered = record {
@@ -88,15 +90,18 @@ keeps_event p w m cs asked s n z e i reply p' d answered = record {
   answers = before z d (record { waits = subst HasMessage (sym e) tt; coming = Event (renamed born_of m); steps = reads_event (renamed born_of m) (map (recoming born_of) cs) s.events; reports = reports_it p w m cs asked s n i });
   stands = stands asked cs z (event_stands p w m cs asked s n i (event_mortal p w m cs asked s n i));
 }
-keeps_event p w m cs asked s n z e i reply p' d (no_memory q h) = record {
-  world = w;
-  answers = before z d (record { waits = subst HasMessage (sym e) tt; coming = Event (renamed born_of m); rest = map (recoming born_of) cs; first = s.events; because = kinds_some p.server.core.tables m.target.born.version s.told_fit.0.fits.signature.kinds m.args s.told_fit.0.fits.args h; same = refl });
-  stands = stands asked (Event m ∷ cs) z s;
-}
+keeps_event p w m cs asked s n z e i reply p' d (no_memory {report = r} q h) =
+    let same : report p.client.core (the_found n m i.target.entry s.told_fit.0.fits.signature) ≡ r = cc q in
+    let needs = is_some_event w (renamed born_of m) _ (reports_it p w m cs asked s n i) (ap needs_memory same ∙ h) in
+    record {
+      world = w;
+      answers = before z d (record { waits = subst HasMessage (sym e) tt; coming = Event (renamed born_of m); rest = map (recoming born_of) cs; first = s.events; because = needs; same = refl });
+      stands = stands asked (Event m ∷ cs) z s;
+    }
 
 at_event : (p : PairState) (w : World) (m : Message Known) (cs : List (Coming Known)) (asked : List (Message Known)) (s : StandsBy p w asked (Event m ∷ cs)) (n : ℕ) → NotEnded p w
     → front usual_limit p.client.core.inbox.bytes ≡ Whole n → (reply : Result (Option Report) NextError) (p' : PairState)
-    → (Nexts (next_answer p.client) (found p.client.core event_side) p (with_client p (after_next p.client)) reply p') → Keeps p w ClientNext (ClientNext reply) p'
+    → (Nexts needs_memory (next_answer p.client) p (with_client p (after_next p.client)) reply p') → Keeps p w ClientNext (ClientNext reply) p'
 at_event p w m cs asked s n z e reply p' d =
     let i = in_event p w m cs asked s n e in
     let sig = s.told_fit.0.fits.signature in
@@ -104,67 +109,64 @@ at_event p w m cs asked s n z e reply p' d =
     let a = answer_is p f s.client_lives i.finds_it in
     let b = event_answer p m n i.target.entry p.server.core.tables s.told_fit.0.fits s.told_fit.0.no_delete_id i.target.same in
     keeps_event p w m cs asked s n z e i reply p' d
-    (subst (λ st. Nexts (Ok (Some (report p.client.core f))) (Ok (Some f)) p (with_client p st) reply p') (a.leaves ∙ b.leaves)
-    (subst (λ y. Nexts (Ok (Some (report p.client.core f))) y p (with_client p (after_next p.client)) reply p') i.finds_it
-    (subst (λ x. Nexts x (found p.client.core event_side) p (with_client p (after_next p.client)) reply p') a.answer d)))
+    (subst (λ st. Nexts needs_memory (Ok (Some (report p.client.core f))) p (with_client p st) reply p') (a.leaves ∙ b.leaves)
+    (subst (λ x. Nexts needs_memory x p (with_client p (after_next p.client)) reply p') a.answer d))
 
 -- ---- a delete
 
 keeps_delete : (p : PairState) (w : World) (x : Known) (cs : List (Coming Known)) (asked : List (Message Known)) (s : StandsBy p w asked (Delete x ∷ cs)) (n : ℕ) → NotEnded p w
-    → front usual_limit p.client.core.inbox.bytes ≡ Whole n → (i : InDelete p x cs s.meet.middle n) → (reply : Result (Option Report) NextError) (p' : PairState) (what : Result (Option Found) Fault)
-    → (Nexts (next_answer p.client) (found p.client.core event_side) p (with_client p (after_next p.client)) reply p')
-    → Nexts (Ok (Some (reports.Deleted (record { id = x.id; birth = i.entry.birth })))) what p (with_client p (after_delete p.client x n)) reply p'
+    → front usual_limit p.client.core.inbox.bytes ≡ Whole n → (i : InDelete p x cs s.meet.middle n) → (reply : Result (Option Report) NextError) (p' : PairState)
+    → (Nexts needs_memory (next_answer p.client) p (with_client p (after_next p.client)) reply p')
+    → Nexts needs_memory (Ok (Some (reports.Deleted (record { id = x.id; birth = i.entry.birth })))) p (with_client p (after_delete p.client x n)) reply p'
     → Keeps p w ClientNext (ClientNext reply) p'
-keeps_delete p w x cs asked s n z e i reply p' what d answered = record {
+keeps_delete p w x cs asked s n z e i reply p' d answered = record {
   world = delete_read w x.born (map (recoming born_of) cs);
   answers = before z d (record { waits = subst HasMessage (sym e) tt; coming = Delete x.born; steps = reads_delete x.born (map (recoming born_of) cs) s.events; reports = ap birth_of i.same });
   stands = stands asked cs z (delete_stands p w x cs asked s n i);
 }
-keeps_delete p w x cs asked s n z e i reply p' what d (no_memory q h) = record {
-  world = w;
-  answers = before z d (record { waits = subst HasMessage (sym e) tt; coming = Delete x.born; rest = map (recoming born_of) cs; first = s.events; because = tt; same = refl });
-  stands = stands asked (Delete x ∷ cs) z s;
-}
+keeps_delete p w x cs asked s n z e i reply p' d (no_memory {report = r} q h) =
+    let same : reports.Deleted (record { id = x.id; birth = i.entry.birth }) ≡ r = cc q in
+    absurd (cc (ap needs_memory same, h))
 
 at_delete : (p : PairState) (w : World) (x : Known) (cs : List (Coming Known)) (asked : List (Message Known)) (s : StandsBy p w asked (Delete x ∷ cs)) (n : ℕ) → NotEnded p w
     → front usual_limit p.client.core.inbox.bytes ≡ Whole n → (reply : Result (Option Report) NextError) (p' : PairState)
-    → (Nexts (next_answer p.client) (found p.client.core event_side) p (with_client p (after_next p.client)) reply p') → Keeps p w ClientNext (ClientNext reply) p'
+    → (Nexts needs_memory (next_answer p.client) p (with_client p (after_next p.client)) reply p') → Keeps p w ClientNext (ClientNext reply) p'
 at_delete p w x cs asked s n z e reply p' d =
     let i = in_delete p w x cs asked s n e in
     let f = the_found n (deleting x) (live_entry world.display_born) i.signature in
     let a = answer_is p f s.client_lives i.finds_it in
     let b = delete_answer p x n i.entry i.signature i.deletes_it.mortal i.there i.count in
-    keeps_delete p w x cs asked s n z e i reply p' (found p.client.core event_side) d
-    (subst (λ st. Nexts (Ok (Some (reports.Deleted (record { id = x.id; birth = i.entry.birth })))) (found p.client.core event_side) p (with_client p st) reply p') (a.leaves ∙ b.leaves)
-    (subst (λ y. Nexts y (found p.client.core event_side) p (with_client p (after_next p.client)) reply p') (a.answer ∙ ap (λ (r : Report). Ok (Some r)) b.tells_it) d))
+    keeps_delete p w x cs asked s n z e i reply p' d
+    (subst (λ st. Nexts needs_memory (Ok (Some (reports.Deleted (record { id = x.id; birth = i.entry.birth })))) p (with_client p st) reply p') (a.leaves ∙ b.leaves)
+    (subst (λ y. Nexts needs_memory y p (with_client p (after_next p.client)) reply p') (a.answer ∙ ap (λ (r : Report). Ok (Some r)) b.tells_it) d))
 
 -- ---- all fronts
 
 at_whole : (p : PairState) (w : World) (asked : List (Message Known)) (told : List (Coming Known)) (s : StandsBy p w asked told) (n : ℕ) → NotEnded p w
     → front usual_limit p.client.core.inbox.bytes ≡ Whole n → (reply : Result (Option Report) NextError) (p' : PairState)
-    → (Nexts (next_answer p.client) (found p.client.core event_side) p (with_client p (after_next p.client)) reply p') → Keeps p w ClientNext (ClientNext reply) p'
+    → (Nexts needs_memory (next_answer p.client) p (with_client p (after_next p.client)) reply p') → Keeps p w ClientNext (ClientNext reply) p'
 at_whole p w asked [] s n z e reply p' d = absurd (let q = pops p.server.core.outbox p.client.core.inbox [] n s.to_client e in cc q.is)
 at_whole p w asked (Event m ∷ cs) s n z e reply p' d = at_event p w m cs asked s n z e reply p' d
 at_whole p w asked (Delete x ∷ cs) s n z e reply p' d = at_delete p w x cs asked s n z e reply p' d
 
 keeps_idle : (p : PairState) (w : World) (asked : List (Message Known)) (told : List (Coming Known)) (s : StandsBy p w asked told) → NotEnded p w → front usual_limit p.client.core.inbox.bytes ≡ More
-    → (reply : Result (Option Report) NextError) (p' : PairState) → (what : Result (Option Found) Fault) → (Nexts (next_answer p.client) (found p.client.core event_side) p (with_client p (after_next p.client)) reply p')
-    → Nexts (Ok None) what p p reply p' → Keeps p w ClientNext (ClientNext reply) p'
-keeps_idle p w asked told s z e reply p' what d answered = record { world = w; answers = before z d (λ h. subst HasMessage e h, refl); stands = stands asked told z s }
-keeps_idle p w asked told s z e reply p' what d (no_memory q h) = absurd (cc q)
+    → (reply : Result (Option Report) NextError) (p' : PairState) → (Nexts needs_memory (next_answer p.client) p (with_client p (after_next p.client)) reply p')
+    → Nexts needs_memory (Ok None) p p reply p' → Keeps p w ClientNext (ClientNext reply) p'
+keeps_idle p w asked told s z e reply p' d answered = record { world = w; answers = before z d (λ h. subst HasMessage e h, refl); stands = stands asked told z s }
+keeps_idle p w asked told s z e reply p' d (no_memory q h) = absurd (cc q)
 
 at_front : (p : PairState) (w : World) (asked : List (Message Known)) (told : List (Coming Known)) (s : StandsBy p w asked told) → NotEnded p w
-    → (reply : Result (Option Report) NextError) (p' : PairState) → (Nexts (next_answer p.client) (found p.client.core event_side) p (with_client p (after_next p.client)) reply p')
+    → (reply : Result (Option Report) NextError) (p' : PairState) → (Nexts needs_memory (next_answer p.client) p (with_client p (after_next p.client)) reply p')
     → (f : Front) → front usual_limit p.client.core.inbox.bytes ≡ f → Keeps p w ClientNext (ClientNext reply) p'
 at_front p w asked told s z reply p' d More e =
     let i = idle p s.client_lives e in
-    keeps_idle p w asked told s z e reply p' (found p.client.core event_side) d
-    (subst (λ st. Nexts (Ok None) (found p.client.core event_side) p (with_client p st) reply p') i.1
-    (subst (λ x. Nexts x (found p.client.core event_side) p (with_client p (after_next p.client)) reply p') i.0 d))
+    keeps_idle p w asked told s z e reply p' d
+    (subst (λ st. Nexts needs_memory (Ok None) p (with_client p st) reply p') i.1
+    (subst (λ x. Nexts needs_memory x p (with_client p (after_next p.client)) reply p') i.0 d))
 at_front p w asked told s z reply p' d (Bad n) e = absurd (never_bad p.server.core.outbox p.client.core.inbox _ n s.to_client e)
 at_front p w asked told s z reply p' d (Whole n) e = at_whole p w asked told s n z e reply p' d
 
 pub client_next_keeps : (p : PairState) (w : World) (asked : List (Message Known)) (told : List (Coming Known)) → StandsBy p w asked told → NotEnded p w
-    → (reply : Result (Option Report) NextError) (p' : PairState) → (Nexts (next_answer p.client) (found p.client.core event_side) p (with_client p (after_next p.client)) reply p')
+    → (reply : Result (Option Report) NextError) (p' : PairState) → (Nexts needs_memory (next_answer p.client) p (with_client p (after_next p.client)) reply p')
     → Keeps p w ClientNext (ClientNext reply) p'
 client_next_keeps p w asked told s z reply p' d = at_front p w asked told s z reply p' d _ refl

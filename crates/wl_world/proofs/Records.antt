@@ -40,9 +40,9 @@ by_announce : (p : PairState) (reply : Result ℕ SendError) (p' : PairState) �
 by_announce p reply p' (announced l f) = same p p' refl refl
 by_announce p reply p' (refused l) = unchanged p
 
-by_next : {R : Type 0} (answer : Result (Option R) NextError) (what : Result (Option Found) Fault) (p after : PairState) (reply : Result (Option R) NextError) (p' : PairState) → KeepsRecord p after → Nexts answer what p after reply p' → KeepsRecord p p'
-by_next answer what p after reply p' k answered = k
-by_next answer what p after reply p' k (no_memory h o) = unchanged p
+by_next : {R : Type 0} (needs : R → Bool) (answer : Result (Option R) NextError) (p after : PairState) (reply : Result (Option R) NextError) (p' : PairState) → KeepsRecord p after → Nexts needs answer p after reply p' → KeepsRecord p p'
+by_next needs answer p after reply p' k answered = k
+by_next needs answer p after reply p' k (no_memory h o) = unchanged p
 
 by_carry : (taken : Taken) (p after : PairState) (reply : Carried) (p' : PairState) → KeepsRecord p after → Carries taken p after reply p' → KeepsRecord p p'
 by_carry taken p after reply p' k moved = k

@@ -6,22 +6,20 @@ use Rattle.std.specs.declared.option.Option.TheVariants.{None, Some}
 use Rattle.std.specs.declared.result.Result.{Result}
 use Rattle.std.specs.declared.result.Result.TheVariants.{Ok, Err}
 use Rattle.std.proofs.lemmas.Bool.{ltb-true, ltb-false}
-use Rattle.wl_wire.specs.declared.kind.Kind.{Kind}
 use Rattle.wl_sigs.specs.declared.signature.Side.TheVariants.{Request as request_side}
-use Rattle.wl_sigs.specs.Tables.{Interface}
 use Rattle.wl_message.specs.Cut.{usual_limit, front, Front, More, Bad, Whole, HasMessage}
 use Rattle.wl_message.specs.Outgoing.{room_of}
-use Rattle.wl_objects.specs.declared.error.Fault.{Fault}
 use Rattle.wl_objects.specs.declared.error.NextError.{NextError}
 use Rattle.wl_objects.specs.declared.error.NextError.TheVariants as errors
+use Rattle.wl_objects.specs.Reading.{Reported}
 use Rattle.wl_end.specs.Receiving.{Found, found_at, is_none}
 use Rattle.wl_end.specs.Sending.{delete_id_len}
-use Rattle.wl_server.specs.Requests.{Report, judged, request, report, is_out_full, next_answer, after_next, state_past}
-use Rattle.wl_world.specs.Meant.{Known, Message, Coming, Arg, renamed, rearg, born_of, birth_of}
+use Rattle.wl_server.specs.Requests.{Report, judged, request, report, needs_memory, is_out_full, next_answer, after_next, state_past}
+use Rattle.wl_world.specs.Meant.{Known, Born, Message, Coming, renamed, born_of, birth_of}
 use Rattle.wl_world.specs.World.{World, request_read, reads_request}
 use Rattle.wl_world.specs.Pair.{PairState, ServerNext, with_server, Nexts, answered, no_memory}
 use Rattle.wl_world.specs.Answers.{NotEnded, before, ReportsRequest, rows_of_server, IsOutFull}
-use Rattle.wl_world.specs.Stands.{stands, StandsBy, AreOf}
+use Rattle.wl_world.specs.Stands.{stands, StandsBy}
 use Rattle.wl_world.specs.Runs.{Keeps}
 use Rattle.wl_world.proofs.Channels.{pops, never_bad}
 use Rattle.wl_world.proofs.Readings.{reports_right}
@@ -45,10 +43,13 @@ record Answered (p : PairState) (m : Message Known) (f : Found) (b : Bool) : Typ
 answer_is : (p : PairState) (m : Message Known) (f : Found) (b : Bool) → p.server.core.failed ≡ false → request p.server ≡ Ok (Some f) → is_out_full p.server.core f ≡ b → Answered p m f b
 answer_is p m f b l r e = record { answer = rw (l, r, e) refl; leaves = rw (l, r, e) refl }
 
-kinds_some : (tables : List Interface) (version : ℕ) (ks : List Kind) (args : List (Arg Known)) → AreOf tables version ks args → not (is_none ks) ≡ true → map (rearg born_of) args ≢ []
-kinds_some tables version [] args f h = λ e. cc h
-kinds_some tables version (k ∷ ks) [] f h = absurd f
-kinds_some tables version (k ∷ ks) (a ∷ args) f h = λ e. cc e
+-- the report of a request needs memory where the request has arguments
+is_some_request : (w : World) (m : Message Born) (r : Report) → ReportsRequest w m r → needs_memory r ≡ true → m.args ≢ []
+is_some_request w m r t h e = by_args r.args refl
+  where
+    by_args : (args : List Reported) → r.args ≡ args → ⊥
+    by_args [] k = cc (ap (λ (l : List Reported). not (is_none l)) k, h)
+    by_args (a ∷ args) k = cc (t.args, e, k)
 
 reports : (p : PairState) (w : World) (m : Message Known) (ms : List (Message Known)) (told : List (Coming Known)) (s : StandsBy p w (m ∷ ms) told) (n : ℕ) (i : InRequest p w m ms told s n)
     → ReportsRequest w (renamed born_of m) (report p.server.core (the_found n m i.entry s.asked_fit.0.fits.signature))
@@ -67,22 +68,22 @@ and_not true b h e = h
 and_not false b h e = absurd (cc e)
 
 keeps_out_full : (p : PairState) (w : World) (m : Message Known) (ms : List (Message Known)) (told : List (Coming Known)) (s : StandsBy p w (m ∷ ms) told) (n : ℕ) → NotEnded p w
-    → front usual_limit p.server.core.inbox.bytes ≡ Whole n → InRequest p w m ms told s n → (reply : Result (Option Report) NextError) (p' : PairState) (what : Result (Option Found) Fault)
-    → (Nexts (next_answer p.server) (request p.server) p (with_server p (after_next p.server)) reply p')
+    → front usual_limit p.server.core.inbox.bytes ≡ Whole n → InRequest p w m ms told s n → (reply : Result (Option Report) NextError) (p' : PairState)
+    → (Nexts needs_memory (next_answer p.server) p (with_server p (after_next p.server)) reply p')
     → (m.destroys ≡ true) × (room_of p.server.core.outbox < delete_id_len)
-    → Nexts (Err errors.OutFull) what p p reply p' → Keeps p w ServerNext (ServerNext reply) p'
-keeps_out_full p w m ms told s n z e i reply p' what d full answered = record {
+    → Nexts needs_memory (Err errors.OutFull) p p reply p' → Keeps p w ServerNext (ServerNext reply) p'
+keeps_out_full p w m ms told s n z e i reply p' d full answered = record {
   world = w;
   answers = before z d (record { waits = subst HasMessage (sym e) tt; message = renamed born_of m; rest = map (renamed born_of) ms; first = s.requests; because = full; same = refl });
   stands = stands (m ∷ ms) told z s;
 }
-keeps_out_full p w m ms told s n z e i reply p' what d full (no_memory q h) = absurd (cc q)
+keeps_out_full p w m ms told s n z e i reply p' d full (no_memory q h) = absurd (cc q)
 
 keeps_read : (p : PairState) (w : World) (m : Message Known) (ms : List (Message Known)) (told : List (Coming Known)) (s : StandsBy p w (m ∷ ms) told) (n : ℕ) → NotEnded p w
     → front usual_limit p.server.core.inbox.bytes ≡ Whole n → (i : InRequest p w m ms told s n) → (reply : Result (Option Report) NextError) (p' : PairState)
-    → (Nexts (next_answer p.server) (request p.server) p (with_server p (after_next p.server)) reply p')
+    → (Nexts needs_memory (next_answer p.server) p (with_server p (after_next p.server)) reply p')
     → (IsOutFull p (renamed born_of m) → ⊥)
-    → Nexts (Ok (Some (report p.server.core (the_found n m i.entry s.asked_fit.0.fits.signature)))) (Ok (Some (the_found n m i.entry s.asked_fit.0.fits.signature))) p
+    → Nexts needs_memory (Ok (Some (report p.server.core (the_found n m i.entry s.asked_fit.0.fits.signature)))) p
     (with_server p (left_state p.server m n s.asked_fit.0.fits.signature.destroys)) reply p'
     → Keeps p w ServerNext (ServerNext reply) p'
 keeps_read p w m ms told s n z e i reply p' d room answered = record {
@@ -90,57 +91,59 @@ keeps_read p w m ms told s n z e i reply p' d room answered = record {
   answers = before z d (record { waits = subst HasMessage (sym e) tt; message = renamed born_of m; steps = reads_request (renamed born_of m) (map (renamed born_of) ms) s.requests; reports = reports p w m ms told s n i; has_room = room });
   stands = stands ms _ z (server_read_stands p w m ms told s n i.asks_it i.up);
 }
-keeps_read p w m ms told s n z e i reply p' d room (no_memory q h) = record {
-  world = w;
-  answers = before z d (record { waits = subst HasMessage (sym e) tt; message = renamed born_of m; rest = map (renamed born_of) ms; first = s.requests; because = kinds_some p.server.core.tables m.target.born.version s.asked_fit.0.fits.signature.kinds m.args s.asked_fit.0.fits.args h; same = refl });
-  stands = stands (m ∷ ms) told z s;
-}
+keeps_read p w m ms told s n z e i reply p' d room (no_memory {report = r} q h) =
+    let same : report p.server.core (the_found n m i.entry s.asked_fit.0.fits.signature) ≡ r = cc q in
+    let needs = is_some_request w (renamed born_of m) _ (reports p w m ms told s n i) (ap needs_memory same ∙ h) in
+    record {
+      world = w;
+      answers = before z d (record { waits = subst HasMessage (sym e) tt; message = renamed born_of m; rest = map (renamed born_of) ms; first = s.requests; because = needs; same = refl });
+      stands = stands (m ∷ ms) told z s;
+    }
 
 at_request : (p : PairState) (w : World) (m : Message Known) (ms : List (Message Known)) (told : List (Coming Known)) (s : StandsBy p w (m ∷ ms) told) (n : ℕ) → NotEnded p w
     → front usual_limit p.server.core.inbox.bytes ≡ Whole n → (i : InRequest p w m ms told s n) → (reply : Result (Option Report) NextError) (p' : PairState)
-    → (Nexts (next_answer p.server) (request p.server) p (with_server p (after_next p.server)) reply p')
+    → (Nexts needs_memory (next_answer p.server) p (with_server p (after_next p.server)) reply p')
     → (b : Bool) → is_out_full p.server.core (the_found n m i.entry s.asked_fit.0.fits.signature) ≡ b → Keeps p w ServerNext (ServerNext reply) p'
 at_request p w m ms told s n z e i reply p' d true h =
     let a = answer_is p m (the_found n m i.entry s.asked_fit.0.fits.signature) true s.server_lives i.finds_it h in
     let k = and_both _ _ h in
-    keeps_out_full p w m ms told s n z e i reply p' (request p.server) d (s.asked_fit.0.fits.destroys ∙ k.0, ltb-true _ _ k.1)
-    (subst (λ st. Nexts (Err errors.OutFull) (request p.server) p (with_server p st) reply p') a.leaves
-    (subst (λ x. Nexts x (request p.server) p (with_server p (after_next p.server)) reply p') a.answer d))
+    keeps_out_full p w m ms told s n z e i reply p' d (s.asked_fit.0.fits.destroys ∙ k.0, ltb-true _ _ k.1)
+    (subst (λ st. Nexts needs_memory (Err errors.OutFull) p (with_server p st) reply p') a.leaves
+    (subst (λ x. Nexts needs_memory x p (with_server p (after_next p.server)) reply p') a.answer d))
 at_request p w m ms told s n z e i reply p' d false h =
     let f = the_found n m i.entry s.asked_fit.0.fits.signature in
     let a = answer_is p m f false s.server_lives i.finds_it h in
     keeps_read p w m ms told s n z e i reply p' d
     (λ full. (let no = ltb-false _ _ (and_not _ _ h (sym s.asked_fit.0.fits.destroys ∙ full.0)) in absurd (omega (arith, no, full.1))))
-    (subst (λ st. Nexts (Ok (Some (report p.server.core f))) (Ok (Some f)) p (with_server p st) reply p') (a.leaves ∙ left_is p.server m n i.entry s.asked_fit.0.fits i.same_target)
-    (subst (λ y. Nexts (Ok (Some (report p.server.core f))) y p (with_server p (after_next p.server)) reply p') i.finds_it
-    (subst (λ x. Nexts x (request p.server) p (with_server p (after_next p.server)) reply p') a.answer d)))
+    (subst (λ st. Nexts needs_memory (Ok (Some (report p.server.core f))) p (with_server p st) reply p') (a.leaves ∙ left_is p.server m n i.entry s.asked_fit.0.fits i.same_target)
+    (subst (λ x. Nexts needs_memory x p (with_server p (after_next p.server)) reply p') a.answer d))
 
 at_whole : (p : PairState) (w : World) (asked : List (Message Known)) (told : List (Coming Known)) (s : StandsBy p w asked told) (n : ℕ) → NotEnded p w
     → front usual_limit p.server.core.inbox.bytes ≡ Whole n → (reply : Result (Option Report) NextError) (p' : PairState)
-    → (Nexts (next_answer p.server) (request p.server) p (with_server p (after_next p.server)) reply p') → Keeps p w ServerNext (ServerNext reply) p'
+    → (Nexts needs_memory (next_answer p.server) p (with_server p (after_next p.server)) reply p') → Keeps p w ServerNext (ServerNext reply) p'
 at_whole p w [] told s n z e reply p' d = absurd (let q = pops p.client.core.outbox p.server.core.inbox [] n s.to_server e in cc q.is)
 at_whole p w (m ∷ ms) told s n z e reply p' d =
     let i = in_request p w m ms told s n e in
     at_request p w m ms told s n z e i reply p' d _ refl
 
 keeps_idle : (p : PairState) (w : World) (asked : List (Message Known)) (told : List (Coming Known)) (s : StandsBy p w asked told) → NotEnded p w → front usual_limit p.server.core.inbox.bytes ≡ More
-    → (reply : Result (Option Report) NextError) (p' : PairState) → (what : Result (Option Found) Fault) → (Nexts (next_answer p.server) (request p.server) p (with_server p (after_next p.server)) reply p')
-    → Nexts (Ok None) what p p reply p' → Keeps p w ServerNext (ServerNext reply) p'
-keeps_idle p w asked told s z e reply p' what d answered = record { world = w; answers = before z d (λ h. subst HasMessage e h, refl); stands = stands asked told z s }
-keeps_idle p w asked told s z e reply p' what d (no_memory q h) = absurd (cc q)
+    → (reply : Result (Option Report) NextError) (p' : PairState) → (Nexts needs_memory (next_answer p.server) p (with_server p (after_next p.server)) reply p')
+    → Nexts needs_memory (Ok None) p p reply p' → Keeps p w ServerNext (ServerNext reply) p'
+keeps_idle p w asked told s z e reply p' d answered = record { world = w; answers = before z d (λ h. subst HasMessage e h, refl); stands = stands asked told z s }
+keeps_idle p w asked told s z e reply p' d (no_memory q h) = absurd (cc q)
 
 at_front : (p : PairState) (w : World) (asked : List (Message Known)) (told : List (Coming Known)) (s : StandsBy p w asked told) → NotEnded p w
-    → (reply : Result (Option Report) NextError) (p' : PairState) → (Nexts (next_answer p.server) (request p.server) p (with_server p (after_next p.server)) reply p')
+    → (reply : Result (Option Report) NextError) (p' : PairState) → (Nexts needs_memory (next_answer p.server) p (with_server p (after_next p.server)) reply p')
     → (f : Front) → front usual_limit p.server.core.inbox.bytes ≡ f → Keeps p w ServerNext (ServerNext reply) p'
 at_front p w asked told s z reply p' d More e =
     let i = idle p w asked told s e in
-    keeps_idle p w asked told s z e reply p' (request p.server) d
-    (subst (λ st. Nexts (Ok None) (request p.server) p (with_server p st) reply p') i.2
-    (subst (λ x. Nexts x (request p.server) p (with_server p (after_next p.server)) reply p') i.1 d))
+    keeps_idle p w asked told s z e reply p' d
+    (subst (λ st. Nexts needs_memory (Ok None) p (with_server p st) reply p') i.2
+    (subst (λ x. Nexts needs_memory x p (with_server p (after_next p.server)) reply p') i.1 d))
 at_front p w asked told s z reply p' d (Bad n) e = absurd (never_bad p.client.core.outbox p.server.core.inbox _ n s.to_server e)
 at_front p w asked told s z reply p' d (Whole n) e = at_whole p w asked told s n z e reply p' d
 
 pub server_next_keeps : (p : PairState) (w : World) (asked : List (Message Known)) (told : List (Coming Known)) → StandsBy p w asked told → NotEnded p w
-    → (reply : Result (Option Report) NextError) (p' : PairState) → (Nexts (next_answer p.server) (request p.server) p (with_server p (after_next p.server)) reply p')
+    → (reply : Result (Option Report) NextError) (p' : PairState) → (Nexts needs_memory (next_answer p.server) p (with_server p (after_next p.server)) reply p')
     → Keeps p w ServerNext (ServerNext reply) p'
 server_next_keeps p w asked told s z reply p' d = at_front p w asked told s z reply p' d _ refl

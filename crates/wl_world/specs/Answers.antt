@@ -176,17 +176,18 @@ pub record ReadsEvent (tables : List Interface) (p : PairState) (w : World) (rep
   pub steps : Steps tables w (ReadEvent coming) w'
   pub reports : ReportsComing w coming report
 
--- a delete has an argument too, the id
-abbrev pub HasArguments : Coming Born → Type 0
-HasArguments (Event m) = m.args ≢ []
-HasArguments (Delete x) = Unit {0}
+-- what comes needs memory to be reported: an event with arguments for an open object
+abbrev pub NeedsMemory : World → Coming Born → Type 0
+NeedsMemory w (Event m) = ((x : Born) × (w.client m.target.birth ≡ Some (Open x))) × (m.args ≢ [])
+NeedsMemory w (Delete x) = ⊥
 
+-- what comes first stays: there was no memory for its report, which needs some
 pub record KeepsEvent (p : PairState) (w : World) (w' : World) : Type 0 where
   pub waits : HasOne p.client.core.inbox
   pub coming : Coming Born
   pub rest : List (Coming Born)
   pub first : w.events ≡ coming ∷ rest
-  pub because : HasArguments coming
+  pub because : NeedsMemory w coming
   pub same : w' ≡ w
 
 -- The server's read takes the first request and reports it, where a whole message waits; no fault is answered, and no failure.

@@ -18,7 +18,6 @@ use Rattle.wl_objects.specs.declared.error.Fault.{Fault}
 use Rattle.wl_objects.specs.Writing.{Given}
 use Rattle.wl_objects.specs.Messages.{checked}
 use Rattle.wl_end.specs.Core.{Core, in_room, with_arrived, with_gone, is_drained}
-use Rattle.wl_end.specs.Receiving.{Found, found, has_arguments}
 use Rattle.wl_end.specs.Sending.{send_answer, after_send, opens_object}
 use Rattle.wl_client.specs.State as client
 use Rattle.wl_client.specs.Reports as events
@@ -157,10 +156,10 @@ pub data Announces (p : PairState) : Result ℕ SendError → PairState → Type
   announced : {count : ℕ} → p.server.core.failed ≡ false → Fitting p.server count → Announces p (Ok count) (with_server p (after_announce p.server count))
   refused : p.server.core.failed ≡ true → Announces p (Err refusals.Failed) p
 
--- A read answers and leaves as it says, or wants memory, for a message with arguments, and changes nothing.
-pub data Nexts {R : Type 0} (answer : Result (Option R) NextError) (what : Result (Option Found) Fault) (before after : PairState) : Result (Option R) NextError → PairState → Type 0 where
-  answered : Nexts answer what before after answer after
-  no_memory : {report : R} → answer ≡ Ok (Some report) → has_arguments what ≡ true → Nexts answer what before after (Err errors.Memory) before
+-- A read answers and leaves as it says; or there is no memory for a report that needs some, and nothing changes.
+pub data Nexts {R : Type 0} (needs : R → Bool) (answer : Result (Option R) NextError) (before after : PairState) : Result (Option R) NextError → PairState → Type 0 where
+  answered : Nexts needs answer before after answer after
+  no_memory : {report : R} → answer ≡ Ok (Some report) → needs report ≡ true → Nexts needs answer before after (Err errors.Memory) before
 
 -- A carry moves so much; or, only where something would move, there is no memory to record it, and nothing changes.
 pub data Carries (taken : Taken) (before after : PairState) : Carried → PairState → Type 0 where
@@ -189,9 +188,9 @@ Does p (CarryToServer most) (CarryToServer reply) p' =
 Does p (CarryToClient most) (CarryToClient reply) p' =
     Carries (carries p.server.core p.client.core most) p (after_carry_to_client p (carries p.server.core p.client.core most)) reply p'
 Does p ClientNext (ClientNext reply) p' =
-    Nexts (events.next_answer p.client) (found p.client.core Event) p (with_client p (events.after_next p.client)) reply p'
+    Nexts events.needs_memory (events.next_answer p.client) p (with_client p (events.after_next p.client)) reply p'
 Does p ServerNext (ServerNext reply) p' =
-    Nexts (requests.next_answer p.server) (requests.request p.server) p (with_server p (requests.after_next p.server)) reply p'
+    Nexts requests.needs_memory (requests.next_answer p.server) p (with_server p (requests.after_next p.server)) reply p'
 Does p _ _ p' = ⊥
 
 -- nothing waits in any of the four boxes

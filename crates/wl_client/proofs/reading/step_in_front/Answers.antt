@@ -9,7 +9,7 @@ returns-in_err-step-clause-comes g c =
     let core : Core = record { tables = c.core.inside.tables.now; view = g.T.Table.view c.core.inside.table; inbox = c.core.inside.inbox; outbox = c.core.inside.outbox; failed = c.core.inside.failed; read = c.core.inside.read } in
     rw (p.1, p.2)
     (stop_told g.row.T-Alloc.Denot core c.args.core.now c.in-Ok-Some.field-0 c.in-Ok-Some.frame c.waiting-waiting.result c.in_err-step.field-0.0 c.core.view_is c.in-Ok-Some.field-0-is c.in-Ok-Some.ensures.tells c.step_of.ensures.header
-    c.waiting-waiting.ensures c.in_err-step.ensures.comes)
+    c.valid.ensures c.waiting-waiting.ensures c.in_err-step.ensures.comes)
 
 pub returns-clause-comes : goal.returns-clause-comes
 returns-clause-comes g c =

@@ -10,7 +10,7 @@ left-preserved g c =
     rw c.in_ok-push.ensures.items
     (report-next r c.left.items.items _ _ _ _ _ _ _ c.in-Some.ensures c.next_token-token.ensures c.tokens_after-waiting.ensures c.in_ok-report_of.ensures ∙ c.left.invariant)
 
-pub returns : goal.returns
-returns g c =
+pub returns-clause-ok : goal.returns-clause-ok
+returns-clause-ok g c =
     let r : Reader = reader_of (g.T.Table.view c.args.table.now) in
     c.from_vec.ensures ∙ sym (reported-end r c.left.items.items _ c.left.waiting.now c.in_default.ensures.0) ∙ c.left.invariant

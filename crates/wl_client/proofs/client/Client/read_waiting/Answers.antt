@@ -3,8 +3,8 @@ use Rattle.wl_end.proofs.Appended.{kept_same, none_behind}
 use Rattle.wl_client.specs.State.{State}
 use Rattle.wl_client.specs.Seen.{report_of}
 use Rattle.wl_client.specs.Reports.{Report}
-use Rattle.wl_client.specs.Streams.{ReadsSome, nothing}
-use Rattle.wl_client.proofs.Waits.{failed_after, fewer_wait, told_read, told_left, reads_more, reads_last, reads_stop, pushed_kept}
+use Rattle.wl_client.specs.Streams.{ReadsSome, nothing, WaitingIsRead, appended}
+use Rattle.wl_client.proofs.Waits.{failed_after, fewer_wait, told_read, told_left, reads_more, reads_last, reads_stop, waiting_then, pushed_kept}
 use Rattle.wl_client.proofs.client.Client.read_waiting.Goals as goal
 
 pub messages-init : goal.messages-init
@@ -16,7 +16,7 @@ messages-init g c = record {
 
 pub returns-in-Err-clause-reads : goal.returns-in-Err-clause-reads
 returns-in-Err-clause-reads g c = (
-  reads_stop c.args.self.now c.messages.self c.next.new.self c.args.reports.now.items c.messages.reports.items c.reserve.new.self.items _ c.in-Err.why c.messages.invariant.some c.messages.invariant.sound
+  reads_stop c.args.self.now c.messages.self c.next.new.self c.args.reports.now.items c.messages.reports.items c.reserve.new.self.items c.in-Err.why c.messages.invariant.some c.messages.invariant.sound
       c.in-Err.ensures.answer c.in-Err.ensures.state c.reserve.ensures.items,
   λ e. absurd (cc e),
 )
@@ -48,3 +48,8 @@ messages-preserved g c =
           c.messages.invariant.kept c.reserve.ensures.items c.push_reserved.ensures.items;
       sound = ap (λ (s : State). s.core.failed) l ∙ failed_after c.messages.self (report_of c.in-Ok-Some.report) e ∙ last;
     }
+
+pub returns-then-is_err-clause-reads : goal.returns-then-is_err-clause-reads
+returns-then-is_err-clause-reads g c =
+    subst (λ rs. WaitingIsRead c.args.self.now (appended c.args.reports.now.items rs) c.read_without_room.result c.read_without_room.new.self) (sym c.reserve.ensures.items)
+    (waiting_then c.args.self.now c.messages.self c.read_without_room.new.self (appended c.args.reports.now.items c.messages.reports.items) c.read_without_room.result c.messages.invariant.some c.read_without_room.ensures)

@@ -4,12 +4,11 @@ use Rattle.std.specs.declared.result.Result.TheVariants.{Ok as ok, Err as err}
 use Rattle.wl_objects.specs.declared.error.NextError.{NextError}
 use Rattle.wl_objects.specs.declared.error.NextError.TheVariants.{Memory}
 use Rattle.wl_end.specs.Core.{Core}
-use Rattle.wl_end.specs.Outcomes.{Gives, left}
-use Rattle.wl_end.specs.Receiving.{has_arguments}
+use Rattle.wl_end.specs.Outcomes.{left}
 use Rattle.wl_server.specs.State.{State, with_core}
 use Rattle.wl_server.specs.Registries.{HasRegistries, BirthsAreOnce}
-use Rattle.wl_server.specs.Requests.{Report, request, next_answer, after_next}
-use Rattle.wl_server.specs.Steps.{step_in, front_step, core_by, registries_by, core_told, CanTake}
+use Rattle.wl_server.specs.Requests.{Report, after_next, IsNext}
+use Rattle.wl_server.specs.Steps.{step_in, core_by, registries_by, core_told, CanTake, IsFront}
 use Rattle.wl_server.proofs.Taking.{seen-by, gives-front, leaves-err, leaves-some, memory-wanted}
 use Rattle.wl_server.proofs.Registries.{has_step, births_step}
 use Rattle.wl_server.proofs.server.Server.next.Goals as goal
@@ -26,16 +25,16 @@ pub returns-in-Ok-None-clause-answer : goal.returns-in-Ok-None-clause-answer
 returns-in-Ok-None-clause-answer g c =
     let state : State = record { core = c.self.inside.core; globals = c.self.inside.globals.items; registries = c.self.inside.registries.items } in
     let lives : state.core.failed ≡ false = sym (λ i. (c.self-inside.view_is i).core.failed) ∙ c.if-self.false in
-    let answer : Gives Memory (has_arguments (request state)) (front_step state) (ok None) = seen-by state c.deref.result.now (ok None) c.deref.ensures.value (rw c.in-Ok-None.field-0-is at c.in-Ok-None.ensures.answer) in
-    subst (λ (s : State). Gives Memory (has_arguments (request s)) (next_answer s) (let it : Result (Option Report) NextError = ok None in it)) c.self.view_is
+    let answer : IsFront state (ok None) = seen-by state c.deref.result.now (ok None) c.deref.ensures.value (rw c.in-Ok-None.field-0-is at c.in-Ok-None.ensures.answer) in
+    subst (λ (s : State). IsNext s (let it : Result (Option Report) NextError = ok None in it)) c.self.view_is
     (gives-front state (ok None) lives answer)
 
 pub returns-in-Err-clause-answer : goal.returns-in-Err-clause-answer
 returns-in-Err-clause-answer g c =
     let state : State = record { core = c.self.inside.core; globals = c.self.inside.globals.items; registries = c.self.inside.registries.items } in
     let lives : state.core.failed ≡ false = sym (λ i. (c.self-inside.view_is i).core.failed) ∙ c.if-self.false in
-    let answer : Gives Memory (has_arguments (request state)) (front_step state) (err c.in-Err.why) = seen-by state c.deref.result.now (err c.in-Err.why) c.deref.ensures.value c.in-Err.ensures.answer in
-    subst (λ (s : State). Gives Memory (has_arguments (request s)) (next_answer s) (let it : Result (Option Report) NextError = err c.in-Err.why in it)) c.self.view_is
+    let answer : IsFront state (err c.in-Err.why) = seen-by state c.deref.result.now (err c.in-Err.why) c.deref.ensures.value c.in-Err.ensures.answer in
+    subst (λ (s : State). IsNext s (let it : Result (Option Report) NextError = err c.in-Err.why in it)) c.self.view_is
     (gives-front state (err c.in-Err.why) lives answer)
 
 pub returns-in-Err-clause-state : goal.returns-in-Err-clause-state
@@ -50,8 +49,8 @@ pub returns-then-is_err-clause-answer : goal.returns-then-is_err-clause-answer
 returns-then-is_err-clause-answer g c =
     let state : State = record { core = c.self.inside.core; globals = c.self.inside.globals.items; registries = c.self.inside.registries.items } in
     let lives : state.core.failed ≡ false = sym (λ i. (c.self-inside.view_is i).core.failed) ∙ c.if-self.false in
-    let answer : Gives Memory (has_arguments (request state)) (front_step state) (ok (Some (step_in c.in-Ok-Some.step))) = seen-by state c.deref.result.now (ok (Some (step_in c.in-Ok-Some.step))) c.deref.ensures.value (rw c.in-Ok-Some.field-0-is at c.in-Ok-Some.ensures.answer) in
-    subst (λ (s : State). Gives Memory (has_arguments (request s)) (next_answer s) (let it : Result (Option Report) NextError = err Memory in it)) c.self.view_is
+    let answer : IsFront state (ok (Some (step_in c.in-Ok-Some.step))) = seen-by state c.deref.result.now (ok (Some (step_in c.in-Ok-Some.step))) c.deref.ensures.value (rw c.in-Ok-Some.field-0-is at c.in-Ok-Some.ensures.answer) in
+    subst (λ (s : State). IsNext s (let it : Result (Option Report) NextError = err Memory in it)) c.self.view_is
     (memory-wanted state (step_in c.in-Ok-Some.step) lives answer (on_err c.make_step.result (sym c.is_err.ensures.value ∙ c.if-is_err.true) c.make_step.ensures.wants))
 
 pub invariant_of-self-2 : goal.invariant_of-self-2
@@ -74,8 +73,8 @@ returns-clause-answer g c =
     let state : State = record { core = c.self.inside.core; globals = c.self.inside.globals.items; registries = c.self.inside.registries.items } in
     let lives : state.core.failed ≡ false = sym (λ i. (c.self-inside.view_is i).core.failed) ∙ c.if-self.false in
     let step = step_in c.in-Ok-Some.step in
-    let answer : Gives Memory (has_arguments (request state)) (front_step state) (ok (Some step)) = seen-by state c.deref.result.now (ok (Some step)) c.deref.ensures.value (rw c.in-Ok-Some.field-0-is at c.in-Ok-Some.ensures.answer) in
-    subst (λ (s : State). Gives Memory (has_arguments (request s)) (next_answer s) (let it : Result (Option Report) NextError = ok (Some step.report) in it)) c.self.view_is
+    let answer : IsFront state (ok (Some step)) = seen-by state c.deref.result.now (ok (Some step)) c.deref.ensures.value (rw c.in-Ok-Some.field-0-is at c.in-Ok-Some.ensures.answer) in
+    subst (λ (s : State). IsNext s (let it : Result (Option Report) NextError = ok (Some step.report) in it)) c.self.view_is
     (gives-front state (ok (Some step)) lives answer)
 
 pub returns-clause-state : goal.returns-clause-state
@@ -83,7 +82,7 @@ returns-clause-state g c =
     let state : State = record { core = c.self.inside.core; globals = c.self.inside.globals.items; registries = c.self.inside.registries.items } in
     let lives : state.core.failed ≡ false = sym (λ i. (c.self-inside.view_is i).core.failed) ∙ c.if-self.false in
     let step = step_in c.in-Ok-Some.step in
-    let answer : Gives Memory (has_arguments (request state)) (front_step state) (ok (Some step)) = seen-by state c.deref.result.now (ok (Some step)) c.deref.ensures.value (rw c.in-Ok-Some.field-0-is at c.in-Ok-Some.ensures.answer) in
+    let answer : IsFront state (ok (Some step)) = seen-by state c.deref.result.now (ok (Some step)) c.deref.ensures.value (rw c.in-Ok-Some.field-0-is at c.in-Ok-Some.ensures.answer) in
     let is_ok = sym c.is_err.ensures.value ∙ c.if-is_err.false in
     let core : c.make_step.new.core ≡ core_by c.self.inside.core step = on_ok c.make_step.result is_ok c.make_step.ensures.core ∙ ap (λ (k : Core). core_by k step) c.in-Ok-Some.ensures.same in
     let registries : c.make_step.new.registries.items ≡ registries_by c.self.inside.core c.self.inside.registries.items step =

@@ -1,9 +1,9 @@
-use Rattle.std.proofs.Common.{◌≡◌, sym, ap, subst, ◌<◌, ◌∙◌, length}
+use Rattle.std.proofs.Common.{sym, ap, subst, ◌<◌, ◌∙◌, length}
 use Rattle.wl_end.proofs.Appended.{kept_same, none_behind}
 use Rattle.wl_server.specs.State.{State}
 use Rattle.wl_server.specs.Seen.{report_of}
-use Rattle.wl_server.specs.Streams.{ReadsSome, nothing}
-use Rattle.wl_server.proofs.Waits.{sound_after, fewer_wait, told_read, told_left, reads_more, reads_stop, reads_end, pushed_kept}
+use Rattle.wl_server.specs.Streams.{ReadsSome, nothing, WaitingIsRead, appended}
+use Rattle.wl_server.proofs.Waits.{sound_after, fewer_wait, told_read, told_left, reads_more, reads_stop, waiting_then, reads_end, pushed_kept}
 use Rattle.wl_server.proofs.server.Server.read_waiting.Goals as goal
 
 pub messages-init : goal.messages-init
@@ -15,7 +15,7 @@ messages-init g c = record {
 
 pub returns-in-Err-clause-reads : goal.returns-in-Err-clause-reads
 returns-in-Err-clause-reads g c =
-    reads_stop c.args.self.now c.messages.self c.next.new.self c.args.reports.now.items c.messages.reports.items c.reserve.new.self.items _ c.in-Err.why c.messages.invariant.some c.messages.invariant.sound
+    reads_stop c.args.self.now c.messages.self c.next.new.self c.args.reports.now.items c.messages.reports.items c.reserve.new.self.items c.in-Err.why c.messages.invariant.some c.messages.invariant.sound
     c.in-Err.ensures.answer c.in-Err.ensures.state c.reserve.ensures.items
 
 pub messages-smaller : goal.messages-smaller
@@ -39,3 +39,8 @@ pub returns-in-Ok-None-clause-reads : goal.returns-in-Ok-None-clause-reads
 returns-in-Ok-None-clause-reads g c =
     reads_end c.args.self.now c.messages.self c.next.new.self c.args.reports.now.items c.messages.reports.items c.reserve.new.self.items _ c.in-Ok-None.field-0 c.messages.invariant.some c.in-Ok-None.field-0-is
     c.in-Ok-None.ensures.answer c.in-Ok-None.ensures.state c.reserve.ensures.items
+
+pub returns-then-is_err-clause-reads : goal.returns-then-is_err-clause-reads
+returns-then-is_err-clause-reads g c =
+    subst (λ rs. WaitingIsRead c.args.self.now (appended c.args.reports.now.items rs) c.read_without_room.result c.read_without_room.new.self) (sym c.reserve.ensures.items)
+    (waiting_then c.args.self.now c.messages.self c.read_without_room.new.self (appended c.args.reports.now.items c.messages.reports.items) c.read_without_room.result c.messages.invariant.some c.read_without_room.ensures)

@@ -1,6 +1,6 @@
 use Rattle.wl_server.specs.Seen.{report_in}
 use Rattle.wl_session.proofs.Boxes.{holds, read_leaves_box}
-use Rattle.wl_session.proofs.Outcomes.{nexts, server_never, server_reports}
+use Rattle.wl_session.proofs.Outcomes.{nexts, server_never}
 use Rattle.wl_session.proofs.pair.Pair.server_next.Goals as goal
 
 pub invariant_of-self : goal.invariant_of-self
@@ -11,4 +11,4 @@ invariant_of-self g c = record {
 }
 
 pub returns : goal.returns
-returns g c = rw (← c.self.view_is) (nexts (λ s. record { client = c.self.inside.client; server = s; recording = c.self.inside.recording; ended_at = c.self.inside.ended_at }) _ _ _ _ _ _ (server_never c.self.inside.server) (server_reports c.self.inside.server) c.next.ensures.answer c.next.ensures.state)
+returns g c = rw (← c.self.view_is) (nexts (λ s. record { client = c.self.inside.client; server = s; recording = c.self.inside.recording; ended_at = c.self.inside.ended_at }) _ _ _ _ _ _ (server_never c.self.inside.server) c.next.ensures.answer c.next.ensures.state)
