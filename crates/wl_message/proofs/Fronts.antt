@@ -1,5 +1,5 @@
 -- What stands in front of bytes.
-use Rattle.std.proofs.Common.{◌≡◌, ℕ, ◌+◌, ◌-◌, ◌<◌, ◌≤◌, Bool, true, false, cond, List, ◌++◌, length, take, drop, refl, sym, ap, subst, ◌∙◌, arith, ltb}
+use Rattle.std.proofs.Common.{◌≡◌, ℕ, zero, suc, ◌+◌, ◌-◌, ◌<◌, ◌≤◌, min, Bool, true, false, cond, List, [], ◌∷◌, ◌++◌, length, take, drop, refl, sym, ap, subst, ◌∙◌, arith, ltb}
 use Rattle.std.proofs.lemmas.Bool.Decides.{nat_tests}
 use Rattle.std.proofs.Math.Seq.{take-add}
 use Rattle.wl_wire.specs.Word.{header_bytes}
@@ -63,3 +63,14 @@ pub parts_of : (bytes : List ℕ) (h : Header) → 8 ≤ h.size → h.size ≤ l
 parts_of bytes h low there e =
     let n : 8 + (h.size - 8) ≡ h.size = omega arith in
     record { header = low; there = there; parts = ap (λ (k : ℕ). take k bytes) (sym n) ∙ take-add 8 (h.size - 8) bytes ∙ ap (λ (l : List ℕ). l ++ take (h.size - 8) (drop 8 bytes)) e }
+
+-- the front of two lists, one after the other
+pub take_both : (a b : List ℕ) (n k : ℕ) → k ≡ min (length a) n → take k a ++ take (n - k) b ≡ take n (a ++ b)
+take_both [] b n zero e = let z : n - 0 ≡ n = omega arith in ap (λ (m : ℕ). take m b) z
+take_both [] b n (suc k) e = absurd (omega arith)
+take_both (x ∷ a) b zero zero e = refl
+take_both (x ∷ a) b zero (suc k) e = absurd (omega arith)
+take_both (x ∷ a) b (suc n) zero e = absurd (omega arith)
+take_both (x ∷ a) b (suc n) (suc k) e =
+    let z : suc n - suc k ≡ n - k = omega arith in
+    rw z (ap (λ (r : List ℕ). x ∷ r) (take_both a b n k (omega arith)))

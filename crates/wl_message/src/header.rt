@@ -1,23 +1,32 @@
 //! The header in front of bytes.
-ghost use Rattle.std.specs.Prelude.{◌≡◌, ◌≤◌, IfOk, IfSome, length, take};
+ghost use Rattle.std.specs.Prelude.{◌≡◌, ◌≤◌, IfOk, IfSome, length, take, vec_capacity};
 ghost use Rattle.wl_wire.specs.Word.{header_bytes};
 ghost use Rattle.wl_message.specs.Cut.{told_size, is_size, usual_limit, front, HasMessage, message_size};
 ghost use Rattle.wl_message.specs.Arrived.{TellsHeader, HasParts};
 
+use crate::front::copy_front;
 use crate::inbox::BadSize;
+use circular_buffer::HeapCircularBuffer;
+use std::alloc::Allocator;
 use wl_wire::Header;
 
 /// The most bytes that a message has.
-const LIMIT: u16 = 4096;
+pub(crate) const LIMIT: u16 = 4096;
 
-/// The header that the first 8 bytes are.
-pub(crate) fn header_of(bytes: &[u8]) -> Header
-    requires { 8 ≤ length bytes.now }
-    ensures bytes { take 8 bytes.now ≡ header_bytes result }
-    ensures size { result.size ≡ told_size bytes.now }
+/// The header that the first 8 bytes are, which are copied into the store.
+pub(crate) fn header_of<A: Allocator>(
+    bytes: &HeapCircularBuffer<u8, A>,
+    store: &mut Vec<u8, A>,
+) -> Header
+    requires there { 8 ≤ length bytes.now.items }
+    requires room { 4096 ≤ vec_capacity store.old }
+    ensures room { 4096 ≤ vec_capacity store.new }
+    ensures bytes { take 8 bytes.now.items ≡ header_bytes result }
+    ensures size { result.size ≡ told_size bytes.now.items }
 {
+    copy_front(bytes, store, 8);
     let mut first = [0; 8];
-    first.copy_from_slice(&bytes[..8]);
+    first.copy_from_slice(&store[..8]);
     Header::from_bytes(first)
 }
 
@@ -30,14 +39,20 @@ fn is_size(size: u16) -> bool
 
 #[tactic(auto, using(crate::proofs::Fronts::size_is, crate::proofs::Fronts::parts_of), unfolding(crate::specs::Cut::front))]
 /// The header of the whole message in front, if one stands there.
-pub(crate) fn header_in_front(bytes: &[u8]) -> Result<Option<Header>, BadSize>
-    ensures tells { TellsHeader bytes.now result }
-    ensures whole { IfOk result (λ o. IfSome o (λ h. HasParts bytes.now h)) }
+pub(crate) fn header_in_front<A: Allocator>(
+    bytes: &HeapCircularBuffer<u8, A>,
+    store: &mut Vec<u8, A>,
+) -> Result<Option<Header>, BadSize>
+    requires room { 4096 ≤ vec_capacity store.old }
+    ensures room { 4096 ≤ vec_capacity store.new }
+    ensures tells { TellsHeader bytes.now.items result }
+    ensures whole { IfOk result (λ o. IfSome o (λ h. HasParts bytes.now.items h)) }
+    ensures fits { IfOk result (λ o. IfSome o (λ h. h.size ≤ 4096)) }
 {
     if bytes.len() < 8 {
         return Ok(None);
     }
-    let header = header_of(bytes);
+    let header = header_of(bytes, store);
     if !is_size(header.size) {
         return Err(BadSize { size: header.size });
     }
@@ -49,10 +64,15 @@ pub(crate) fn header_in_front(bytes: &[u8]) -> Result<Option<Header>, BadSize>
 
 /// How many bytes the whole message in front has.
 #[tactic(auto, using(crate::proofs::Fronts::has_message))]
-pub(crate) fn message_len(bytes: &[u8]) -> usize
-    requires { HasMessage (front usual_limit bytes.now) }
-    ensures len { result ≡ message_size (front usual_limit bytes.now) }
-    ensures there { result ≤ length bytes.now }
+pub(crate) fn message_len<A: Allocator>(
+    bytes: &HeapCircularBuffer<u8, A>,
+    store: &mut Vec<u8, A>,
+) -> usize
+    requires message { HasMessage (front usual_limit bytes.now.items) }
+    requires room { 4096 ≤ vec_capacity store.old }
+    ensures room { 4096 ≤ vec_capacity store.new }
+    ensures len { result ≡ message_size (front usual_limit bytes.now.items) }
+    ensures there { result ≤ length bytes.now.items }
 {
-    header_of(bytes).size as usize
+    header_of(bytes, store).size as usize
 }

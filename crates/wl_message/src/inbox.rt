@@ -7,8 +7,9 @@ ghost use Rattle.wl_message.specs.Arrived.{nothing_arrived, free_bytes, free_tok
 ghost use Rattle.wl_message.specs.contracts.inbox.Inbox.{the_row};
 
 use crate::amounts::Fed;
-use crate::front::{append, remove_first};
-use crate::header::{header_in_front, message_len};
+use crate::front::copy_front;
+use crate::header::{LIMIT, header_in_front, message_len};
+use circular_buffer::HeapCircularBuffer;
 use std::alloc::{AllocError, Allocator, Global};
 use std::marker::Model;
 use wl_wire::Header;
@@ -35,27 +36,26 @@ pub struct BadSize {
 /// All memory is taken by `new`.
 #[derive(Drop)]
 pub struct Inbox<A: Allocator = Global> {
-    bytes: Vec<u8, A>,
-    tokens: Vec<u32, A>,
-    // How many of each may wait.
-    capacity: usize,
-    token_capacity: usize,
+    bytes: HeapCircularBuffer<u8, A>,
+    tokens: HeapCircularBuffer<u32, A>,
+    // Room for one whole message, which is lent from here: in the ring it may stand in two parts.
+    message: Vec<u8, A>,
 }
 
 impl<A: Allocator> Model for Inbox<A> {
-    ghost use Rattle.std.specs.Prelude.{◌≤◌, length, vec_capacity};
+    ghost use Rattle.std.specs.Prelude.{◌≤◌, vec_capacity};
     ghost use Rattle.wl_message.specs.Arrived.{Arrived};
 
     ghost Value = { Arrived };
 
-    ghost view = { λ i. record { bytes = i.bytes.items; tokens = i.tokens.items; capacity = i.capacity; token_capacity = i.token_capacity } };
-
-    ghost invariant = { λ i. record {
-      room : length i.bytes.items ≤ i.capacity;
-      token_room : length i.tokens.items ≤ i.token_capacity;
-      reserved : i.capacity ≤ vec_capacity i.bytes;
-      tokens_reserved : i.token_capacity ≤ vec_capacity i.tokens;
+    ghost view = { λ i. record {
+      bytes = i.bytes.items;
+      tokens = i.tokens.items;
+      capacity = i.bytes.capacity;
+      token_capacity = i.tokens.capacity;
     } };
+
+    ghost invariant = { λ i. 4096 ≤ vec_capacity i.message };
 }
 
 impl<A: Allocator + Clone + Drop> Inbox<A> {
@@ -66,10 +66,9 @@ impl<A: Allocator + Clone + Drop> Inbox<A> {
         ensures { IfOk result (λ i. i ≡ nothing_arrived bytes tokens) }
     {
         Ok(Inbox {
-            bytes: Vec::with_capacity(alloc.clone()?, bytes)?,
-            tokens: Vec::with_capacity(alloc, tokens)?,
-            capacity: bytes,
-            token_capacity: tokens,
+            bytes: HeapCircularBuffer::with_capacity(alloc.clone()?, bytes)?,
+            tokens: HeapCircularBuffer::with_capacity(alloc.clone()?, tokens)?,
+            message: Vec::with_capacity(alloc, LIMIT as usize)?,
         })
     }
 }
@@ -79,14 +78,14 @@ impl<A: Allocator> Inbox<A> {
     pub fn room(&self) -> usize
         ensures { result ≡ free_bytes self.now }
     {
-        self.capacity - self.bytes.len()
+        self.bytes.capacity() - self.bytes.len()
     }
 
     /// How many tokens are free.
     pub fn token_room(&self) -> usize
         ensures { result ≡ free_tokens self.now }
     {
-        self.token_capacity - self.tokens.len()
+        self.tokens.capacity() - self.tokens.len()
     }
 
     /// Whether no byte and no token waits.
@@ -102,14 +101,13 @@ impl<A: Allocator> Inbox<A> {
         ensures amount { result ≡ fed self.old bytes.now tokens.now }
         ensures waits { self.new ≡ with_more self.old (take result.bytes bytes.now) (take result.tokens tokens.now) }
     {
-        let token_count = tokens.len().min(self.token_room());
-        let byte_count = if token_count < tokens.len() {
-            0
+        let token_count = self.tokens.fill_from_slice(tokens);
+        let bytes = if token_count < tokens.len() {
+            &bytes[..0]
         } else {
-            bytes.len().min(self.room())
+            bytes
         };
-        append(&mut self.tokens, &tokens[..token_count]);
-        append(&mut self.bytes, &bytes[..byte_count]);
+        let byte_count = self.bytes.fill_from_slice(bytes);
         Fed {
             bytes: byte_count,
             tokens: token_count,
@@ -124,13 +122,14 @@ impl<A: Allocator> Inbox<A> {
         ensures tells { Tells self.old result }
     {
         let tokens = self.tokens.len();
-        let header = match header_in_front(&self.bytes)? {
+        let header = match header_in_front(&self.bytes, &mut self.message)? {
             Some(header) => header,
             None => return Ok(None),
         };
+        copy_front(&self.bytes, &mut self.message, header.size as usize);
         Ok(Some(Frame {
             header,
-            body: &self.bytes[8..header.size as usize],
+            body: &self.message[8..],
             tokens,
         }))
     }
@@ -150,10 +149,9 @@ impl<A: Allocator> Inbox<A> {
         ensures tokens { tokens.new ≡ take (length tokens.old) self.old.tokens }
         ensures rest { self.new ≡ without_first self.old (message_size (front usual_limit self.old.bytes)) (length tokens.old) }
     {
-        let size = message_len(&self.bytes);
-        let count = tokens.len();
-        tokens.copy_from_slice(&self.tokens[..count]);
-        remove_first(&mut self.tokens, count);
-        remove_first(&mut self.bytes, size);
+        let size = message_len(&self.bytes, &mut self.message);
+        self.tokens.read_into(tokens);
+        let left = self.bytes.len() - size;
+        self.bytes.truncate_front(left);
     }
 }
