@@ -6,7 +6,7 @@ ghost use Rattle.wl_jobs.specs.Demo.{IsShown, Reaches, Tells, agreement_line};
 use std::alloc::{AllocError, Allocator};
 use std::io::Write;
 use wl_message::Sizes;
-use wl_objects::{DISPLAY as DISPLAY_INTERFACE, MapTable, NextError, Object, SendError, Table};
+use wl_objects::{DISPLAY as DISPLAY_INTERFACE, NextError, Object, SendError, SlotTable, Table};
 use wl_server::GlobalError;
 use wl_session::{Carried, Move, Pair, Reply, SendArg, trace};
 use wl_sigs::Tables;
@@ -53,7 +53,7 @@ pub fn demo<A: Allocator + Clone + Drop>(
 ) -> Result<Vec<u8, A>, AllocError>
     ensures { IfOk result (λ text. IsShown tables.now text.items) }
 {
-    let mut pair: Pair<'_, MapTable<A>> = Pair::new(alloc.clone()?, tables, SIZES, SIZES)?;
+    let mut pair: Pair<'_, SlotTable<A>> = Pair::new(alloc.clone()?, tables, SIZES, SIZES)?;
     show(alloc, tables, &mut pair, piece as usize)
 }
 

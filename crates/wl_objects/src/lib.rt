@@ -27,7 +27,7 @@ pub use messages::{DISPLAY, REGISTRY, is_bind, is_delete_id, is_error, is_hidden
 pub use reading::{Received, descriptors, receive, receive_by};
 pub use reporting::{Gots, named, report_arguments};
 pub use values::Values;
-pub use wl_table::{Entry, MapTable, Object, State, Table, TableError};
+pub use wl_table::{Entry, MapTable, Object, SlotTable, State, Table, TableError};
 pub use writing::{
     encode_bind, encode_call, encode_error, encode_global, encode_number, message_len, tokens_of,
 };

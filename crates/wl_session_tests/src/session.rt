@@ -4,7 +4,7 @@ ghost use Rattle.wl_message.specs.Arrived.{AreSizes};
 use std::alloc::{AllocError, Global};
 use std::test::Fail;
 use wl_message::Sizes;
-use wl_objects::{MapTable, Object, Table};
+use wl_objects::{Object, SlotTable, Table};
 use wl_session::{Pair, Reply, Verdict, check};
 use wl_sigs::Tables;
 use wl_wire::Iface;
@@ -20,7 +20,7 @@ mod steps;
 use replies::{Said, say};
 use steps::{Step, moves_of};
 
-type Plain<'t> = Pair<'t, MapTable<Global>>;
+type Plain<'t> = Pair<'t, SlotTable<Global>>;
 
 const SIZES: Sizes = Sizes {
     out_bytes: 65_536,

@@ -4,7 +4,7 @@ use refusing::RefusingAllocator;
 use wl_objects::SendError;
 use wl_session::{Move, SendArg};
 
-type Short<'t> = Pair<'t, MapTable<RefusingAllocator>>;
+type Short<'t> = Pair<'t, SlotTable<RefusingAllocator>>;
 
 /// Whether this holds over an allocator that refuses none.
 fn holds_refusing<F: FnOnce(&RefusingAllocator, &Tables) -> Result<bool, AllocError>>(
