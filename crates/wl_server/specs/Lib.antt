@@ -6,3 +6,4 @@ pub mod Streams
 pub mod Seen
 pub mod Steps
 pub mod Tellings
+pub mod Errors
