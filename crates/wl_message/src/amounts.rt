@@ -1,5 +1,8 @@
 //! Numbers of bytes and tokens, and what comes at one time.
 
+use std::error::Error;
+use std::fmt::{self, Display, Formatter};
+
 /// How large the boxes of an end are, in bytes and in tokens.
 ///
 /// An outbox has at most 16,777,216 bytes and 65,536 tokens, an inbox 4096 to 16,777,216 bytes
@@ -36,3 +39,15 @@ pub struct Piece<'a> {
     pub bytes: &'a [u8],
     pub tokens: &'a [u32],
 }
+
+impl Display for Full {
+    ghost use Rattle.std.specs.Prelude.{Some, codes};
+
+    ghost output = { λ _. Some (codes "outbox is full") };
+
+    fn fmt<W: fmt::Write>(&self, f: &mut Formatter<W>) -> fmt::Result {
+        f.write_str("outbox is full")
+    }
+}
+
+impl Error for Full {}

@@ -11,6 +11,8 @@ use crate::front::copy_front;
 use crate::header::{LIMIT, header_in_front, message_len};
 use circular_buffer::HeapCircularBuffer;
 use std::alloc::{AllocError, Allocator, Global};
+use std::error::Error;
+use std::fmt::{self, Display, Formatter};
 use std::marker::Model;
 use wl_wire::Header;
 
@@ -30,6 +32,20 @@ pub struct BadSize {
     /// The size in the header, in bytes.
     pub size: u16,
 }
+
+impl Display for BadSize {
+    ghost use Rattle.std.specs.Prelude.{Some, ◌++◌, codes};
+    ghost use Rattle.std.specs.Fmt.{decimal};
+
+    ghost output = { λ bad. Some (codes "bad message size " ++ decimal bad.size) };
+
+    fn fmt<W: fmt::Write>(&self, f: &mut Formatter<W>) -> fmt::Result {
+        let size = self.size;
+        write!(f, "bad message size {size}")
+    }
+}
+
+impl Error for BadSize {}
 
 /// Bytes and tokens that came in and wait to be read, as messages.
 ///

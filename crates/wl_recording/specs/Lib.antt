@@ -1,3 +1,4 @@
 pub mod Piece
 pub mod Line
 pub mod Text
+pub mod Errors

@@ -9,6 +9,8 @@ use crate::line::{MOST_TOKENS, first_line, is_skipped, read_piece};
 use crate::piece::{Direction, Passed};
 use crate::write::write_piece;
 use std::alloc::{AllocError, AllocFailed, Allocator, Global};
+use std::error::Error;
+use std::fmt::{self, Display, Formatter};
 use std::marker::Model;
 use wl_wire::Bytes;
 
@@ -20,6 +22,22 @@ pub enum RecordingError {
     /// RP2: there is no memory for the pieces.
     Memory,
 }
+
+impl Display for RecordingError {
+    ghost use Rattle.std.specs.Prelude.{Some};
+    ghost use Rattle.wl_recording.specs.Errors.{recording_error_text};
+
+    ghost output = { λ error. Some (recording_error_text error) };
+
+    fn fmt<W: fmt::Write>(&self, f: &mut Formatter<W>) -> fmt::Result {
+        match self {
+            RecordingError::BadLine { line } => write!(f, "line {line}: bad line"),
+            RecordingError::Memory => f.write_str("out of memory"),
+        }
+    }
+}
+
+impl Error for RecordingError {}
 
 impl From<AllocError> for RecordingError {
     ghost from_gives = { λ _ e. e ≡ Memory };

@@ -7,3 +7,4 @@ pub mod Streams
 pub mod Seen
 pub mod Steps
 pub mod Tellings
+pub mod Errors

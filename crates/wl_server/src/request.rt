@@ -1,6 +1,8 @@
 //! What a server reports, and why a global is not given.
 
 use std::alloc::{Allocator, Global};
+use std::error::Error;
+use std::fmt::{self, Display, Formatter};
 use wl_objects::{Gots, Object};
 
 /// A request that the server read, in memory of its own.
@@ -26,3 +28,22 @@ pub enum GlobalError {
     /// G5: the name was never given, or is withdrawn.
     NoSuchGlobal,
 }
+
+impl Display for GlobalError {
+    ghost use Rattle.std.specs.Prelude.{Some};
+    ghost use Rattle.wl_server.specs.Errors.{global_error_text};
+
+    ghost output = { λ error. Some (global_error_text error) };
+
+    fn fmt<W: fmt::Write>(&self, f: &mut Formatter<W>) -> fmt::Result {
+        f.write_str(match self {
+            GlobalError::Failed => "this end has failed",
+            GlobalError::BadGlobal => "no such interface to advertise at this version",
+            GlobalError::TooMany => "too many globals",
+            GlobalError::Memory => "out of memory",
+            GlobalError::NoSuchGlobal => "no such global",
+        })
+    }
+}
+
+impl Error for GlobalError {}
