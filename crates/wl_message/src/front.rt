@@ -1,52 +1,69 @@
-//! The front of rings, vectors and slices.
+//! The front and the back of rings.
 ghost use Rattle.std.specs.Prelude.{◌≡◌, ◌≤◌, ◌+◌, ◌++◌, length, take, drop, vec_capacity, vec_len};
+ghost use Rattle.circular_buffer.specs.Buffer.{buffer};
 
 use circular_buffer::HeapCircularBuffer;
 use std::alloc::Allocator;
 
-/// Takes the first n items out.
-pub(crate) fn remove_first<T: Copy + Drop, A: Allocator>(items: &mut Vec<T, A>, n: usize)
-    requires { n ≤ vec_len items.old }
-    ensures items { items.new.items ≡ drop n items.old.items }
-    ensures capacity { vec_capacity items.new ≡ vec_capacity items.old }
-{
-    drop(items.drain(..n));
-}
-
 /// Appends items for which there is room.
-pub(crate) fn append<T: Copy + Drop, A: Allocator>(items: &mut Vec<T, A>, more: &[T])
-    requires { vec_len items.old + length more.now ≤ vec_capacity items.old }
-    ensures items { items.new.items ≡ items.old.items ++ more.now }
-    ensures len { vec_len items.new ≡ vec_len items.old + length more.now }
-    ensures capacity { vec_capacity items.old ≤ vec_capacity items.new }
+#[tactic(auto, using(std::proofs::lemmas::List::take_all))]
+pub(crate) fn append<T: Copy + Drop, A: Allocator>(ring: &mut HeapCircularBuffer<T, A>, more: &[T])
+    requires { length ring.old.items + length more.now ≤ ring.old.capacity }
+    ensures { ring.new ≡ buffer (ring.old.items ++ more.now) ring.old.capacity }
 {
-    let _ = items.extend_from_slice(more);
+    ring.fill_from_slice(more);
 }
 
-/// Copies the first n items.
-pub(crate) fn copy_first<T: Copy + Drop>(from: &[T], to: &mut [T], n: usize)
-    requires from { n ≤ length from.now }
+/// Takes the first n items out.
+pub(crate) fn remove_first<T: Copy + Drop, A: Allocator>(
+    ring: &mut HeapCircularBuffer<T, A>,
+    n: usize,
+)
+    requires { n ≤ length ring.old.items }
+    ensures { ring.new ≡ buffer (drop n ring.old.items) ring.old.capacity }
+{
+    let left = ring.len() - n;
+    ring.truncate_front(left);
+}
+
+/// Moves the first n items into the front of a slice.
+pub(crate) fn move_first<T: Copy + Drop, A: Allocator>(
+    ring: &mut HeapCircularBuffer<T, A>,
+    to: &mut [T],
+    n: usize,
+)
+    requires ring { n ≤ length ring.old.items }
     requires to { n ≤ length to.old }
-    ensures { to.new ≡ take n from.now ++ drop n to.old }
+    ensures ring { ring.new ≡ buffer (drop n ring.old.items) ring.old.capacity }
+    ensures to { to.new ≡ take n ring.old.items ++ drop n to.old }
 {
-    to[..n].copy_from_slice(&from[..n]);
+    ring.read_into(&mut to[..n]);
 }
 
-/// Copies the first n bytes of a ring into a store, in place of what is there. They stay in the
-/// ring.
+/// Copies the first n bytes into a store, in place of what is there. They stay in the ring.
 pub(crate) fn copy_front<A: Allocator>(
-    from: &HeapCircularBuffer<u8, A>,
+    ring: &HeapCircularBuffer<u8, A>,
     to: &mut Vec<u8, A>,
     n: usize,
 )
-    requires waiting { n ≤ length from.now.items }
+    requires waiting { n ≤ length ring.now.items }
     requires room { n ≤ vec_capacity to.old }
-    ensures items { to.new.items ≡ take n from.now.items }
+    ensures items { to.new.items ≡ take n ring.now.items }
     ensures capacity { vec_capacity to.old ≤ vec_capacity to.new }
 {
-    let (first, second) = from.as_slices();
+    let (first, second) = ring.as_slices();
     let count = first.len().min(n);
     to.clear();
-    append(to, &first[..count]);
-    append(to, &second[..n - count]);
+    store(to, &first[..count]);
+    store(to, &second[..n - count]);
+}
+
+/// Appends bytes to a store that has room for them.
+fn store<A: Allocator>(to: &mut Vec<u8, A>, bytes: &[u8])
+    requires { vec_len to.old + length bytes.now ≤ vec_capacity to.old }
+    ensures items { to.new.items ≡ to.old.items ++ bytes.now }
+    ensures len { vec_len to.new ≡ vec_len to.old + length bytes.now }
+    ensures capacity { vec_capacity to.old ≤ vec_capacity to.new }
+{
+    let _ = to.extend_from_slice(bytes);
 }

@@ -7,7 +7,7 @@ ghost use Rattle.wl_message.specs.Arrived.{nothing_arrived, free_bytes, free_tok
 ghost use Rattle.wl_message.specs.contracts.inbox.Inbox.{the_row};
 
 use crate::amounts::Fed;
-use crate::front::copy_front;
+use crate::front::{copy_front, remove_first};
 use crate::header::{LIMIT, header_in_front, message_len};
 use circular_buffer::HeapCircularBuffer;
 use std::alloc::{AllocError, Allocator, Global};
@@ -167,7 +167,6 @@ impl<A: Allocator> Inbox<A> {
     {
         let size = message_len(&self.bytes, &mut self.message);
         self.tokens.read_into(tokens);
-        let left = self.bytes.len() - size;
-        self.bytes.truncate_front(left);
+        remove_first(&mut self.bytes, size);
     }
 }

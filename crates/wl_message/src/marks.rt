@@ -1,6 +1,10 @@
 //! Marks that part bytes and tokens into messages.
-ghost use Rattle.std.specs.Prelude.{◌≡◌};
+ghost use Rattle.std.specs.Prelude.{◌≡◌, ◌<◌, [], ◌∷◌, ◌++◌, length};
+ghost use Rattle.circular_buffer.specs.Buffer.{buffer};
 ghost use Rattle.wl_message.specs.Marks.{reach};
+
+use circular_buffer::HeapCircularBuffer;
+use std::alloc::Allocator;
 
 /// How many bytes and tokens a message has.
 #[derive(Clone, Copy, Debug)]
@@ -21,18 +25,31 @@ pub(crate) struct Reach {
     pub left: usize,
 }
 
+/// Appends a mark for which there is room.
+pub(crate) fn push_mark<A: Allocator>(marks: &mut HeapCircularBuffer<Mark, A>, mark: Mark)
+    requires { length marks.old.items < marks.old.capacity }
+    ensures { marks.new ≡ buffer (marks.old.items ++ mark ∷ []) marks.old.capacity }
+{
+    let _ = marks.try_push_back(mark);
+}
+
 /// How far messages of which none is begun go into a room. The tokens of a message go with its
 /// first byte.
-pub(crate) fn reach_into(marks: &[Mark], bytes: usize, tokens: usize) -> Reach
-    ensures { result ≡ reach bytes tokens 0 marks.now }
+pub(crate) fn reach_into<A: Allocator>(
+    marks: &HeapCircularBuffer<Mark, A>,
+    bytes: usize,
+    tokens: usize,
+) -> Reach
+    ensures { result ≡ reach bytes tokens 0 marks.now.items }
 {
+    let _waiting = marks.len();
     let mut reach = Reach {
         bytes,
         tokens,
         begun: 0,
         left: 0,
     };
-    'messages: for mark in marks {
+    'messages: for mark in marks.iter() {
         let Mark { len, tokens } = *mark;
         if reach.bytes == 0 {
             return reach;

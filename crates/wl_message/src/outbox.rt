@@ -5,8 +5,9 @@ ghost use Rattle.wl_message.specs.Outgoing.{no_messages, waiting_bytes, waiting_
 ghost use Rattle.wl_message.specs.Marks.{Reaches};
 
 use crate::amounts::{Full, Taken};
-use crate::front::{append, copy_first, remove_first};
-use crate::marks::{Mark, Reach, reach_into};
+use crate::front::{append, move_first, remove_first};
+use crate::marks::{Mark, Reach, push_mark, reach_into};
+use circular_buffer::HeapCircularBuffer;
 use std::alloc::{AllocError, Allocator, Global};
 use std::marker::Model;
 
@@ -21,15 +22,15 @@ const HEADER_LEN: usize = 8;
 /// All memory is taken by `new`.
 #[derive(Drop)]
 pub struct Outbox<A: Allocator = Global> {
-    bytes: Vec<u8, A>,
-    tokens: Vec<u32, A>,
+    // With room for the error event beyond the ordinary messages.
+    bytes: HeapCircularBuffer<u8, A>,
+    tokens: HeapCircularBuffer<u32, A>,
     // The messages that are not begun.
-    marks: Vec<Mark, A>,
+    marks: HeapCircularBuffer<Mark, A>,
     // How many bytes are left of the message that was begun last.
     left: usize,
-    // How many bytes and tokens of ordinary messages may wait.
+    // How many bytes of ordinary messages may wait.
     capacity: usize,
-    token_capacity: usize,
     // Whether the error event was added, and where among the bytes it stands.
     has_error: bool,
     error_from: usize,
@@ -37,7 +38,7 @@ pub struct Outbox<A: Allocator = Global> {
 }
 
 impl<A: Allocator> Model for Outbox<A> {
-    ghost use Rattle.std.specs.Prelude.{◌≤◌, ◌+◌, ◌*◌, vec_capacity};
+    ghost use Rattle.std.specs.Prelude.{◌≡◌, ◌≤◌, ◌<◌, ◌+◌, ◌*◌};
     ghost use Rattle.wl_message.specs.Outgoing.{Outgoing};
 
     ghost Value = { Outgoing };
@@ -50,7 +51,7 @@ impl<A: Allocator> Model for Outbox<A> {
       marks = o.marks.items;
       left = o.left;
       capacity = o.capacity;
-      token_capacity = o.token_capacity;
+      token_capacity = o.tokens.capacity;
       has_error = o.has_error;
       error_from = o.error_from;
       error_to = o.error_to;
@@ -63,14 +64,14 @@ impl<A: Allocator> Model for Outbox<A> {
         marks = o.marks.items;
         left = o.left;
         capacity = o.capacity;
-        token_capacity = o.token_capacity;
+        token_capacity = o.tokens.capacity;
         has_error = o.has_error;
         error_from = o.error_from;
         error_to = o.error_to;
       });
-      reserved : o.capacity + 64 ≤ vec_capacity o.bytes;
-      tokens_reserved : o.token_capacity ≤ vec_capacity o.tokens;
-      marks_reserved : o.capacity + 64 ≤ 8 * vec_capacity o.marks;
+      small : o.capacity ≤ 16777216;
+      reserved : o.bytes.capacity ≡ o.capacity + 64;
+      marks_reserved : o.bytes.capacity < 8 * (o.marks.capacity + 1);
     } };
 }
 
@@ -84,12 +85,11 @@ impl<A: Allocator + Clone + Drop> Outbox<A> {
     {
         let len = bytes + ERROR_LEN;
         Ok(Outbox {
-            bytes: Vec::with_capacity(alloc.clone()?, len)?,
-            marks: Vec::with_capacity(alloc.clone()?, len.div_ceil(HEADER_LEN))?,
-            tokens: Vec::with_capacity(alloc, tokens)?,
+            bytes: HeapCircularBuffer::with_capacity(alloc.clone()?, len)?,
+            marks: HeapCircularBuffer::with_capacity(alloc.clone()?, len / HEADER_LEN)?,
+            tokens: HeapCircularBuffer::with_capacity(alloc, tokens)?,
             left: 0,
             capacity: bytes,
-            token_capacity: tokens,
             has_error: false,
             error_from: 0,
             error_to: 0,
@@ -113,7 +113,7 @@ impl<A: Allocator> Outbox<A> {
         ensures room { result ≡ token_room_of self.now }
         ensures within { result + length (waiting_tokens self.now) ≡ self.now.token_capacity }
     {
-        self.token_capacity - self.tokens.len()
+        self.tokens.capacity() - self.tokens.len()
     }
 
     /// Whether no byte and no token waits.
@@ -135,10 +135,11 @@ impl<A: Allocator> Outbox<A> {
         if self.room() < message.len() || self.token_room() < tokens.len() {
             return Err(Full);
         }
-        self.marks.push_reserved(Mark {
+        let mark = Mark {
             len: message.len(),
             tokens: tokens.len(),
-        });
+        };
+        push_mark(&mut self.marks, mark);
         append(&mut self.bytes, message);
         append(&mut self.tokens, tokens);
         Ok(())
@@ -155,10 +156,11 @@ impl<A: Allocator> Outbox<A> {
         self.has_error = true;
         self.error_from = self.bytes.len();
         self.error_to = self.error_from + message.len();
-        self.marks.push_reserved(Mark {
+        let mark = Mark {
             len: message.len(),
             tokens: 0,
-        });
+        };
+        push_mark(&mut self.marks, mark);
         append(&mut self.bytes, message);
     }
 
@@ -210,10 +212,8 @@ impl<A: Allocator> Outbox<A> {
             bytes: bytes.len() - reach.bytes,
             tokens: tokens.len() - reach.tokens,
         };
-        copy_first(&self.bytes, bytes, taken.bytes);
-        copy_first(&self.tokens, tokens, taken.tokens);
-        remove_first(&mut self.bytes, taken.bytes);
-        remove_first(&mut self.tokens, taken.tokens);
+        move_first(&mut self.bytes, bytes, taken.bytes);
+        move_first(&mut self.tokens, tokens, taken.tokens);
         remove_first(&mut self.marks, reach.begun);
         self.left = reach.left;
         self.error_from = self.error_from.saturating_sub(taken.bytes);

@@ -3,42 +3,43 @@ use Rattle.wl_message.specs.Outgoing.{with_message}
 use Rattle.wl_message.proofs.Keeps.{bytes_wait, tokens_wait, pushed, pushed_kept, marks_fit}
 use Rattle.wl_message.proofs.outbox.Outbox.push.Goals as goal
 
-pub push_reserved-requires : goal.push_reserved-requires
-push_reserved-requires g c =
+pub push_mark-requires : goal.push_mark-requires
+push_mark-requires g c =
     let o = c.self.inside in
     let i = c.self.invariant.kept in
     let r : c.room.result + (length o.bytes.items - (o.error_to - o.error_from)) ≡ o.capacity = rw (bytes_wait _ i) at (rw (← c.self.view_is) at c.room.ensures.within) in
-    omega (arith, r, marks_fit o.marks.items i.each, i.bytes, i.error_there, i.error_order, i.error_len, c.self.invariant.marks_reserved, o.marks.ok.0, c.if-room-message.false, c.requires.size.header)
+    omega (arith, r, marks_fit o.marks.items i.each, i.bytes, i.error_there, i.error_order, i.error_len, c.self.invariant.reserved, c.self.invariant.marks_reserved, c.if-room-message.false, c.requires.size.header)
 
 pub append-requires : goal.append-requires
 append-requires g c =
     let o = c.self.inside in
     let i = c.self.invariant.kept in
     let r : c.room.result + (length o.bytes.items - (o.error_to - o.error_from)) ≡ o.capacity = rw (bytes_wait _ i) at (rw (← c.self.view_is) at c.room.ensures.within) in
-    omega (arith, r, i.error_there, i.error_order, i.error_len, c.self.invariant.reserved, o.bytes.ok.0, c.if-room-message.false)
+    omega (arith, r, i.error_there, i.error_order, i.error_len, c.self.invariant.reserved, c.if-room-message.false)
 
 pub append-requires-2 : goal.append-requires-2
 append-requires-2 g c =
     let o = c.self.inside in
     let i = c.self.invariant.kept in
-    let r : c.token_room.result + length o.tokens.items ≡ o.token_capacity = rw (tokens_wait _ i) at (rw (← c.self.view_is) at c.token_room.ensures.within) in
-    omega (arith, r, c.self.invariant.tokens_reserved, o.tokens.ok.0, c.if-token_room-tokens.false)
+    let r : c.token_room.result + length o.tokens.items ≡ o.tokens.capacity = rw (tokens_wait _ i) at (rw (← c.self.view_is) at c.token_room.ensures.within) in
+    omega (arith, r, c.if-token_room-tokens.false)
 
 pub invariant_of-self : goal.invariant_of-self
 invariant_of-self g c =
     let o = c.self.inside in
-    let i = c.self.invariant.kept in
+    let v = c.self.invariant in
+    let i = v.kept in
     let r : c.room.result + (length o.bytes.items - (o.error_to - o.error_from)) ≡ o.capacity = rw (bytes_wait _ i) at (rw (← c.self.view_is) at c.room.ensures.within) in
-    let s : c.token_room.result + length o.tokens.items ≡ o.token_capacity = rw (tokens_wait _ i) at (rw (← c.self.view_is) at c.token_room.ensures.within) in
+    let s : c.token_room.result + length o.tokens.items ≡ o.tokens.capacity = rw (tokens_wait _ i) at (rw (← c.self.view_is) at c.token_room.ensures.within) in
     record {
-      kept = rw (c.append.ensures.items, c.append-2.ensures.items, c.push_reserved.ensures.items) (pushed_kept _ c.args.message.now c.args.tokens.now i c.requires.size.header
+      kept = rw (c.append.ensures, c.append-2.ensures, c.push_mark.ensures) (pushed_kept _ c.args.message.now c.args.tokens.now i c.requires.size.header
           (omega (arith, r, i.error_there, i.error_order, c.if-room-message.false)) (omega (arith, s, c.if-token_room-tokens.false)));
-      reserved = omega (arith, c.self.invariant.reserved, c.append.ensures.capacity);
-      tokens_reserved = omega (arith, c.self.invariant.tokens_reserved, c.append-2.ensures.capacity);
-      marks_reserved = omega (arith, c.self.invariant.marks_reserved, c.push_reserved.ensures.capacity);
+      small = v.small;
+      reserved = rw (c.append.ensures) v.reserved;
+      marks_reserved = rw (c.append.ensures, c.push_mark.ensures) v.marks_reserved;
     }
 
 pub returns-clause-ok : goal.returns-clause-ok
 returns-clause-ok g c =
-    rw (c.append.ensures.items, c.append-2.ensures.items, c.push_reserved.ensures.items)
+    rw (c.append.ensures, c.append-2.ensures, c.push_mark.ensures)
     (pushed _ c.args.message.now c.args.tokens.now c.self.invariant.kept ∙ ap (λ w. with_message w c.args.message.now c.args.tokens.now) c.self.view_is)

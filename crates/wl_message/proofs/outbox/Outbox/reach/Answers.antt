@@ -1,18 +1,15 @@
-use Rattle.std.proofs.Common.{◌-◌, ap, ◌∙◌, refl, arith}
+use Rattle.std.proofs.Common.{◌-◌, refl, arith}
 use Rattle.std.proofs.lemmas.List.{length-drop}
-use Rattle.wl_message.specs.Marks.{reach}
 use Rattle.wl_message.proofs.Keeps.{reaches_kept, leaves}
 use Rattle.wl_message.proofs.outbox.Outbox.reach.Goals as goal
 
 pub overflow_add-result : goal.overflow_add-result
 overflow_add-result g c =
     let i = c.self.invariant.kept in
-    let r = reaches_kept _ c.args.bytes c.args.tokens c.min-first.result c.reach_into-bytes.result i c.min-first.ensures
-    (c.reach_into-bytes.ensures ∙ ap (reach (c.args.bytes - c.min-first.result) c.args.tokens 0) c.deref.ensures.value) in
+    let r = reaches_kept _ c.args.bytes c.args.tokens c.min-first.result c.reach_into-bytes.result i c.min-first.ensures c.reach_into-bytes.ensures in
     let l = leaves _ c.args.bytes c.args.tokens _ _ _ i r refl refl in
-    omega (arith, l.kept.bytes, l.bytes, length-drop (c.args.bytes - c.reach_into-bytes.result.bytes) c.self.inside.bytes.items, c.self.inside.bytes.ok.0, c.self.inside.bytes.ok.1, c.self.inside.bytes.small)
+    omega (arith, l.kept.bytes, l.bytes, length-drop (c.args.bytes - c.reach_into-bytes.result.bytes) c.self.inside.bytes.items, i.room, i.error_len, c.self.invariant.small)
 
 pub returns : goal.returns
 returns g c =
-    rw (← c.self.view_is) (reaches_kept _ c.args.bytes c.args.tokens c.min-first.result c.reach_into-bytes.result c.self.invariant.kept c.min-first.ensures
-    (c.reach_into-bytes.ensures ∙ ap (reach (c.args.bytes - c.min-first.result) c.args.tokens 0) c.deref.ensures.value))
+    rw (← c.self.view_is) (reaches_kept _ c.args.bytes c.args.tokens c.min-first.result c.reach_into-bytes.result c.self.invariant.kept c.min-first.ensures c.reach_into-bytes.ensures)

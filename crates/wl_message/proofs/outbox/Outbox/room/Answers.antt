@@ -4,8 +4,8 @@ use Rattle.wl_message.proofs.outbox.Outbox.room.Goals as goal
 
 pub returns-clause-room : goal.returns-clause-room
 returns-clause-room g c =
-    rw (← c.self.view_is, bytes_wait _ c.self.invariant.kept) (omega (arith, c.len.ensures, c.self.inside.bytes.ok.0))
+    rw (← c.self.view_is, bytes_wait _ c.self.invariant.kept) (omega (arith, c.len.ensures.len))
 
 pub returns-clause-within : goal.returns-clause-within
 returns-clause-within g c =
-    rw (← c.self.view_is, bytes_wait _ c.self.invariant.kept) (omega (arith, c.len.ensures, c.self.inside.bytes.ok.0, c.self.invariant.kept.room, c.self.invariant.kept.error_order))
+    rw (← c.self.view_is, bytes_wait _ c.self.invariant.kept) (omega (arith, c.len.ensures.len, c.self.invariant.kept.room, c.self.invariant.kept.error_order))
