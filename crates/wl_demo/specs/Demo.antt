@@ -6,20 +6,12 @@ use Rattle.wl_sigs.specs.Tables.{Interface}
 use Rattle.wl_message.specs.declared.amounts.Sizes.{Sizes}
 use Rattle.wl_check.specs.Session.{session_of}
 use Rattle.wl_check.specs.Trace.{trace_of}
-use Rattle.wl_world.specs.World.{World, opening}
-use Rattle.wl_world.specs.Pair.{PairState, Move, Reply, new_pair}
+use Rattle.wl_world.specs.World.{opening}
+use Rattle.wl_world.specs.Pair.{PairState, new_pair}
 use Rattle.wl_world.specs.Stands.{Stands}
-use Rattle.wl_world.specs.Runs.{Runs, Agree}
-
--- Moves lead from this pair, in its world, to that one: each reply is one that the world allows.
-pub record IsRun (pair : PairState) (world : World) (last : PairState) : Type 0 where
-  pub moves : List Move
-  pub replies : List Reply
-  pub runs : Runs pair world moves replies last
-
--- so in whatever world the first pair stands
-abbrev pub Reaches : PairState → PairState → Type 0
-Reaches pair last = (world : World) → Stands pair world → IsRun pair world last
+use Rattle.wl_world.specs.Runs.{Agree}
+use Rattle.wl_demo.specs.Session.{session}
+use Rattle.wl_demo.specs.Playing.{Plays}
 
 -- whether both ends have the same objects
 abbrev pub agreement : Bool → List ℕ
@@ -39,8 +31,9 @@ pub record Tells (tables : List Interface) (pair : PairState) (text : List ℕ) 
 abbrev pub sizes : Sizes
 sizes = record { out_bytes = 65536; out_tokens = 64; in_bytes = 65536; in_tokens = 64 }
 
--- The text tells of two ends that began new, after a run of both.
-pub record IsShown (tables : List Interface) (text : List ℕ) : Type 0 where
+-- The text tells of two ends that began new, after the session of both, of which each carry moved at most so many bytes.
+pub record IsShown (tables : List Interface) (piece : ℕ) (text : List ℕ) : Type 0 where
   pub last : PairState
-  pub run : IsRun (new_pair tables sizes sizes) opening last
+  pub begins : Stands (new_pair tables sizes sizes) opening
+  pub played : Plays (session tables piece) (new_pair tables sizes sizes) last
   pub told : Tells tables last text
