@@ -1,5 +1,6 @@
 -- The program's failures.
-use Rattle.std.specs.Prelude.{ℕ, List}
+use Rattle.std.specs.Prelude.{◌≡◌, ℕ, ◌<◌, List, ◌++◌, length, codes, Option, IfSome}
+use Rattle.std.specs.Fmt.{decimal}
 use Rattle.wl_recording.specs.declared.recording.RecordingError.{RecordingError}
 use Rattle.wl_recording.specs.declared.recording.RecordingError.TheVariants as recordings
 use Rattle.wl_recording.specs.Text.{IsFirstBad}
@@ -19,13 +20,25 @@ status_of TooLong = 3
 status_of (BadLine line) = 3
 status_of CannotWrite = 3
 
--- a failure of reading
-abbrev pub IsReadFailure : Failure → Type 0
-IsReadFailure (CannotRead name) = Unit {0}
-IsReadFailure TooLong = Unit {0}
-IsReadFailure Memory = Unit {0}
-IsReadFailure (BadLine line) = ⊥
-IsReadFailure CannotWrite = ⊥
+-- what is printed of a failure
+abbrev pub failure_text : Failure → List ℕ
+failure_text (CannotRead name) = codes "cannot read " ++ name.now
+failure_text TooLong = codes "file too long"
+failure_text (BadLine line) = codes "line " ++ decimal line ++ codes ": bad line"
+failure_text CannotWrite = codes "cannot write"
+failure_text Memory = codes "out of memory"
+
+-- the line on standard error
+abbrev pub failure_line : Failure → List ℕ
+failure_line failure = codes "waywire: " ++ failure_text failure ++ codes "\n"
+
+-- a failure of reading the file of this name, of which all bytes may be known
+abbrev pub IsReadFailure : List ℕ → Option (List ℕ) → Failure → Type 0
+IsReadFailure file known (CannotRead name) = name.now ≡ file
+IsReadFailure file known TooLong = IfSome known (λ all. 16777216 < length all)
+IsReadFailure file known Memory = Unit {0}
+IsReadFailure file known (BadLine line) = ⊥
+IsReadFailure file known CannotWrite = ⊥
 
 -- why a text that was read has no output
 abbrev pub IsRefusal : List ℕ → Failure → Type 0

@@ -1,19 +1,18 @@
 //! A job done over any reader and writers.
-ghost use Rattle.std.specs.Prelude.{◌≡◌, ◌≤◌, ◌<◌, ◌⊎◌, ℕ, length, Ok, Err, IfOk, IfErr, IfSome, OnOk, IsErr, Some, List, ◌≢◌};
+ghost use Rattle.std.specs.Prelude.{◌≡◌, ◌≤◌, ◌⊎◌, ℕ, IfOk, IfErr, OnOk, IsErr, Some, List, ◌≢◌};
 ghost use Rattle.std.specs.Io.KnownBytes.{Appends};
 ghost use Rattle.wl_sigs.specs.Core.{core_tables};
-ghost use Rattle.wl_jobs.specs.declared.failure.Failure.TheVariants.{Memory};
 ghost use Rattle.wl_jobs.specs.Failing.{IsReadFailure, IsRefusal};
-ghost use Rattle.wl_jobs.specs.Output.{IsChecked, IsTraced, IsDone, ReadsFile};
+ghost use Rattle.wl_jobs.specs.Output.{Acted, IsChecked, IsDone, IsRead, IsRefused, IsTraced, ReadsFile};
 ghost use Rattle.wl_recording.specs.Text.{IsFirstBad};
 
-use crate::demo::demo;
 use crate::failure::Failure;
 use crate::job::Job;
 use crate::verdict::{status_of, write_broken, write_verdict};
 use std::alloc::{Allocator, Global};
 use std::io::{self, ErrorKind, Read, Write};
 use wl_check::{check, trace};
+use wl_demo::demo;
 use wl_recording::Recording;
 use wl_sigs::Tables;
 
@@ -34,8 +33,8 @@ fn contents<'a, A: Allocator, R: Read>(
     name: &'a str,
     file: &mut R,
 ) -> Result<Vec<u8, A>, Failure<'a>>
-    ensures whole { IfOk result (λ bytes. IfSome (R.remaining file.old) (λ all. bytes.items ≡ all)) }
-    ensures refused { IfErr result IsReadFailure }
+    ensures whole { IfOk result (λ bytes. IsRead (R.remaining file.old) bytes.items) }
+    ensures refused { IfErr result (IsReadFailure name.entry.now (R.remaining file.old)) }
 {
     let mut bytes = Vec::new(alloc);
     match file.take(16_777_217).read_to_end(&mut bytes) {
@@ -96,9 +95,10 @@ fn output<'a, 'b, A: Allocator, R: Read>(
     job: &'b Job,
     file: &mut R,
 ) -> Result<Printed<&'a A>, Failure<'b>>
-    ensures done { IfOk result (λ o. IfSome (R.remaining file.old) (λ text. IsDone job.now text o.text.items o.status)) }
-    ensures refused { IfErr result (λ e. IsReadFailure e ⊎ IfSome (R.remaining file.old) (λ text. IsRefusal text e)) }
-    ensures bad { (text : List ℕ) (n : ℕ) → R.remaining file.old ≡ Some text → IsFirstBad text n → ReadsFile job.now → IsErr result }
+    ensures done { IfOk result (λ o. IsDone job.now (R.remaining file.old) o.text.items o.status) }
+    ensures refused { IfErr result (IsRefused job.now (R.remaining file.old)) }
+    ensures bad { (text : List ℕ) (n : ℕ) → R.remaining file.old ≡ Some text → IsFirstBad text n
+        → ReadsFile job.now → IsErr result }
 {
     match job {
         Job::Trace { file: name } => {
@@ -117,14 +117,14 @@ fn output<'a, 'b, A: Allocator, R: Read>(
 }
 
 /// Writes all the bytes through.
-fn write_through<O: Write>(out: &mut O, bytes: &[u8]) -> io::Result<()>
+pub(crate) fn write_through<O: Write>(out: &mut O, bytes: &[u8]) -> io::Result<()>
     ensures { OnOk result (Appends (O.contents out.old) (O.contents out.new) bytes.now) }
 {
     out.write_all(bytes)?;
     out.flush()
 }
 
-/// Does the job and answers the exit status: 0 or 1 where `out` has taken the whole output, 1 where
+/// Does the job and returns the exit status: 0 or 1 where `out` has taken the whole output, 1 where
 /// it tells of a broken rule; else the status of a `Failure`, whose line goes to `err`.
 ///
 /// Nothing is written to `out` before the whole output is there. `file` is what the job's file
@@ -138,11 +138,13 @@ pub fn act<A: Allocator, R: Read, O: Write, E: Write>(
     out: &mut O,
     err: &mut E,
 ) -> u8
-    // The output of the job was written whole: 0 stands for a lawful session or a demonstration, 1 for a broken session.
-    ensures done { (result ≡ 0) ⊎ (result ≡ 1) → IfSome (R.remaining file.old) (λ text. (output : List ℕ) × IsDone job.now text output result
-        × Appends (O.contents out.old) (O.contents out.new) output) }
+    // The output was written whole, and nothing to `err`: 0 stands for a lawful session or a
+    // demonstration, 1 for a broken session; or no output was written; or writing it failed.
+    ensures acted { Acted O.contents job.now (R.remaining file.old)
+        out.old out.new err.old err.new result }
     // A recording with a bad line is refused, where the job reads one.
-    ensures bad { (text : List ℕ) (n : ℕ) → R.remaining file.old ≡ Some text → IsFirstBad text n → ReadsFile job.now
+    ensures bad { (text : List ℕ) (n : ℕ) → R.remaining file.old ≡ Some text → IsFirstBad text n
+        → ReadsFile job.now
         → ((result ≡ 3) ⊎ (result ≡ 4)) × (O.contents out.new ≡ O.contents out.old) }
     ensures unwritten { result ≡ 4 → O.contents out.new ≡ O.contents out.old }
     ensures statuses { (result ≤ 4) × (result ≢ 2) }

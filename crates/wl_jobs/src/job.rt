@@ -1,10 +1,14 @@
 //! What the words of a command line ask for.
 ghost use Rattle.std.specs.Prelude.{◌≡◌, ◌⊎◌, [], IfErr, string_bytes};
+ghost use Rattle.wl_jobs.specs.Running.{Told};
 ghost use Rattle.wl_jobs.specs.Stopping.{IsStop};
 
+use crate::acting::write_through;
+use crate::failure::Failure;
 use clap::error::ErrorKind;
 use clap::{Arg, ArgMatches, Command, Error};
 use std::alloc::{AllocError, Global};
+use std::io::Write;
 
 /// The most bytes that the demonstration carries at once, unless it is told otherwise.
 const MOST_PIECE: &str = "4096";
@@ -30,6 +34,26 @@ pub struct Stop {
     /// What to print: help to standard output, a fault to standard error. It is empty for want of
     /// memory.
     pub text: String,
+}
+
+impl Stop {
+    /// Prints help to `out`, and anything else to `err`, and returns the exit status: that of the
+    /// stop, or 3 where `out` does not take the help.
+    pub fn tell<O: Write, E: Write>(&self, out: &mut O, err: &mut E) -> u8
+        ensures { Told O.contents self.now out.old out.new err.old err.new result }
+    {
+        match self.status {
+            0 => match write_through(out, self.text.as_bytes()) {
+                Ok(()) => 0,
+                Err(_) => Failure::CannotWrite.tell(err),
+            },
+            4 => Failure::Memory.tell(err),
+            status => {
+                let _ = err.write_all(self.text.as_bytes());
+                status
+            }
+        }
+    }
 }
 
 fn command<'a>(alloc: Global) -> Result<Command<'a>, AllocError> {

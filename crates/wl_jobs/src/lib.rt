@@ -5,11 +5,12 @@
 #![tactic(auto)]
 
 mod acting;
-mod demo;
 mod failure;
 mod job;
+mod running;
 mod verdict;
 
 pub use acting::act;
 pub use failure::Failure;
 pub use job::{Job, Stop, job_of};
+pub use running::{Ending, run};

@@ -1,4 +1,6 @@
-use Rattle.std.proofs.Common.{rules}
+use Rattle.std.proofs.Common.{ℕ, List, rules, refl, subst}
+use Rattle.std.specs.Io.KnownBytes.{Appends}
+use Rattle.wl_jobs.specs.Output.{printed, refused, not_taken}
 use Rattle.wl_jobs.proofs.acting.act.Goals as goal
 
 -- where there is an output, no line is bad
@@ -8,5 +10,15 @@ returns-in-Ok-write_through-clause-bad g c = λ text n known bad reads. cc (c.in
 pub returns-in-Ok-clause-bad : goal.returns-in-Ok-clause-bad
 returns-in-Ok-clause-bad g c = λ text n known bad reads. cc (c.in-Ok.ensures.bad text n known bad reads)
 
-pub returns-in-Ok-write_through-clause-done : goal.returns-in-Ok-write_through-clause-done
-returns-in-Ok-write_through-clause-done g c = search rules
+-- all was written
+pub returns-in-Ok-write_through-clause-acted : goal.returns-in-Ok-write_through-clause-acted
+returns-in-Ok-write_through-clause-acted g c =
+    let written = subst (λ (bytes : List ℕ). Appends (g.O.Write.contents c.args.out.now) (g.O.Write.contents c.write_through.new.out) bytes) c.deref.ensures.value c.in-Ok-write_through.ensures in
+    printed c.in-Ok.output.text.items c.in-Ok.ensures.done written refl
+
+-- it was made, and not taken
+pub returns-in-Ok-clause-acted : goal.returns-in-Ok-clause-acted
+returns-in-Ok-clause-acted g c = not_taken c.in-Ok.output.text.items c.in-Ok.output.status (search rules) c.in-Ok.ensures.done
+
+pub returns-clause-acted : goal.returns-clause-acted
+returns-clause-acted g c = refused c.in-Err.failure (search rules) c.in-Err.ensures.refused refl

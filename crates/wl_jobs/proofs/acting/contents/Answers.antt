@@ -20,4 +20,4 @@ returns-in-Ok-clause-whole g c =
     let limit = c.take.ensures.limit in
     let len = c.len.ensures in
     let read = all_read (g.R.Read.remaining c.take.result.inner.now) c.take.result.limit c.new-bytes.result.items c.read_to_end.new.buf.items c.in-Ok.ensures.bytes c.new-bytes.ensures.items (omega (arith, limit, len, c.if-len-le-MOST.true)) in
-    rw inner at read
+    record { within = omega (arith, len, c.if-len-le-MOST.true); all = rw inner at read }

@@ -1,0 +1,58 @@
+//! What is printed of the session.
+ghost use Rattle.std.specs.Prelude.{◌≡◌, ◌++◌, IfOk, OnOk};
+ghost use Rattle.wl_demo.specs.Demo.{IsShown, Tells, agreement_line};
+
+use crate::playing::play;
+use std::alloc::{AllocError, Allocator};
+use std::io::Write;
+use wl_message::Sizes;
+use wl_objects::{SlotTable, Table};
+use wl_session::{Pair, trace};
+use wl_sigs::Tables;
+
+/// The boxes of both ends.
+const SIZES: Sizes = Sizes {
+    out_bytes: 65_536,
+    out_tokens: 64,
+    in_bytes: 65_536,
+    in_tokens: 64,
+};
+
+/// What the program prints: the lines of what was carried, and whether both ends have the same
+/// objects then. Each carry moves at most `piece` bytes. The error is want of memory.
+pub fn demo<A: Allocator + Clone + Drop>(
+    alloc: A,
+    tables: &Tables,
+    piece: u32,
+) -> Result<Vec<u8, A>, AllocError>
+    ensures { IfOk result (λ text. IsShown tables.now piece text.items) }
+{
+    let mut pair: Pair<'_, MapTable<A>> = Pair::new(alloc.clone()?, tables, SIZES, SIZES)?;
+    play(&alloc, tables, &mut pair, piece as usize)?;
+    printed(alloc, tables, &pair)
+}
+
+/// The lines of all that this pair has carried, and the last line.
+fn printed<T: Table>(
+    alloc: T::Alloc,
+    tables: &Tables,
+    pair: &Pair<'_, T>,
+) -> Result<Vec<u8, T::Alloc>, AllocError>
+    ensures { IfOk result (λ text. Tells tables.now pair.now text.items) }
+{
+    let (mut text, _verdict) = trace(alloc, pair.recording(), tables)?;
+    write_agreement(&mut text, pair.agree(), pair.len())?;
+    Ok(text)
+}
+
+/// Appends the last line: how many objects the client has, and whether the server has the same.
+fn write_agreement<A: Allocator>(
+    out: &mut Vec<u8, A>,
+    agree: bool,
+    objects: usize,
+) -> Result<(), AllocError>
+    ensures { OnOk result (out.new.items ≡ out.old.items ++ agreement_line agree objects) }
+{
+    let word = if agree { "agree" } else { "disagree" };
+    writeln!(out, "{word}: {objects} objects").map_err(|_| AllocError)
+}

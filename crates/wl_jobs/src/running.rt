@@ -1,0 +1,83 @@
+//! A run of the whole program, over whatever opens files, and any writers.
+ghost use Rattle.std.specs.Prelude.{◌≡◌, ◌⊎◌};
+ghost use Rattle.std.specs.Fn.{FnOnceReturnsAt};
+ghost use Rattle.std.specs.Process.{exit_status};
+ghost use Rattle.wl_jobs.specs.Running.{Opened, Runs};
+
+use crate::acting::act;
+use crate::failure::Failure;
+use crate::job::{Job, job_of};
+use std::alloc::Global;
+use std::io::{self, Eprint, ErrorKind, Read, Write};
+use std::process::{ExitCode, Termination};
+
+/// How a run ended, which is what the program ends with. Only `run` makes one.
+#[derive(Debug, Drop)]
+pub struct Ending {
+    status: u8,
+}
+
+impl Termination for Ending {
+    fn report<R: Eprint>(self, _rt: &R) -> ExitCode
+        ensures { exit_status result ≡ self.status }
+    {
+        ExitCode::from(self.status)
+    }
+}
+
+/// Does what the words of a command line ask for, of which the first is the program's name.
+///
+/// `opener` opens the file of a job that reads one. The output and help go to `out`, and what is
+/// said of a failure or of a fault of usage to `err`.
+pub fn run<R: Read + Drop, F: FnOnce(&str) -> io::Result<R>, O: Write, E: Write>(
+    alloc: Global,
+    words: io::Result<Vec<String>>,
+    opener: F,
+    out: &mut O,
+    err: &mut E,
+) -> Ending
+    requires { F.IsAlwaysCallable opener }
+    ensures { Runs words R.remaining O.contents (FnOnceReturnsAt F.FnOnce opener)
+        out.old out.new err.old err.new result.status }
+{
+    let status = match words {
+        Ok(words) => match job_of(alloc, words.as_slice()) {
+            Ok(job) => done(alloc, &job, opener, out, err),
+            Err(stop) => stop.tell(out, err),
+        },
+        Err(error) => not_read(&error, err),
+    };
+    Ending { status }
+}
+
+/// Says why the words of a command line could not be read, and returns the status.
+fn not_read<E: Write>(error: &io::Error, err: &mut E) -> u8
+    ensures { (result ≡ 2) ⊎ (result ≡ 4) }
+{
+    if error.kind() == ErrorKind::OutOfMemory {
+        return Failure::Memory.tell(err);
+    }
+    let _ = writeln!(err, "error: a word of the command line is not UTF-8");
+    2
+}
+
+/// Opens what the job reads, does it, and returns the status.
+fn done<R: Read + Drop, F: FnOnce(&str) -> io::Result<R>, O: Write, E: Write>(
+    alloc: Global,
+    job: &Job,
+    opener: F,
+    out: &mut O,
+    err: &mut E,
+) -> u8
+    requires { F.IsAlwaysCallable opener }
+    ensures { Opened R.remaining O.contents (FnOnceReturnsAt F.FnOnce opener) job.now
+        out.old out.new err.old err.new result }
+{
+    match job {
+        Job::Trace { file: name } | Job::Check { file: name } => match opener(name.as_str()) {
+            Ok(mut file) => act(alloc, alloc, job, &mut file, out, err),
+            Err(_) => Failure::CannotRead(name.as_str()).tell(err),
+        },
+        Job::Demo { .. } => act(alloc, alloc, job, &mut io::empty(), out, err),
+    }
+}
