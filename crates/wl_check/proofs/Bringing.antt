@@ -22,7 +22,7 @@ finish_bad p z e = rw e refl
 finish_good : (p z : ℕ) → is_size usual_limit z ≡ true → finish (mark p z) ≡ p + z
 finish_good p z e = rw e refl
 
-whole_size : (s : List ℕ) (p z : ℕ) → front usual_limit (drop p s) ≡ Whole z → is_size usual_limit z ≡ true
+pub whole_size : (s : List ℕ) (p z : ℕ) → front usual_limit (drop p s) ≡ Whole z → is_size usual_limit z ≡ true
 whole_size s p z e = is_size-true usual_limit z (front_stands usual_limit (drop p s) z e).size
 
 within_step : (n b : ℕ) (w : List ℕ) (p : ℕ) (f : Front) → front usual_limit (drop p w) ≡ f → p ≤ length w → b ≤ p → ((z : ℕ) → p + z ≤ length w → Brings b (length w) (cutting n w (p + z)).marks)

@@ -10,3 +10,4 @@ pub mod Holding
 pub mod Fresh
 pub mod Bringing
 pub mod Once
+pub mod Ordering

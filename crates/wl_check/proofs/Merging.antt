@@ -29,12 +29,12 @@ stream_more d [] k p e = absurd (cc)
 stream_more d (x ∷ xs) zero p e = let same : x ≡ p = cc in append-nil (own d x) ∙ ap (own d) same
 stream_more d (x ∷ xs) (suc k) p e = ap (λ (l : List ℕ). own d x ++ l) (stream_more d xs k p e) ∙ sym (append_assoc (own d x) (stream_of d (take k xs)) (own d p))
 
-tokens_more : (d : Direction) (ps : List Piece) (k : ℕ) (p : Piece) → slice_get ps k ≡ Some p → tokens_of d (take (suc k) ps) ≡ tokens_of d (take k ps) + own_tokens d p
+pub tokens_more : (d : Direction) (ps : List Piece) (k : ℕ) (p : Piece) → slice_get ps k ≡ Some p → tokens_of d (take (suc k) ps) ≡ tokens_of d (take k ps) + own_tokens d p
 tokens_more d [] k p e = absurd (cc)
 tokens_more d (x ∷ xs) zero p e = let is : x ≡ p = cc in let same : own_tokens d x ≡ own_tokens d p = ap (own_tokens d) is in omega (arith, same)
 tokens_more d (x ∷ xs) (suc k) p e = omega (arith, tokens_more d xs k p e)
 
-merged_more : (ps : List Piece) (k : ℕ) (p : Piece) → slice_get ps k ≡ Some p → merged_within ps (suc k) ≡ merged_within ps k ++ completed (take k ps) p
+pub merged_more : (ps : List Piece) (k : ℕ) (p : Piece) → slice_get ps k ≡ Some p → merged_within ps (suc k) ≡ merged_within ps k ++ completed (take k ps) p
 unfolding merged_within
 merged_more ps k p e = rw e refl
 
@@ -45,7 +45,7 @@ pub record IsFed {A : Type 0} (d : Direction) (ps : List Piece) (k : ℕ) (s : S
   pub tokens_are : s.tokens ≡ tokens_of d (take k ps)
   pub few : s.tokens ≤ k * 2 ^ 32
 
-same_is : (d : Direction) → same_direction d d ≡ true
+pub same_is : (d : Direction) → same_direction d d ≡ true
 same_is ToServer = refl
 same_is ToClient = refl
 

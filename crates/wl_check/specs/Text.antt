@@ -1,12 +1,13 @@
 -- What is held, open, used and told at a place of a session, in words: by the messages that stand before it.
-use Rattle.std.specs.Prelude.{◌≡◌, ℕ, ◌<◌, ◌≤◌, true, false, List, [], ◌∷◌, ◌++◌, if◌then◌else◌, length, slice_get, drop, take, Some}
+use Rattle.std.specs.Prelude.{◌≡◌, ◌≢◌, ℕ, suc, ◌<◌, ◌≤◌, true, false, List, [], ◌∷◌, ◌++◌, if◌then◌else◌, length, slice_get, drop, take, Some}
 use Rattle.std.specs.List.{filter, AllByRecursion}
-use Rattle.wl_message.specs.Cut.{usual_limit, is_size}
+use Rattle.wl_message.specs.Cut.{usual_limit, is_size, front, Bad}
 use Rattle.wl_check.specs.declared.deed.Advertised.{Advertised}
 use Rattle.wl_recording.specs.declared.piece.Direction.{Direction}
 use Rattle.wl_check.specs.declared.frames.Frame.{Frame}
 use Rattle.wl_check.specs.declared.deed.Deed.{Deed}
-use Rattle.wl_check.specs.Merged.{Mark, mark, finish, same_direction}
+use Rattle.wl_recording.specs.Piece.{Piece}
+use Rattle.wl_check.specs.Merged.{Mark, mark, finish, same_direction, stream_of, tokens_of}
 use Rattle.wl_check.specs.Places.{makes, deletes, destroys}
 use Rattle.wl_check.specs.Session.{Judged, ends_session}
 
@@ -44,6 +45,15 @@ part_of stream m = take m.size (drop m.start stream)
 abbrev pub sound : List Mark → List Mark
 sound marks = filter (λ (m : Mark). is_size usual_limit m.size) marks
 
+abbrev pub AreSound : List Mark → Type 0
+AreSound marks = AllByRecursion (λ (m : Mark). is_size usual_limit m.size ≡ true) marks
+
+-- A stream whose messages leave this rest has these marks: those of the messages, and a bad size last, where the rest begins with one.
+pub data EndsWith (stream rest : List ℕ) (marks : List Mark) : Type 0 where
+  messages : AreSound marks → ((size : ℕ) → front usual_limit rest ≢ Bad size) → EndsWith stream rest marks
+  bad_size : (before : List Mark) (place size : ℕ) → marks ≡ before ++ mark place size ∷ [] → AreSound before → drop place stream ≡ rest
+      → front usual_limit rest ≡ Bad size → EndsWith stream rest marks
+
 -- each of these messages ends behind the first `before` bytes of its direction, and within the first `after`
 abbrev pub Brings : ℕ → ℕ → List Mark → Type 0
 Brings before after marks = AllByRecursion (λ (m : Mark). (before < finish m) × (finish m ≤ after)) marks
@@ -57,3 +67,18 @@ pub record IsExamined (messages : List Judged) (k : ℕ) : Type 0 where
 abbrev pub marks_in : Direction → List Frame → List Mark
 marks_in direction [] = []
 marks_in direction (frame ∷ frames) = (if same_direction frame.direction direction then mark frame.start frame.size ∷ [] else []) ++ marks_in direction frames
+
+-- A message comes with the piece of its direction that brings its last byte, and counts the tokens that its direction brought with
+-- the pieces up to that one.
+pub record ComesWith (pieces : List Piece) (k : ℕ) (frame : Frame) : Type 0 where
+  pub piece : Piece
+  pub there : slice_get pieces k ≡ Some piece
+  pub direction : piece.direction ≡ frame.direction
+  pub behind : length (stream_of frame.direction (take k pieces)) < finish (mark frame.start frame.size)
+  pub within : finish (mark frame.start frame.size) ≤ length (stream_of frame.direction (take (suc k) pieces))
+  pub tokens : frame.tokens ≡ tokens_of frame.direction (take (suc k) pieces)
+
+-- These messages come with the pieces in their order, from one piece on and before another.
+abbrev pub ComeInOrder : List Piece → ℕ → ℕ → List Frame → Type 0
+ComeInOrder pieces from to [] = Unit {0}
+ComeInOrder pieces from to (frame ∷ frames) = (k : ℕ) × (from ≤ k) × (k < to) × ComesWith pieces k frame × ComeInOrder pieces k to frames

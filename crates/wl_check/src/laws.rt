@@ -2,22 +2,32 @@
 //! places what the definitions compute.
 ghost use Rattle.std.specs.Prelude.{◌≡◌, ◌↔◌, ◌<◌, ◌≤◌, ◌++◌, ℕ, List, Some, false, length, drop, map};
 ghost use Rattle.wl_sigs.specs.Tables.{Interface};
-ghost use Rattle.wl_message.specs.Cut.{usual_limit, messages_of};
+ghost use Rattle.wl_message.specs.Cut.{usual_limit, messages_of, rest_of};
 ghost use Rattle.wl_check.specs.Merged.{cut, stream_of};
 ghost use Rattle.wl_check.specs.Places.{holder, is_ending, used, told};
 ghost use Rattle.wl_check.specs.Session.{Session, deeds, examined, messages, session_of};
 ghost use Rattle.wl_recording.specs.declared.piece.Direction.{Direction as Way};
 ghost use Rattle.wl_recording.specs.Piece.{Piece};
-ghost use Rattle.wl_check.specs.Text.{marks_in, part_of, sound, Brings, Held, IsExamined, IsOpen, WasTold, WasUsed};
+ghost use Rattle.wl_check.specs.Text.{marks_in, part_of, sound, Brings, ComeInOrder, EndsWith, Held, IsExamined, IsOpen, WasTold, WasUsed};
 
-/// The messages of a stream are those that its sizes cut off, and then a bad size, if one follows.
+/// The messages of a stream are those that its sizes cut off. A bad size, if one follows them, stands
+/// behind them and is the last.
 pub fn a_stream_has_its_messages()
-    ensures { (stream : List ℕ) → map (part_of stream) (sound (cut stream).marks) ≡ messages_of usual_limit stream }
+    ensures messages { (stream : List ℕ)
+        → map (part_of stream) (sound (cut stream).marks) ≡ messages_of usual_limit stream }
+    ensures bad_size { (stream : List ℕ)
+        → EndsWith stream (rest_of usual_limit stream) (cut stream).marks }
 {}
 
 /// In the merged list each message of a direction stands once, in the order of its stream.
 pub fn each_message_stands_once()
     ensures { (pieces : List Piece) (direction : Way) → marks_in direction (session_of pieces).frames ≡ (cut (stream_of direction pieces)).marks }
+{}
+
+/// The messages of both directions follow the pieces that bring their last bytes, a bad size the one
+/// that brings the last byte of its header; and tokens count up to a message's own piece.
+pub fn messages_follow_their_pieces()
+    ensures { (pieces : List Piece) → ComeInOrder pieces 0 (length pieces) (session_of pieces).frames }
 {}
 
 /// A piece brings the last byte of each message that it completes, and of a bad size the last byte

@@ -135,7 +135,7 @@ fails_by state what offset (Err other) s e a =
 fails_by state what offset (Ok None) s e a = absurd (cc a)
 fails_by state what offset (Ok (Some f)) s e a = absurd (cc a)
 
-fails : (state : State) (what : Fault) (offset : ℕ) → next_answer state ≡ Err (errors.Fault what offset) → Fails state what offset
+pub fails : (state : State) (what : Fault) (offset : ℕ) → next_answer state ≡ Err (errors.Fault what offset) → Fails state what offset
 fails state what offset e =
     let s = not_failed state state.core.failed refl (λ h. cc (h, e)) in
     fails_by state what offset (found state.core event_side) s refl (sym (answers state s) ∙ e)

@@ -1,10 +1,10 @@
 //! What holds of what a client reads. These functions do nothing: each is called for what it
 //! ensures.
-ghost use Rattle.std.specs.Prelude.{◌≡◌, ℕ, true, List, ◌∷◌, Option};
+ghost use Rattle.std.specs.Prelude.{◌≡◌, ℕ, true, List, ◌∷◌, length, Option};
 ghost use Rattle.wl_message.specs.declared.amounts.Fed.{Fed};
 ghost use Rattle.wl_message.specs.InStep.{Part, part_bytes, part_tokens};
 ghost use Rattle.wl_objects.specs.declared.error.NextError.{NextError};
-ghost use Rattle.wl_end.specs.Streams.{waiting, IsTaken, taken_bytes, taken_tokens, untaken};
+ghost use Rattle.wl_end.specs.Streams.{waiting, BeginWith, IsTaken, taken_bytes, taken_tokens, untaken};
 ghost use Rattle.wl_client.specs.State.{State};
 ghost use Rattle.wl_client.specs.Reports.{Report};
 ghost use Rattle.wl_client.specs.Streams.{Reads, ReadsSome, arrived, ComeInStep};
@@ -26,4 +26,12 @@ pub fn any_cut_reads()
         → ComeInStep (arrived state (part_bytes pieces) (part_tokens pieces)) (waiting state.core ∷ pieces)
         → Reads (arrived state (taken_bytes pieces count some) (taken_tokens pieces count some)) reports stop last → last.core.failed ≡ true
         → Reads (arrived state (part_bytes pieces) (part_tokens pieces)) reports stop (arrived last (part_bytes (untaken pieces count some)) (part_tokens (untaken pieces count some))) }
+{}
+
+/// What is read begins what waits: as many whole messages as there are reports, cut off by the sizes
+/// in their headers, and then what is left.
+pub fn whole_messages_are_read()
+    ensures { (state last : State) (reports : List Report) (stop : Option NextError)
+        → Reads state reports stop last
+        → BeginWith state.core.inbox.bytes (length reports) last.core.inbox.bytes }
 {}

@@ -27,7 +27,7 @@ pub fn demo<A: Allocator + Clone + Drop>(
 ) -> Result<Vec<u8, A>, AllocError>
     ensures { IfOk result (λ text. IsShown tables.now piece text.items) }
 {
-    let mut pair: Pair<'_, MapTable<A>> = Pair::new(alloc.clone()?, tables, SIZES, SIZES)?;
+    let mut pair: Pair<'_, SlotTable<A>> = Pair::new(alloc.clone()?, tables, SIZES, SIZES)?;
     play(&alloc, tables, &mut pair, piece as usize)?;
     printed(alloc, tables, &pair)
 }

@@ -6,3 +6,4 @@ pub mod Messages
 pub mod Appended
 pub mod Sends
 pub mod Receivings
+pub mod Spelled

@@ -3,3 +3,4 @@ pub mod Receiving
 pub mod Sending
 pub mod Outcomes
 pub mod Streams
+pub mod Spelled

@@ -5,10 +5,14 @@ ghost use Rattle.std.specs.declared.result.Result.TheVariants.{Ok, Err};
 ghost use Rattle.wl_sigs.specs.declared.signature.Side.{Side};
 ghost use Rattle.wl_message.specs.declared.amounts.Fed.{Fed};
 ghost use Rattle.wl_message.specs.InStep.{Part, Need, part_bytes, part_tokens, InStep};
+ghost use Rattle.wl_sigs.specs.Tables.{Message};
+ghost use Rattle.wl_table.specs.declared.object.Object.{Object};
 ghost use Rattle.wl_objects.specs.declared.error.Fault.{Fault};
 ghost use Rattle.wl_objects.specs.declared.error.Fault.TheVariants as faults;
+ghost use Rattle.wl_objects.specs.Writing.{Given};
 ghost use Rattle.wl_end.specs.Core.{Core, with_arrived};
 ghost use Rattle.wl_end.specs.Receiving.{Found, found, reported, past_found};
+ghost use Rattle.wl_end.specs.Spelled.{CallsSpell, FoundSpells};
 ghost use Rattle.wl_end.specs.Streams.{IsTaken, taken_bytes, taken_tokens, untaken, longer};
 
 /// A message that stands in front is found there whatever comes behind it: it is reported by the
@@ -29,4 +33,13 @@ pub fn taking_keeps_pieces()
     ensures tokens { (pieces : List Part) (count : ℕ) (some : Fed) → taken_tokens pieces count some ++ part_tokens (untaken pieces count some) ≡ part_tokens pieces }
     ensures step { (needs : List Need) (waits : Part) (pieces : List Part) (count : ℕ) (some : Fed) → IsTaken pieces count some → InStep needs (waits ∷ pieces)
         → InStep needs (longer waits (taken_bytes pieces count some) (taken_tokens pieces count some) ∷ untaken pieces count some) }
+{}
+
+/// A message is a spelling of its values: one that was written, by a call that passed its checks,
+/// and one that is found in front of what waits. In wl_display.error the object may be null.
+pub fn messages_are_spelled()
+    ensures written { (core : Core) (side : Side) (target : Object) (opcode : ℕ)
+        (given : List Given) (signature : Message)
+        → CallsSpell core side target opcode given signature }
+    ensures read { (core : Core) (side : Side) (f : Found) → FoundSpells core side f }
 {}

@@ -1,5 +1,4 @@
 pub mod Cut
-pub mod Spelled
 pub mod Outgoing
 pub mod Marks
 pub mod Arrived

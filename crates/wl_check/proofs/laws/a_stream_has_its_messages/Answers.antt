@@ -1,5 +1,6 @@
 use Rattle.wl_check.proofs.Bringing.{cut_messages}
+use Rattle.wl_check.proofs.Ordering.{ends_with}
 use Rattle.wl_check.proofs.laws.a_stream_has_its_messages.Goals as goal
 
 pub returns : goal.returns
-returns c = cut_messages
+returns c = record { messages = cut_messages; bad_size = ends_with }
