@@ -12,8 +12,6 @@ mod request;
 mod server;
 mod step;
 mod streams;
-#[cfg(test)]
-mod tests;
 
 pub use laws::{any_cut_reads, one_reading};
 pub use request::{GlobalError, Request};

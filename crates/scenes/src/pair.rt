@@ -1,0 +1,147 @@
+//! Both ends of a connection, played at.
+
+use crate::ends::yes_or_no;
+use crate::stage::Stage;
+use std::alloc::{AllocError, Allocator, Global};
+use std::fmt::Write;
+use wl_objects::Table;
+use wl_recording::{Direction, Passed, Recording};
+use wl_scenes::{Names, Teller, Trouble, Words, read_move, write_verdict};
+use wl_session::{Move, Pair, Reply, check};
+use wl_sigs::Tables;
+
+/// A pair, and what a scene has seen of it.
+#[derive(Drop)]
+pub struct AtPair<'a, 't, T: Table + Drop> {
+    pub alloc: Global,
+    pub tables: &'a Tables,
+    pub pair: Pair<'t, T>,
+    pub names: Names,
+    /// The memory of the moves. It refuses none.
+    pub granting: T::Alloc,
+}
+
+impl<'a, 't, T: Table + Drop> Stage for AtPair<'a, 't, T> {
+    fn play(&mut self, call: &str, reply: &mut String) -> Result<(), Trouble> {
+        let mut words = Words::of(call);
+        let verb = words.word()?;
+        match read_move(&self.granting, self.tables, verb, &mut words)? {
+            Some(action) => self.act(action, reply),
+            None => self.tell(verb, &mut words, reply),
+        }
+    }
+
+    fn show(&self, text: &mut String) -> Result<(), AllocError> {
+        let drained = yes_or_no(self.pair.drained());
+        let pieces = self.pair.recording().pieces().len();
+        write!(
+            text,
+            "{} objects, {pieces} pieces, {drained}",
+            self.pair.len()
+        )
+    }
+}
+
+impl<'a, 't, T: Table + Drop> AtPair<'a, 't, T> {
+    /// Makes a move.
+    fn act(&mut self, action: Move<T::Alloc>, reply: &mut String) -> Result<(), Trouble> {
+        let mut moves = Vec::new(self.granting.clone()?);
+        moves.push(action)?;
+        match self.pair.run(&moves) {
+            Ok(replies) => answer(self.tables, &mut self.names, &moves, &replies, reply),
+            Err(_) => Ok(reply.push_str("out of memory")?),
+        }
+    }
+
+    /// Appends what is asked for.
+    fn tell(&self, verb: &str, words: &mut Words<'_>, reply: &mut String) -> Result<(), Trouble> {
+        match verb {
+            "text" => self.write_text(words.size()?, reply)?,
+            "check" => self.check(words.size().unwrap_or(usize::MAX), reply)?,
+            "drained" => reply.push_str(yes_or_no(self.pair.drained()))?,
+            "agree" => reply.push_str(yes_or_no(self.pair.agree()))?,
+            "objects" => write!(reply, "{}", self.pair.len())?,
+            "pieces" => write!(reply, "{}", self.pair.recording().pieces().len())?,
+            "last" => write_piece(reply, self.pair.recording().pieces().last())?,
+            "ended" => write_ended(reply, self.pair.ended_at())?,
+            _ => return Err(Trouble::Unreadable),
+        }
+        Ok(())
+    }
+
+    /// Appends the verdict on the first pieces that were carried.
+    fn check(&self, count: usize, reply: &mut String) -> Result<(), AllocError> {
+        let begin = begin_of(&self.granting, self.pair.recording(), count)?;
+        let verdict = check(self.granting.clone()?, &begin, self.tables)?;
+        write_verdict(reply, &verdict)
+    }
+
+    /// Appends the first pieces that were carried, one a line.
+    fn write_text(&self, count: usize, reply: &mut String) -> Result<(), AllocError> {
+        write!(reply, "{count} pieces")?;
+        for piece in self.pair.recording().pieces().iter().take(count) {
+            reply.push_str("\n")?;
+            write_piece(reply, Some(piece))?;
+        }
+        Ok(())
+    }
+}
+
+/// Appends the replies to these moves.
+fn answer<A: Allocator>(
+    tables: &Tables,
+    names: &mut Names,
+    moves: &[Move<A>],
+    replies: &[Reply<A>],
+    reply: &mut String,
+) -> Result<(), Trouble> {
+    for (action, answer) in moves.iter().zip(replies) {
+        names.learn(tables, action, answer)?;
+        let teller = Teller { tables, names };
+        teller.write_reply(reply, answer)?;
+    }
+    Ok(())
+}
+
+/// The first pieces of a recording.
+fn begin_of<A: Allocator + Clone + Drop>(
+    alloc: &A,
+    whole: &Recording<A>,
+    count: usize,
+) -> Result<Recording<A>, AllocError> {
+    let mut begin = Recording::new(alloc.clone()?);
+    for piece in whole.pieces().iter().take(count) {
+        let tokens = piece.tokens.min(65_535);
+        begin.add(piece.direction, piece.bytes.as_slice(), tokens)?;
+    }
+    Ok(begin)
+}
+
+/// Appends how many pieces were recorded when an error was posted.
+fn write_ended(reply: &mut String, ended_at: Option<usize>) -> Result<(), AllocError> {
+    match ended_at {
+        Some(pieces) => write!(reply, "at {pieces} pieces"),
+        None => reply.push_str("no"),
+    }
+}
+
+/// Appends a piece as a recording's line.
+pub fn write_piece<A: Allocator>(
+    reply: &mut String,
+    piece: Option<&Passed<A>>,
+) -> Result<(), AllocError> {
+    let Some(piece) = piece else {
+        return reply.push_str("none");
+    };
+    reply.push_str(match piece.direction {
+        Direction::ToServer => "> ",
+        Direction::ToClient => "< ",
+    })?;
+    for byte in piece.bytes.as_slice() {
+        write!(reply, "{byte:02x}")?;
+    }
+    match piece.tokens {
+        0 => Ok(()),
+        tokens => write!(reply, " +{tokens}"),
+    }
+}

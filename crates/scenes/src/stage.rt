@@ -1,0 +1,30 @@
+//! What a scene is played at.
+
+use refusing::RefusingAllocator;
+use std::alloc::{AllocError, Global};
+use wl_objects::SlotTable;
+use wl_scenes::Trouble;
+use wl_sigs::Tables;
+
+/// The memory of all that a scene plays at.
+pub type Memory = RefusingAllocator;
+
+/// The object tables of all that a scene plays at.
+pub type Objects = SlotTable<Memory>;
+
+/// What a scene is played at.
+pub trait Stage {
+    /// Makes a call, and appends its reply.
+    fn play(&mut self, call: &str, reply: &mut String) -> Result<(), Trouble>;
+
+    /// Appends what can be seen of the value: it stays as it is where a call is refused memory.
+    fn show(&self, text: &mut String) -> Result<(), AllocError>;
+}
+
+/// What every scene is played with.
+#[derive(Clone, Copy)]
+pub struct Props<'a> {
+    pub alloc: Global,
+    pub tables: &'a Tables,
+    pub memory: &'a Memory,
+}

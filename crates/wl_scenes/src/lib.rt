@@ -1,0 +1,25 @@
+//! Scenes: calls of an end, a pair or a part of one, and what each of them must answer, as text.
+//!
+//! This crate reads the text of scenes and of their calls, and writes replies. The program `scenes`
+//! plays them. The form is in docs/SCENES.md.
+#![tactic(auto)]
+
+mod bytes;
+mod line;
+mod moves;
+mod names;
+mod replies;
+mod scene;
+mod trouble;
+mod words;
+
+pub use bytes::{Chunk, put_bytes, read_chunk, read_chunks, write_bytes, write_chunk, write_text};
+pub use line::{Line, Memory};
+pub use moves::{bytes_of, iface_of, lend, message_of, read_arguments, read_move};
+pub use names::Names;
+pub use replies::{
+    Teller, put_name, write_arguments, write_object, write_sent, write_stop, write_verdict,
+};
+pub use scene::{Row, Scene, is_told, read_scenes};
+pub use trouble::Trouble;
+pub use words::{Words, object_of};

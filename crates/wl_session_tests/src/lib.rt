@@ -1,5 +1,0 @@
-//! The tests of `wl_session`, over what it gives out.
-#![tactic(auto)]
-
-#[cfg(test)]
-mod session;
