@@ -1,0 +1,153 @@
+//! A client and a server in one process, with a buffer where a connection has a socket. The page of
+//! the crate `wl` has the same text, and says what it does.
+#![tactic(auto)]
+
+ghost use Rattle.std.specs.Prelude.{◌≤◌, length};
+
+use anyhow::{Context, Result, bail};
+use std::io::Write;
+use wl::{
+    Arg, Direction, Got, Gots, Incoming, MapTable, Object, Recording, Sizes, Tables, event,
+    request, trace,
+};
+
+type Client<'t> = wl::Client<'t, MapTable>;
+
+type Server<'t> = wl::Server<'t, MapTable>;
+
+/// Room for 65,536 bytes and 64 tokens in each box.
+const SIZES: Sizes = Sizes {
+    out_bytes: 65_536,
+    out_tokens: 64,
+    in_bytes: 65_536,
+    in_tokens: 64,
+};
+
+fn main(rt: HostRuntime) -> Result<()> {
+    let tables = Tables::core(rt.alloc())?;
+    let mut client = Client::new(rt.alloc(), &tables, SIZES)?;
+    let mut server = Server::new(rt.alloc(), &tables, SIZES)?;
+    let mut wire = Recording::new(rt.alloc());
+    talk(&tables, &mut client, &mut server, &mut wire)?;
+    let (lines, _verdict) = trace(rt.alloc(), &wire, &tables)?;
+    rt.stdout().write_all(lines.as_slice())?;
+    Ok(())
+}
+
+/// The client makes a surface, and hears when the server has read all that it wrote.
+fn talk(
+    tables: &Tables,
+    client: &mut Client<'_>,
+    server: &mut Server<'_>,
+    wire: &mut Recording,
+) -> Result<()> {
+    let interface = tables.interface(b"wl_compositor").context("no interface")?;
+    server.add_global(interface, 6)?;
+
+    let registry = make(client, client.display(), request::wl_display::GET_REGISTRY)?;
+    round_trip(client, server, wire)?;
+    let compositor = bind(client, registry)?;
+    let surface = make(client, compositor, request::wl_compositor::CREATE_SURFACE)?;
+    client.send(surface, request::wl_surface::COMMIT, &[])?;
+    let callback = make(client, client.display(), request::wl_display::SYNC)?;
+    round_trip(client, server, wire)?;
+    wait_for(client, callback, event::wl_callback::DONE)?;
+    Ok(())
+}
+
+/// Sends a request whose one argument is a new object, and returns that object.
+fn make(client: &mut Client<'_>, target: Object, opcode: u16) -> Result<Object> {
+    let made = client.send(target, opcode, &[Arg::New])?;
+    made.context("the request makes no object")
+}
+
+/// Binds the global that the registry tells of next.
+fn bind(client: &mut Client<'_>, registry: Object) -> Result<Object> {
+    let args = wait_for(client, registry, event::wl_registry::GLOBAL)?;
+    let [Got::Uint(name), Got::Str(Some(iface)), Got::Uint(version)] = args.as_slice() else {
+        bail!("the arguments are not those of wl_registry.global");
+    };
+    Ok(client.bind(registry, *name, iface.as_slice(), *version)?)
+}
+
+/// Reads events up to the next one of this kind for this object, and returns its arguments.
+fn wait_for(client: &mut Client<'_>, object: Object, wanted: u16) -> Result<Gots> {
+    for _ in 0..u64::MAX {
+        let Some(report) = client.next()? else {
+            break;
+        };
+        if let Incoming::Event {
+            target,
+            opcode,
+            args,
+        } = report
+        {
+            if target == object && opcode == wanted {
+                return Ok(args);
+            }
+        }
+    }
+    bail!("the event did not come")
+}
+
+/// Reads the requests that came, does what they ask, and tells new registries of the globals.
+fn serve(server: &mut Server<'_>) -> Result<()> {
+    for _ in 0..u64::MAX {
+        let Some(read) = server.next()? else {
+            break;
+        };
+        if read.target == server.display() && read.opcode == request::wl_display::SYNC {
+            if let [Got::New(callback)] = read.args.as_slice() {
+                server.send(*callback, event::wl_callback::DONE, &[Arg::Uint(0)])?;
+            }
+        }
+    }
+    server.announce()?;
+    Ok(())
+}
+
+/// Carries what the client wrote to the server, and what that answers to the client.
+fn round_trip(
+    client: &mut Client<'_>,
+    server: &mut Server<'_>,
+    wire: &mut Recording,
+) -> Result<()> {
+    let (mut bytes, mut tokens) = ([0; 4096], [0; 20]);
+    to_server(client, server, wire, &mut bytes, &mut tokens)?;
+    serve(server)?;
+    to_client(server, client, wire, &mut bytes, &mut tokens)
+}
+
+/// Carries what waits at the client to the server, as much as these slices hold.
+fn to_server(
+    client: &mut Client<'_>,
+    server: &mut Server<'_>,
+    wire: &mut Recording,
+    bytes: &mut [u8],
+    tokens: &mut [u32],
+) -> Result<()>
+    requires { length tokens.old ≤ 65536 }
+{
+    let taken = client.take(bytes, tokens);
+    let (sent, descriptors) = (&bytes[..taken.bytes], &tokens[..taken.tokens]);
+    wire.add(Direction::ToServer, sent, taken.tokens as u32)?;
+    server.feed(sent, descriptors);
+    Ok(())
+}
+
+/// Carries what waits at the server to the client, as much as these slices hold.
+fn to_client(
+    server: &mut Server<'_>,
+    client: &mut Client<'_>,
+    wire: &mut Recording,
+    bytes: &mut [u8],
+    tokens: &mut [u32],
+) -> Result<()>
+    requires { length tokens.old ≤ 65536 }
+{
+    let taken = server.take(bytes, tokens);
+    let (sent, descriptors) = (&bytes[..taken.bytes], &tokens[..taken.tokens]);
+    wire.add(Direction::ToClient, sent, taken.tokens as u32)?;
+    client.feed(sent, descriptors);
+    Ok(())
+}

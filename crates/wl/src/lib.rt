@@ -1,0 +1,245 @@
+//! Both ends of a Wayland connection, without the socket.
+//!
+//! A [`Client`] and a [`Server`] write and read the messages of the Wayland protocol. They know
+//! which objects each end has, and see to it that an object that arrives is the one that its writer
+//! meant. Nothing here does I/O: an end computes over bytes and tokens that are handed in and out.
+//! Which socket carries these, when it is read, and on which thread, is the caller's choice, so a
+//! toolkit, a compositor, a proxy and a test use the same two types.
+//!
+//! What each call returns and leaves is its contract, and is proved. Together: each end reads
+//! exactly the messages that the other wrote, however the bytes are cut, and once both streams are
+//! drained both ends have the same objects.
+//!
+//! # The loop
+//!
+//! 1. **Send.** [`Client::send`] and [`Client::bind`] write requests; [`Server::send`],
+//!    [`Server::announce`], [`Server::drop_object`] and [`Server::post_error`] write events. What
+//!    is written waits in the end's outbox.
+//! 2. **Take.** `take` moves what waits into two slices of the caller's, as much as they hold, and
+//!    returns how much that was.
+//! 3. **The socket.** The caller writes these bytes and descriptors to its socket, and reads what
+//!    the other end wrote.
+//! 4. **Feed.** `feed` moves what was read into the end's inbox, as much as it has room for, and
+//!    returns how much that was. Bytes may come in any cut, down to single ones.
+//! 5. **Next.** `next` reads one message and returns its report, or `None` as long as none is
+//!    whole. The caller goes on until `None`, and sends its answers on the way.
+//!
+//! [`Client::read_all`] and [`Server::read_all`] are steps 4 and 5 for a list of pieces. No call
+//! blocks, and none calls back.
+//!
+//! Messages have names: [`request::wl_surface::COMMIT`](request) is the opcode of
+//! wl_surface.commit, and [`event::wl_callback::DONE`](event) that of wl_callback.done.
+//!
+//! # Tokens
+//!
+//! File descriptors do not stand among the bytes. A token is a `u32` of the caller's choice that
+//! stands for one, say its number. [`Arg::Fd`] sends a token, `take` returns it together with the
+//! first byte of its message, and the caller passes the descriptor along with these bytes. On the
+//! other side the caller feeds a token for each descriptor that came, with the bytes that they came
+//! with, and the report has it as [`Got::Fd`]. No token is lost or given to another message, and no
+//! descriptor is ever closed here.
+//!
+//! # Who owns what
+//!
+//! - [`Tables`] say which messages there are. They are made once, and lent to any number of ends.
+//! - An end owns its objects, the two boxes and their room. [`Sizes`] says how large the boxes are,
+//!   and they never grow. Its objects stand in a [`Table`], of which [`MapTable`] is one.
+//! - An [`Object`] is a plain value: an id and a birth, which tells it from every other object that
+//!   ever had that id. A call that names an object of the past is refused, and never reaches its
+//!   successor.
+//! - A report owns its strings, its arrays and its tokens. After an event for an object that the
+//!   client has destroyed ([`Incoming::Discarded`]) the caller closes the descriptors that its
+//!   tokens stand for.
+//! - What allocates is given an allocator first, and returns an error where it has no memory.
+//!
+//! # What an error leaves
+//!
+//! - [`SendError`] and [`GlobalError`]: nothing was written and nothing has changed. After `Full`,
+//!   take and send again.
+//! - [`NextError::Memory`] and [`NextError::OutFull`]: nothing has changed. The message stays, and
+//!   `next` can be called again.
+//! - [`NextError::Fault`]: the other end broke a rule, and this end has failed for good. It reads
+//!   and writes nothing more, but `take` still hands out what waits: at a server that ends with the
+//!   wl_display.error that says why. Take it, write it, and close the socket.
+//! - [`Incoming::Error`]: the server has ended the connection, and the client has failed for good.
+//!
+//! All errors print in plain words, and convert to any type that takes a [`std::error::Error`].
+//!
+//! # Beyond one end
+//!
+//! A [`Pair`] is a client and a server with nothing between, for tests; it plays a list of
+//! [`Move`]s. A [`Recording`] is what passed at one point of a connection, [`trace`] prints it
+//! message by message, and [`check`] says whether it is lawful, and where not.
+//!
+//! # A client and a server
+//!
+//! The crate `hello` is this program. A buffer stands where a connection has a socket; the `for`
+//! loops have an upper bound since every loop here is proved to end.
+//!
+//! ```
+//! ghost use Rattle.std.specs.Prelude.{◌≤◌, length};
+//!
+//! use anyhow::{Context, Result, bail};
+//! use std::io::Write;
+//! use wl::{
+//!     Arg, Direction, Got, Gots, Incoming, MapTable, Object, Recording, Sizes, Tables, event,
+//!     request, trace,
+//! };
+//!
+//! type Client<'t> = wl::Client<'t, MapTable>;
+//!
+//! type Server<'t> = wl::Server<'t, MapTable>;
+//!
+//! /// Room for 65,536 bytes and 64 tokens in each box.
+//! const SIZES: Sizes = Sizes {
+//!     out_bytes: 65_536,
+//!     out_tokens: 64,
+//!     in_bytes: 65_536,
+//!     in_tokens: 64,
+//! };
+//!
+//! fn main(rt: HostRuntime) -> Result<()> {
+//!     let tables = Tables::core(rt.alloc())?;
+//!     let mut client = Client::new(rt.alloc(), &tables, SIZES)?;
+//!     let mut server = Server::new(rt.alloc(), &tables, SIZES)?;
+//!     let mut wire = Recording::new(rt.alloc());
+//!     talk(&tables, &mut client, &mut server, &mut wire)?;
+//!     let (lines, _verdict) = trace(rt.alloc(), &wire, &tables)?;
+//!     rt.stdout().write_all(lines.as_slice())?;
+//!     Ok(())
+//! }
+//!
+//! /// The client makes a surface, and hears when the server has read all that it wrote.
+//! fn talk(
+//!     tables: &Tables,
+//!     client: &mut Client<'_>,
+//!     server: &mut Server<'_>,
+//!     wire: &mut Recording,
+//! ) -> Result<()> {
+//!     let interface = tables.interface(b"wl_compositor").context("no interface")?;
+//!     server.add_global(interface, 6)?;
+//!
+//!     let registry = make(client, client.display(), request::wl_display::GET_REGISTRY)?;
+//!     round_trip(client, server, wire)?;
+//!     let compositor = bind(client, registry)?;
+//!     let surface = make(client, compositor, request::wl_compositor::CREATE_SURFACE)?;
+//!     client.send(surface, request::wl_surface::COMMIT, &[])?;
+//!     let callback = make(client, client.display(), request::wl_display::SYNC)?;
+//!     round_trip(client, server, wire)?;
+//!     wait_for(client, callback, event::wl_callback::DONE)?;
+//!     Ok(())
+//! }
+//!
+//! /// Sends a request whose one argument is a new object, and returns that object.
+//! fn make(client: &mut Client<'_>, target: Object, opcode: u16) -> Result<Object> {
+//!     let made = client.send(target, opcode, &[Arg::New])?;
+//!     made.context("the request makes no object")
+//! }
+//!
+//! /// Binds the global that the registry tells of next.
+//! fn bind(client: &mut Client<'_>, registry: Object) -> Result<Object> {
+//!     let args = wait_for(client, registry, event::wl_registry::GLOBAL)?;
+//!     let [Got::Uint(name), Got::Str(Some(iface)), Got::Uint(version)] = args.as_slice() else {
+//!         bail!("the arguments are not those of wl_registry.global");
+//!     };
+//!     Ok(client.bind(registry, *name, iface.as_slice(), *version)?)
+//! }
+//!
+//! /// Reads events up to the next one of this kind for this object, and returns its arguments.
+//! fn wait_for(client: &mut Client<'_>, object: Object, wanted: u16) -> Result<Gots> {
+//!     for _ in 0..u64::MAX {
+//!         let Some(report) = client.next()? else {
+//!             break;
+//!         };
+//!         if let Incoming::Event {
+//!             target,
+//!             opcode,
+//!             args,
+//!         } = report
+//!         {
+//!             if target == object && opcode == wanted {
+//!                 return Ok(args);
+//!             }
+//!         }
+//!     }
+//!     bail!("the event did not come")
+//! }
+//!
+//! /// Reads the requests that came, does what they ask, and tells new registries of the globals.
+//! fn serve(server: &mut Server<'_>) -> Result<()> {
+//!     for _ in 0..u64::MAX {
+//!         let Some(read) = server.next()? else {
+//!             break;
+//!         };
+//!         if read.target == server.display() && read.opcode == request::wl_display::SYNC {
+//!             if let [Got::New(callback)] = read.args.as_slice() {
+//!                 server.send(*callback, event::wl_callback::DONE, &[Arg::Uint(0)])?;
+//!             }
+//!         }
+//!     }
+//!     server.announce()?;
+//!     Ok(())
+//! }
+//!
+//! /// Carries what the client wrote to the server, and what that answers to the client.
+//! fn round_trip(
+//!     client: &mut Client<'_>,
+//!     server: &mut Server<'_>,
+//!     wire: &mut Recording,
+//! ) -> Result<()> {
+//!     let (mut bytes, mut tokens) = ([0; 4096], [0; 20]);
+//!     to_server(client, server, wire, &mut bytes, &mut tokens)?;
+//!     serve(server)?;
+//!     to_client(server, client, wire, &mut bytes, &mut tokens)
+//! }
+//!
+//! /// Carries what waits at the client to the server, as much as these slices hold.
+//! fn to_server(
+//!     client: &mut Client<'_>,
+//!     server: &mut Server<'_>,
+//!     wire: &mut Recording,
+//!     bytes: &mut [u8],
+//!     tokens: &mut [u32],
+//! ) -> Result<()>
+//!     requires { length tokens.old ≤ 65536 }
+//! {
+//!     let taken = client.take(bytes, tokens);
+//!     let (sent, descriptors) = (&bytes[..taken.bytes], &tokens[..taken.tokens]);
+//!     wire.add(Direction::ToServer, sent, taken.tokens as u32)?;
+//!     server.feed(sent, descriptors);
+//!     Ok(())
+//! }
+//!
+//! /// Carries what waits at the server to the client, as much as these slices hold.
+//! fn to_client(
+//!     server: &mut Server<'_>,
+//!     client: &mut Client<'_>,
+//!     wire: &mut Recording,
+//!     bytes: &mut [u8],
+//!     tokens: &mut [u32],
+//! ) -> Result<()>
+//!     requires { length tokens.old ≤ 65536 }
+//! {
+//!     let taken = server.take(bytes, tokens);
+//!     let (sent, descriptors) = (&bytes[..taken.bytes], &tokens[..taken.tokens]);
+//!     wire.add(Direction::ToClient, sent, taken.tokens as u32)?;
+//!     client.feed(sent, descriptors);
+//!     Ok(())
+//! }
+//! ```
+#![tactic(auto)]
+
+pub use wl_client::{Client, Incoming, Tokens};
+pub use wl_end::ReadAll;
+pub use wl_message::{BadSize, Fed, Full, Piece, Sizes, Taken};
+pub use wl_objects::{
+    Arg, Entry, Fault, Got, Gots, MapTable, Named, NextError, Object, SendError, State, Table,
+    TableError,
+};
+pub use wl_server::{GlobalError, Request, Server};
+pub use wl_session::{
+    Carried, Direction, Move, Pair, Passed, Recording, RecordingError, Reply, SendArg, Verdict,
+    check, trace,
+};
+pub use wl_sigs::{Destroys, Side, Signature, Tables, event, request};
+pub use wl_wire::{ArgFault, Bytes, Fixed, Iface, Kind, ReadError};
