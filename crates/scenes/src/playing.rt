@@ -148,14 +148,19 @@ fn is_kept<S: Stage>(
     reply: &mut String,
     before: &str,
 ) -> Result<(), AllocError> {
+    let is_reading = turn.line.call.starts_with("read ");
     if reply.as_str() != OUT_OF_MEMORY {
-        return reply.push_str(", without memory");
+        // the room for a report may be asked for where nothing waits, and is not needed then
+        return match is_reading {
+            true => Ok(()),
+            false => reply.push_str(", without memory"),
+        };
     }
     let mut after = String::new(props.alloc);
     stage.show(&mut after)?;
     reply.clear();
     // a reading of pieces keeps what was read
-    if after.as_str() != before && !turn.line.call.starts_with("read ") {
+    if after.as_str() != before && !is_reading {
         return reply.push_str("changed without memory");
     }
     answer(stage, turn, reply)
