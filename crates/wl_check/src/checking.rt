@@ -20,8 +20,10 @@ pub fn check<A: Allocator + Clone>(
     recording: &Recording<A>,
     tables: &Tables,
 ) -> Result<Verdict, AllocError>
-    ensures answers { IfOk result (λ verdict. Answers tables.now (session_of recording.now) verdict) }
-    ensures exact { IfOk result (λ verdict. SaysLawful verdict ↔ IsLawful tables.now (session_of recording.now)) }
+    ensures answers { IfOk result
+        (λ verdict. Answers tables.now (session_of recording.now) verdict) }
+    ensures exact { IfOk result
+        (λ verdict. SaysLawful verdict ↔ IsLawful tables.now (session_of recording.now)) }
 {
     let merged = merge(&alloc, recording.pieces())?;
     scan(&alloc, &merged, tables)

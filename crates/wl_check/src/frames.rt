@@ -99,7 +99,9 @@ fn cut_on<A: Allocator>(
     frames: &mut Vec<Frame, A>,
 ) -> Result<(usize, bool), AllocError>
     requires { from ≤ length bytes.now }
-    ensures frames { OnOk result (frames.new.items ≡ frames.old.items ++ map (framed direction tokens) (cutting (length bytes.now) bytes.now from).marks) }
+    ensures frames { OnOk result
+        (frames.new.items ≡ frames.old.items
+        ++ map (framed direction tokens) (cutting (length bytes.now) bytes.now from).marks) }
     ensures place { IfOk result (λ r. r.0 ≡ (cutting (length bytes.now) bytes.now from).place) }
     ensures bad { IfOk result (λ r. r.1 ≡ (cutting (length bytes.now) bytes.now from).is_bad) }
 {
@@ -139,12 +141,14 @@ fn feed<A: Allocator>(
     requires cut { IsCut stream.old }
     requires tokens { stream.old.tokens + 2 ^ 32 < 2 ^ 128 }
     ensures cut { OnOk result (IsCut stream.new) }
-    ensures bytes { OnOk result (stream.new.bytes.items ≡ stream.old.bytes.items ++ piece.now.bytes) }
+    ensures bytes { OnOk result
+        (stream.new.bytes.items ≡ stream.old.bytes.items ++ piece.now.bytes) }
     ensures tokens { OnOk result (stream.new.tokens ≡ stream.old.tokens + piece.now.tokens) }
     ensures few { OnOk result (piece.now.tokens < 2 ^ 32) }
     ensures frames { OnOk result (frames.new.items ≡ frames.old.items
         ++ map (framed piece.now.direction (stream.old.tokens + piece.now.tokens))
-        (drop (length (cut stream.old.bytes.items).marks) (cut (stream.old.bytes.items ++ piece.now.bytes)).marks)) }
+        (drop (length (cut stream.old.bytes.items).marks)
+        (cut (stream.old.bytes.items ++ piece.now.bytes)).marks)) }
 {
     stream.bytes.extend_from_slice(piece.bytes.as_slice())?;
     stream.tokens += u128::from(piece.tokens);

@@ -48,8 +48,10 @@ pub(crate) fn judge<'t: 'a, 'a, A: Allocator>(
 ) -> Result<Said<'t, 'a>, Fault>
     requires valid { Valid tables.now }
     requires header { frame.now.start + 8 ≤ length stream.now }
-    requires whole { is_size usual_limit frame.now.size ≡ true → frame.now.start + frame.now.size ≤ length stream.now }
-    ensures judged { judged_in result ≡ judged tables.now (known_in known.now) stream.now frame.now }
+    requires whole { is_size usual_limit frame.now.size ≡ true
+        → frame.now.start + frame.now.size ≤ length stream.now }
+    ensures judged { judged_in result
+        ≡ judged tables.now (known_in known.now) stream.now frame.now }
     ensures size { OnOk result (is_size usual_limit frame.now.size ≡ true) }
 {
     if !is_size(frame.size) {
@@ -69,7 +71,8 @@ fn judge_as<'t: 'a, 'a, A: Allocator>(
     body: &'a [u8],
 ) -> Result<Said<'t, 'a>, Fault>
     requires { Valid tables.now }
-    ensures { judged_in result ≡ judged_as tables.now (known_in known.now) frame.now header body.now }
+    ensures { judged_in result
+        ≡ judged_as tables.now (known_in known.now) frame.now header body.now }
 {
     let direction = frame.direction;
     let side = side_of(direction);
@@ -104,7 +107,8 @@ fn is_bad_bind<A: Allocator>(
     opcode: u16,
     received: &Received<'_, '_>,
 ) -> bool
-    ensures { result ≡ is_bad_bind tables.now (known_in known.now) side opcode (read_of received.now) }
+    ensures { result ≡ is_bad_bind tables.now (known_in known.now) side opcode
+        (read_of received.now) }
 {
     if !is_bind(side, received.entry.iface, opcode) {
         return false;
@@ -217,7 +221,9 @@ impl<'t, 'a> Said<'t, 'a> {
         known: &Knowledge<A>,
     ) -> Result<(), AllocError>
         requires { taken_in known.now self.now.direction < 2 ^ 127 }
-        ensures { OnOk result (text.new.items ≡ text.old.items ++ call_line tables.now (known_in known.now) (call_of self.now)) }
+        ensures { OnOk result
+            (text.new.items ≡ text.old.items
+            ++ call_line tables.now (known_in known.now) (call_of self.now)) }
     {
         let direction = self.direction;
         let looker = Looker { known, direction };

@@ -38,7 +38,8 @@ pub(crate) struct Knowledge<A: Allocator = Global> {
 
 /// Frees an id, unless it is that of wl_display.
 fn delete<A: Allocator + Clone>(objects: &mut BTreeMap<u32, Entry, A>, id: Option<u32>)
-    ensures { (other : ℕ) → get nat_cmp objects.new other ≡ cond (frees id other) None (get nat_cmp objects.old other) }
+    ensures { (other : ℕ) → get nat_cmp objects.new other
+        ≡ cond (frees id other) None (get nat_cmp objects.old other) }
 {
     if let Some(id) = id {
         if id != DISPLAY_ID {
@@ -49,7 +50,9 @@ fn delete<A: Allocator + Clone>(objects: &mut BTreeMap<u32, Entry, A>, id: Optio
 
 /// Makes a zombie of an object.
 fn destroy<A: Allocator>(objects: &mut BTreeMap<u32, Entry, A>, id: Option<u32>)
-    ensures { (other : ℕ) → get nat_cmp objects.new other ≡ cond (is_id id other) (option_map ending (get nat_cmp objects.old other)) (get nat_cmp objects.old other) }
+    ensures { (other : ℕ) → get nat_cmp objects.new other
+        ≡ cond (is_id id other) (option_map ending (get nat_cmp objects.old other))
+        (get nat_cmp objects.old other) }
 {
     if let Some(id) = id {
         if let Some(entry) = objects.get_mut(&id) {
@@ -64,7 +67,10 @@ fn open<A: Allocator + Clone>(
     place: u64,
     made: Option<Made>,
 ) -> Result<(), AllocError>
-    ensures { OnOk result ((other : ℕ) → get nat_cmp objects.new other ≡ cond (is_made made other) (Some (entry_of place Live (new_of made))) (get nat_cmp objects.old other)) }
+    ensures { OnOk result ((other : ℕ)
+        → get nat_cmp objects.new other
+        ≡ cond (is_made made other) (Some (entry_of place Live (new_of made)))
+        (get nat_cmp objects.old other)) }
 {
     if let Some(new) = made {
         let entry = Entry {
@@ -83,7 +89,9 @@ fn remember<A: Allocator + Clone>(
     globals: &mut BTreeMap<(u32, u16), u32, A>,
     told: &Advertised,
 ) -> Result<(), AllocError>
-    ensures { OnOk result ((q : ℕ × ℕ) → unwrap_or (get pair_cmp globals.new q) 0 ≡ told_once told.now q.0 q.1 (unwrap_or (get pair_cmp globals.old q) 0)) }
+    ensures { OnOk result ((q : ℕ × ℕ)
+        → unwrap_or (get pair_cmp globals.new q) 0
+        ≡ told_once told.now q.0 q.1 (unwrap_or (get pair_cmp globals.old q) 0)) }
 {
     let key = (told.name, told.iface.0);
     let before = globals.get(&key).copied().unwrap_or(0);
@@ -122,9 +130,12 @@ impl<A: Allocator + Clone> Knowledge<A> {
     pub(crate) fn apply(&mut self, place: u64, deed: &Deed) -> Result<(), AllocError>
         requires to_server { self.old.taken_to_server + 2 ^ 64 < 2 ^ 128 }
         requires to_client { self.old.taken_to_client + 2 ^ 64 < 2 ^ 128 }
-        ensures known { OnOk result (IsNext place deed.now (known_in self.old) (known_in self.new)) }
-        ensures few_to_server { OnOk result (self.new.taken_to_server < self.old.taken_to_server + 2 ^ 64) }
-        ensures few_to_client { OnOk result (self.new.taken_to_client < self.old.taken_to_client + 2 ^ 64) }
+        ensures known { OnOk result
+            (IsNext place deed.now (known_in self.old) (known_in self.new)) }
+        ensures few_to_server { OnOk result
+            (self.new.taken_to_server < self.old.taken_to_server + 2 ^ 64) }
+        ensures few_to_client { OnOk result
+            (self.new.taken_to_client < self.old.taken_to_client + 2 ^ 64) }
     {
         delete(&mut self.objects, deed.deleted);
         destroy(&mut self.objects, deed.destroyed);

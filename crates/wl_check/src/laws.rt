@@ -21,45 +21,53 @@ pub fn a_stream_has_its_messages()
 
 /// In the merged list each message of a direction stands once, in the order of its stream.
 pub fn each_message_stands_once()
-    ensures { (pieces : List Piece) (direction : Way) → marks_in direction (session_of pieces).frames ≡ (cut (stream_of direction pieces)).marks }
+    ensures { (pieces : List Piece) (direction : Way)
+        → marks_in direction (session_of pieces).frames ≡ (cut (stream_of direction pieces)).marks }
 {}
 
 /// The messages of both directions follow the pieces that bring their last bytes, a bad size the one
 /// that brings the last byte of its header; and tokens count up to a message's own piece.
 pub fn messages_follow_their_pieces()
-    ensures { (pieces : List Piece) → ComeInOrder pieces 0 (length pieces) (session_of pieces).frames }
+    ensures { (pieces : List Piece)
+        → ComeInOrder pieces 0 (length pieces) (session_of pieces).frames }
 {}
 
 /// A piece brings the last byte of each message that it completes, and of a bad size the last byte
 /// of its header.
 pub fn a_piece_brings_last_bytes()
     ensures { (before piece : List ℕ)
-        → Brings (length before) (length (before ++ piece)) (drop (length (cut before).marks) (cut (before ++ piece)).marks) }
+        → Brings (length before) (length (before ++ piece))
+        (drop (length (cut before).marks) (cut (before ++ piece)).marks) }
 {}
 
 /// An id names the object that was made with it, until its delete_id.
 pub fn an_id_names_what_is_held()
     ensures { (tables : List Interface) (session : Session) (place birth id : ℕ)
-        → (holder (deeds tables (messages tables session)) place id ≡ Some birth) ↔ Held (deeds tables (messages tables session)) place birth id }
+        → (holder (deeds tables (messages tables session)) place id ≡ Some birth)
+        ↔ Held (deeds tables (messages tables session)) place birth id }
 {}
 
 /// An object is ending where a message destroyed it.
 pub fn an_object_is_open_until_destroyed()
     ensures { (tables : List Interface) (session : Session) (place birth id : ℕ)
-        → (is_ending (deeds tables (messages tables session)) birth place id ≡ false) ↔ IsOpen (deeds tables (messages tables session)) place birth id }
+        → (is_ending (deeds tables (messages tables session)) birth place id ≡ false)
+        ↔ IsOpen (deeds tables (messages tables session)) place birth id }
 {}
 
 /// The ids used before a place are those from 1 to the greatest.
 pub fn ids_are_used_in_order()
     ensures { (tables : List Interface) (session : Session) (place id : ℕ)
-        → ((0 < id) × (id ≤ used (deeds tables (messages tables session)) place)) ↔ WasUsed (deeds tables (messages tables session)) place id }
+        → ((0 < id) × (id ≤ used (deeds tables (messages tables session)) place))
+        ↔ WasUsed (deeds tables (messages tables session)) place id }
 {}
 
 /// A version of a global was told where one event told of the name, the interface and at least
 /// this version.
 pub fn one_event_tells_of_a_global()
-    ensures { (tables : List Interface) (session : Session) (place name iface version : ℕ) → 0 < version
-        → (version ≤ told (deeds tables (messages tables session)) place name iface) ↔ WasTold (deeds tables (messages tables session)) place name iface version }
+    ensures { (tables : List Interface) (session : Session) (place name iface version : ℕ)
+        → 0 < version
+        → (version ≤ told (deeds tables (messages tables session)) place name iface)
+        ↔ WasTold (deeds tables (messages tables session)) place name iface version }
 {}
 
 /// A message is examined where no wl_display.error stands before it.

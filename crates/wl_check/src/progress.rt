@@ -76,11 +76,16 @@ impl<A: Allocator + Clone> Progress<A> {
         requires to_server { self.old.to_server.count + 1 < 2 ^ 64 }
         requires to_client { self.old.to_client.count + 1 < 2 ^ 64 }
         requires end { frame.now.start + frame.now.size < 2 ^ 64 }
-        ensures known { OnOk result (IsNext place deed.now (known_in self.old.known) (known_in self.new.known)) }
-        ensures to_server { OnOk result (self.new.to_server ≡ tally_after ToServer frame.now self.old.to_server) }
-        ensures to_client { OnOk result (self.new.to_client ≡ tally_after ToClient frame.now self.old.to_client) }
-        ensures few_to_server { OnOk result (self.new.known.taken_to_server < self.old.known.taken_to_server + 2 ^ 64) }
-        ensures few_to_client { OnOk result (self.new.known.taken_to_client < self.old.known.taken_to_client + 2 ^ 64) }
+        ensures known { OnOk result
+            (IsNext place deed.now (known_in self.old.known) (known_in self.new.known)) }
+        ensures to_server { OnOk result
+            (self.new.to_server ≡ tally_after ToServer frame.now self.old.to_server) }
+        ensures to_client { OnOk result
+            (self.new.to_client ≡ tally_after ToClient frame.now self.old.to_client) }
+        ensures few_to_server { OnOk result
+            (self.new.known.taken_to_server < self.old.known.taken_to_server + 2 ^ 64) }
+        ensures few_to_client { OnOk result
+            (self.new.known.taken_to_client < self.old.known.taken_to_client + 2 ^ 64) }
     {
         self.known.apply(place, deed)?;
         self.to_server = tally_after(Direction::ToServer, frame, self.to_server);
@@ -94,7 +99,9 @@ impl<A: Allocator> Progress<A> {
     pub(crate) fn lawful(&self, merged: &Merged<A>) -> Verdict
         requires to_server { self.now.to_server.end ≤ length merged.now.to_server.items }
         requires to_client { self.now.to_client.end ≤ length merged.now.to_client.items }
-        ensures { result ≡ Lawful self.now.to_server.count self.now.to_client.count (length merged.now.to_server.items - self.now.to_server.end) (length merged.now.to_client.items - self.now.to_client.end) }
+        ensures { result ≡ Lawful self.now.to_server.count self.now.to_client.count
+            (length merged.now.to_server.items - self.now.to_server.end)
+            (length merged.now.to_client.items - self.now.to_client.end) }
     {
         Verdict::Lawful {
             requests: self.to_server.count,
@@ -107,7 +114,8 @@ impl<A: Allocator> Progress<A> {
     /// The verdict where this message breaks a rule.
     pub(crate) fn broken(&self, frame: &Frame, fault: Fault) -> Verdict
         requires { (tally_in self.now frame.now.direction).count + 1 < 2 ^ 64 }
-        ensures { result ≡ Broken frame.now.direction ((tally_in self.now frame.now.direction).count + 1) frame.now.start fault }
+        ensures { result ≡ Broken frame.now.direction
+            ((tally_in self.now frame.now.direction).count + 1) frame.now.start fault }
     {
         let tally = match frame.direction {
             Direction::ToServer => self.to_server,

@@ -24,7 +24,8 @@ impl<'t, T: Table> Client<'t, T> {
         iface: &[u8],
         version: u32,
     ) -> Result<Object, SendError>
-        ensures answer { Gives SendError.Memory true (bind_answer self.old registry name iface.now version) (new_in result) }
+        ensures answer { Gives SendError.Memory true
+            (bind_answer self.old registry name iface.now version) (new_in result) }
         ensures ok { OnOk result (self.new ≡ after_bind self.old registry name iface.now version) }
         ensures err { OnErr result (self.new ≡ self.old) }
     {

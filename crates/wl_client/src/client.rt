@@ -92,7 +92,10 @@ impl<'t, T: Table> Client<'t, T> {
     /// A failed client takes nothing. Whatever waits, the inbox can hold the longest message.
     pub fn feed(&mut self, bytes: &[u8], tokens: &[u32]) -> Fed
         ensures fed { result ≡ feeds self.old.core bytes.now tokens.now }
-        ensures state { self.new ≡ with_core self.old (with_arrived self.old.core (take result.bytes bytes.now) (take result.tokens tokens.now)) }
+        ensures state { self.new
+            ≡ with_core self.old
+            (with_arrived self.old.core (take result.bytes bytes.now)
+            (take result.tokens tokens.now)) }
         ensures holds { usual_limit ≤ self.old.core.inbox.capacity }
     {
         self.core.feed(bytes, tokens)
@@ -109,8 +112,10 @@ impl<'t, T: Table> Client<'t, T> {
     /// first byte.
     pub fn take(&mut self, bytes: &mut [u8], tokens: &mut [u32]) -> Taken
         ensures taken { result ≡ goes self.old.core.outbox (length bytes.old) (length tokens.old) }
-        ensures bytes { bytes.new ≡ take result.bytes (waiting_bytes self.old.core.outbox) ++ drop result.bytes bytes.old }
-        ensures tokens { tokens.new ≡ take result.tokens (waiting_tokens self.old.core.outbox) ++ drop result.tokens tokens.old }
+        ensures bytes { bytes.new ≡ take result.bytes (waiting_bytes self.old.core.outbox)
+            ++ drop result.bytes bytes.old }
+        ensures tokens { tokens.new ≡ take result.tokens (waiting_tokens self.old.core.outbox)
+            ++ drop result.tokens tokens.old }
         ensures state { self.new ≡ with_core self.old (with_gone self.old.core result.bytes) }
     {
         self.core.take(bytes, tokens)

@@ -12,20 +12,33 @@ ghost use Rattle.wl_client.specs.Streams.{Reads, ReadsSome, arrived, ComeInStep}
 /// What waits is read in one way. What is read of it is read in the same way when more comes behind
 /// it, and that stays behind.
 pub fn one_reading()
-    ensures reports { (state last end : State) (reports others : List Report) (stop halt : Option NextError) → Reads state reports stop last → Reads state others halt end → reports ≡ others }
-    ensures stop { (state last end : State) (reports others : List Report) (stop halt : Option NextError) → Reads state reports stop last → Reads state others halt end → stop ≡ halt }
-    ensures left { (state last end : State) (reports others : List Report) (stop halt : Option NextError) → Reads state reports stop last → Reads state others halt end → last ≡ end }
-    ensures stays { (state last : State) (reports : List Report) (bytes tokens : List ℕ) → ReadsSome state reports last → ReadsSome (arrived state bytes tokens) reports (arrived last bytes tokens) }
+    ensures reports { (state last end : State) (reports others : List Report)
+        (stop halt : Option NextError) → Reads state reports stop last → Reads state others halt end
+        → reports ≡ others }
+    ensures stop { (state last end : State) (reports others : List Report)
+        (stop halt : Option NextError) → Reads state reports stop last → Reads state others halt end
+        → stop ≡ halt }
+    ensures left { (state last end : State) (reports others : List Report)
+        (stop halt : Option NextError) → Reads state reports stop last → Reads state others halt end
+        → last ≡ end }
+    ensures stays { (state last : State) (reports : List Report) (bytes tokens : List ℕ)
+        → ReadsSome state reports last
+        → ReadsSome (arrived state bytes tokens) reports (arrived last bytes tokens) }
 {}
 
 /// It does not matter how a stream is cut, where its pieces are in step: what was read up to a fault
 /// or wl_display.error is what would be read had all pieces come at once, and what was not taken of
 /// them stays behind.
 pub fn any_cut_reads()
-    ensures { (state last : State) (pieces : List Part) (count : ℕ) (some : Fed) (reports : List Report) (stop : Option NextError) → IsTaken pieces count some
-        → ComeInStep (arrived state (part_bytes pieces) (part_tokens pieces)) (waiting state.core ∷ pieces)
-        → Reads (arrived state (taken_bytes pieces count some) (taken_tokens pieces count some)) reports stop last → last.core.failed ≡ true
-        → Reads (arrived state (part_bytes pieces) (part_tokens pieces)) reports stop (arrived last (part_bytes (untaken pieces count some)) (part_tokens (untaken pieces count some))) }
+    ensures { (state last : State) (pieces : List Part) (count : ℕ) (some : Fed)
+        (reports : List Report) (stop : Option NextError) → IsTaken pieces count some
+        → ComeInStep (arrived state (part_bytes pieces) (part_tokens pieces))
+        (waiting state.core ∷ pieces)
+        → Reads (arrived state (taken_bytes pieces count some)
+        (taken_tokens pieces count some)) reports stop last → last.core.failed ≡ true
+        → Reads (arrived state (part_bytes pieces) (part_tokens pieces)) reports stop
+        (arrived last (part_bytes (untaken pieces count some))
+        (part_tokens (untaken pieces count some))) }
 {}
 
 /// What is read begins what waits: as many whole messages as there are reports, cut off by the sizes

@@ -72,7 +72,10 @@ fn read<T: Table>(
     core: &mut Core<'_, T>,
 ) -> Result<Option<Step<T::Alloc>>, NextError>
     ensures answer { IsNext (state_of core.old []) (step_in result) }
-    ensures state { (globals : List Told) → state_of core.new (taught globals result) ≡ left (state_of core.old globals) (after_next (state_of core.old globals)) (step_in result) }
+    ensures state { (globals : List Told)
+        → state_of core.new (taught globals result)
+        ≡ left (state_of core.old globals) (after_next (state_of core.old globals))
+        (step_in result) }
 {
     if core.failed {
         return Err(NextError::Failed);
@@ -122,7 +125,10 @@ fn step_of<T: Table>(
     requires valid { Valid tables.now }
     requires display { HasDisplay (T.view table.now) }
     ensures header { IsHeader frame.entry.header }
-    ensures comes { IsStepOf tables.now (T.view table.now) waiting.now frame.entry.header (received tables.now event_side (reader_of (T.view table.now)) frame.entry.header frame.entry.body.now frame.entry.tokens) result }
+    ensures comes { IsStepOf tables.now (T.view table.now) waiting.now frame.entry.header
+        (received tables.now event_side
+        (reader_of
+        (T.view table.now)) frame.entry.header frame.entry.body.now frame.entry.tokens) result }
 {
     let header = frame.header;
     let opcode = header.opcode;

@@ -23,8 +23,14 @@ impl<'t, T: Table> Client<'t, T> {
         opcode: u16,
         args: &[Arg<'_>],
     ) -> Result<Option<Object>, SendError>
-        ensures answer { Gives SendError.Memory (opens_object (checked self.old.core.tables request_side self.old.core.view target opcode (given args.now))) (send_answer self.old.core request_side target opcode (given args.now)) result }
-        ensures ok { OnOk result (self.new ≡ with_core self.old (after_send self.old.core request_side target opcode (given args.now))) }
+        ensures answer { Gives SendError.Memory
+            (opens_object
+            (checked self.old.core.tables request_side self.old.core.view target opcode
+            (given args.now)))
+            (send_answer self.old.core request_side target opcode (given args.now)) result }
+        ensures ok { OnOk result
+            (self.new ≡ with_core self.old
+            (after_send self.old.core request_side target opcode (given args.now))) }
         ensures err { OnErr result (self.new ≡ self.old) }
     {
         self.core.send(Side::Request, target, opcode, args)

@@ -43,8 +43,10 @@ pub(crate) enum Lesson {
 pub(crate) fn change_of<T: Table>(table: &T, opcode: u16, message: &Received<'_, '_>) -> Change
     requires display { HasDisplay (T.view table.now) }
     requires row { look (T.view table.now) message.now.target.id ≡ Some message.now.entry }
-    requires lasts { message.now.target.id ≡ 1 → message.now.signature.now.destroys ≢ Destroys.Target }
-    ensures changed { changed (T.view table.now) result ≡ view_by (T.view table.now) (found_as opcode message.now) }
+    requires lasts { message.now.target.id ≡ 1
+        → message.now.signature.now.destroys ≢ Destroys.Target }
+    ensures changed { changed (T.view table.now) result
+        ≡ view_by (T.view table.now) (found_as opcode message.now) }
     ensures can { CanChange (T.view table.now) result }
 {
     if is_error(Side::Event, message.entry.iface, opcode) {
@@ -78,7 +80,8 @@ pub(crate) fn make<T: Table>(core: &mut Core<'_, T>, change: Change)
 
 /// What a message teaches of globals: only events on a live wl_registry do.
 pub(crate) fn lesson_of(tables: &Tables, opcode: u16, message: &Received<'_, '_>) -> Lesson
-    ensures { (globals : List Told) → learnt globals result ≡ globals_by tables.now globals (found_as opcode message.now) }
+    ensures { (globals : List Told)
+        → learnt globals result ≡ globals_by tables.now globals (found_as opcode message.now) }
 {
     if message.entry.iface != REGISTRY || message.entry.state != State::Live {
         return Lesson::Nothing;
@@ -109,8 +112,12 @@ pub(crate) fn report<A: Allocator + Clone + Drop, T: Table>(
     message: &Received<'_, '_>,
     waiting: &Tokens,
 ) -> Result<Incoming<A>, AllocError>
-    ensures ok { IfOk result (λ report. report_of report ≡ report_by (T.view table.now) waiting.now (found_as opcode message.now)) }
-    ensures err { OnErr result (needs_memory (report_by (T.view table.now) waiting.now (found_as opcode message.now)) ≡ true) }
+    ensures ok { IfOk result
+        (λ report. report_of report
+        ≡ report_by (T.view table.now) waiting.now (found_as opcode message.now)) }
+    ensures err { OnErr result
+        (needs_memory (report_by (T.view table.now) waiting.now (found_as opcode message.now))
+        ≡ true) }
 {
     if is_error(Side::Event, message.entry.iface, opcode) {
         return error_report(alloc, table, &message.values);
@@ -139,7 +146,8 @@ fn error_report<A: Allocator + Clone + Drop, T: Table>(
     table: &T,
     values: &Values<'_>,
 ) -> Result<Incoming<A>, AllocError>
-    ensures { IfOk result (λ report. report_of report ≡ error_report (end_with [] (T.view table.now) []) values.now) }
+    ensures { IfOk result (λ report. report_of report
+        ≡ error_report (end_with [] (T.view table.now) []) values.now) }
 {
     let id = id_at(values, 0);
     Ok(Incoming::Error {

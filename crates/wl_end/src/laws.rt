@@ -19,20 +19,36 @@ ghost use Rattle.wl_end.specs.Streams.{IsTaken, taken_bytes, taken_tokens, untak
 /// same tokens, and what comes stays behind it. So is a fault, but for missing descriptors, which
 /// may still come.
 pub fn found_stays()
-    ensures message { (core : Core) (side : Side) (f : Found) (bytes tokens : List ℕ) → found core side ≡ Ok (Some f) → found (with_arrived core bytes tokens) side ≡ Ok (Some f) }
-    ensures report { (core : Core) (side : Side) (f : Found) (bytes tokens : List ℕ) → found core side ≡ Ok (Some f) → reported (with_arrived core bytes tokens) f.message ≡ reported core f.message }
-    ensures behind { (core : Core) (side : Side) (f : Found) (bytes tokens : List ℕ) → found core side ≡ Ok (Some f) → past_found (with_arrived core bytes tokens) f ≡ with_arrived (past_found core f) bytes tokens }
-    ensures fault { (core : Core) (side : Side) (what : Fault) (bytes tokens : List ℕ) → found core side ≡ Err what → (what ≡ faults.MissingDescriptor → tokens ≡ []) → found (with_arrived core bytes tokens) side ≡ Err what }
-    ensures short { (core : Core) (side : Side) → found core side ≡ Ok None → length core.inbox.bytes < 4096 }
+    ensures message { (core : Core) (side : Side) (f : Found) (bytes tokens : List ℕ)
+        → found core side ≡ Ok (Some f)
+        → found (with_arrived core bytes tokens) side ≡ Ok (Some f) }
+    ensures report { (core : Core) (side : Side) (f : Found) (bytes tokens : List ℕ)
+        → found core side ≡ Ok (Some f)
+        → reported (with_arrived core bytes tokens) f.message ≡ reported core f.message }
+    ensures behind { (core : Core) (side : Side) (f : Found) (bytes tokens : List ℕ)
+        → found core side ≡ Ok (Some f)
+        → past_found (with_arrived core bytes tokens) f
+        ≡ with_arrived (past_found core f) bytes tokens }
+    ensures fault { (core : Core) (side : Side) (what : Fault) (bytes tokens : List ℕ)
+        → found core side ≡ Err what → (what ≡ faults.MissingDescriptor → tokens ≡ [])
+        → found (with_arrived core bytes tokens) side ≡ Err what }
+    ensures short { (core : Core) (side : Side) → found core side ≡ Ok None
+        → length core.inbox.bytes < 4096 }
 {}
 
 /// What was taken of pieces, and what was not, are all; and pieces in step stay so when what was
 /// taken of them joins what waits.
 pub fn taking_keeps_pieces()
-    ensures bytes { (pieces : List Part) (count : ℕ) (some : Fed) → taken_bytes pieces count some ++ part_bytes (untaken pieces count some) ≡ part_bytes pieces }
-    ensures tokens { (pieces : List Part) (count : ℕ) (some : Fed) → taken_tokens pieces count some ++ part_tokens (untaken pieces count some) ≡ part_tokens pieces }
-    ensures step { (needs : List Need) (waits : Part) (pieces : List Part) (count : ℕ) (some : Fed) → IsTaken pieces count some → InStep needs (waits ∷ pieces)
-        → InStep needs (longer waits (taken_bytes pieces count some) (taken_tokens pieces count some) ∷ untaken pieces count some) }
+    ensures bytes { (pieces : List Part) (count : ℕ) (some : Fed)
+        → taken_bytes pieces count some ++ part_bytes (untaken pieces count some)
+        ≡ part_bytes pieces }
+    ensures tokens { (pieces : List Part) (count : ℕ) (some : Fed)
+        → taken_tokens pieces count some ++ part_tokens (untaken pieces count some)
+        ≡ part_tokens pieces }
+    ensures step { (needs : List Need) (waits : Part) (pieces : List Part) (count : ℕ) (some : Fed)
+        → IsTaken pieces count some → InStep needs (waits ∷ pieces)
+        → InStep needs (longer waits (taken_bytes pieces count some)
+        (taken_tokens pieces count some) ∷ untaken pieces count some) }
 {}
 
 /// A message is a spelling of its values: one that was written, by a call that passed its checks,

@@ -93,8 +93,10 @@ impl<'t, T: Table> Core<'t, T> {
     pub fn write_bind(&mut self, registry: u32, name: u32, iface: &[u8], version: u32, id: u32)
         requires fits { EachFits (bind_values name iface.now version id) }
         requires len { message_len (bind_values name iface.now version id) ≤ 4096 }
-        requires room { IsTrue (fits self.old.outbox (message_len (bind_values name iface.now version id)) 0) }
-        ensures { self.new ≡ with_sent self.old registry 0 (bind_values name iface.now version id) [] }
+        requires room { IsTrue
+            (fits self.old.outbox (message_len (bind_values name iface.now version id)) 0) }
+        ensures { self.new ≡ with_sent self.old registry 0
+            (bind_values name iface.now version id) [] }
     {
         encode_bind(&mut self.store, registry, name, iface, version, id);
         add(&mut self.outbox, &self.store, &[]);
@@ -108,8 +110,11 @@ impl<'t, T: Table> Core<'t, T> {
         version: u32,
     ) -> Result<Option<Object>, SendError>
         requires { Sound self.old.view }
-        ensures answer { Gives SendError.Memory (is_some iface) (opening_answer self.old (next_object self.old.view version iface)) result }
-        ensures ok { OnOk result (self.new ≡ with_view self.old (opens self.old.view (next_object self.old.view version iface))) }
+        ensures answer { Gives SendError.Memory (is_some iface)
+            (opening_answer self.old (next_object self.old.view version iface)) result }
+        ensures ok { OnOk result
+            (self.new ≡ with_view self.old
+            (opens self.old.view (next_object self.old.view version iface))) }
         ensures id { IfOk result (λ new. IfSome iface (λ _. id_of new ≡ next_id self.old.view)) }
         ensures err { OnErr result (self.new ≡ self.old) }
     {
@@ -134,8 +139,11 @@ impl<'t, T: Table> Core<'t, T> {
     )
         requires fits { EachFits (on_wire (id_of new) args.now) }
         requires len { message_len (on_wire (id_of new) args.now) ≤ 4096 }
-        requires room { IsTrue (fits self.old.outbox (message_len (on_wire (id_of new) args.now)) (length tokens.now)) }
-        ensures { self.new ≡ with_sent self.old target opcode (on_wire (id_of new) args.now) tokens.now }
+        requires room { IsTrue
+            (fits self.old.outbox (message_len (on_wire (id_of new) args.now))
+            (length tokens.now)) }
+        ensures { self.new ≡ with_sent self.old target opcode
+            (on_wire (id_of new) args.now) tokens.now }
     {
         encode_call(&mut self.store, target, opcode, args, id_of(new));
         add(&mut self.outbox, &self.store, tokens);
@@ -147,7 +155,8 @@ impl<'t, T: Table> Core<'t, T> {
         requires live { IsTrue (is_live self.old.view id) }
         requires other { what ≡ Destroys.Target → id ≢ 1 }
         requires room { IsTrue (fits self.old.outbox (following_len side what) 0) }
-        ensures { self.new ≡ with_following (following side what) id (with_view self.old (destroys (writer side) what id self.old.view)) }
+        ensures { self.new ≡ with_following (following side what) id
+            (with_view self.old (destroys (writer side) what id self.old.view)) }
     {
         match (side, what) {
             (_, Destroys::Nothing) => {}
@@ -169,15 +178,19 @@ impl<'t, T: Table> Core<'t, T> {
         entry: Entry,
         signature: &Signature,
     ) -> Result<Option<Object>, SendError>
-        requires passes { checked self.old.tables side self.old.view target opcode (given args.now) ≡ Ok signature.now }
+        requires passes { checked self.old.tables side self.old.view target opcode (given args.now)
+            ≡ Ok signature.now }
         requires entry { look self.old.view target.id ≡ Some entry }
-        requires fits { (id : ℕ) → EachFits (on_wire id args.now) × (message_len (on_wire id args.now) ≤ 4096) }
+        requires fits { (id : ℕ) → EachFits (on_wire id args.now)
+            × (message_len (on_wire id args.now) ≤ 4096) }
         requires few { length args.now ≤ 20 }
         requires sound { Sound self.old.view }
         requires display { HasDisplay self.old.view }
         requires valid { Valid self.old.tables }
-        ensures answer { Gives SendError.Memory (is_some (makes signature.now)) (answer_of self.old side target (given args.now) (Ok signature.now)) result }
-        ensures ok { OnOk result (self.new ≡ sent self.old side target opcode (given args.now) signature.now) }
+        ensures answer { Gives SendError.Memory (is_some (makes signature.now))
+            (answer_of self.old side target (given args.now) (Ok signature.now)) result }
+        ensures ok { OnOk result
+            (self.new ≡ sent self.old side target opcode (given args.now) signature.now) }
         ensures err { OnErr result (self.new ≡ self.old) }
     {
         let len = message_len(args).unwrap_or(0);
@@ -205,8 +218,11 @@ impl<'t, T: Table> Core<'t, T> {
         opcode: u16,
         args: &[Arg<'_>],
     ) -> Result<Option<Object>, SendError>
-        ensures answer { Gives SendError.Memory (opens_object (checked self.old.tables side self.old.view target opcode (given args.now))) (send_answer self.old side target opcode (given args.now)) result }
-        ensures ok { OnOk result (self.new ≡ after_send self.old side target opcode (given args.now)) }
+        ensures answer { Gives SendError.Memory
+            (opens_object (checked self.old.tables side self.old.view target opcode
+            (given args.now))) (send_answer self.old side target opcode (given args.now)) result }
+        ensures ok { OnOk result
+            (self.new ≡ after_send self.old side target opcode (given args.now)) }
         ensures err { OnErr result (self.new ≡ self.old) }
         // Always so, and known because the tables were asked.
         ensures valid { IfOk result (λ _. Valid self.old.tables) }

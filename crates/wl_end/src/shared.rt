@@ -123,7 +123,8 @@ impl<'t, T: Table> Core<'t, T> {
     /// A failed end takes nothing. Whatever waits, the inbox can hold the longest message.
     pub fn feed(&mut self, bytes: &[u8], tokens: &[u32]) -> Fed
         ensures fed { result ≡ feeds self.old bytes.now tokens.now }
-        ensures state { self.new ≡ with_arrived self.old (take result.bytes bytes.now) (take result.tokens tokens.now) }
+        ensures state { self.new
+            ≡ with_arrived self.old (take result.bytes bytes.now) (take result.tokens tokens.now) }
         ensures holds { usual_limit ≤ self.old.inbox.capacity }
     {
         if self.failed {
@@ -146,8 +147,10 @@ impl<'t, T: Table> Core<'t, T> {
     /// first byte.
     pub fn take(&mut self, bytes: &mut [u8], tokens: &mut [u32]) -> Taken
         ensures taken { result ≡ goes self.old.outbox (length bytes.old) (length tokens.old) }
-        ensures bytes { bytes.new ≡ take result.bytes (waiting_bytes self.old.outbox) ++ drop result.bytes bytes.old }
-        ensures tokens { tokens.new ≡ take result.tokens (waiting_tokens self.old.outbox) ++ drop result.tokens tokens.old }
+        ensures bytes { bytes.new ≡ take result.bytes (waiting_bytes self.old.outbox)
+            ++ drop result.bytes bytes.old }
+        ensures tokens { tokens.new ≡ take result.tokens (waiting_tokens self.old.outbox)
+            ++ drop result.tokens tokens.old }
         ensures state { self.new ≡ with_gone self.old result.bytes }
     {
         self.outbox.take(bytes, tokens)

@@ -13,7 +13,8 @@ pub const MAX_TOKENS: usize = 20;
 impl<'t, T: Table> Core<'t, T> {
     /// The tokens that wait first, as many as a message can take, and zeros where fewer wait.
     pub fn first_tokens(&self) -> [u32; MAX_TOKENS]
-        ensures { (place : ℕ) → place < 20 → slice_index_or result place 0 ≡ slice_index_or self.now.inbox.tokens place 0 }
+        ensures { (place : ℕ) → place < 20
+            → slice_index_or result place 0 ≡ slice_index_or self.now.inbox.tokens place 0 }
     {
         let mut tokens = [0; MAX_TOKENS];
         'places: for place in 0..MAX_TOKENS {
@@ -37,13 +38,19 @@ impl<'t, T: Table> Core<'t, T> {
     /// Opens the object that a message makes. O3 is tested first, then O2, O1 and O4, as the table
     /// does; what is refused changes nothing.
     pub fn open(&mut self, made: Made) -> Result<Object, TableError>
-        ensures ok { OnOk result (self.new ≡ with_view self.old (opened_at self.old.view made.id made.iface made.version)) }
-        ensures object { IfOk result (λ object. object ≡ record { id = made.id; birth = self.old.view.births }) }
+        ensures ok { OnOk result
+            (self.new ≡ with_view self.old
+            (opened_at self.old.view made.id made.iface made.version)) }
+        ensures object { IfOk result
+            (λ object. object ≡ record { id = made.id; birth = self.old.view.births }) }
         ensures err { OnErr result (self.new ≡ self.old) }
 
         ensures in_use { (result ≡ Err TableError.InUse) ↔ IsTrue (is_held self.old.view made.id) }
-        ensures not_next { (result ≡ Err TableError.NotNext) ↔ IsTrue (not (is_held self.old.view made.id) && not (free_or_next self.old.view made.id)) }
-        ensures no_ids { (result ≡ Err TableError.NoIds) ↔ IsTrue (free_or_next self.old.view made.id && not (has_room self.old.view made.id)) }
+        ensures not_next { (result ≡ Err TableError.NotNext)
+            ↔ IsTrue (not (is_held self.old.view made.id) && not
+            (free_or_next self.old.view made.id)) }
+        ensures no_ids { (result ≡ Err TableError.NoIds)
+            ↔ IsTrue (free_or_next self.old.view made.id && not (has_room self.old.view made.id)) }
     {
         self.table.open_at(made.id, made.iface, made.version)
     }

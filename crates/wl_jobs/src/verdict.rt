@@ -54,7 +54,8 @@ fn write_left<A: Allocator>(
     left_to_server: usize,
     left_to_client: usize,
 ) -> Result<(), AllocError>
-    ensures { OnOk result (out.new.items ≡ out.old.items ++ left_text left_to_server left_to_client) }
+    ensures { OnOk result (out.new.items ≡ out.old.items
+        ++ left_text left_to_server left_to_client) }
 {
     writeln!(out, "{left_to_server} and {left_to_client} bytes left").map_err(|_| AllocError)
 }

@@ -22,7 +22,8 @@ pub(crate) fn write_arguments<A: Allocator, L: Lookup>(
     taken: u128,
 ) -> Result<(), AllocError>
     requires { taken < 2 ^ 127 }
-    ensures { OnOk result (out.new.items ≡ out.old.items ++ listed (all_parts tables.now (L.reader lookup.now).object taken kinds.now values.now)) }
+    ensures { OnOk result (out.new.items ≡ out.old.items
+        ++ listed (all_parts tables.now (L.reader lookup.now).object taken kinds.now values.now)) }
 {
     let mut left = values.again();
     let mut taken = taken;
@@ -61,7 +62,9 @@ fn write_argument<A: Allocator, L: Lookup>(
     taken: u128,
 ) -> Result<(), AllocError>
     requires { taken < 2 ^ 127 + 2 ^ 64 }
-    ensures { OnOk result (out.new.items ≡ out.old.items ++ listed (parts_of tables.now (L.reader lookup.now).object taken kind (lent value.entry))) }
+    ensures { OnOk result (out.new.items ≡ out.old.items
+        ++ listed (parts_of tables.now (L.reader lookup.now).object taken kind
+        (lent value.entry))) }
 {
     match value {
         ValueRef::Int(number) => write!(out, "{number}").map_err(|_| AllocError),
@@ -84,7 +87,8 @@ fn write_argument<A: Allocator, L: Lookup>(
 
 /// Appends a string argument.
 fn write_text<A: Allocator>(out: &mut Vec<u8, A>, text: Option<&[u8]>) -> Result<(), AllocError>
-    ensures { OnOk result (out.new.items ≡ out.old.items ++ argument_string (option_copied text.entry)) }
+    ensures { OnOk result (out.new.items ≡ out.old.items
+        ++ argument_string (option_copied text.entry)) }
 {
     match text {
         Some(text) => write_string(out, text),
@@ -99,7 +103,8 @@ fn write_known<A: Allocator, L: Lookup>(
     lookup: &L,
     id: u32,
 ) -> Result<(), AllocError>
-    ensures { OnOk result (out.new.items ≡ out.old.items ++ argument_object tables.now (L.reader lookup.now).object id) }
+    ensures { OnOk result (out.new.items ≡ out.old.items
+        ++ argument_object tables.now (L.reader lookup.now).object id) }
 {
     if id == 0 {
         return out.extend_from_slice(b"nil");
@@ -128,7 +133,8 @@ fn write_named<A: Allocator>(
     version: u32,
     id: u32,
 ) -> Result<(), AllocError>
-    ensures { OnOk result (out.new.items ≡ out.old.items ++ listed (string_text iface.now ∷ decimal version ∷ new_text iface.now id ∷ [])) }
+    ensures { OnOk result (out.new.items ≡ out.old.items
+        ++ listed (string_text iface.now ∷ decimal version ∷ new_text iface.now id ∷ [])) }
 {
     write_string(out, iface)?;
     match write!(out, ", {version}, ") {

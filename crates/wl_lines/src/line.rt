@@ -24,7 +24,8 @@ pub fn write_line<A: Allocator, L: Lookup>(
     taken: u128,
 ) -> Result<(), AllocError>
     requires { taken < 2 ^ 127 }
-    ensures { OnOk result (out.new.items ≡ out.old.items ++ line tables.now side (L.reader lookup.now).object (read_of message.now) taken) }
+    ensures { OnOk result (out.new.items ≡ out.old.items
+        ++ line tables.now side (L.reader lookup.now).object (read_of message.now) taken) }
 {
     let signature = message.signature;
     out.extend_from_slice(arrow(side))?;

@@ -115,7 +115,8 @@ impl<A: Allocator> Inbox<A> {
     /// as many of the bytes as fit. Answers how many of each.
     pub fn feed(&mut self, bytes: &[u8], tokens: &[u32]) -> Fed
         ensures amount { result ≡ fed self.old bytes.now tokens.now }
-        ensures waits { self.new ≡ with_more self.old (take result.bytes bytes.now) (take result.tokens tokens.now) }
+        ensures waits { self.new
+            ≡ with_more self.old (take result.bytes bytes.now) (take result.tokens tokens.now) }
     {
         let token_count = self.tokens.fill_from_slice(tokens);
         let bytes = if token_count < tokens.len() {
@@ -163,7 +164,9 @@ impl<A: Allocator> Inbox<A> {
         requires message { HasMessage (front usual_limit self.old.bytes) }
         requires tokens { length tokens.old ≤ length self.old.tokens }
         ensures tokens { tokens.new ≡ take (length tokens.old) self.old.tokens }
-        ensures rest { self.new ≡ without_first self.old (message_size (front usual_limit self.old.bytes)) (length tokens.old) }
+        ensures rest { self.new
+            ≡ without_first self.old (message_size (front usual_limit self.old.bytes))
+            (length tokens.old) }
     {
         let size = message_len(&self.bytes, &mut self.message);
         self.tokens.read_into(tokens);

@@ -12,23 +12,31 @@ ghost use Rattle.wl_message.specs.InStep.{Part, Need, need, part_tokens, InStep,
 /// A header that tells as many bytes as there are makes a whole message, where a message may have
 /// so many.
 pub fn headed_message()
-    ensures { (limit : ℕ) (header : Header) (arguments : List ℕ) → header.size ≡ length (header_bytes header ++ arguments) → header.size < 2 ^ 16 → header.opcode < 2 ^ 16
+    ensures { (limit : ℕ) (header : Header) (arguments : List ℕ)
+        → header.size ≡ length (header_bytes header ++ arguments) → header.size < 2 ^ 16
+        → header.opcode < 2 ^ 16
         → IsSize limit header.size → IsMessage limit (header_bytes header ++ arguments) }
 {}
 
 /// What stands in front of bytes stays there when more bytes come, and a whole message is found in
 /// front whatever follows it.
 pub fn front_stays()
-    ensures whole { (limit : ℕ) (bytes more : List ℕ) (n : ℕ) → front limit bytes ≡ Whole n → front limit (bytes ++ more) ≡ Whole n }
-    ensures bad { (limit : ℕ) (bytes more : List ℕ) (n : ℕ) → front limit bytes ≡ Bad n → front limit (bytes ++ more) ≡ Bad n }
-    ensures found { (limit : ℕ) (message more : List ℕ) → IsMessage limit message → front limit (message ++ more) ≡ Whole (length message) }
-    ensures is_message { (limit : ℕ) (bytes : List ℕ) (n : ℕ) → front limit bytes ≡ Whole n → IsMessage limit (take n bytes) }
+    ensures whole { (limit : ℕ) (bytes more : List ℕ) (n : ℕ) → front limit bytes ≡ Whole n
+        → front limit (bytes ++ more) ≡ Whole n }
+    ensures bad { (limit : ℕ) (bytes more : List ℕ) (n : ℕ) → front limit bytes ≡ Bad n
+        → front limit (bytes ++ more) ≡ Bad n }
+    ensures found { (limit : ℕ) (message more : List ℕ) → IsMessage limit message
+        → front limit (message ++ more) ≡ Whole (length message) }
+    ensures is_message { (limit : ℕ) (bytes : List ℕ) (n : ℕ) → front limit bytes ≡ Whole n
+        → IsMessage limit (take n bytes) }
 {}
 
 /// Each stream has one cut into messages and a rest.
 pub fn one_cut()
-    ensures exists { (limit : ℕ) (stream : List ℕ) → IsCut limit stream (messages_of limit stream) (rest_of limit stream) }
-    ensures unique { (limit : ℕ) (stream : List ℕ) (messages : List (List ℕ)) (rest : List ℕ) → IsCut limit stream messages rest
+    ensures exists { (limit : ℕ) (stream : List ℕ)
+        → IsCut limit stream (messages_of limit stream) (rest_of limit stream) }
+    ensures unique { (limit : ℕ) (stream : List ℕ) (messages : List (List ℕ)) (rest : List ℕ)
+        → IsCut limit stream messages rest
         → (messages_of limit stream ≡ messages) × (rest_of limit stream ≡ rest) }
 {}
 
@@ -36,44 +44,58 @@ pub fn one_cut()
 /// joined with the second part. So it does not matter where a stream is cut.
 pub fn any_cut()
     ensures messages { (limit : ℕ) (first second : List ℕ)
-        → messages_of limit (first ++ second) ≡ messages_of limit first ++ messages_of limit (rest_of limit first ++ second) }
-    ensures rest { (limit : ℕ) (first second : List ℕ) → rest_of limit (first ++ second) ≡ rest_of limit (rest_of limit first ++ second) }
+        → messages_of limit (first ++ second) ≡ messages_of limit first
+        ++ messages_of limit (rest_of limit first ++ second) }
+    ensures rest { (limit : ℕ) (first second : List ℕ)
+        → rest_of limit (first ++ second) ≡ rest_of limit (rest_of limit first ++ second) }
 {}
 
 /// Whole messages that are joined are cut into these messages, with nothing left.
 pub fn joined_messages()
-    ensures messages { (limit : ℕ) (messages : List (List ℕ)) → AllByRecursion (IsMessage limit) messages → messages_of limit (concat messages) ≡ messages }
-    ensures rest { (limit : ℕ) (messages : List (List ℕ)) → AllByRecursion (IsMessage limit) messages → rest_of limit (concat messages) ≡ [] }
+    ensures messages { (limit : ℕ) (messages : List (List ℕ))
+        → AllByRecursion (IsMessage limit) messages
+        → messages_of limit (concat messages) ≡ messages }
+    ensures rest { (limit : ℕ) (messages : List (List ℕ))
+        → AllByRecursion (IsMessage limit) messages → rest_of limit (concat messages) ≡ [] }
 {}
 
 /// The messages of a stream one after another.
 pub fn next_message()
     ensures whole { (limit : ℕ) (bytes : List ℕ) (n : ℕ) → front limit bytes ≡ Whole n
-        → (messages_of limit bytes ≡ take n bytes ∷ messages_of limit (drop n bytes)) × (rest_of limit bytes ≡ rest_of limit (drop n bytes)) }
-    ensures none { (limit : ℕ) (bytes : List ℕ) → ((n : ℕ) → front limit bytes ≢ Whole n) → (messages_of limit bytes ≡ []) × (rest_of limit bytes ≡ bytes) }
+        → (messages_of limit bytes ≡ take n bytes ∷ messages_of limit (drop n bytes))
+        × (rest_of limit bytes ≡ rest_of limit (drop n bytes)) }
+    ensures none { (limit : ℕ) (bytes : List ℕ) → ((n : ℕ) → front limit bytes ≢ Whole n)
+        → (messages_of limit bytes ≡ []) × (rest_of limit bytes ≡ bytes) }
 {}
 
 /// Just one amount goes out of an outbox into a room, and it takes whole messages out of those not
 /// begun, with all of their tokens.
 pub fn one_amount()
     ensures exists { (o : Outgoing) (b t : ℕ) → Goes o b t (goes o b t) }
-    ensures unique { (o : Outgoing) (b t : ℕ) (taken : Taken) → Goes o b t taken → taken ≡ goes o b t }
+    ensures unique { (o : Outgoing) (b t : ℕ) (taken : Taken) → Goes o b t taken
+        → taken ≡ goes o b t }
     ensures passes { (o : Outgoing) (b t : ℕ) (taken : Taken) → Goes o b t taken → Passes o taken }
 {}
 
 /// Pieces that bring messages in step still do so with the piece that is taken next.
 pub fn take_keeps_step()
-    ensures step { (sent : List Message) (o : Outgoing) (parts : List Part) (b t : ℕ) (taken : Taken) → Goes o b t taken → Carried sent o.left parts
-        → InStep (map need (sent ++ o.messages)) parts → InStep (map need (sent ++ o.messages)) (parts ++ part_taken o taken ∷ []) }
-    ensures carried { (sent : List Message) (o : Outgoing) (parts : List Part) (b t : ℕ) (taken : Taken) → Goes o b t taken → Carried sent o.left parts
-        → Carried (sent ++ newly_begun o taken.bytes) (after_taking o taken.bytes).left (parts ++ part_taken o taken ∷ []) }
+    ensures step { (sent : List Message) (o : Outgoing) (parts : List Part) (b t : ℕ)
+        (taken : Taken) → Goes o b t taken → Carried sent o.left parts
+        → InStep (map need (sent ++ o.messages)) parts
+        → InStep (map need (sent ++ o.messages)) (parts ++ part_taken o taken ∷ []) }
+    ensures carried { (sent : List Message) (o : Outgoing) (parts : List Part) (b t : ℕ)
+        (taken : Taken) → Goes o b t taken → Carried sent o.left parts
+        → Carried (sent ++ newly_begun o taken.bytes) (after_taking o taken.bytes).left
+        (parts ++ part_taken o taken ∷ []) }
 {}
 
 /// All pieces that are ever taken out of an outbox bring its messages in step, and no byte and no
 /// token is lost or changed.
 pub fn pieces_in_step()
-    ensures step { (sent : List Message) (parts : List Part) (o : Outgoing) → Gave sent parts o → InStep (map need (sent ++ o.messages)) parts }
-    ensures carried { (sent : List Message) (parts : List Part) (o : Outgoing) → Gave sent parts o → Carried sent o.left parts }
+    ensures step { (sent : List Message) (parts : List Part) (o : Outgoing) → Gave sent parts o
+        → InStep (map need (sent ++ o.messages)) parts }
+    ensures carried { (sent : List Message) (parts : List Part) (o : Outgoing) → Gave sent parts o
+        → Carried sent o.left parts }
 {}
 
 /// A reader may go through pieces in step as it likes: once the first message was read with its
@@ -81,12 +103,26 @@ pub fn pieces_in_step()
 /// one, and a piece of which only some of the bytes are taken at first, with all of its tokens,
 /// counts as two.
 pub fn reading_in_step()
-    ensures first { (n : Need) (needs : List Need) (p : Part) (parts : List Part) → InStep (n ∷ needs) (p ∷ parts) → 0 < length p.bytes
+    ensures first { (n : Need) (needs : List Need) (p : Part) (parts : List Part)
+        → InStep (n ∷ needs) (p ∷ parts) → 0 < length p.bytes
         → (n.tokens ≤ length p.tokens) ⊎ (part_tokens parts ≡ []) }
-    ensures read { (n : Need) (needs : List Need) (p : Part) (parts : List Part) → InStep (n ∷ needs) (p ∷ parts) → n.size ≤ length p.bytes → n.tokens ≤ length p.tokens
-        → InStep needs (record { bytes = drop n.size p.bytes; tokens = drop n.tokens p.tokens } ∷ parts) }
-    ensures joined { (needs : List Need) (p q : Part) (parts : List Part) → InStep needs (p ∷ q ∷ parts)
-        → InStep needs (record { bytes = p.bytes ++ q.bytes; tokens = p.tokens ++ q.tokens } ∷ parts) }
-    ensures parted { (needs : List Need) (p : Part) (n : ℕ) (parts : List Part) → InStep needs (p ∷ parts)
-        → InStep needs (record { bytes = take n p.bytes; tokens = p.tokens } ∷ record { bytes = drop n p.bytes; tokens = [] } ∷ parts) }
+    ensures read { (n : Need) (needs : List Need) (p : Part) (parts : List Part)
+        → InStep (n ∷ needs) (p ∷ parts) → n.size ≤ length p.bytes → n.tokens ≤ length p.tokens
+        → InStep needs (record {
+          bytes = drop n.size p.bytes;
+          tokens = drop n.tokens p.tokens;
+        } ∷ parts) }
+    ensures joined { (needs : List Need) (p q : Part) (parts : List Part)
+        → InStep needs (p ∷ q ∷ parts)
+        → InStep needs (record {
+          bytes = p.bytes ++ q.bytes;
+          tokens = p.tokens
+              ++ q.tokens;
+        } ∷ parts) }
+    ensures parted { (needs : List Need) (p : Part) (n : ℕ) (parts : List Part)
+        → InStep needs (p ∷ parts)
+        → InStep needs (record {
+          bytes = take n p.bytes;
+          tokens = p.tokens;
+        } ∷ record { bytes = drop n p.bytes; tokens = [] } ∷ parts) }
 {}

@@ -118,7 +118,8 @@ impl<A: Allocator> Outbox<A> {
 
     /// Whether no byte and no token waits.
     pub fn is_empty(&self) -> bool
-        ensures waits { IsTrue result ↔ ((waiting_bytes self.now ≡ []) × (waiting_tokens self.now ≡ [])) }
+        ensures waits { IsTrue result
+            ↔ ((waiting_bytes self.now ≡ []) × (waiting_tokens self.now ≡ [])) }
         ensures messages { IsTrue result ↔ ((self.now.left ≡ []) × (self.now.messages ≡ [])) }
     {
         self.bytes.is_empty()
@@ -130,7 +131,9 @@ impl<A: Allocator> Outbox<A> {
         requires { IsMessage usual_limit message.now }
         ensures ok { OnOk result (self.new ≡ with_message self.old message.now tokens.now) }
         ensures err { OnErr result (self.new ≡ self.old) }
-        ensures full { IsErr result ↔ ((room_of self.old < length message.now) ⊎ (token_room_of self.old < length tokens.now)) }
+        ensures full { IsErr result
+            ↔ ((room_of self.old < length message.now)
+            ⊎ (token_room_of self.old < length tokens.now)) }
     {
         if self.room() < message.len() || self.token_room() < tokens.len() {
             return Err(Full);
@@ -203,8 +206,10 @@ impl<A: Allocator> Outbox<A> {
     pub fn take(&mut self, bytes: &mut [u8], tokens: &mut [u32]) -> Taken
         ensures longest { Goes self.old (length bytes.old) (length tokens.old) result }
         ensures computed { result ≡ goes self.old (length bytes.old) (length tokens.old) }
-        ensures bytes { bytes.new ≡ take result.bytes (waiting_bytes self.old) ++ drop result.bytes bytes.old }
-        ensures tokens { tokens.new ≡ take result.tokens (waiting_tokens self.old) ++ drop result.tokens tokens.old }
+        ensures bytes { bytes.new ≡ take result.bytes (waiting_bytes self.old)
+            ++ drop result.bytes bytes.old }
+        ensures tokens { tokens.new ≡ take result.tokens (waiting_tokens self.old)
+            ++ drop result.tokens tokens.old }
         ensures rest { self.new ≡ after_taking self.old result.bytes }
     {
         let reach = self.reach(bytes.len(), tokens.len());

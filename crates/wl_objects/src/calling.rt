@@ -27,10 +27,13 @@ pub fn check_call<'t, T: Table>(
     opcode: u16,
     args: &[Arg<'_>],
 ) -> Result<(Entry, &'t Signature), SendError>
-    ensures answer { signature_in result ≡ checked tables.now side (T.view table.now) target opcode (given args.now) }
+    ensures answer { signature_in result
+        ≡ checked tables.now side (T.view table.now) target opcode (given args.now) }
     ensures entry { IfOk result (λ found. look (T.view table.now) target.id ≡ Some found.0) }
     // So the message can be written, whatever the id of its new object.
-    ensures fits { IfOk result (λ _. (id : ℕ) → EachFits (on_wire id args.now) × (message_len (on_wire id args.now) ≤ 4096)) }
+    ensures fits { IfOk result
+        (λ _. (id : ℕ) → EachFits (on_wire id args.now)
+        × (message_len (on_wire id args.now) ≤ 4096)) }
     ensures in_range { IfOk result (λ _. All InRange (given args.now)) }
     ensures few { IfOk result (λ _. length args.now ≤ 20) }
     // Always so, and known because the table and the tables were asked.

@@ -20,52 +20,67 @@ ghost use Rattle.wl_objects.specs.Carried.{AreWritten, Arrive, InRange, IsExpect
 /// of the writer, spelled with the new id n, are read by any reader that holds each named object
 /// under its id, with its birth and interface, live or a zombie, and to which n is free.
 pub fn what_is_written_arrives()
-    ensures { (writer : ℕ → Option SpecEntry) (reader : Reader) (kinds : List SpecKind) (n : ℕ) (list : List Given)
-        → n < 2 ^ 32 → reader.forgives ≡ false → AreWritten writer kinds list → All (IsExpected writer reader n) list
+    ensures { (writer : ℕ → Option SpecEntry) (reader : Reader) (kinds : List SpecKind) (n : ℕ)
+        (list : List Given)
+        → n < 2 ^ 32 → reader.forgives ≡ false → AreWritten writer kinds list
+        → All (IsExpected writer reader n) list
         → Arrive reader kinds n list }
 {}
 
 /// What stands at the front of a message's body is read exactly where it meets the reader.
 pub fn what_meets_is_read()
-    ensures { (reader : Reader) (place : ℕ) (kinds : List SpecKind) (bytes : List ℕ) (values : List Argument) (rest : List ℕ)
+    ensures { (reader : Reader) (place : ℕ) (kinds : List SpecKind) (bytes : List ℕ)
+        (values : List Argument) (rest : List ℕ)
         → All (λ b. b < 256) bytes
-        → (arguments_at reader place kinds bytes ≡ Ok (values, rest)) ↔ Meets reader place kinds bytes values rest }
+        → (arguments_at reader place kinds bytes ≡ Ok (values, rest))
+        ↔ Meets reader place kinds bytes values rest }
 {}
 
 /// The fault of a message's arguments is the first that stands.
 pub fn first_fault()
-    ensures { (reader : Reader) (place : ℕ) (kinds : List SpecKind) (bytes : List ℕ) (fault : SpecFault)
+    ensures { (reader : Reader) (place : ℕ) (kinds : List SpecKind) (bytes : List ℕ)
+        (fault : SpecFault)
         → All (λ b. b < 256) bytes
-        → (arguments_at reader place kinds bytes ≡ Err fault) ↔ FirstFault reader place kinds bytes fault }
+        → (arguments_at reader place kinds bytes ≡ Err fault)
+        ↔ FirstFault reader place kinds bytes fault }
 {}
 
 /// The object that a call makes is the one that its signature tells.
 pub fn call_makes_its_object()
-    ensures { (tables : List Interface) (version id : ℕ) (kinds : List SpecKind) (list : List SpecArg)
+    ensures { (tables : List Interface) (version id : ℕ) (kinds : List SpecKind)
+        (list : List SpecArg)
         → wrong_place 0 kinds (given list) ≡ None
         → made tables version kinds (on_wire id list)
-        ≡ option_map (λ iface. record { id = id; iface = iface; version = version }) (call_makes kinds) }
+        ≡ option_map (λ iface. record { id = id; iface = iface; version = version })
+        (call_makes kinds) }
 {}
 
 /// A call passes its checks exactly where nothing stands against it.
 pub fn a_call_passes()
-    ensures { (tables : List Interface) (side : SpecSide) (view : View) (target : SpecObject) (opcode : ℕ) (list : List Given) (signature : Message)
-        → (checked tables side view target opcode list ≡ Ok signature) ↔ Passes tables side view target opcode list signature }
+    ensures { (tables : List Interface) (side : SpecSide) (view : View) (target : SpecObject)
+        (opcode : ℕ) (list : List Given) (signature : Message)
+        → (checked tables side view target opcode list ≡ Ok signature)
+        ↔ Passes tables side view target opcode list signature }
 {}
 
 /// A whole message arrives: what passed its checks at one end is received at the other, where the
 /// reader holds the target and each named object, live or a zombie, and the new id is free.
 pub fn a_message_arrives()
-    ensures { (tables : List Interface) (side : SpecSide) (view : View) (reader : Reader) (target : SpecObject) (opcode size n waiting : ℕ) (list : List Given) (signature : Message)
-        → (passes : Passes tables side view target opcode list signature) → (held : IsTarget passes.entry reader target)
-        → reader.forgives ≡ false → n < 2 ^ 32 → All InRange list → All (IsExpected (look view) reader n) list → length (tokens_of list) ≤ waiting
-        → received tables side reader (record { object = target.id; size = size; opcode = opcode }) (spelled (map (wired n) list)) waiting
+    ensures { (tables : List Interface) (side : SpecSide) (view : View) (reader : Reader)
+        (target : SpecObject) (opcode size n waiting : ℕ) (list : List Given) (signature : Message)
+        → (passes : Passes tables side view target opcode list signature)
+        → (held : IsTarget passes.entry reader target)
+        → reader.forgives ≡ false → n < 2 ^ 32 → All InRange list
+        → All (IsExpected (look view) reader n) list → length (tokens_of list) ≤ waiting
+        → received tables side reader (record { object = target.id; size = size; opcode = opcode })
+        (spelled (map (wired n) list)) waiting
         ≡ Ok (received_by target held.row signature (map (wired n) list)) }
 {}
 
 /// A message is a row of whole words, as many bytes as its header tells.
 pub fn a_message_has_its_size()
-    ensures len { (object opcode : ℕ) (values : List Argument) → length (message_bytes object opcode values) ≡ message_len values }
+    ensures len { (object opcode : ℕ) (values : List Argument)
+        → length (message_bytes object opcode values) ≡ message_len values }
     ensures words { (values : List Argument) → message_len values % 4 ≡ 0 }
     ensures header { (values : List Argument) → 8 ≤ message_len values }
 {}
@@ -73,13 +88,16 @@ pub fn a_message_has_its_size()
 /// What a reader took whole is spelled by the values that it read, where the object of
 /// wl_display.error may be null.
 pub fn what_is_read_is_spelled()
-    ensures { (reader : Reader) (kinds : List SpecKind) (bytes : List ℕ) (values : List Argument) → All (λ b. b < 256) bytes
-        → arguments_at reader 0 kinds bytes ≡ Ok (values, []) → SpellsAll (map (kind_at reader.forgives) kinds) values bytes }
+    ensures { (reader : Reader) (kinds : List SpecKind) (bytes : List ℕ) (values : List Argument)
+        → All (λ b. b < 256) bytes
+        → arguments_at reader 0 kinds bytes ≡ Ok (values, [])
+        → SpellsAll (map (kind_at reader.forgives) kinds) values bytes }
 {}
 
 /// What is written spells its values, where no object has the id 0.
 pub fn what_is_written_is_spelled()
-    ensures { (kinds : List SpecKind) (n : ℕ) (list : List Given) → n < 2 ^ 32 → wrong_place 0 kinds list ≡ None → All InRange list
+    ensures { (kinds : List SpecKind) (n : ℕ) (list : List Given) → n < 2 ^ 32
+        → wrong_place 0 kinds list ≡ None → All InRange list
         → ((object : SpecObject) → All (λ x. x ≡ Obj (Some object) → object.id ≢ 0) list)
         → SpellsAll kinds (map (wired n) list) (spelled (map (wired n) list)) }
 {}

@@ -41,7 +41,8 @@ pub fn receive<'t: 'a, 'a, T: Table>(
     body: &'a [u8],
     waiting: usize,
 ) -> Result<Received<'t, 'a>, Fault>
-    ensures answer { received_in result ≡ received tables.now side (reader_of (T.view table.now)) header body.now waiting }
+    ensures answer { received_in result
+        ≡ received tables.now side (reader_of (T.view table.now)) header body.now waiting }
     // Always so, and known because the tables were asked and the header was given.
     ensures valid { IfOk result (λ _. Valid tables.now) }
     ensures header { IsHeader header }
@@ -58,7 +59,8 @@ pub fn receive_by<'t: 'a, 'a, L: Lookup>(
     body: &'a [u8],
     waiting: usize,
 ) -> Result<Received<'t, 'a>, Fault>
-    ensures answer { received_in result ≡ received tables.now side (L.reader lookup.now) header body.now waiting }
+    ensures answer { received_in result
+        ≡ received tables.now side (L.reader lookup.now) header body.now waiting }
     ensures valid { IfOk result (λ _. Valid tables.now) }
 {
     let entry = match lookup.object(header.object) {
@@ -106,7 +108,8 @@ fn rest_behind<'a, L: Lookup>(
     kinds: &[Kind],
     body: &'a [u8],
 ) -> Result<&'a [u8], Fault>
-    ensures { with_rest (values_at forgives kinds.now body.now) result ≡ arguments_at (forgiving forgives (L.reader lookup.now)) 0 kinds.now body.now }
+    ensures { with_rest (values_at forgives kinds.now body.now) result
+        ≡ arguments_at (forgiving forgives (L.reader lookup.now)) 0 kinds.now body.now }
 {
     let mut rest = body;
     'kinds: for (place, kind) in kinds.iter().enumerate() {
@@ -131,7 +134,8 @@ fn value_fault<L: Lookup>(
     kind: Kind,
     value: ValueRef<'_>,
 ) -> Option<Fault>
-    ensures { result ≡ value_fault (forgiving forgives (L.reader lookup.now)) place kind (lent value.entry) }
+    ensures { result ≡ value_fault (forgiving forgives (L.reader lookup.now)) place kind
+        (lent value.entry) }
 {
     match value {
         ValueRef::Obj(id) => {

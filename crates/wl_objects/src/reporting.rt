@@ -75,7 +75,8 @@ pub fn report_arguments<A: Allocator + Clone + Drop, T: Table>(
     values: &Values<'_>,
     tokens: &[u32],
 ) -> Result<Gots<A>, AllocError>
-    ensures ok { IfOk result (λ reported. reported ≡ reports_of (reader_of (T.view table.now)) tokens.now values.now) }
+    ensures ok { IfOk result
+        (λ reported. reported ≡ reports_of (reader_of (T.view table.now)) tokens.now values.now) }
     ensures err { OnErr result (values.now ≢ []) }
 {
     if values.is_empty() {
@@ -119,7 +120,8 @@ fn report_of<A: Allocator + Clone + Drop, T: Table>(
     token: u32,
     value: ValueRef<'_>,
 ) -> Result<Got<A>, AllocError>
-    ensures { IfOk result (λ g. got g ≡ report_of (reader_of (T.view table.now)) token (lent value.entry)) }
+    ensures { IfOk result (λ g. got g
+        ≡ report_of (reader_of (T.view table.now)) token (lent value.entry)) }
 {
     match value {
         ValueRef::Int(number) => Ok(Got::Int(number)),

@@ -20,7 +20,8 @@ pub fn new_objects()
 /// small, so that the last byte counted is no NUL.
 #[tactic(auto, unfolding(wl_sigs::specs::Core::core_tables))]
 pub fn bind()
-    ensures bound { request with_callback 2 0 (bind_body 14) ≡ Ok (Uint 1 ∷ NewNamed (codes "wl_compositor") 6 4 ∷ []) }
+    ensures bound { request with_callback 2 0 (bind_body 14)
+        ≡ Ok (Uint 1 ∷ NewNamed (codes "wl_compositor") 6 4 ∷ []) }
     ensures no_nul { request with_callback 2 0 (bind_body 13) ≡ Err (BadArgument 1 NoEndingNul) }
 {}
 
@@ -31,7 +32,8 @@ pub fn faults()
     ensures object { request fresh 9 0 [] ≡ Err UnknownObject }
     ensures message { request fresh 1 2 [] ≡ Err UnknownMessage }
     ensures bytes { request fresh 1 0 (2 ∷ 0 ∷ 0 ∷ 0 ∷ 0 ∷ 0 ∷ 0 ∷ 0 ∷ []) ≡ Err TrailingBytes }
-    ensures descriptor { request with_shm 3 0 (4 ∷ 0 ∷ 0 ∷ 0 ∷ 16 ∷ 0 ∷ 0 ∷ 0 ∷ []) ≡ Err MissingDescriptor }
+    ensures descriptor { request with_shm 3 0 (4 ∷ 0 ∷ 0 ∷ 0 ∷ 16 ∷ 0 ∷ 0 ∷ 0 ∷ [])
+        ≡ Err MissingDescriptor }
 {}
 
 /// wl_surface.set_opaque_region of no region; of the registry, which is no wl_region; and of an id

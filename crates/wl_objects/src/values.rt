@@ -47,7 +47,8 @@ impl<'a> Values<'a> {
 
     /// Takes out the first value.
     pub fn next(&mut self) -> Option<ValueRef<'a>>
-        ensures { MatchOption result ((self.old ≡ []) × (self.new ≡ [])) (λ value. self.old ≡ lent value ∷ self.new) }
+        ensures { MatchOption result ((self.old ≡ []) × (self.new ≡ []))
+            (λ value. self.old ≡ lent value ∷ self.new) }
     {
         let (kind, kinds) = self.kinds.split_first()?;
         let (value, len) = read_ref(kind_at(self.forgives, *kind), self.body).ok()?;

@@ -31,7 +31,8 @@ pub(crate) fn wired<'a>(arg: &Arg<'a>, new_id: u32) -> ValueRef<'a>
 
 /// How many bytes spell the argument; none where these are more than a message has.
 fn len_of(arg: &Arg<'_>) -> Option<usize>
-    ensures { MatchOption result (LIMIT < spelled_len (wired 0 (given_of arg.now))) (λ n. (n ≡ spelled_len (wired 0 (given_of arg.now))) × (n ≤ 8192)) }
+    ensures { MatchOption result (LIMIT < spelled_len (wired 0 (given_of arg.now)))
+        (λ n. (n ≡ spelled_len (wired 0 (given_of arg.now))) × (n ≤ 8192)) }
 {
     match arg {
         Arg::Str(Some(text)) => counted_len(text.len(), 1),
@@ -117,7 +118,8 @@ pub fn encode_bind<A: Allocator>(
     requires fits { EachFits (bind_values name iface.now version id) }
     requires len { message_len (bind_values name iface.now version id) ≤ 4096 }
     requires room { 4096 ≤ vec_capacity store.old }
-    ensures message { store.new.items ≡ message_bytes registry 0 (bind_values name iface.now version id) }
+    ensures message { store.new.items
+        ≡ message_bytes registry 0 (bind_values name iface.now version id) }
     ensures capacity { vec_capacity store.old ≤ vec_capacity store.new }
 {
     let named = ValueRef::NewNamed { iface, version, id };
@@ -164,7 +166,8 @@ pub fn encode_global<A: Allocator>(
     requires text { IsText iface.now }
     requires short { length iface.now ≤ 256 }
     requires room { 4096 ≤ vec_capacity store.old }
-    ensures message { store.new.items ≡ message_bytes registry 0 (global_values global iface.now version) }
+    ensures message { store.new.items
+        ≡ message_bytes registry 0 (global_values global iface.now version) }
     ensures capacity { vec_capacity store.old ≤ vec_capacity store.new }
 {
     let iface = ValueRef::Str(Some(iface));
@@ -187,7 +190,8 @@ fn len_of_call(args: &[Arg<'_>]) -> usize
 fn start<A: Allocator>(store: &mut Vec<u8, A>, object: u32, size: usize, opcode: u16)
     requires size { size ≤ 4096 }
     requires room { 4096 ≤ vec_capacity store.old }
-    ensures header { store.new.items ≡ header_bytes (record { object = object; size = size; opcode = opcode }) }
+    ensures header { store.new.items
+        ≡ header_bytes (record { object = object; size = size; opcode = opcode }) }
     ensures len { vec_len store.new ≡ 8 }
     ensures capacity { vec_capacity store.old ≤ vec_capacity store.new }
 {

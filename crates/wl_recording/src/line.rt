@@ -63,7 +63,8 @@ pub fn is_skipped(line: &[u8]) -> bool
 
 /// The piece that a line tells, if it tells one.
 pub fn read_piece<A: Allocator>(alloc: A, line: &[u8]) -> Result<Option<Passed<A>>, AllocError>
-    ensures { IfOk result (λ found. MatchOption found ((piece : Piece) → IsPiece line.now piece → ⊥) (λ kept. IsPiece line.now (plain kept))) }
+    ensures { IfOk result (λ found. MatchOption found ((piece : Piece) → IsPiece line.now piece → ⊥)
+        (λ kept. IsPiece line.now (plain kept))) }
 {
     let Some((direction, rest)) = strip_sign(line) else {
         return Ok(None);
@@ -84,7 +85,9 @@ pub fn read_piece<A: Allocator>(alloc: A, line: &[u8]) -> Result<Option<Passed<A
 
 // The direction whose sign and a space begin a line, and the rest of the line.
 fn strip_sign(line: &[u8]) -> Option<(Direction, &[u8])>
-    ensures { MatchOption result ((direction : Way) (rest : List ℕ) → line.now ≢ sign direction ∷ 32 ∷ rest) (λ found. line.now ≡ sign found.0 ∷ 32 ∷ found.1.now) }
+    ensures { MatchOption result
+        ((direction : Way) (rest : List ℕ) → line.now ≢ sign direction ∷ 32 ∷ rest)
+        (λ found. line.now ≡ sign found.0 ∷ 32 ∷ found.1.now) }
 {
     if let Some(rest) = line.strip_prefix(b"> ") {
         return Some((Direction::ToServer, rest));
@@ -95,7 +98,8 @@ fn strip_sign(line: &[u8]) -> Option<(Direction, &[u8])>
 
 // The number of tokens that the rest of a line tells.
 fn read_tokens(count: &[u8]) -> Option<u32>
-    ensures { MatchOption result ((tokens : ℕ) → SpellsTokens count.now tokens → ⊥) (λ tokens. SpellsTokens count.now tokens) }
+    ensures { MatchOption result ((tokens : ℕ) → SpellsTokens count.now tokens → ⊥)
+        (λ tokens. SpellsTokens count.now tokens) }
 {
     if count.is_empty() {
         return Some(0);
@@ -114,7 +118,8 @@ fn read_tokens(count: &[u8]) -> Option<u32>
 // The number that decimal digits write.
 fn decimal_value(digits: &[u8]) -> Option<u32>
     requires { length digits.now ≤ 5 }
-    ensures { MatchOption result (AllDigits 10 digits.now → ⊥) (λ value. AllDigits 10 digits.now × (digits_value 10 digits.now ≡ value)) }
+    ensures { MatchOption result (AllDigits 10 digits.now → ⊥)
+        (λ value. AllDigits 10 digits.now × (digits_value 10 digits.now ≡ value)) }
 {
     let mut value = 0;
     for digit in digits {
@@ -128,7 +133,9 @@ fn decimal_value(digits: &[u8]) -> Option<u32>
 
 // The bytes that these digits stand for.
 fn read_bytes<A: Allocator>(alloc: A, digits: &[u8]) -> Result<Option<Bytes<A>>, AllocError>
-    ensures { IfOk result (λ found. MatchOption found ((bytes : List ℕ) → SpellsBytes digits.now bytes → ⊥) (λ bytes. SpellsBytes digits.now bytes)) }
+    ensures { IfOk result (λ found. MatchOption found
+        ((bytes : List ℕ) → SpellsBytes digits.now bytes → ⊥)
+        (λ bytes. SpellsBytes digits.now bytes)) }
 {
     match digits {
         [] => Ok(None),

@@ -105,11 +105,14 @@ impl<A: Allocator + Clone> Recording<A> {
     /// such line. `Memory` (RP2) may come in place of any answer.
     pub fn parse(alloc: A, text: &[u8]) -> Result<Self, RecordingError>
         ensures told { IfOk result (λ pieces. Recorded text.now pieces) }
-        ensures bad { IfErr result (λ e. (e ≡ Memory) ⊎ ((n : ℕ) × (e ≡ BadLine n) × IsFirstBad text.now n)) }
+        ensures bad { IfErr result
+            (λ e. (e ≡ Memory) ⊎ ((n : ℕ) × (e ≡ BadLine n) × IsFirstBad text.now n)) }
 
         // and what the text tells, or where it is bad, is the answer
-        ensures only { (pieces : List Piece) → Recorded text.now pieces → (result ≡ Ok pieces) ⊎ (result ≡ Err Memory) }
-        ensures first { (n : ℕ) → IsFirstBad text.now n → (result ≡ Err (BadLine n)) ⊎ (result ≡ Err Memory) }
+        ensures only { (pieces : List Piece) → Recorded text.now pieces → (result ≡ Ok pieces)
+            ⊎ (result ≡ Err Memory) }
+        ensures first { (n : ℕ) → IsFirstBad text.now n → (result ≡ Err (BadLine n))
+            ⊎ (result ≡ Err Memory) }
     {
         Recording::read(alloc, text)
     }
@@ -117,7 +120,8 @@ impl<A: Allocator + Clone> Recording<A> {
     // The recording that a text tells, or its first bad line.
     fn read(alloc: A, text: &[u8]) -> Result<Self, RecordingError>
         ensures told { IfOk result (λ pieces. Recorded text.now pieces) }
-        ensures bad { IfErr result (λ e. (e ≡ Memory) ⊎ ((n : ℕ) × (e ≡ BadLine n) × IsFirstBad text.now n)) }
+        ensures bad { IfErr result
+            (λ e. (e ≡ Memory) ⊎ ((n : ℕ) × (e ≡ BadLine n) × IsFirstBad text.now n)) }
     {
         let mut pieces = Vec::new(alloc.clone()?);
         let mut rest = text;
@@ -177,7 +181,8 @@ impl<A: Allocator + Clone> Recording<A> {
         tokens: u32,
     ) -> Result<(), AllocError>
         requires { tokens ≤ 65536 }
-        ensures ok { OnOk result (self.new ≡ self.old ++ passed direction (replicate len 0) tokens) }
+        ensures ok { OnOk result
+            (self.new ≡ self.old ++ passed direction (replicate len 0) tokens) }
         ensures err { OnErr result (self.new ≡ self.old) }
     {
         if len == 0 && tokens == 0 {

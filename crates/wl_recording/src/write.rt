@@ -11,7 +11,8 @@ pub fn write_piece<A: Allocator + Clone>(
     text: &mut Vec<u8, A>,
     piece: &Passed<A>,
 ) -> Result<(), AllocError>
-    ensures { OnOk result (text.new.items ≡ text.old.items ++ (line_of (plain piece.now) ++ 10 ∷ [])) }
+    ensures { OnOk result (text.new.items ≡ text.old.items
+        ++ (line_of (plain piece.now) ++ 10 ∷ [])) }
 {
     text.push(sign_of(piece.direction))?;
     text.push(b' ')?;

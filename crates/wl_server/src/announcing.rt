@@ -111,7 +111,8 @@ fn tell<T: Table>(
 ) -> Told
     requires few { length globals.now ≤ 1024 }
     requires ordinary { IsOrdinary core.old.outbox }
-    ensures { IsTold core.old (registry.old ∷ []) (due_to globals.now registry.old) result core.new (registry.new ∷ []) }
+    ensures { IsTold core.old (registry.old ∷ []) (due_to globals.now registry.old) result core.new
+        (registry.new ∷ []) }
 {
     let mut count = 0;
     'removals: for (place, global) in globals.iter().enumerate() {
@@ -146,7 +147,8 @@ fn tell_all<T: Table>(
     requires few { length globals.now ≤ 1024 }
     requires ordinary { IsOrdinary core.old.outbox }
     requires rising { RiseFrom 0 core.old.view.births registries.old }
-    ensures { IsTold core.old registries.old (owed_in globals.now registries.old) result core.new registries.new }
+    ensures { IsTold core.old registries.old
+        (owed_in globals.now registries.old) result core.new registries.new }
 {
     let mut count = 0;
     'registries: for registry in registries.iter_mut() {
@@ -166,8 +168,12 @@ impl<'t, T: Table> Server<'t, T> {
     pub fn announce(&mut self) -> Result<usize, SendError>
         // Each open registry is told: it stands among the server's, whose births rise.
         ensures registries { HasRegistries self.old.core.view self.old.registries }
-        ensures ok { IfOk result (λ count. (self.old.core.failed ≡ false) × Fitting self.old count × (self.new ≡ after_announce self.old count)) }
-        ensures err { IfErr result (λ why. (why ≡ refusals.Failed) × (self.old.core.failed ≡ true) × (self.new ≡ self.old)) }
+        ensures ok { IfOk result
+            (λ count. (self.old.core.failed ≡ false) × Fitting self.old count
+            × (self.new ≡ after_announce self.old count)) }
+        ensures err { IfErr result
+            (λ why. (why ≡ refusals.Failed) × (self.old.core.failed ≡ true)
+            × (self.new ≡ self.old)) }
     {
         if self.core.failed {
             return Err(SendError::Failed);

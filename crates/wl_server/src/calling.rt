@@ -28,8 +28,13 @@ impl<'t, T: Table> Server<'t, T> {
         opcode: u16,
         args: &[Arg<'_>],
     ) -> Result<Option<Object>, SendError>
-        ensures answer { Gives SendError.Memory (opens_object (checked self.old.core.tables event_side self.old.core.view target opcode (given args.now))) (send_answer self.old.core event_side target opcode (given args.now)) result }
-        ensures ok { OnOk result (self.new ≡ with_core self.old (after_send self.old.core event_side target opcode (given args.now))) }
+        ensures answer { Gives SendError.Memory
+            (opens_object (checked self.old.core.tables event_side self.old.core.view target opcode
+            (given args.now)))
+            (send_answer self.old.core event_side target opcode (given args.now)) result }
+        ensures ok { OnOk result
+            (self.new ≡ with_core self.old
+            (after_send self.old.core event_side target opcode (given args.now))) }
         ensures err { OnErr result (self.new ≡ self.old) }
     {
         self.core.send(Side::Event, target, opcode, args)
@@ -50,7 +55,8 @@ impl<'t, T: Table> Server<'t, T> {
     /// failed afterwards. Takes no memory.
     pub fn post_error(&mut self, object: Object, code: u32, text: &[u8]) -> Result<(), SendError>
         ensures answer { refusal_in result ≡ error_refusal self.old.core object text.now }
-        ensures ok { OnOk result (self.new ≡ with_core self.old (after_error self.old.core object code text.now)) }
+        ensures ok { OnOk result
+            (self.new ≡ with_core self.old (after_error self.old.core object code text.now)) }
         ensures err { OnErr result (self.new ≡ self.old) }
     {
         if self.core.failed {

@@ -81,8 +81,10 @@ fn make_step<T: Table>(
 ) -> Result<(), AllocError>
     requires { CanTake core.old (step_in step.now) }
     ensures core { OnOk result (core.new ≡ core_by core.old (step_in step.now)) }
-    ensures registries { OnOk result (registries.new.items ≡ registries_by core.old registries.old.items (step_in step.now)) }
-    ensures err { OnErr result ((core.new ≡ core.old) × (registries.new.items ≡ registries.old.items)) }
+    ensures registries { OnOk result
+        (registries.new.items ≡ registries_by core.old registries.old.items (step_in step.now)) }
+    ensures err { OnErr result
+        ((core.new ≡ core.old) × (registries.new.items ≡ registries.old.items)) }
     ensures wants { OnErr result (step.now.made ≢ None) }
 {
     open_made(core, registries, alloc, step.made)?;
@@ -101,8 +103,10 @@ fn open_made<T: Table>(
     made: Option<Made>,
 ) -> Result<(), AllocError>
     ensures core { OnOk result (core.new ≡ with_view core.old (opens core.old.view made)) }
-    ensures registries { OnOk result (registries.new.items ≡ registries_after core.old registries.old.items made) }
-    ensures err { OnErr result ((core.new ≡ core.old) × (registries.new.items ≡ registries.old.items)) }
+    ensures registries { OnOk result
+        (registries.new.items ≡ registries_after core.old registries.old.items made) }
+    ensures err { OnErr result
+        ((core.new ≡ core.old) × (registries.new.items ≡ registries.old.items)) }
     ensures wants { OnErr result (made ≢ None) }
 {
     match made {
@@ -120,8 +124,10 @@ fn open<T: Table>(
     made: Made,
 ) -> Result<(), AllocError>
     ensures core { OnOk result (core.new ≡ with_view core.old (opens core.old.view (Some made))) }
-    ensures registries { OnOk result (registries.new.items ≡ registries_after core.old registries.old.items (Some made)) }
-    ensures err { OnErr result ((core.new ≡ core.old) × (registries.new.items ≡ registries.old.items)) }
+    ensures registries { OnOk result
+        (registries.new.items ≡ registries_after core.old registries.old.items (Some made)) }
+    ensures err { OnErr result
+        ((core.new ≡ core.old) × (registries.new.items ≡ registries.old.items)) }
 {
     if made.iface == REGISTRY {
         let object = Object {
@@ -151,7 +157,9 @@ fn end<T: Table>(
     requires not_display { destroys ≡ Destroys.Target → target.id ≢ 1 }
     requires room { destroys ≡ Destroys.Target → IsTrue (fits core.old.outbox delete_id_len 0) }
     ensures core { core.new ≡ core_without destroys target.id core.old }
-    ensures registries { registries.new.items ≡ without_registry registry_birth (destroys_target destroys) target.birth registries.old.items }
+    ensures registries { registries.new.items
+        ≡ without_registry registry_birth
+        (destroys_target destroys) target.birth registries.old.items }
 {
     match destroys {
         Destroys::Nothing => {}
@@ -165,7 +173,8 @@ fn end<T: Table>(
 
 /// Takes out the registry of this birth, if it is one.
 fn remove<A: Allocator + Drop>(registries: &mut Vec<OpenRegistry<A>, A>, birth: u64)
-    ensures { registries.new.items ≡ without_registry registry_birth true birth registries.old.items }
+    ensures { registries.new.items
+        ≡ without_registry registry_birth true birth registries.old.items }
 {
     registries.retain(|registry| registry.object.birth != birth);
 }
@@ -226,7 +235,8 @@ fn is_bad_bind(
     opcode: u16,
     message: &Received<'_, '_>,
 ) -> bool
-    ensures { result ≡ (is_bind request_side message.now.entry.iface opcode && not (is_good_bind_of tables.now globals.now message.now.values)) }
+    ensures { result ≡ (is_bind request_side message.now.entry.iface opcode && not
+        (is_good_bind_of tables.now globals.now message.now.values)) }
 {
     is_bind(Side::Request, message.entry.iface, opcode)
         && !is_good_bind(tables, globals, &message.values)
@@ -234,7 +244,8 @@ fn is_bad_bind(
 
 /// Whether a message needs more room for its delete_id than there is.
 fn is_out_full(room: usize, message: &Received<'_, '_>) -> bool
-    ensures { result ≡ (destroys_target message.now.signature.now.destroys && nat_lt room delete_id_len) }
+    ensures { result
+        ≡ (destroys_target message.now.signature.now.destroys && nat_lt room delete_id_len) }
 {
     message.signature.destroys() == Destroys::Target && room < DELETE_ID_LEN
 }
@@ -249,7 +260,10 @@ fn step_of<A: Allocator + Clone + Drop, T: Table>(
     header: Header,
     message: &Received<'_, '_>,
 ) -> Result<Step<A>, AllocError>
-    ensures ok { IfOk result (λ step. step_in step ≡ step_with tables.now (T.view table.now) tokens.now header.opcode header.size (received_now message.now)) }
+    ensures ok { IfOk result
+        (λ step. step_in step
+        ≡ step_with tables.now (T.view table.now) tokens.now header.opcode header.size
+        (received_now message.now)) }
     ensures err { OnErr result (message.now.values ≢ []) }
 {
     let kinds = message.signature.kinds();

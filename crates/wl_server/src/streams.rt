@@ -26,10 +26,13 @@ impl<'t, T: Table> Server<'t, T> {
         reports: &mut Vec<Request<T::Alloc>, T::Alloc>,
     ) -> ReadAll
         ensures reports { take (length reports.old.items) reports.new.items ≡ reports.old.items }
-        ensures reads { self.old.core.failed ≡ false → ReadsAll self.old (map part pieces.now) (appended reports.old.items reports.new.items) result self.new }
+        ensures reads { self.old.core.failed ≡ false
+            → ReadsAll self.old (map part pieces.now)
+            (appended reports.old.items reports.new.items) result self.new }
 
         // A server that has failed reads nothing, not even where there are no pieces.
-        ensures answer { self.old.core.failed ≡ true → result ≡ record { pieces = 0; part = no_room; stop = Some NextError.Failed } }
+        ensures answer { self.old.core.failed ≡ true
+            → result ≡ record { pieces = 0; part = no_room; stop = Some NextError.Failed } }
         ensures failed { self.old.core.failed ≡ true → self.new ≡ self.old }
         ensures nothing { self.old.core.failed ≡ true → reports.new.items ≡ reports.old.items }
     {
@@ -70,7 +73,8 @@ impl<'t, T: Table> Server<'t, T> {
     ) -> Result<(), NextError>
         requires { self.old.core.failed ≡ false }
         ensures reports { take (length reports.old.items) reports.new.items ≡ reports.old.items }
-        ensures reads { WaitingIsRead self.old (appended reports.old.items reports.new.items) result self.new }
+        ensures reads { WaitingIsRead self.old
+            (appended reports.old.items reports.new.items) result self.new }
     {
         'messages: loop {
             if reports.reserve(1).is_err() {
@@ -123,7 +127,8 @@ impl<'t, T: Table> Server<'t, T> {
         requires open { self.old.core.failed ≡ false }
         requires room { length piece.tokens.now ≤ free_tokens self.old.core.inbox }
         ensures reports { take (length reports.old.items) reports.new.items ≡ reports.old.items }
-        ensures reads { PieceIsRead self.old (part piece.entry) (appended reports.old.items reports.new.items) result self.new }
+        ensures reads { PieceIsRead self.old (part piece.entry)
+            (appended reports.old.items reports.new.items) result self.new }
     {
         let mut part = self.feed(piece.bytes, piece.tokens);
         'rest: while part.bytes < piece.bytes.len() {

@@ -15,7 +15,8 @@ impl<'t, T: Table> Pair<'t, T> {
     /// of them. Where both are drained and no error was posted, they have.
     pub fn agree(&self) -> bool
         ensures exact { IsTrue result ↔ Agree self.now.client.core.view self.now.server.core.view }
-        ensures drained { (world : World) → Stands self.now world → world.ended ≡ false → drained self.now → IsTrue result }
+        ensures drained { (world : World) → Stands self.now world → world.ended ≡ false
+            → drained self.now → IsTrue result }
     {
         let client = self.client.table();
         let server = self.server.table();

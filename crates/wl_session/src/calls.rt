@@ -17,7 +17,8 @@ impl<'t, T: Table> Pair<'t, T> {
         opcode: u16,
         args: &[Arg<'_>],
     ) -> Result<Option<Object>, SendError>
-        ensures { Does self.old (ClientSend target opcode (given args.now)) (ClientSend result) self.new }
+        ensures { Does self.old (ClientSend target opcode (given args.now))
+            (ClientSend result) self.new }
     {
         self.client.send(target, opcode, args)
     }
@@ -29,7 +30,8 @@ impl<'t, T: Table> Pair<'t, T> {
         iface: &[u8],
         version: u32,
     ) -> Result<Object, SendError>
-        ensures { Does self.old (ClientBind registry name iface.now version) (ClientBind (client_seen.new_in result)) self.new }
+        ensures { Does self.old (ClientBind registry name iface.now version)
+            (ClientBind (client_seen.new_in result)) self.new }
     {
         self.client.bind(registry, name, iface, version)
     }
@@ -40,7 +42,8 @@ impl<'t, T: Table> Pair<'t, T> {
         opcode: u16,
         args: &[Arg<'_>],
     ) -> Result<Option<Object>, SendError>
-        ensures { Does self.old (ServerSend target opcode (given args.now)) (ServerSend result) self.new }
+        ensures { Does self.old (ServerSend target opcode (given args.now))
+            (ServerSend result) self.new }
     {
         self.server.send(target, opcode, args)
     }

@@ -27,7 +27,8 @@ fn prepare<A: Allocator + Clone>(
 ) -> Result<(), AllocError>
     requires few { going.tokens ≤ 65536 }
     requires together { going.bytes ≡ 0 → going.tokens ≡ 0 }
-    ensures ok { OnOk result (recording.new ≡ recording.old ++ passed direction (replicate going.bytes 0) going.tokens) }
+    ensures ok { OnOk result
+        (recording.new ≡ recording.old ++ passed direction (replicate going.bytes 0) going.tokens) }
     ensures err { OnErr result (recording.new ≡ recording.old) }
     ensures some { OnErr result (0 < going.bytes) }
 {
@@ -56,15 +57,23 @@ fn hand_to_server<'t, T: Table>(
     bytes: &mut [u8],
     tokens: &mut [u32],
 )
-    requires fits { let taken = goes client.old.core.outbox (length bytes.old) (length tokens.old) in
-        feeds server.old.core (carried_bytes client.old.core taken) (carried_tokens client.old.core taken) ≡ all_of taken }
-    requires room { let taken = goes client.old.core.outbox (length bytes.old) (length tokens.old) in
+    requires fits { let taken = goes client.old.core.outbox (length bytes.old)
+        (length tokens.old) in
+        feeds server.old.core (carried_bytes client.old.core taken)
+        (carried_tokens client.old.core taken) ≡ all_of taken }
+    requires room { let taken = goes client.old.core.outbox (length bytes.old)
+        (length tokens.old) in
         0 < taken.bytes → taken.bytes ≡ last_len recording.old }
-    ensures client { let taken = goes client.old.core.outbox (length bytes.old) (length tokens.old) in
+    ensures client { let taken = goes client.old.core.outbox (length bytes.old)
+        (length tokens.old) in
         client.new ≡ client_state.with_core client.old (with_gone client.old.core taken.bytes) }
-    ensures server { let taken = goes client.old.core.outbox (length bytes.old) (length tokens.old) in
-        server.new ≡ server_state.with_core server.old (with_arrived server.old.core (carried_bytes client.old.core taken) (carried_tokens client.old.core taken)) }
-    ensures recording { let taken = goes client.old.core.outbox (length bytes.old) (length tokens.old) in
+    ensures server { let taken = goes client.old.core.outbox (length bytes.old)
+        (length tokens.old) in
+        server.new ≡ server_state.with_core server.old
+        (with_arrived server.old.core (carried_bytes client.old.core taken)
+        (carried_tokens client.old.core taken)) }
+    ensures recording { let taken = goes client.old.core.outbox (length bytes.old)
+        (length tokens.old) in
         recording.new ≡ filled recording.old (carried_bytes client.old.core taken) }
 {
     let taken = client.take(bytes, tokens);
@@ -82,15 +91,19 @@ fn pass_to_server<'t, T: Table>(
     tokens: &mut Vec<u32, T::Alloc>,
     limit: Fed,
 )
-    requires places { (limit.bytes ≤ length bytes.old.items) × (limit.tokens ≤ length tokens.old.items) }
+    requires places { (limit.bytes ≤ length bytes.old.items)
+        × (limit.tokens ≤ length tokens.old.items) }
     requires fits { let taken = goes client.old.core.outbox limit.bytes limit.tokens in
-        feeds server.old.core (carried_bytes client.old.core taken) (carried_tokens client.old.core taken) ≡ all_of taken }
+        feeds server.old.core (carried_bytes client.old.core taken)
+        (carried_tokens client.old.core taken) ≡ all_of taken }
     requires room { let taken = goes client.old.core.outbox limit.bytes limit.tokens in
         0 < taken.bytes → taken.bytes ≡ last_len recording.old }
     ensures client { let taken = goes client.old.core.outbox limit.bytes limit.tokens in
         client.new ≡ client_state.with_core client.old (with_gone client.old.core taken.bytes) }
     ensures server { let taken = goes client.old.core.outbox limit.bytes limit.tokens in
-        server.new ≡ server_state.with_core server.old (with_arrived server.old.core (carried_bytes client.old.core taken) (carried_tokens client.old.core taken)) }
+        server.new ≡ server_state.with_core server.old
+        (with_arrived server.old.core (carried_bytes client.old.core taken)
+        (carried_tokens client.old.core taken)) }
     ensures recording { let taken = goes client.old.core.outbox limit.bytes limit.tokens in
         recording.new ≡ filled recording.old (carried_bytes client.old.core taken) }
     ensures as_many { length bytes.new.items ≡ length bytes.old.items }
@@ -110,15 +123,23 @@ fn hand_to_client<'t, T: Table>(
     bytes: &mut [u8],
     tokens: &mut [u32],
 )
-    requires fits { let taken = goes server.old.core.outbox (length bytes.old) (length tokens.old) in
-        feeds client.old.core (carried_bytes server.old.core taken) (carried_tokens server.old.core taken) ≡ all_of taken }
-    requires room { let taken = goes server.old.core.outbox (length bytes.old) (length tokens.old) in
+    requires fits { let taken = goes server.old.core.outbox (length bytes.old)
+        (length tokens.old) in
+        feeds client.old.core (carried_bytes server.old.core taken)
+        (carried_tokens server.old.core taken) ≡ all_of taken }
+    requires room { let taken = goes server.old.core.outbox (length bytes.old)
+        (length tokens.old) in
         0 < taken.bytes → taken.bytes ≡ last_len recording.old }
-    ensures server { let taken = goes server.old.core.outbox (length bytes.old) (length tokens.old) in
+    ensures server { let taken = goes server.old.core.outbox (length bytes.old)
+        (length tokens.old) in
         server.new ≡ server_state.with_core server.old (with_gone server.old.core taken.bytes) }
-    ensures client { let taken = goes server.old.core.outbox (length bytes.old) (length tokens.old) in
-        client.new ≡ client_state.with_core client.old (with_arrived client.old.core (carried_bytes server.old.core taken) (carried_tokens server.old.core taken)) }
-    ensures recording { let taken = goes server.old.core.outbox (length bytes.old) (length tokens.old) in
+    ensures client { let taken = goes server.old.core.outbox (length bytes.old)
+        (length tokens.old) in
+        client.new ≡ client_state.with_core client.old
+        (with_arrived client.old.core (carried_bytes server.old.core taken)
+        (carried_tokens server.old.core taken)) }
+    ensures recording { let taken = goes server.old.core.outbox (length bytes.old)
+        (length tokens.old) in
         recording.new ≡ filled recording.old (carried_bytes server.old.core taken) }
 {
     let taken = server.take(bytes, tokens);
@@ -136,15 +157,19 @@ fn pass_to_client<'t, T: Table>(
     tokens: &mut Vec<u32, T::Alloc>,
     limit: Fed,
 )
-    requires places { (limit.bytes ≤ length bytes.old.items) × (limit.tokens ≤ length tokens.old.items) }
+    requires places { (limit.bytes ≤ length bytes.old.items)
+        × (limit.tokens ≤ length tokens.old.items) }
     requires fits { let taken = goes server.old.core.outbox limit.bytes limit.tokens in
-        feeds client.old.core (carried_bytes server.old.core taken) (carried_tokens server.old.core taken) ≡ all_of taken }
+        feeds client.old.core (carried_bytes server.old.core taken)
+        (carried_tokens server.old.core taken) ≡ all_of taken }
     requires room { let taken = goes server.old.core.outbox limit.bytes limit.tokens in
         0 < taken.bytes → taken.bytes ≡ last_len recording.old }
     ensures server { let taken = goes server.old.core.outbox limit.bytes limit.tokens in
         server.new ≡ server_state.with_core server.old (with_gone server.old.core taken.bytes) }
     ensures client { let taken = goes server.old.core.outbox limit.bytes limit.tokens in
-        client.new ≡ client_state.with_core client.old (with_arrived client.old.core (carried_bytes server.old.core taken) (carried_tokens server.old.core taken)) }
+        client.new ≡ client_state.with_core client.old
+        (with_arrived client.old.core (carried_bytes server.old.core taken)
+        (carried_tokens server.old.core taken)) }
     ensures recording { let taken = goes server.old.core.outbox limit.bytes limit.tokens in
         recording.new ≡ filled recording.old (carried_bytes server.old.core taken) }
     ensures as_many { length bytes.new.items ≡ length bytes.old.items }

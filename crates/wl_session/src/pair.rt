@@ -120,7 +120,8 @@ fn buffers<A: Allocator + Clone + Drop>(
     alloc: &A,
     most_bytes: usize,
 ) -> Result<(Vec<u8, A>, Vec<u32, A>), AllocError>
-    ensures { IfOk result (λ made. (length made.0.items ≡ most_bytes) × (length made.1.items ≡ 65536)) }
+    ensures { IfOk result (λ made. (length made.0.items ≡ most_bytes)
+        × (length made.1.items ≡ 65536)) }
 {
     let bytes = vec![in alloc.clone()?; 0u8; most_bytes]?;
     let tokens = vec![in alloc.clone()?; 0u32; MOST_TOKENS]?;

@@ -24,10 +24,13 @@ impl<'t, T: Table> Pair<'t, T> {
         moves: &[Move<T::Alloc>],
     ) -> Result<Vec<Reply<T::Alloc>, T::Alloc>, AllocError>
         // each move does what its call does, and is answered what that answers
-        ensures does { IfOk result (λ replies. DoesAll self.old (moves_of moves.now) (replies_of replies.items) self.new) }
+        ensures does { IfOk result
+            (λ replies. DoesAll self.old (moves_of moves.now) (replies_of replies.items) self.new) }
 
         // and so, for every world that the pair stands for, this is a run of that world
-        ensures runs { IfOk result (λ replies. (world : World) → Stands self.old world → Runs self.old world (moves_of moves.now) (replies_of replies.items) self.new) }
+        ensures runs { IfOk result
+            (λ replies. (world : World) → Stands self.old world
+            → Runs self.old world (moves_of moves.now) (replies_of replies.items) self.new) }
         ensures err { OnErr result (self.new ≡ self.old) }
     {
         let mut replies = Vec::with_capacity(self.alloc.clone()?, moves.len())?;

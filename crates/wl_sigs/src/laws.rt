@@ -10,12 +10,15 @@ ghost use Rattle.wl_sigs.specs.Valid.{Valid, HasFixedThree};
 /// Tables are valid exactly where wl_display, wl_registry and wl_callback stand in front and the
 /// tests of the other rules pass.
 pub fn valid_where_tests_pass()
-    ensures { (tables : List Interface) → Valid tables ↔ (HasFixedThree tables × (keep_rules tables ≡ true)) }
+    ensures { (tables : List Interface)
+        → Valid tables ↔ (HasFixedThree tables × (keep_rules tables ≡ true)) }
 {}
 
 /// In valid tables each interface is the one that is found by its name.
 pub fn found_by_its_name()
-    ensures { (tables : List Interface) (place : ℕ) (i : Interface) → Valid tables → interface_at tables place ≡ Some i → place_of tables i.name ≡ Some (record { 0 = place }) }
+    ensures { (tables : List Interface) (place : ℕ) (i : Interface) → Valid tables
+        → interface_at tables place ≡ Some i
+        → place_of tables i.name ≡ Some (record { 0 = place }) }
 {}
 
 /// Each constant of `request` and `event` is the opcode at which the core tables have the message of

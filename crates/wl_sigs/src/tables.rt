@@ -49,7 +49,8 @@ impl<A: Allocator> Tables<A> {
 
     /// The name of the interface at a place. None past the tables.
     pub fn name(&self, iface: Iface) -> Option<&[u8]>
-        ensures answer { option_copied result ≡ option_map (λ i. i.name) (interface_at self.now iface.0) }
+        ensures answer { option_copied result
+            ≡ option_map (λ i. i.name) (interface_at self.now iface.0) }
         ensures valid { Valid self.now }
     {
         let entry = self.entry(iface)?;

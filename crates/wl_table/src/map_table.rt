@@ -42,7 +42,9 @@ fn insert_row<A: Allocator + Clone>(
     id: u32,
     entry: Entry,
 ) -> Result<(), TableError>
-    ensures rows { OnOk result (from_entries {R = nat_cmp} rows.new.entries ≡ with_row (from_entries rows.old.entries) id entry) }
+    ensures rows { OnOk result
+        (from_entries {R = nat_cmp} rows.new.entries
+        ≡ with_row (from_entries rows.old.entries) id entry) }
     ensures room { OnOk result (id ≤ vec_capacity freed.new) }
     ensures rows_stay { OnErr result (rows.new.entries ≡ rows.old.entries) }
     ensures memory { IfErr result (λ e. e ≡ TableError.Memory) }
@@ -93,7 +95,8 @@ impl<A: Allocator + Clone> MapTable<A> {
         requires free { IsTrue (free_or_next self.old id) }
         requires room { IsTrue (has_room self.old id) }
         ensures ok { OnOk result (self.new ≡ opened_at self.old id iface version) }
-        ensures object { IfOk result (λ object. object ≡ record { id = id; birth = self.old.births }) }
+        ensures object { IfOk result
+            (λ object. object ≡ record { id = id; birth = self.old.births }) }
         ensures err { OnErr result (self.new ≡ self.old) }
         ensures memory { IfErr result (λ e. e ≡ TableError.Memory) }
     {

@@ -188,7 +188,8 @@ impl<A: Allocator> SlotTable<A> {
         requires free { IsTrue (free_or_next self.old id) }
         requires room { IsTrue (has_room self.old id) }
         ensures ok { OnOk result (self.new ≡ opened_at self.old id iface version) }
-        ensures object { IfOk result (λ object. object ≡ record { id = id; birth = self.old.births }) }
+        ensures object { IfOk result
+            (λ object. object ≡ record { id = id; birth = self.old.births }) }
         ensures err { OnErr result (self.new ≡ self.old) }
         ensures memory { IfErr result (λ e. e ≡ TableError.Memory) }
     {

@@ -57,7 +57,9 @@ pub trait Table {
     /// tested before O4.
     fn open_next(&mut self, iface: Iface, version: u32) -> Result<Object, TableError>
         ensures ok { OnOk result (view self.new ≡ opened (view self.old) iface version) }
-        ensures object { IfOk result (λ object. object ≡ record { id = next_id (view self.old); birth = (view self.old).births }) }
+        ensures object { IfOk result
+            (λ object. object
+            ≡ record { id = next_id (view self.old); birth = (view self.old).births }) }
         ensures err { OnErr result (view self.new ≡ view self.old) }
 
         ensures no_ids { (result ≡ Err TableError.NoIds) ↔ IsTrue (not (can_open (view self.old))) }
@@ -68,12 +70,15 @@ pub trait Table {
     /// new one. O3 is tested first, then O2, O1 and O4.
     fn open_at(&mut self, id: u32, iface: Iface, version: u32) -> Result<Object, TableError>
         ensures ok { OnOk result (view self.new ≡ opened_at (view self.old) id iface version) }
-        ensures object { IfOk result (λ object. object ≡ record { id = id; birth = (view self.old).births }) }
+        ensures object { IfOk result
+            (λ object. object ≡ record { id = id; birth = (view self.old).births }) }
         ensures err { OnErr result (view self.new ≡ view self.old) }
 
         ensures in_use { (result ≡ Err TableError.InUse) ↔ IsTrue (is_held (view self.old) id) }
-        ensures not_next { (result ≡ Err TableError.NotNext) ↔ IsTrue (not (is_held (view self.old) id) && not (free_or_next (view self.old) id)) }
-        ensures no_ids { (result ≡ Err TableError.NoIds) ↔ IsTrue (free_or_next (view self.old) id && not (has_room (view self.old) id)) };
+        ensures not_next { (result ≡ Err TableError.NotNext)
+            ↔ IsTrue (not (is_held (view self.old) id) && not (free_or_next (view self.old) id)) }
+        ensures no_ids { (result ≡ Err TableError.NoIds)
+            ↔ IsTrue (free_or_next (view self.old) id && not (has_room (view self.old) id)) };
 
     /// Makes a live object a zombie: its id stays in use. Takes no memory.
     fn make_zombie(&mut self, id: u32)

@@ -12,7 +12,8 @@ ghost use Rattle.wl_wire.specs.Word.{IsHeader, header_at, header_bytes, int_word
 
 /// No spelling of a kind begins another: the bytes fix the value, and how many of them spell it.
 pub fn one_spelling()
-    ensures { (kind : SpecKind) (v w : Argument) (a b x y : List ℕ) → Spells kind v a → Spells kind w b
+    ensures { (kind : SpecKind) (v w : Argument) (a b x y : List ℕ) → Spells kind v a
+        → Spells kind w b
         → a ++ x ≡ b ++ y → (v ≡ w) × (a ≡ b) }
 {}
 
@@ -64,7 +65,8 @@ pub fn one_signed()
 
 /// The header that `to_bytes` wrote is the one that `from_bytes` reads, whatever follows.
 pub fn header_is_read()
-    ensures { (h : SpecHeader) (rest : List ℕ) → IsHeader h → header_at (header_bytes h ++ rest) ≡ h }
+    ensures { (h : SpecHeader) (rest : List ℕ) → IsHeader h
+        → header_at (header_bytes h ++ rest) ≡ h }
 {}
 
 /// The bytes that `from_bytes` read are those that `to_bytes` writes.

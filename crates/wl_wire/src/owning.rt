@@ -20,7 +20,8 @@ pub fn read_value<A: Allocator>(
     bytes: &[u8],
 ) -> Result<(Value<A>, usize), ReadError>
     // What is read is spelled so.
-    ensures found { IfOk result (λ x. (x.1 ≤ length bytes.now) × Spells kind (plain x.0) (take x.1 bytes.now)) }
+    ensures found { IfOk result
+        (λ x. (x.1 ≤ length bytes.now) × Spells kind (plain x.0) (take x.1 bytes.now)) }
     // What is spelled so is read, unless memory runs out.
     ensures only { (v : Argument) (n : ℕ) → n ≤ length bytes.now → Spells kind v (take n bytes.now)
         → MatchResult result (λ x. (plain x.0 ≡ v) × (x.1 ≡ n)) (λ e. e ≡ Memory) }
@@ -39,7 +40,8 @@ pub fn read_value<A: Allocator>(
 
 /// The same value with bytes of its own.
 fn owned<A: Allocator>(alloc: A, value: ValueRef<'_>) -> Result<Value<A>, AllocError>
-    ensures { MatchResult result (λ v. plain v ≡ lent value.entry) (λ _. HoldsBytes (lent value.entry)) }
+    ensures { MatchResult result (λ v. plain v ≡ lent value.entry)
+        (λ _. HoldsBytes (lent value.entry)) }
 {
     match value {
         ValueRef::Int(z) => Ok(Value::Int(z)),

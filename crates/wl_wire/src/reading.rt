@@ -15,7 +15,8 @@ use crate::word::{int_at, padded_len, word_at};
 /// behind it is not looked at, and padding may be any bytes.
 pub fn read_ref<'a>(kind: Kind, bytes: &'a [u8]) -> Result<(ValueRef<'a>, usize), ArgFault>
     // What is read is spelled so.
-    ensures found { IfOk result (λ x. (x.1 ≤ length bytes.now) × Spells kind (lent x.0) (take x.1 bytes.now)) }
+    ensures found { IfOk result
+        (λ x. (x.1 ≤ length bytes.now) × Spells kind (lent x.0) (take x.1 bytes.now)) }
     // What is spelled so is read.
     ensures only { (v : Argument) (n : ℕ) → n ≤ length bytes.now → Spells kind v (take n bytes.now)
         → seen result ≡ Ok (v, n) }
@@ -38,7 +39,8 @@ fn front_of<'a>(kind: Kind, bytes: &'a [u8]) -> Result<(ValueRef<'a>, usize), Ar
 
 /// How many bytes the argument at the front takes, if they are all there.
 fn len_at(kind: Kind, bytes: &[u8]) -> Result<usize, ArgFault>
-    ensures { result ≡ (if nat_lt (length bytes.now) (asked kind bytes.now) then Err Short else Ok (asked kind bytes.now)) }
+    ensures { result ≡ (if nat_lt (length bytes.now) (asked kind bytes.now) then Err Short else Ok
+        (asked kind bytes.now)) }
 {
     if matches!(&kind, Kind::Fd) {
         return Ok(0);

@@ -19,7 +19,8 @@ pub fn encode_value<A: Allocator>(
     ensures ok { OnOk result (out.new.items ≡ out.old.items ++ canonical (lent value.entry)) }
     ensures len { OnOk result (vec_len out.new ≡ vec_len out.old + spelled_len (lent value.entry)) }
     ensures err { OnErr result (out.new.items ≡ out.old.items) }
-    ensures room { vec_len out.old + spelled_len (lent value.entry) ≤ vec_capacity out.old → IsOk result }
+    ensures room { vec_len out.old + spelled_len (lent value.entry) ≤ vec_capacity out.old
+        → IsOk result }
     ensures capacity { vec_capacity out.old ≤ vec_capacity out.new }
 {
     out.reserve(value.spelled_len())?;
@@ -80,7 +81,8 @@ fn append_int<A: Allocator>(out: &mut Vec<u8, A>, z: i32)
 fn append_padded<A: Allocator>(out: &mut Vec<u8, A>, len: u32, bytes: &[u8])
     requires len { (length bytes.now ≤ len) × (len ≤ length bytes.now + 1) }
     requires room { vec_len out.old + (4 + padded len) ≤ vec_capacity out.old }
-    ensures items { out.new.items ≡ out.old.items ++ (word len ++ bytes.now ++ zeros (padded len - length bytes.now)) }
+    ensures items { out.new.items ≡ out.old.items
+        ++ (word len ++ bytes.now ++ zeros (padded len - length bytes.now)) }
     ensures len { vec_len out.new ≡ vec_len out.old + (4 + padded len) }
     ensures capacity { vec_capacity out.old ≤ vec_capacity out.new }
 {

@@ -19,7 +19,8 @@ ghost use Rattle.wl_world.specs.Plain.{StandsIn, OfEach, OnTheWay, IsNowhere, Is
 
 /// A new pair stands for the opening world.
 pub fn new_stands()
-    ensures { (tables : List Interface) (client server : Sizes) → Valid tables → Stands (new_pair tables client server) opening }
+    ensures { (tables : List Interface) (client server : Sizes) → Valid tables
+        → Stands (new_pair tables client server) opening }
 {}
 
 /// An ended world stands with every pair.
@@ -30,40 +31,48 @@ pub fn ended_stands()
 /// Whatever one move does with a standing pair, its reply is one that the world allows, and the
 /// pair stands again.
 pub fn step_keeps()
-    ensures { (pair : PairState) (world : World) → Stands pair world → (move : Move) (reply : Reply) (next : PairState)
+    ensures { (pair : PairState) (world : World) → Stands pair world
+        → (move : Move) (reply : Reply) (next : PairState)
         → IsMove move → Does pair move reply next → Keeps pair world move reply next }
 {}
 
 /// Whatever any list of moves does with a standing pair is a run: each pair stands in its world, and
 /// each reply is one that the world allows.
 pub fn run_keeps()
-    ensures { (pair : PairState) (world : World) (moves : List Move) (replies : List Reply) (last : PairState)
-        → Stands pair world → Each IsMove moves → DoesAll pair moves replies last → Runs pair world moves replies last }
+    ensures { (pair : PairState) (world : World) (moves : List Move) (replies : List Reply)
+        (last : PairState)
+        → Stands pair world → Each IsMove moves → DoesAll pair moves replies last
+        → Runs pair world moves replies last }
 {}
 
 /// A run can go on where it ended: by a step that its last pair and world allow.
 pub fn run_more()
-    ensures { (pair : PairState) (world : World) (moves : List Move) (replies : List Reply) (last : PairState)
+    ensures { (pair : PairState) (world : World) (moves : List Move) (replies : List Reply)
+        (last : PairState)
         → Stands pair world → Runs pair world moves replies last
-        → (here : World) × Stands last here × ((move : Move) (reply : Reply) (next : PairState) → Keeps last here move reply next
+        → (here : World) × Stands last here
+        × ((move : Move) (reply : Reply) (next : PairState) → Keeps last here move reply next
         → Runs pair world (moves ++ move ∷ []) (replies ++ reply ∷ []) next) }
 {}
 
 /// Once nothing waits in any box, both ends hold the same objects under the same numbers.
 pub fn drained_agree()
-    ensures { (pair : PairState) (world : World) → Stands pair world → world.ended ≡ false → drained pair
+    ensures { (pair : PairState) (world : World) → Stands pair world → world.ended ≡ false
+        → drained pair
         → Agree pair.client.core.view pair.server.core.view }
 {}
 
 /// The client of a standing pair meets no fault.
 pub fn client_meets_no_fault()
-    ensures { (pair : PairState) (world : World) (fault : Fault) (offset : ℕ) → Stands pair world → world.ended ≡ false
+    ensures { (pair : PairState) (world : World) (fault : Fault) (offset : ℕ) → Stands pair world
+        → world.ended ≡ false
         → client_reads.next_answer pair.client ≡ Err (errors.Fault fault offset) → ⊥ }
 {}
 
 /// The server of a standing pair meets no fault.
 pub fn server_meets_no_fault()
-    ensures { (pair : PairState) (world : World) (fault : Fault) (offset : ℕ) → Stands pair world → world.ended ≡ false
+    ensures { (pair : PairState) (world : World) (fault : Fault) (offset : ℕ) → Stands pair world
+        → world.ended ≡ false
         → server_reads.next_answer pair.server ≡ Err (errors.Fault fault offset) → ⊥ }
 {}
 
@@ -131,7 +140,8 @@ pub fn registries_are_told()
 /// What a carry takes out of one end fits into the other, which takes all of it in.
 pub fn carry_is_whole()
     ensures { (from to : Core) (most : ℕ)
-        → feeds to (carried_bytes from (carries from to most)) (carried_tokens from (carries from to most)) ≡ all_of (carries from to most) }
+        → feeds to (carried_bytes from (carries from to most))
+        (carried_tokens from (carries from to most)) ≡ all_of (carries from to most) }
 {}
 
 /// A history that there is: a callback is made, done with, and forgotten.
