@@ -182,7 +182,7 @@ fn are_made(alloc: Global, memory: RefusingAllocator) -> bool {
     }
 }
 
-/// Whether the making is refused, where the allocation of this number is, with want of memory, and
+/// Whether the making is refused, where the allocation of this number is, with lack of memory, and
 /// the same call with memory gives the tables. Where it is not met the tables are made.
 fn is_made_at_last(
     alloc: Global,

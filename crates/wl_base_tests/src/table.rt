@@ -238,7 +238,7 @@ fn open<T: Table>(table: &mut T, id: u32, named: bool) -> Result<Object, TableEr
 }
 
 /// Whether an opening gives this object where no allocation was refused. Else whether the answer is
-/// want of memory, the table is as it was before, and the same call gives the object with memory.
+/// lack of memory, the table is as it was before, and the same call gives the object with memory.
 fn opens_or_is_as_before<T: Table>(
     memory: &RefusingAllocator,
     before: &T,
@@ -468,7 +468,7 @@ impl Replies {
     }
 }
 
-/// Whether two tables reply alike to 2,000 moves, never with want of memory, and are the same in
+/// Whether two tables reply alike to 2,000 moves, never with lack of memory, and are the same in
 /// the end. The moves are drawn from a fixed sequence of numbers; 19 of them open an object in the
 /// midst of the freed ids.
 fn reply_alike<T: Table, U: Table>(one: &mut T, other: &mut U) -> bool {

@@ -85,7 +85,7 @@ fn play_all<T: Table>(pair: &mut Pair<'_, T>, moves: &[Move<T::Alloc>]) -> Resul
     Ok(())
 }
 
-/// Does these moves. The error is want of memory, for the replies or for one of the moves.
+/// Does these moves. The error is lack of memory, for the replies or for one of the moves.
 fn run_all<T: Table>(
     pair: &mut Pair<'_, T>,
     moves: &[Move<T::Alloc>],
@@ -100,7 +100,7 @@ fn run_all<T: Table>(
     Ok(replies)
 }
 
-/// Whether one of these moves was refused for want of memory.
+/// Whether one of these moves was refused for lack of memory.
 fn lack_memory<A: Allocator>(replies: &[Reply<A>]) -> bool
     ensures { result ≡ list_any (λ reply. playing.lacks_memory (reply_of reply)) replies.now }
 {
@@ -127,7 +127,7 @@ fn does_something<A: Allocator>(reply: &Reply<A>) -> bool
     }
 }
 
-/// Whether a move was refused for want of memory.
+/// Whether a move was refused for lack of memory.
 fn lacks_memory<A: Allocator>(reply: &Reply<A>) -> bool
     ensures { result ≡ playing.lacks_memory (reply_of reply.now) }
 {

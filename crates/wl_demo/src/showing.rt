@@ -19,7 +19,7 @@ const SIZES: Sizes = Sizes {
 };
 
 /// What the program prints: the lines of what was carried, and whether both ends have the same
-/// objects then. Each carry moves at most `piece` bytes. The error is want of memory.
+/// objects then. Each carry moves at most `piece` bytes. The error is lack of memory.
 pub fn demo<A: Allocator + Clone + Drop>(
     alloc: A,
     tables: &Tables,

@@ -45,7 +45,7 @@ impl Display for Failure<'_> {
 impl Error for Failure<'_> {}
 
 impl Failure<'_> {
-    /// The exit status: 4 for want of memory, else 3.
+    /// The exit status: 4 for lack of memory, else 3.
     fn status(&self) -> u8
         ensures { result ≡ status_of self.now }
     {

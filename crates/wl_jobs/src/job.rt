@@ -29,7 +29,7 @@ pub enum Job {
 #[derive(Debug, Drop)]
 pub struct Stop {
     /// The exit status: 0 where help was asked for, 2 for a command line that is none of this
-    /// program's, 4 for want of memory.
+    /// program's, 4 for lack of memory.
     pub status: u8,
     /// What to print: help to standard output, a fault to standard error. It is empty for want of
     /// memory.
@@ -58,6 +58,7 @@ impl Stop {
 
 fn command<'a>(alloc: Global) -> Result<Command<'a>, AllocError> {
     Command::new(alloc, "waywire")
+        .bin_name("waywire")?
         .about("Recorded sessions of Wayland clients, as text")
         .subcommand_required(true)
         .subcommand(trace(alloc)?)?

@@ -300,10 +300,10 @@ fn says_which_stream_failed(rt: HostRuntime) -> Result<(), Fail> {
     Ok(())
 }
 
-/// What is said for want of memory.
+/// What is said for lack of memory.
 const NO_MEMORY: &[u8] = b"waywire: out of memory\n";
 
-/// Whether a trace in this memory answers want of memory, and nothing else, where an allocation was
+/// Whether a trace in this memory answers lack of memory, and nothing else, where an allocation was
 /// refused, and else all of this session.
 fn is_refused_or_whole(
     alloc: Global,

@@ -59,7 +59,7 @@ fn shows_the_same_session_in_any_pieces(rt: HostRuntime) -> Result<(), Fail> {
     Ok(())
 }
 
-/// Whether a demonstration in this memory answers want of memory, and nothing else.
+/// Whether a demonstration in this memory answers lack of memory, and nothing else.
 fn is_refused(alloc: Global, memory: RefusingAllocator<Global>) -> bool {
     let mut out = Vec::new(alloc);
     let mut err = Vec::new(alloc);

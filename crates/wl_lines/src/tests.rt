@@ -1,4 +1,4 @@
-//! Lines worked out by hand, one or more for each kind of argument, and want of memory.
+//! Lines worked out by hand, one or more for each kind of argument, and lack of memory.
 
 use crate::write_line;
 use refusing::RefusingAllocator;

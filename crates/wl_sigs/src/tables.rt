@@ -97,7 +97,7 @@ impl<A: Allocator> Tables<A> {
 
 impl<A: Allocator + Clone + Drop> Tables<A> {
     /// The core interfaces of wayland.xml, without data transfer, wl_display at place 0. Its only
-    /// error is want of memory.
+    /// error is lack of memory.
     #[tactic(auto, unfolding(crate::specs::Core::core_tables))]
     pub fn core(alloc: A) -> Result<Self, AllocError>
         ensures holds { IfOk result (λ tables. tables ≡ core_tables) }
