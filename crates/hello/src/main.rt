@@ -7,13 +7,13 @@ ghost use Rattle.std.specs.Prelude.{◌≤◌, length};
 use anyhow::{Context, Result, bail};
 use std::io::Write;
 use wl::{
-    Arg, Direction, Got, Gots, Incoming, MapTable, Object, Recording, Sizes, Tables, event,
+    Arg, Direction, Got, Gots, Incoming, Object, Recording, Sizes, SlotTable, Tables, event,
     request, trace,
 };
 
-type Client<'t> = wl::Client<'t, MapTable>;
+type Client<'t> = wl::Client<'t, SlotTable>;
 
-type Server<'t> = wl::Server<'t, MapTable>;
+type Server<'t> = wl::Server<'t, SlotTable>;
 
 /// Room for 65,536 bytes and 64 tokens in each box.
 const SIZES: Sizes = Sizes {

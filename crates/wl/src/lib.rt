@@ -43,7 +43,8 @@
 //!
 //! - [`Tables`] say which messages there are. They are made once, and lent to any number of ends.
 //! - An end owns its objects, the two boxes and their room. [`Sizes`] says how large the boxes are,
-//!   and they never grow. Its objects stand in a [`Table`], of which [`MapTable`] is one.
+//!   and they never grow. Its objects stand in a [`Table`]: [`SlotTable`],
+//!   in which every call takes constant time, or its plain twin [`MapTable`].
 //! - An [`Object`] is a plain value: an id and a birth, which tells it from every other object that
 //!   ever had that id. A call that names an object of the past is refused, and never reaches its
 //!   successor.
@@ -82,13 +83,13 @@
 //! use anyhow::{Context, Result, bail};
 //! use std::io::Write;
 //! use wl::{
-//!     Arg, Direction, Got, Gots, Incoming, MapTable, Object, Recording, Sizes, Tables, event,
+//!     Arg, Direction, Got, Gots, Incoming, Object, Recording, Sizes, SlotTable, Tables, event,
 //!     request, trace,
 //! };
 //!
-//! type Client<'t> = wl::Client<'t, MapTable>;
+//! type Client<'t> = wl::Client<'t, SlotTable>;
 //!
-//! type Server<'t> = wl::Server<'t, MapTable>;
+//! type Server<'t> = wl::Server<'t, SlotTable>;
 //!
 //! /// Room for 65,536 bytes and 64 tokens in each box.
 //! const SIZES: Sizes = Sizes {
@@ -233,8 +234,8 @@ pub use wl_client::{Client, Incoming, Tokens};
 pub use wl_end::ReadAll;
 pub use wl_message::{BadSize, Fed, Full, Piece, Sizes, Taken};
 pub use wl_objects::{
-    Arg, Entry, Fault, Got, Gots, MapTable, Named, NextError, Object, SendError, State, Table,
-    TableError,
+    Arg, Entry, Fault, Got, Gots, MapTable, Named, NextError, Object, SendError, SlotTable, State,
+    Table, TableError,
 };
 pub use wl_server::{GlobalError, Request, Server};
 pub use wl_session::{
