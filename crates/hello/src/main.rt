@@ -106,7 +106,7 @@ fn serve(server: &mut Server<'_>) -> Result<()> {
     Ok(())
 }
 
-/// Carries what the client wrote to the server, and what that answers to the client.
+/// Carries what the client wrote to the server, and the server's events to the client.
 fn round_trip(
     client: &mut Client<'_>,
     server: &mut Server<'_>,

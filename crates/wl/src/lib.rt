@@ -22,7 +22,7 @@
 //! 4. **Feed.** `feed` moves what was read into the end's inbox, as much as it has room for, and
 //!    returns how much that was. Bytes may come in any cut, down to single ones.
 //! 5. **Next.** `next` reads one message and returns its report, or `None` as long as none is
-//!    whole. The caller goes on until `None`, and sends its answers on the way.
+//!    whole. The caller goes on until `None`, and sends its replies on the way.
 //!
 //! [`Client::read_all`] and [`Server::read_all`] are steps 4 and 5 for a list of pieces. No call
 //! blocks, and none calls back.
@@ -44,7 +44,8 @@
 //! - [`Tables`] say which messages there are. They are made once, and lent to any number of ends.
 //! - An end owns its objects, the two boxes and their room. [`Sizes`] says how large the boxes are,
 //!   and they never grow. Its objects stand in a [`Table`]: [`SlotTable`],
-//!   in which every call takes constant time, or its plain twin [`MapTable`].
+//!   in which every call takes constant time, but for an opening that doubles its vector, or its
+//!   plain twin [`MapTable`].
 //! - An [`Object`] is a plain value: an id and a birth, which tells it from every other object that
 //!   ever had that id. A call that names an object of the past is refused, and never reaches its
 //!   successor.
@@ -182,7 +183,7 @@
 //!     Ok(())
 //! }
 //!
-//! /// Carries what the client wrote to the server, and what that answers to the client.
+//! /// Carries what the client wrote to the server, and the server's events to the client.
 //! fn round_trip(
 //!     client: &mut Client<'_>,
 //!     server: &mut Server<'_>,
