@@ -1,5 +1,5 @@
 -- A carry that moves bytes, and a read that finds a message, leave less to be carried or read.
-use Rattle.std.proofs.Common.{◌≡◌, ℕ, ◌+◌, ◌<◌, ◌≤◌, true, List, [], ◌∷◌, ◌++◌, length, length-append, take, refl, sym, ◌∙◌, ap, arith}
+use Rattle.std.proofs.Common.{◌≡◌, ℕ, Bool, ◌+◌, ◌<◌, ◌≤◌, true, List, [], ◌∷◌, ◌++◌, length, length-append, take, refl, sym, ◌∙◌, ap, arith}
 use Rattle.std.proofs.lemmas.List.{length-take}
 use Rattle.std.proofs.lemmas.Bool.{ltb-true}
 use Rattle.std.specs.declared.option.Option.{Option}
@@ -8,10 +8,7 @@ use Rattle.std.specs.declared.result.Result.{Result}
 use Rattle.std.specs.declared.result.Result.TheVariants.{Ok, Err}
 use Rattle.wl_message.specs.declared.amounts.Taken.{Taken}
 use Rattle.wl_message.specs.Outgoing.{Message, Outgoing, all_bytes, waiting_bytes, newly_begun, after_taking}
-use Rattle.wl_sigs.specs.declared.signature.Side.TheVariants.{Event}
 use Rattle.wl_objects.specs.declared.error.NextError.{NextError}
-use Rattle.wl_objects.specs.declared.error.Fault.{Fault}
-use Rattle.wl_end.specs.Receiving.{Found, found}
 use Rattle.wl_client.specs.Reports as events
 use Rattle.wl_client.proofs.Waits as client
 use Rattle.wl_server.specs.Requests as requests
@@ -52,10 +49,10 @@ found_some (Ok (Some r)) h = (r, refl)
 found_some (Ok None) h = absurd (cc h)
 found_some (Err e) h = absurd (cc h)
 
-read_less : {R : Type 0} (answer : Result (Option R) NextError) (what : Result (Option Found) Fault) (left : PairState → ℕ) (before after : PairState) {reply : Result (Option R) NextError} {last : PairState}
-    → Nexts answer what before after reply last → ((r : R) → answer ≡ Ok (Some r) → left after < left before) → finds reply ≡ true → left last < left before
-read_less answer what left before after answered less found = let r = found_some answer found in less r.0 r.1
-read_less answer what left before after (no_memory is has) less found = absurd (cc found)
+read_less : {R : Type 0} (needs : R → Bool) (answer : Result (Option R) NextError) (left : PairState → ℕ) (before after : PairState) {reply : Result (Option R) NextError} {last : PairState}
+    → Nexts needs answer before after reply last → ((r : R) → answer ≡ Ok (Some r) → left after < left before) → finds reply ≡ true → left last < left before
+read_less needs answer left before after answered less found = let r = found_some answer found in less r.0 r.1
+read_less needs answer left before after (no_memory is has) less found = absurd (cc found)
 
 -- it is less where the move did something
 pub less_left : (move : Move) (reply : Reply) (p p' : PairState) → Does p move reply p' → does_something reply ≡ true → left_for move p' < left_for move p
@@ -68,10 +65,10 @@ less_left (CarryToClient most) (CarryToClient carried) p p' does busy =
     carried_less taken (left_for (CarryToClient most)) p (after_carry_to_client p taken) does (fewer_left p.server.core.outbox taken.bytes (goes_there p.server.core.outbox _ _)) busy
 less_left (CarryToClient most) _ p p' does busy = absurd does
 less_left ServerNext (ServerNext answer) p p' does busy =
-    read_less (requests.next_answer p.server) (requests.request p.server) (left_for ServerNext) p (with_server p (requests.after_next p.server)) does (server.fewer_wait p.server) busy
+    read_less requests.needs_memory (requests.next_answer p.server) (left_for ServerNext) p (with_server p (requests.after_next p.server)) does (server.fewer_wait p.server) busy
 less_left ServerNext _ p p' does busy = absurd does
 less_left ClientNext (ClientNext answer) p p' does busy =
-    read_less (events.next_answer p.client) (found p.client.core Event) (left_for ClientNext) p (with_client p (events.after_next p.client)) does (client.fewer_wait p.client) busy
+    read_less events.needs_memory (events.next_answer p.client) (left_for ClientNext) p (with_client p (events.after_next p.client)) does (client.fewer_wait p.client) busy
 less_left ClientNext _ p p' does busy = absurd does
 less_left (ClientSend target opcode given) (ClientSend reply) p p' does busy = absurd (cc busy)
 less_left (ClientSend target opcode given) _ p p' does busy = absurd does
