@@ -3,6 +3,7 @@
 
 mod binding;
 mod client;
+mod end;
 mod globals;
 mod incoming;
 mod laws;

@@ -4,6 +4,7 @@
 mod advertised;
 mod announcing;
 mod calling;
+mod end;
 mod faults;
 mod globals;
 mod laws;
