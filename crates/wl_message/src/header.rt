@@ -30,8 +30,8 @@ pub(crate) fn header_of<A: Allocator>(
     Header::from_bytes(first)
 }
 
-/// Whether a message may have so many bytes.
-fn is_size(size: u16) -> bool
+/// Whether a message may have this size.
+pub fn is_size(size: u16) -> bool
     ensures { result ≡ is_size usual_limit size }
 {
     size >= 8 && size % 4 == 0 && size <= LIMIT

@@ -15,6 +15,7 @@ mod marks;
 mod outbox;
 
 pub use amounts::{Fed, Full, Piece, Sizes, Taken};
+pub use header::is_size;
 pub use inbox::{BadSize, Frame, Inbox};
 pub use laws::{
     any_cut, front_stays, headed_message, joined_messages, next_message, one_amount, one_cut,

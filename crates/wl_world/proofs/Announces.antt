@@ -31,9 +31,9 @@ use Rattle.wl_server.proofs.Registries.{has_marked}
 use Rattle.wl_world.specs.Meant.{Born, Known, Message, Coming, Event, Arg, renamed, rearg, born_of, birth_of, wire, tokens, made_in, objects}
 use Rattle.wl_world.specs.World.{World, Each, event_written}
 use Rattle.wl_world.specs.Pair.{PairState, Announce, with_server, with_server_core, Announces, announced, refused}
-use Rattle.wl_world.specs.Answers.{NotEnded, Owed, owed_by, mark, mark_in, told_args, WritesThat, AnnouncesThose, none, more, before}
+use Rattle.wl_world.specs.Answers.{NotEnded, Owed, owed_by, mark_in, marks_of, registry_of, told_args, WritesThat, AnnouncesThose, none, more, before}
 use Rattle.wl_world.specs.Flight.{Rows, server_rows}
-use Rattle.wl_world.specs.Stands.{stands, StandsBy, TellsFitly, IsRegistry, IsGlobal, marks_of}
+use Rattle.wl_world.specs.Stands.{stands, StandsBy, TellsFitly, IsRegistry, IsGlobal}
 use Rattle.wl_world.specs.Runs.{Keeps}
 use Rattle.wl_world.proofs.Wholes.{ThereRow}
 use Rattle.wl_world.proofs.Afters.{there_row, made_map}
@@ -122,12 +122,10 @@ take_map f zero xs = refl
 take_map f (suc n) [] = refl
 take_map f (suc n) (x ∷ xs) = ap (λ (l : List _). f x ∷ l) (take_map f n xs)
 
-mark_one : (o : Owing) (r : Registry) → marks_of (marked o r) ≡ mark o (marks_of r)
-mark_one (Removal name) r = refl
-mark_one (Telling name g) r = refl
-
-pick : (b : Bool) (o : Owing) (r : Registry) → marks_of (cond b (marked o r) r) ≡ cond b (mark o (marks_of r)) (marks_of r)
-pick true o r = mark_one o r
+-- a registry is marked alike under any id
+pick : (b : Bool) (o : Owing) (r : Registry) → let s = registry_of (marks_of r) in marks_of (cond b (marked o r) r) ≡ marks_of (cond b (marked o s) s)
+pick true (Removal name) r = refl
+pick true (Telling name g) r = refl
 pick false o r = refl
 
 pub marks_marked : (d : Due) (rs : List Registry) → map marks_of (marked_in d rs) ≡ mark_in (owed_of d) (map marks_of rs)

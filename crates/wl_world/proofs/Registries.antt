@@ -22,7 +22,8 @@ use Rattle.wl_server.specs.Calls.{ends_by_event}
 use Rattle.wl_world.specs.Meant.{Born, Known, born_of}
 use Rattle.wl_world.specs.World.{Marks, put, Each, IfThere, marks_birth, registries_after as marks_after}
 use Rattle.wl_world.specs.Flight.{Rows, at, made, server_rows, Fresh}
-use Rattle.wl_world.specs.Stands.{IsRegistry, marks_of, by_event}
+use Rattle.wl_world.specs.Answers.{marks_of}
+use Rattle.wl_world.specs.Stands.{IsRegistry, by_event}
 use Rattle.wl_world.proofs.Deeds.{put_tells}
 use Rattle.wl_world.proofs.Wholes.{ThereRow, server_makes, server_ends}
 use Rattle.wl_world.proofs.Readings.{made_of}

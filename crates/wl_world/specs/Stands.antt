@@ -27,9 +27,9 @@ use Rattle.wl_server.specs.Requests.{bind_fits}
 use Rattle.wl_server.specs.Calls.{ends_by_event, can_be_global}
 use Rattle.wl_server.specs.Announcing.{name_at}
 use Rattle.wl_world.specs.Meant.{Born, Known, Message, Coming, Event, Delete, Arg, renamed, recoming, born_of, birth_of, made_in, new_in, wire, spelled, spelled_coming, live_entry}
-use Rattle.wl_world.specs.World.{World, display_born, Row, Open, Ending, Marks, Each, IfThere}
+use Rattle.wl_world.specs.World.{World, display_born, Row, Open, Ending, Each, IfThere}
 use Rattle.wl_world.specs.Pair.{PairState}
-use Rattle.wl_world.specs.Answers.{NotEnded}
+use Rattle.wl_world.specs.Answers.{NotEnded, marks_of}
 use Rattle.wl_world.specs.Flight.{Rows, client_rows, server_rows, all_asks, all_tells, Meets}
 
 -- ---- objects by id and by birth
@@ -151,9 +151,6 @@ pub record IsRegistry (s : Rows Born) (r : server.Registry) : Type 0 where
   pub version : ℕ
   pub some : 1 ≤ version
   pub there : s.rows r.object.id ≡ Some (record { birth = r.object.birth; iface = registry; version = version })
-
-abbrev pub marks_of : server.Registry → Marks
-marks_of r = record { birth = r.object.birth; told = r.told; removed = r.removed }
 
 -- ---- standing
 
