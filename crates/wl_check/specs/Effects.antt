@@ -10,8 +10,8 @@ use Rattle.wl_objects.specs.Reading.{descriptors}
 use Rattle.wl_objects.specs.Messages.{Received, Made, made, is_error, is_delete_id, same_iface}
 use Rattle.wl_recording.specs.declared.piece.Direction.{Direction}
 use Rattle.wl_recording.specs.declared.piece.Direction.TheVariants.{ToServer, ToClient}
-use Rattle.wl_check.specs.declared.deed.Advertised.{Advertised}
-use Rattle.wl_check.specs.declared.deed.Deed.{Deed}
+use Rattle.wl_check.specs.declared.effect.Advertised.{Advertised}
+use Rattle.wl_check.specs.declared.effect.Effect.{Effect}
 
 -- requests go to the server, events to the client
 abbrev pub side_of : Direction → Side
@@ -34,7 +34,7 @@ abbrev pub first_number : List Argument → Option ℕ
 first_number (Uint number ∷ more) = Some number
 first_number _ = None
 
--- what a global event tells, where its interface is in the tables: name, interface, version
+-- the global that a global event advertises, where its interface is in the tables
 abbrev pub advertised : List Interface → List Argument → Option Advertised
 advertised tables (Uint name ∷ Str (Some iface) ∷ Uint version ∷ []) =
     option_map (λ place. record { name = name; iface = place; version = version }) (place_of tables iface)
@@ -49,10 +49,10 @@ abbrev pub destroyed : Bool → ℕ → Option ℕ
 destroyed false id = None
 destroyed true id = Some id
 
--- What a message does: the object that it makes, the id of which it is the delete_id, the object that it destroys, what it
--- tells of a global, how many tokens it takes, and whether it is wl_display.error, which ends the session.
-abbrev pub deed : List Interface → Call → Deed
-deed tables call = let r = call.received in record {
+-- What a message does: the object that it makes, the id of which it is the delete_id, the object that it destroys, the
+-- global that it advertises, how many tokens it takes, and whether it is wl_display.error, which ends the session.
+abbrev pub effect : List Interface → Call → Effect
+effect tables call = let r = call.received in record {
   direction = call.direction;
   made = if_request call.direction (made tables r.entry.version r.signature.kinds r.values);
   deleted = if is_delete_id (side_of call.direction) r.entry.iface call.opcode then first_number r.values else None;
@@ -63,9 +63,9 @@ deed tables call = let r = call.received in record {
 }
 
 -- what does nothing
-abbrev pub nothing : Deed
+abbrev pub nothing : Effect
 nothing = record { direction = ToServer; made = None; deleted = None; destroyed = None; advertised = None; tokens = 0; is_error = false }
 
 -- the beginning: wl_display is there, with id 1 and version 1
-abbrev pub beginning : Deed
+abbrev pub beginning : Effect
 beginning = record nothing { made = Some (record { id = 1; iface = display; version = 1 }) }

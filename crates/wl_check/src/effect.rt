@@ -3,7 +3,7 @@ use wl_objects::Made;
 use wl_recording::Direction;
 use wl_wire::Iface;
 
-/// What an event tells of a global.
+/// A global, as an event advertises it.
 #[derive(Clone, Copy, Debug)]
 pub(crate) struct Advertised {
     pub name: u32,
@@ -13,7 +13,7 @@ pub(crate) struct Advertised {
 
 /// What a message does to what is known of a session.
 #[derive(Clone, Copy, Debug)]
-pub(crate) struct Deed {
+pub(crate) struct Effect {
     pub direction: Direction,
     /// The object that it makes.
     pub made: Option<Made>,

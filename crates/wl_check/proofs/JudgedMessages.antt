@@ -18,7 +18,7 @@ use Rattle.wl_objects.specs.Reading.{Reader, descriptors, is_descriptor_kind, ar
 use Rattle.wl_objects.specs.Messages.{Received, is_error, received_whole, received_as, received_by, received}
 use Rattle.wl_recording.specs.declared.piece.Direction.{Direction}
 use Rattle.wl_check.specs.declared.frames.Frame.{Frame}
-use Rattle.wl_check.specs.Deeds.{Call, side_of}
+use Rattle.wl_check.specs.Effects.{Call, side_of}
 use Rattle.wl_check.specs.Places.{Known}
 use Rattle.wl_message.specs.Cut.{usual_limit, is_size}
 use Rattle.wl_wire.specs.Word.{header_at}
