@@ -54,7 +54,7 @@ impl<'t, T: Table> Pair<'t, T> {
         self.server.drop_object(object)
     }
 
-    /// The first error that is accepted sets the mark.
+    /// The first error that is accepted sets `ended_at`.
     pub(crate) fn post_error(
         &mut self,
         object: Object,

@@ -18,7 +18,7 @@ use wl_objects::Table;
 use wl_recording::{Direction, Recording};
 use wl_server::Server;
 
-/// Makes the room to record what goes, with zeros in place of its bytes. Nothing is asked for where
+/// Makes the room to record what goes, with zeros in place of its bytes. It allocates nothing where
 /// nothing goes.
 fn prepare<A: Allocator + Clone>(
     recording: &mut Recording<A>,
@@ -48,8 +48,8 @@ fn fill<A: Allocator + Clone>(recording: &mut Recording<A>, bytes: &[u8])
     }
 }
 
-/// Hands to the server what the client hands out into these places, and writes it into the
-/// recording.
+/// Takes bytes and tokens from the client into these buffers, feeds them to the server and records
+/// them.
 fn hand_to_server<'t, T: Table>(
     client: &mut Client<'t, T>,
     server: &mut Server<'t, T>,
@@ -82,7 +82,7 @@ fn hand_to_server<'t, T: Table>(
     server.feed(bytes, &tokens[..taken.tokens]);
 }
 
-/// The same by way of these places, within this limit.
+/// The same, within this limit of bytes.
 fn pass_to_server<'t, T: Table>(
     client: &mut Client<'t, T>,
     server: &mut Server<'t, T>,
@@ -114,8 +114,8 @@ fn pass_to_server<'t, T: Table>(
     hand_to_server(client, server, recording, bytes, tokens);
 }
 
-/// Hands to the client what the server hands out into these places, and writes it into the
-/// recording.
+/// Takes bytes and tokens from the server into these buffers, feeds them to the client and records
+/// them.
 fn hand_to_client<'t, T: Table>(
     server: &mut Server<'t, T>,
     client: &mut Client<'t, T>,
@@ -148,7 +148,7 @@ fn hand_to_client<'t, T: Table>(
     client.feed(bytes, &tokens[..taken.tokens]);
 }
 
-/// The same by way of these places, within this limit.
+/// The same, within this limit of bytes.
 fn pass_to_client<'t, T: Table>(
     server: &mut Server<'t, T>,
     client: &mut Client<'t, T>,

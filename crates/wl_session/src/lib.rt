@@ -1,5 +1,5 @@
-//! Both ends of a Wayland connection together, with nothing between: what they are told to do, and
-//! what they answer.
+//! Both ends of a Wayland connection together, with nothing between: the moves that they are given,
+//! and their replies.
 #![tactic(auto)]
 
 mod agreeing;
