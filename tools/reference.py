@@ -455,6 +455,8 @@ class Session:
             self.used = max(self.used, number)
         if message.destroys:
             to.is_ending = True
+        if (to.interface.name, message.name) == ("wl_fixes", "destroy_registry"):
+            self.held[values[0]].is_ending = True
         if sign == "<" and to.interface.name == "wl_display":
             if message.name == "delete_id" and values[0] != 1:
                 self.held.pop(values[0], None)
