@@ -11,7 +11,7 @@ use wl_session::{Carried, Direction, Reply, Verdict};
 use wl_sigs::{Side, Tables};
 
 /// What is said where there is no memory.
-const OUT_OF_MEMORY: &str = "out of memory";
+pub const OUT_OF_MEMORY: &str = "out of memory";
 
 /// Writes replies: with the names of messages, from the tables and the objects that were seen.
 #[derive(Clone, Copy)]
