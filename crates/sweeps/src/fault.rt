@@ -9,7 +9,7 @@ pub fn error_event(alloc: Global, fault: Fault) -> Result<Vec<u8>, AllocError> {
     let mut body = Vec::new(alloc);
     put_number(&mut body, 1)?;
     put_number(&mut body, code)?;
-    put_number(&mut body, (text.len() as u32).saturating_add(1))?;
+    put_number(&mut body, (text.len().min(40) as u32).saturating_add(1))?;
     body.extend_from_slice(text)?;
     body.push(0)?;
     for _ in 0..3 {
@@ -21,7 +21,9 @@ pub fn error_event(alloc: Global, fault: Fault) -> Result<Vec<u8>, AllocError> {
     put_number(&mut event, 1)?;
     put_number(
         &mut event,
-        (body.len() as u32).saturating_add(8).wrapping_mul(65_536),
+        (body.len().min(64) as u32)
+            .saturating_add(8)
+            .wrapping_mul(65_536),
     )?;
     event.extend_from_slice(&body)?;
     Ok(event)
