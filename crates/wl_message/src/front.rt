@@ -40,6 +40,26 @@ pub(crate) fn move_first<T: Copy + Drop, A: Allocator>(
     ring.read_into(&mut to[..n]);
 }
 
+/// Moves as many of the first items as a slice has places into that slice, and keeps a copy of
+/// them in a store, in place of what is there.
+pub(crate) fn take_first<T: Copy + Drop, A: Allocator>(
+    ring: &mut HeapCircularBuffer<T, A>,
+    to: &mut [T],
+    copy: &mut Vec<T, A>,
+)
+    requires ring { length to.old ≤ length ring.old.items }
+    requires copy { ring.old.capacity ≤ vec_capacity copy.old }
+    ensures ring { ring.new ≡ buffer (drop (length to.old) ring.old.items) ring.old.capacity }
+    ensures to { to.new ≡ take (length to.old) ring.old.items }
+    ensures copy { copy.new.items ≡ take (length to.old) ring.old.items }
+    ensures room { vec_capacity copy.old ≤ vec_capacity copy.new }
+{
+    let _waiting = ring.len();
+    copy.clear();
+    ring.read_into(to);
+    let _ = copy.extend_from_slice(to);
+}
+
 /// Copies the first n bytes into a store, in place of what is there. They stay in the ring.
 pub(crate) fn copy_front<A: Allocator>(
     ring: &HeapCircularBuffer<u8, A>,
