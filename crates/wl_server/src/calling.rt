@@ -1,6 +1,7 @@
 //! What a server writes to its client.
-ghost use Rattle.std.specs.Prelude.{◌≡◌, OnOk, OnErr};
+ghost use Rattle.std.specs.Prelude.{◌≡◌, IfOk, OnOk, OnErr};
 ghost use Rattle.wl_sigs.specs.declared.signature.Side.TheVariants.{Event as event_side};
+ghost use Rattle.wl_sigs.specs.Valid.{Valid};
 ghost use Rattle.wl_objects.specs.Messages.{checked};
 ghost use Rattle.wl_objects.specs.Writing.{given};
 ghost use Rattle.wl_end.specs.Outcomes.{Gives, refusal_in};
@@ -78,6 +79,8 @@ fn drop_at<T: Table>(core: &mut Core<'_, T>, object: Object) -> Result<(), SendE
     ensures answer { refusal_in result ≡ drop_refusal core.old object }
     ensures ok { OnOk result (core.new ≡ after_drop core.old object) }
     ensures err { OnErr result (core.new ≡ core.old) }
+    // Always so, and known because the tables were asked.
+    ensures valid { IfOk result (λ _. Valid core.old.tables) }
 {
     if core.failed {
         return Err(SendError::Failed);

@@ -8,7 +8,7 @@ ghost use Rattle.wl_end.specs.Core.{with_view};
 ghost use Rattle.wl_end.specs.Outcomes.{left};
 ghost use Rattle.wl_end.specs.Sending.{delete_id_len, fits};
 ghost use Rattle.wl_server.specs.Requests.{is_good_bind_of, after_next, registries_after, IsNext};
-ghost use Rattle.wl_server.specs.Registries.{without_registry, registry_birth};
+ghost use Rattle.wl_server.specs.Registries.{IsFresh, without_registry, registry_birth};
 ghost use Rattle.wl_server.specs.Seen.{report_in};
 ghost use Rattle.wl_server.specs.Steps.{core_by, core_told, core_without, registries_by, steps_in, step_in, IsFront, state_of, step_with, received_now, CanTake};
 
@@ -86,6 +86,7 @@ fn make_step<T: Table>(
     ensures err { OnErr result
         ((core.new ≡ core.old) × (registries.new.items ≡ registries.old.items)) }
     ensures wants { OnErr result (step.now.made ≢ None) }
+    ensures fresh { OnOk result (IsFresh core.old.view step.now.made) }
 {
     open_made(core, registries, alloc, step.made)?;
     // Nothing is wanted from here on.
@@ -108,6 +109,7 @@ fn open_made<T: Table>(
     ensures err { OnErr result
         ((core.new ≡ core.old) × (registries.new.items ≡ registries.old.items)) }
     ensures wants { OnErr result (made ≢ None) }
+    ensures fresh { OnOk result (IsFresh core.old.view made) }
 {
     match made {
         Some(made) => open(core, registries, alloc, made),
@@ -128,6 +130,7 @@ fn open<T: Table>(
         (registries.new.items ≡ registries_after core.old registries.old.items (Some made)) }
     ensures err { OnErr result
         ((core.new ≡ core.old) × (registries.new.items ≡ registries.old.items)) }
+    ensures fresh { OnOk result (IsFresh core.old.view (Some made)) }
 {
     if made.iface == REGISTRY {
         let object = Object {

@@ -210,6 +210,7 @@ event_stands p w m cs asked s n i y =
       server_sound = s.server_sound;
       client_display = display_kept v m.target.id what s.client_display (λ e. y (sym d ∙ e));
       server_display = s.server_display;
+      server_versions = s.server_versions;
       server_live = s.server_live;
       requests = s.requests;
       events = refl;
@@ -231,7 +232,6 @@ event_stands p w m cs asked s n i y =
       globals = s.globals;
       few_globals = s.few_globals;
       open_registries = s.open_registries;
-      all_registries = s.all_registries;
     }
 
 -- ---- a delete
@@ -358,6 +358,7 @@ delete_stands p w x cs asked s n i =
       server_sound = s.server_sound;
       client_display = look-closed v x.id 1 ∙ rw b s.client_display;
       server_display = s.server_display;
+      server_versions = s.server_versions;
       server_live = s.server_live;
       requests = s.requests;
       events = refl;
@@ -379,5 +380,4 @@ delete_stands p w x cs asked s n i =
       globals = s.globals;
       few_globals = s.few_globals;
       open_registries = s.open_registries;
-      all_registries = s.all_registries;
     }

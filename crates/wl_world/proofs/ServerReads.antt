@@ -31,13 +31,13 @@ use Rattle.wl_world.specs.World.{World, display_born, Open, Each, IfThere, delet
 use Rattle.wl_world.specs.Pair.{PairState, with_server}
 use Rattle.wl_world.specs.Answers.{rows_of_server}
 use Rattle.wl_world.specs.Flight.{Rows, Fresh, Tied, all_asks, server_rows, as_row}
-use Rattle.wl_world.specs.Stands.{DeletesFollow, BeginsWithDelete, StandsBy, Fits, ComesFitly, InFlight, IsRegistry, by_event, Shows}
+use Rattle.wl_world.specs.Stands.{DeletesFollow, BeginsWithDelete, StandsBy, Fits, ComesFitly, InFlight, by_event, Shows}
 use Rattle.wl_world.proofs.Deeds.{reads_more}
 use Rattle.wl_world.proofs.Wholes.{ThereRow, server_makes, server_ends, asks_at, AsksAt, all_tells_more, each_more}
 use Rattle.wl_world.proofs.Sets.{server_made, server_ended, there_kept}
 use Rattle.wl_world.proofs.Channels.{pops, pushed}
-use Rattle.wl_world.proofs.Afters.{there_row, server_after, server_sound, server_live, made_map}
-use Rattle.wl_world.proofs.Registries.{marks_with, marks_without, registries_made, registries_ended, has_read}
+use Rattle.wl_world.proofs.Afters.{there_row, server_after, server_sound, server_live, server_aged, made_map}
+use Rattle.wl_world.proofs.Registries.{marks_with, marks_without, fresh_row, has_read}
 use Rattle.wl_world.proofs.Readings.{HeldAt, AllMet, made_of, made_read, tokens_taken, bytes_whole}
 use Rattle.wl_world.proofs.Findings.{the_found, the_message, finds, all_met, news_free}
 
@@ -202,6 +202,7 @@ server_read_stands p w m ms told s n a up =
       server_sound = server_sound v m.target new what s.server_sound a.new a.target (λ e. a.mortal (sym d ∙ e));
       client_display = s.client_display;
       server_display = display_after v new m.target.id what (live_entry display_born) a.new s.server_display (λ e. a.mortal (sym d ∙ e));
+      server_versions = server_aged v m.target.id new what f.new_version s.server_versions;
       server_live = server_live v m.target.id new what s.server_live;
       requests = refl;
       events = ap (λ (l : List (Coming Born)). l ++ delete m.destroys m.target.born) s.events ∙ ap (λ (l : List (Coming Born)). map (recoming born_of) told ++ l) (sym (map_delete m.destroys m.target))
@@ -226,10 +227,7 @@ server_read_stands p w m ms told s n a up =
       remembers = s.remembers;
       globals = s.globals;
       few_globals = s.few_globals;
-      open_registries = subst (λ (r : Rows Born). Each (IsRegistry r) (left_state p.server m n what).registries) (sym rows)
-          (registries_ended (server_makes (server_rows v) new) m.destroys m.target (registries_after p.server.core p.server.registries (option_map made_of new)) (there_kept (server_rows v) new m.target a.new a.target)
-          (registries_made p.server.core p.server.registries new a.new f.new_version s.open_registries));
-      all_registries = has_read p.server.core p.server.registries new m.target what m.destroys d s.server_sound (there_row v m.target a.target) s.all_registries;
+      open_registries = has_read p.server.core p.server.registries new m.target what m.destroys d s.server_sound (fresh_row v new a.new) (there_row v m.target a.target) s.open_registries;
     }
 
 -- ---- what is answered

@@ -503,7 +503,7 @@ module _ (p : PairState) (w : World) (asked : List (Message Known)) (told : List
       let k = there_known x h in
       let r = there_row p.server.core.view k.0 k.1.0 in
       let same : plain_of r.entry ≡ x = r.same ∙ k.1.1 in
-      let at = s.all_registries.all k.0.id r.entry r.there (ap (λ (b : Born). b.iface) same ∙ i) in
+      let at = s.open_registries.all k.0.id r.entry r.there (ap (λ (b : Born). b.iface) same ∙ i) in
       subst (λ (l : List _). In x.birth (map marks_birth l)) (sym s.registries)
       (subst (λ (n : ℕ). In n (map marks_birth (map marks_of p.server.registries))) (ap birth_of same) (among_marks (record { id = k.0.id; birth = r.entry.birth }) p.server.registries at))
 

@@ -6,7 +6,7 @@ use Rattle.wl_objects.specs.declared.error.NextError.TheVariants.{Memory}
 use Rattle.wl_end.specs.Core.{Core}
 use Rattle.wl_end.specs.Outcomes.{left}
 use Rattle.wl_server.specs.State.{State, with_core}
-use Rattle.wl_server.specs.Registries.{HasRegistries, BirthsAreOnce}
+use Rattle.wl_server.specs.Registries.{HasRegistries, IsFresh, BirthsAreOnce}
 use Rattle.wl_server.specs.Requests.{Report, after_next, IsNext}
 use Rattle.wl_server.specs.Steps.{step_in, core_by, registries_by, core_told, CanTake, IsFront}
 use Rattle.wl_server.proofs.Taking.{seen-by, gives-front, leaves-err, leaves-some, memory-wanted}
@@ -61,10 +61,11 @@ invariant_of-self-2 g c =
     let registries : c.make_step.new.registries.items ≡ registries_by c.self.inside.core c.self.inside.registries.items step =
     on_ok c.make_step.result is_ok c.make_step.ensures.registries ∙ ap (λ (k : Core). registries_by k c.self.inside.registries.items step) c.in-Ok-Some.ensures.same in
     let can : CanTake c.self.inside.core step = rw c.in-Ok-Some.field-0-is at c.in-Ok-Some.ensures.can in
+    let fresh : IsFresh c.self.inside.core.view step.made = subst (λ (k : Core). IsFresh k.view step.made) c.in-Ok-Some.ensures.same (on_ok c.make_step.result is_ok c.make_step.ensures.fresh) in
     record {
       few = c.self.invariant.few;
       registries = subst (λ (k : Core). HasRegistries k.view c.make_step.new.registries.items) (sym core)
-          (subst (HasRegistries (core_by c.self.inside.core step).view) (sym registries) (has_step c.self.inside.core c.self.inside.registries.items step can c.self.invariant.births c.self.invariant.registries));
+          (subst (HasRegistries (core_by c.self.inside.core step).view) (sym registries) (has_step c.self.inside.core c.self.inside.registries.items step can fresh c.self.invariant.births c.self.invariant.registries));
       births = subst (λ (k : Core). BirthsAreOnce k.view) (sym core) (births_step c.self.inside.core step c.self.invariant.births);
     }
 
