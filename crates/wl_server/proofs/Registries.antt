@@ -34,7 +34,7 @@ use Rattle.wl_server.specs.Calls.{ends_by_event, drop_at, drop_refusal, after_dr
 use Rattle.wl_server.specs.Announcing.{Due, marked_in, all_marked}
 use Rattle.wl_server.specs.Steps.{Step, core_by, registries_by, CanTake}
 use Rattle.wl_server.specs.Tellings.{IsTold}
-use Rattle.wl_server.specs.declared.announcing.Told.{Told}
+use Rattle.wl_server.specs.declared.announce.Announced.{Announced}
 use Rattle.wl_server.proofs.Risings.{rise-without}
 use Rattle.wl_server.proofs.Taking.{rise-opened}
 use Rattle.wl_server.proofs.Dues.{either-object, rising-marked, view-dues}
@@ -335,10 +335,10 @@ has_marked v d rs h = record {
   only = λ o a. h.only o (among_unmarked o d rs a);
 }
 
-view_told : (core : Core) (rs : List Registry) (all : List Due) (told : Told) (now : Core) (ms : List Registry) → IsTold core rs all told now ms → now.view ≡ core.view
+view_told : (core : Core) (rs : List Registry) (all : List Due) (told : Announced) (now : Core) (ms : List Registry) → IsTold core rs all told now ms → now.view ≡ core.view
 view_told core rs all told now ms t = ap (λ (c : Core). c.view) t.progress.written ∙ view-dues core t.progress.done
 
-pub has_told : (core : Core) (rs : List Registry) (all : List Due) (told : Told) (now : Core) (ms : List Registry) → IsTold core rs all told now ms → HasRegistries core.view rs → HasRegistries now.view ms
+pub has_told : (core : Core) (rs : List Registry) (all : List Due) (told : Announced) (now : Core) (ms : List Registry) → IsTold core rs all told now ms → HasRegistries core.view rs → HasRegistries now.view ms
 has_told core rs all told now ms t h = record {
   rising = rising-told core rs all told now ms t h.rising;
   all = λ id e there is. subst (IsAmong (record { id = id; birth = e.birth })) (sym t.progress.marks)
@@ -346,7 +346,7 @@ has_told core rs all told now ms t h = record {
   only = λ o a. subst (λ (w : View). IsRegistry w o) (sym (view_told core rs all told now ms t)) (h.only o (among_all_unmarked o t.progress.done rs (subst (IsAmong o) t.progress.marks a)));
 }
 
-pub births_told : (core : Core) (rs : List Registry) (all : List Due) (told : Told) (now : Core) (ms : List Registry) → IsTold core rs all told now ms → BirthsAreOnce core.view → BirthsAreOnce now.view
+pub births_told : (core : Core) (rs : List Registry) (all : List Due) (told : Announced) (now : Core) (ms : List Registry) → IsTold core rs all told now ms → BirthsAreOnce core.view → BirthsAreOnce now.view
 births_told core rs all told now ms t h = subst BirthsAreOnce (sym (view_told core rs all told now ms t)) h
 
 -- ---- a new server, and any sound table

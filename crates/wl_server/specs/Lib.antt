@@ -8,3 +8,4 @@ pub mod Seen
 pub mod Steps
 pub mod Tellings
 pub mod Errors
+pub mod Spelled

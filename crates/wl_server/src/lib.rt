@@ -2,17 +2,17 @@
 #![tactic(auto)]
 
 mod advertised;
-mod announcing;
-mod calling;
+mod announce;
 mod faults;
 mod globals;
 mod laws;
-mod receiving;
+mod read_all;
+mod receive;
 mod request;
+mod send;
 mod server;
 mod step;
-mod streams;
 
-pub use laws::{any_cut_reads, one_reading};
+pub use laws::{any_cut_reads, one_reading, own_messages_are_spelled};
 pub use request::{GlobalError, Request};
 pub use server::Server;

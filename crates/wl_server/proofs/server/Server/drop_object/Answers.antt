@@ -23,9 +23,9 @@ births_by object (Err why) before now ok err b = subst (λ (k : Core). BirthsAre
 
 pub invariant_of-self : goal.invariant_of-self
 invariant_of-self g c =
-    let e = c.drop_at.ensures in
+    let e = c.close_dropped.ensures in
     record {
       few = c.self.invariant.few;
-      registries = has_by c.self.inside.registries.items c.args.object c.drop_at.result c.self.inside.core c.drop_at.new.core e.answer e.ok e.err e.valid c.self.invariant.registries;
-      births = births_by c.args.object c.drop_at.result c.self.inside.core c.drop_at.new.core e.ok e.err c.self.invariant.births;
+      registries = has_by c.self.inside.registries.items c.args.object c.close_dropped.result c.self.inside.core c.close_dropped.new.core e.answer e.ok e.err e.valid c.self.invariant.registries;
+      births = births_by c.args.object c.close_dropped.result c.self.inside.core c.close_dropped.new.core e.ok e.err c.self.invariant.births;
     }
