@@ -1,4 +1,5 @@
 pub mod Lookups
+pub mod Written
 mod Deciding
 mod Distinct
 mod ByPlace
