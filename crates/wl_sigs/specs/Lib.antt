@@ -8,3 +8,8 @@ pub mod Opcodes
 pub mod Text
 pub mod Reading
 pub mod Errors
+pub mod Joined
+pub mod Broken
+pub mod Places
+pub mod BrokenLines
+pub mod Outcome

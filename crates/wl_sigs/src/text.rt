@@ -1,6 +1,7 @@
 //! Reading the lines of tables as text.
 ghost use Rattle.std.specs.Prelude.{◌≡◌, ℕ, ◌-◌, ◌==◌, ◌++◌, ◌∷◌, [], List, length, IfOk, IfErr, OnErr, option_map, option_copied, unwrap_or, position, if◌then◌else◌, is_ok, is_some, Ok, Err};
-ghost use Rattle.std.specs.List.{list_all};
+ghost use Rattle.std.specs.List.{list_all, list_any};
+ghost use Rattle.wl_sigs.specs.Tables.{destroys_target};
 ghost use Rattle.wl_text.specs.Lines.{words};
 ghost use Rattle.wl_sigs.specs.Text.{is_text_byte, is_text_name, kind_of, takes_interface, bracketed, argument_of, at_number, since_of, ending_of, tail_of, message_of, interface_of, side_of, message_added, words_added, line_added};
 ghost use Rattle.wl_sigs.specs.Reading.{words_behind, ended};
@@ -63,6 +64,17 @@ impl<'t, A: Allocator> Model for WrittenInterface<'t, A> {
     ghost view = { λ i. record { line = i.line; name = i.name.now; version = i.version; requests = i.requests.items; events = i.events.items } };
 }
 
+impl<'t, A: Allocator> WrittenInterface<'t, A> {
+    /// Whether an event destroys its target.
+    pub(crate) fn has_destroying_event(&self) -> bool
+        ensures { result ≡ list_any (λ m. destroys_target m.destroys) self.now.events }
+    {
+        self.events
+            .iter()
+            .any(|event| event.destroys == Destroys::Target)
+    }
+}
+
 // Whether a word is a name.
 fn is_text_name(name: &[u8]) -> bool
     ensures { result ≡ is_text_name name.now }
@@ -118,7 +130,7 @@ fn kind_of(letters: &[u8]) -> Option<Kind>
 }
 
 // Whether an argument of the kind may name an interface.
-fn takes_interface(kind: Kind) -> bool
+pub(crate) fn takes_interface(kind: Kind) -> bool
     ensures { result ≡ takes_interface kind }
 {
     matches!(kind, Kind::Obj { .. } | Kind::New(_))
