@@ -1,5 +1,5 @@
 //! The front and the back of rings.
-ghost use Rattle.std.specs.Prelude.{◌≡◌, ◌≤◌, ◌+◌, ◌++◌, length, take, drop, vec_capacity, vec_len};
+ghost use Rattle.std.specs.Prelude.{◌≡◌, ◌≤◌, ◌<◌, ◌+◌, ◌++◌, length, take, drop, vec_capacity, vec_len};
 ghost use Rattle.circular_buffer.specs.Buffer.{buffer};
 
 use circular_buffer::HeapCircularBuffer;
@@ -56,6 +56,20 @@ pub(crate) fn copy_front<A: Allocator>(
     to.clear();
     store(to, &first[..count]);
     store(to, &second[..n - count]);
+}
+
+/// Some of the first items, at most so many; none only where there are none.
+pub(crate) fn first_part<T: Copy + Drop, A: Allocator>(
+    ring: &HeapCircularBuffer<T, A>,
+    most: usize,
+) -> &[T]
+    ensures front { result.now ≡ take (length result.now) ring.now.items }
+    ensures most { length result.now ≤ most }
+    ensures some { 0 < most → 0 < length ring.now.items → 0 < length result.now }
+{
+    let (first, second) = ring.as_slices();
+    let part = if first.is_empty() { second } else { first };
+    &part[..part.len().min(most)]
 }
 
 /// Appends bytes to a store that has room for them.

@@ -1,18 +1,21 @@
 //! Bytes and tokens that came in.
-ghost use Rattle.std.specs.Prelude.{◌≡◌, ◌≤◌, ◌↔◌, [], length, take, IfOk, IsTrue, slice_get};
+ghost use Rattle.std.specs.Prelude.{◌≡◌, ◌≤◌, ◌<◌, ◌↔◌, [], length, take, IfOk, OnErr, IsTrue, slice_get};
 ghost use Rattle.std.specs.Borrow.{sem};
 ghost use Rattle.std.specs.Io.BufRead.{Rests};
+ghost use Rattle.std.specs.Io.KnownBytes.{Keeps};
 ghost use Rattle.wl_message.specs.Cut.{usual_limit, front, HasMessage, message_size};
 ghost use Rattle.wl_message.specs.Arrived.{nothing_arrived, free_bytes, free_tokens, fed, with_more, without_first, Tells};
+ghost use Rattle.wl_message.specs.Streams.{Gives};
 ghost use Rattle.wl_message.specs.contracts.inbox.Inbox.{the_row};
 
 use crate::amounts::Fed;
-use crate::front::{copy_front, remove_first};
+use crate::front::{append, copy_front, remove_first};
 use crate::header::{LIMIT, header_in_front, message_len};
 use circular_buffer::HeapCircularBuffer;
 use std::alloc::{AllocError, Allocator, Global};
 use std::error::Error;
 use std::fmt::{self, Display, Formatter};
+use std::io::{self, Read};
 use std::marker::Model;
 use wl_wire::Header;
 
@@ -129,6 +132,22 @@ impl<A: Allocator> Inbox<A> {
             bytes: byte_count,
             tokens: token_count,
         }
+    }
+
+    /// Reads once, at most 4096 bytes and at most as many as are free, and takes in what was read.
+    pub(crate) fn read_from<R: Read>(&mut self, reader: &mut R) -> io::Result<usize>
+        requires { 0 < free_bytes self.old }
+        ensures ok { IfOk result
+            (λ n. Gives self.old (R.remaining reader.old) n self.new (R.remaining reader.new)) }
+        ensures err { OnErr result
+            ((self.new ≡ self.old) × Keeps (R.remaining reader.old) (R.remaining reader.new)) }
+    {
+        let most = self.room().min(LIMIT as usize);
+        self.message.clear();
+        let _ = self.message.resize(most, 0);
+        let n = reader.read(&mut self.message)?;
+        append(&mut self.bytes, &self.message[..n]);
+        Ok(n)
     }
 
     /// The first message, once it is whole; none before. It stays in the inbox.

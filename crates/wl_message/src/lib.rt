@@ -13,6 +13,7 @@ mod inbox;
 mod laws;
 mod marks;
 mod outbox;
+mod streams;
 
 pub use amounts::{Fed, Full, Piece, Sizes, Taken};
 pub use inbox::{BadSize, Frame, Inbox};
@@ -21,3 +22,4 @@ pub use laws::{
     pieces_in_step, reading_in_step, take_keeps_step,
 };
 pub use outbox::Outbox;
+pub use streams::{FillError, FlushError, fill, flush};
