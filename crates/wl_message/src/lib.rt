@@ -13,6 +13,7 @@ mod inbox;
 mod laws;
 mod marks;
 mod outbox;
+mod script;
 mod streams;
 
 pub use amounts::{Fed, Full, Piece, Sizes, Taken};
@@ -22,4 +23,5 @@ pub use laws::{
     pieces_in_step, reading_in_step, take_keeps_step,
 };
 pub use outbox::Outbox;
+pub use script::{ScriptReader, ScriptWriter, Step};
 pub use streams::{FillError, FlushError, fill, flush};
