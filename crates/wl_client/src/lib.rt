@@ -11,6 +11,7 @@ mod sending;
 mod steps;
 mod streams;
 mod tokens;
+mod transport;
 mod values;
 
 pub use client::Client;

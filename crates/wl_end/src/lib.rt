@@ -10,6 +10,7 @@ mod sending;
 mod shared;
 mod streams;
 mod taking;
+mod transport;
 
 pub use laws::{found_stays, taking_keeps_pieces};
 pub use shared::Core;

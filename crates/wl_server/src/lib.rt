@@ -12,6 +12,7 @@ mod request;
 mod server;
 mod step;
 mod streams;
+mod transport;
 
 pub use laws::{any_cut_reads, one_reading};
 pub use request::{GlobalError, Request};
