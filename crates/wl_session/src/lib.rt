@@ -9,8 +9,11 @@ mod lending;
 mod moves;
 mod pair;
 mod running;
+mod tee;
 
+pub use agreeing::same_rows;
 pub use moves::{Carried, Move, Reply, SendArg};
 pub use pair::Pair;
+pub use tee::Tee;
 pub use wl_check::{Verdict, check, trace};
 pub use wl_recording::{Direction, Passed, Recording, RecordingError};
