@@ -7,8 +7,8 @@ use Rattle.wl_recording.specs.Text.{Recorded, IsFirstBad}
 use Rattle.wl_check.specs.declared.verdict.Verdict.{Verdict}
 use Rattle.wl_check.specs.Session.{Answers, session_of}
 use Rattle.wl_check.specs.Trace.{trace_of}
-use Rattle.wl_jobs.specs.declared.job.Job.{Job}
-use Rattle.wl_jobs.specs.declared.job.Job.TheVariants.{Trace, Check, Demo}
+use Rattle.wl_command.specs.declared.job.Job.{Job}
+use Rattle.wl_command.specs.declared.job.Job.TheVariants.{Trace, Check, Demo}
 use Rattle.wl_demo.specs.Demo.{IsShown}
 use Rattle.wl_jobs.specs.declared.failure.Failure.{Failure}
 use Rattle.wl_jobs.specs.declared.failure.Failure.TheVariants.{CannotRead, TooLong, BadLine, CannotWrite, Memory}

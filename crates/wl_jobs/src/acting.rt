@@ -7,11 +7,11 @@ ghost use Rattle.wl_jobs.specs.Output.{Acted, IsChecked, IsDone, IsRead, IsRefus
 ghost use Rattle.wl_recording.specs.Text.{IsFirstBad};
 
 use crate::failure::Failure;
-use crate::job::Job;
 use crate::verdict::{status_of, write_broken, write_verdict};
 use std::alloc::{Allocator, Global};
 use std::io::{self, ErrorKind, Read, Write};
 use wl_check::{check, trace};
+use wl_command::Job;
 use wl_demo::demo;
 use wl_recording::Recording;
 use wl_sigs::Tables;

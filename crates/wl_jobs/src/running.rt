@@ -1,15 +1,16 @@
 //! A run of the whole program, over whatever opens files, and any writers.
-ghost use Rattle.std.specs.Prelude.{◌≡◌, ◌⊎◌};
+ghost use Rattle.std.specs.Prelude.{◌≡◌};
 ghost use Rattle.std.specs.Fn.{FnOnceReturnsAt};
+ghost use Rattle.std.specs.IoError.{error_kind};
 ghost use Rattle.std.specs.Process.{exit_status};
-ghost use Rattle.wl_jobs.specs.Running.{Opened, Runs};
+ghost use Rattle.wl_jobs.specs.Running.{Opened, Runs, StatusBy, Told};
 
-use crate::acting::act;
+use crate::acting::{act, write_through};
 use crate::failure::Failure;
-use crate::job::{Job, job_of};
 use std::alloc::Global;
 use std::io::{self, Eprint, ErrorKind, Read, Write};
 use std::process::{ExitCode, Termination};
+use wl_command::{Job, Stop, job_of};
 
 /// How a run ended, which is what the program ends with. Only `run` makes one.
 #[derive(Debug, Drop)]
@@ -43,7 +44,7 @@ pub fn run<R: Read + Drop, F: FnOnce(&str) -> io::Result<R>, O: Write, E: Write>
     let status = match words {
         Ok(words) => match job_of(alloc, words.as_slice()) {
             Ok(job) => done(alloc, &job, opener, out, err),
-            Err(stop) => stop.tell(out, err),
+            Err(stop) => tell(&stop, out, err),
         },
         Err(error) => not_read(&error, err),
     };
@@ -52,13 +53,41 @@ pub fn run<R: Read + Drop, F: FnOnce(&str) -> io::Result<R>, O: Write, E: Write>
 
 /// Says why the words of a command line could not be read, and returns the status.
 fn not_read<E: Write>(error: &io::Error, err: &mut E) -> u8
-    ensures { (result ≡ 2) ⊎ (result ≡ 4) }
+    ensures { StatusBy (error_kind error.now) 2 result }
 {
     if error.kind() == ErrorKind::OutOfMemory {
         return Failure::Memory.tell(err);
     }
     let _ = writeln!(err, "error: a word of the command line is not UTF-8");
     2
+}
+
+/// Prints help to `out`, and anything else to `err`, and returns the exit status: that of the
+/// stop, or 3 where `out` does not take the help.
+fn tell<O: Write, E: Write>(stop: &Stop, out: &mut O, err: &mut E) -> u8
+    ensures { Told O.contents stop.now out.old out.new err.old err.new result }
+{
+    match stop.status {
+        0 => match write_through(out, stop.text.as_bytes()) {
+            Ok(()) => 0,
+            Err(_) => Failure::CannotWrite.tell(err),
+        },
+        4 => Failure::Memory.tell(err),
+        status => {
+            let _ = err.write_all(stop.text.as_bytes());
+            status
+        }
+    }
+}
+
+/// Says that a file cannot be opened, or that there is no memory for it, and returns the status.
+fn not_opened<E: Write>(name: &str, error: &io::Error, err: &mut E) -> u8
+    ensures { StatusBy (error_kind error.now) 3 result }
+{
+    if error.kind() == ErrorKind::OutOfMemory {
+        return Failure::Memory.tell(err);
+    }
+    Failure::CannotRead(name).tell(err)
 }
 
 /// Opens what the job reads, does it, and returns the status.
@@ -76,7 +105,7 @@ fn done<R: Read + Drop, F: FnOnce(&str) -> io::Result<R>, O: Write, E: Write>(
     match job {
         Job::Trace { file: name } | Job::Check { file: name } => match opener(name.as_str()) {
             Ok(mut file) => act(alloc, alloc, job, &mut file, out, err),
-            Err(_) => Failure::CannotRead(name.as_str()).tell(err),
+            Err(error) => not_opened(name.as_str(), &error, err),
         },
         Job::Demo { .. } => act(alloc, alloc, job, &mut io::empty(), out, err),
     }
