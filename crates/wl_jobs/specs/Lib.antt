@@ -2,3 +2,4 @@ pub mod Verdict
 pub mod Failing
 pub mod Output
 pub mod Running
+pub mod Writing

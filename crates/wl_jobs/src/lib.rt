@@ -8,6 +8,7 @@ mod acting;
 mod failure;
 mod running;
 mod verdict;
+mod writing;
 
 pub use acting::act;
 pub use failure::Failure;

@@ -24,4 +24,4 @@ returns-in-Err g c =
       | inl e ↦ subst (λ (job : Job). NamesFile job c.as_str.result.now) (sym e) value
       | inr e ↦ subst (λ (job : Job). NamesFile job c.as_str.result.now) (sym e) value
     ] in
-    not_opened c.as_str.result.now c.in-Err.error names (search rules) c.not_opened.ensures refl
+    not_opened c.as_str.result.now c.in-Err.error c.open_failure.result names (search rules) (search rules) c.tell.ensures.status refl c.tell.ensures.said
