@@ -7,8 +7,8 @@ ghost use Rattle.std.specs.Prelude.{◌≤◌, length};
 use anyhow::{Context, Result, bail};
 use std::io::Write;
 use wl::{
-    Arg, Direction, Got, Gots, Incoming, Object, Recording, Sizes, SlotTable, Tables, event,
-    request, trace,
+    Arg, Direction, Got, GotRef, Gots, Incoming, Object, OwnedIncoming, Recording, Sizes,
+    SlotTable, Tables, event, request, trace,
 };
 
 type Client<'t> = wl::Client<'t, SlotTable>;
@@ -61,44 +61,60 @@ fn make(client: &mut Client<'_>, target: Object, opcode: u16) -> Result<Object> 
     made.context("the request makes no object")
 }
 
-/// Binds the global that the registry tells of next.
+/// Binds the global that the registry announces next. Its report is used while the client is
+/// called, so it owns its arguments.
 fn bind(client: &mut Client<'_>, registry: Object) -> Result<Object> {
-    let args = wait_for(client, registry, event::wl_registry::GLOBAL)?;
+    for _ in 0..u64::MAX {
+        let Some(report) = client.next_owned()? else {
+            break;
+        };
+        if let OwnedIncoming::Event {
+            target,
+            opcode,
+            args,
+        } = report
+        {
+            if target == registry && opcode == event::wl_registry::GLOBAL {
+                return bind_announced(client, registry, &args);
+            }
+        }
+    }
+    bail!("no global was announced")
+}
+
+/// Binds the global that these arguments of wl_registry.global announce.
+fn bind_announced(client: &mut Client<'_>, registry: Object, args: &Gots) -> Result<Object> {
     let [Got::Uint(name), Got::Str(Some(iface)), Got::Uint(version)] = args.as_slice() else {
         bail!("the arguments are not those of wl_registry.global");
     };
     Ok(client.bind(registry, *name, iface.as_slice(), *version)?)
 }
 
-/// Reads events up to the next one of this kind for this object, and returns its arguments.
-fn wait_for(client: &mut Client<'_>, object: Object, wanted: u16) -> Result<Gots> {
+/// Reads events up to the next one of this kind for this object.
+fn wait_for(client: &mut Client<'_>, object: Object, wanted: u16) -> Result<()> {
     for _ in 0..u64::MAX {
         let Some(report) = client.next()? else {
             break;
         };
-        if let Incoming::Event {
-            target,
-            opcode,
-            args,
-        } = report
-        {
+        if let Incoming::Event { target, opcode, .. } = report {
             if target == object && opcode == wanted {
-                return Ok(args);
+                return Ok(());
             }
         }
     }
     bail!("the event did not come")
 }
 
-/// Reads the requests that came, does what they ask, and tells new registries of the globals.
+/// Reads the requests that came, does what they ask, and announces the globals to new registries.
 fn serve(server: &mut Server<'_>) -> Result<()> {
+    let display = server.display();
     for _ in 0..u64::MAX {
-        let Some(read) = server.next()? else {
+        let Some(mut read) = server.next()? else {
             break;
         };
-        if read.target == server.display() && read.opcode == request::wl_display::SYNC {
-            if let [Got::New(callback)] = read.args.as_slice() {
-                server.send(*callback, event::wl_callback::DONE, &[Arg::Uint(0)])?;
+        if read.target == display && read.opcode == request::wl_display::SYNC {
+            if let Some(GotRef::New(callback)) = read.args.next() {
+                server.send(callback, event::wl_callback::DONE, &[Arg::Uint(0)])?;
             }
         }
     }

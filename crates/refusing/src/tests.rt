@@ -46,7 +46,7 @@ fn is_refused(
         && fills(memory, numbers, 6)
 }
 
-// Whether a new vector keeps so many numbers where the allocation of this number is refused.
+// Whether a new vector keeps this many numbers where the allocation of this number is refused.
 fn keeps(memory: &RefusingAllocator, number: u64, kept: usize) -> Result<bool, AllocError> {
     let mut numbers = Vec::new(memory.clone()?);
     memory.refuse_nth(number);

@@ -1,223 +1,17 @@
 //! One end of a connection, played at.
 
 use crate::stage::Stage;
-use std::alloc::{AllocError, Allocator, Global};
+use std::alloc::{AllocError, Global};
 use std::fmt::Write;
-use wl_client::{Client, Incoming};
 use wl_end::ReadAll;
-use wl_message::{Fed, Piece, Taken};
-use wl_objects::{Arg, NextError, Object, State, Table};
+use wl_message::Piece;
+use wl_objects::{NextError, Object, State, Table};
 use wl_scenes::{
-    Chunk, Names, Teller, Trouble, Words, lend, put_name, read_chunk, read_chunks, read_move,
-    write_chunk, write_stop,
+    Actor, Chunk, End, Repeated, Trouble, Words, put_name, read_chunk, read_chunks, write_chunk,
+    write_stop,
 };
-use wl_server::{Request, Server};
-use wl_session::{Move, Reply, SendArg};
 use wl_sigs::Tables;
 use wl_wire::Iface;
-
-/// An end: a client or a server.
-pub trait End {
-    type Table: Table;
-    /// What it reads.
-    type Report: Drop;
-
-    /// The verb of its reading.
-    const NEXT: &'static str;
-
-    fn table(&self) -> &Self::Table;
-
-    fn live(&self, object: Object) -> Option<(Iface, u32)>;
-
-    fn room(&self) -> Fed;
-
-    fn is_drained(&self) -> bool;
-
-    fn feed(&mut self, bytes: &[u8], tokens: &[u32]) -> Fed;
-
-    fn goes(&self, bytes: usize, tokens: usize) -> Taken;
-
-    fn take(&mut self, bytes: &mut [u8], tokens: &mut [u32]) -> Taken;
-
-    /// Makes the call of a move, with its arguments; none where it is no call of this end.
-    fn act(
-        &mut self,
-        action: &Move,
-        args: &[Arg<'_>],
-    ) -> Option<Reply<<Self::Table as Table>::Alloc>>;
-
-    fn read_all(
-        &mut self,
-        pieces: &[Piece<'_>],
-        reports: &mut Vec<Self::Report, <Self::Table as Table>::Alloc>,
-    ) -> ReadAll;
-
-    /// Adds the objects that a report made.
-    fn learn(names: &mut Names, tables: &Tables, report: &Self::Report) -> Result<(), AllocError>;
-
-    fn write_report(
-        teller: Teller<'_>,
-        out: &mut String,
-        report: &Self::Report,
-    ) -> Result<(), AllocError>;
-}
-
-impl<'t, T: Table> End for Client<'t, T> {
-    type Table = T;
-
-    type Report = Incoming<T::Alloc>;
-
-    const NEXT: &'static str = "client-next";
-
-    fn table(&self) -> &T {
-        Client::table(self)
-    }
-
-    fn live(&self, object: Object) -> Option<(Iface, u32)> {
-        Client::live(self, object)
-    }
-
-    fn room(&self) -> Fed {
-        self.in_room()
-    }
-
-    fn is_drained(&self) -> bool {
-        Client::is_drained(self)
-    }
-
-    fn feed(&mut self, bytes: &[u8], tokens: &[u32]) -> Fed {
-        Client::feed(self, bytes, tokens)
-    }
-
-    fn goes(&self, bytes: usize, tokens: usize) -> Taken {
-        Client::goes(self, bytes, tokens)
-    }
-
-    fn take(&mut self, bytes: &mut [u8], tokens: &mut [u32]) -> Taken {
-        Client::take(self, bytes, tokens)
-    }
-
-    fn act(&mut self, action: &Move, args: &[Arg<'_>]) -> Option<Reply<T::Alloc>> {
-        match action {
-            Move::ClientSend { target, opcode, .. } => {
-                Some(Reply::ClientSend(self.send(*target, *opcode, args)))
-            }
-            Move::ClientBind {
-                registry,
-                name,
-                iface,
-                version,
-            } => Some(Reply::ClientBind(self.bind(*registry, *name, iface.as_slice(), *version))),
-            Move::ClientNext => Some(Reply::ClientNext(self.next())),
-            _ => None,
-        }
-    }
-
-    fn read_all(
-        &mut self,
-        pieces: &[Piece<'_>],
-        reports: &mut Vec<Incoming<T::Alloc>, T::Alloc>,
-    ) -> ReadAll {
-        Client::read_all(self, pieces, reports)
-    }
-
-    fn learn(
-        _names: &mut Names,
-        _tables: &Tables,
-        _report: &Incoming<T::Alloc>,
-    ) -> Result<(), AllocError> {
-        Ok(())
-    }
-
-    fn write_report(
-        teller: Teller<'_>,
-        out: &mut String,
-        report: &Incoming<T::Alloc>,
-    ) -> Result<(), AllocError> {
-        teller.write_incoming(out, report)
-    }
-}
-
-impl<'t, T: Table> End for Server<'t, T> {
-    type Table = T;
-
-    type Report = Request<T::Alloc>;
-
-    const NEXT: &'static str = "server-next";
-
-    fn table(&self) -> &T {
-        Server::table(self)
-    }
-
-    fn live(&self, object: Object) -> Option<(Iface, u32)> {
-        Server::live(self, object)
-    }
-
-    fn room(&self) -> Fed {
-        self.in_room()
-    }
-
-    fn is_drained(&self) -> bool {
-        Server::is_drained(self)
-    }
-
-    fn feed(&mut self, bytes: &[u8], tokens: &[u32]) -> Fed {
-        Server::feed(self, bytes, tokens)
-    }
-
-    fn goes(&self, bytes: usize, tokens: usize) -> Taken {
-        Server::goes(self, bytes, tokens)
-    }
-
-    fn take(&mut self, bytes: &mut [u8], tokens: &mut [u32]) -> Taken {
-        Server::take(self, bytes, tokens)
-    }
-
-    fn act(&mut self, action: &Move, args: &[Arg<'_>]) -> Option<Reply<T::Alloc>> {
-        match action {
-            Move::ServerSend { target, opcode, .. } => {
-                Some(Reply::ServerSend(self.send(*target, *opcode, args)))
-            }
-            Move::ServerDrop { object } => Some(Reply::ServerDrop(self.drop_object(*object))),
-            Move::PostError { object, code, text } => Some(Reply::PostError(self.post_error(
-                *object,
-                *code,
-                text.as_slice(),
-            ))),
-            Move::AddGlobal { iface, version } => {
-                Some(Reply::AddGlobal(self.add_global(*iface, *version)))
-            }
-            Move::Withdraw { name } => Some(Reply::Withdraw(self.withdraw(*name))),
-            Move::Announce => Some(Reply::Announce(self.announce())),
-            Move::ServerNext => Some(Reply::ServerNext(self.next())),
-            _ => None,
-        }
-    }
-
-    fn read_all(
-        &mut self,
-        pieces: &[Piece<'_>],
-        reports: &mut Vec<Request<T::Alloc>, T::Alloc>,
-    ) -> ReadAll {
-        Server::read_all(self, pieces, reports)
-    }
-
-    fn learn(
-        names: &mut Names,
-        tables: &Tables,
-        report: &Request<T::Alloc>,
-    ) -> Result<(), AllocError> {
-        names.add_read(tables, report)
-    }
-
-    fn write_report(
-        teller: Teller<'_>,
-        out: &mut String,
-        report: &Request<T::Alloc>,
-    ) -> Result<(), AllocError> {
-        teller.write_request(out, report)
-    }
-}
 
 /// An end, and what a scene has seen of it.
 #[derive(Drop)]
@@ -225,7 +19,7 @@ pub struct AtEnd<'a, E: End + Drop> {
     pub alloc: Global,
     pub tables: &'a Tables,
     pub end: E,
-    pub names: Names,
+    pub actor: Actor<'a>,
     /// What was read of pieces.
     pub reports: Vec<E::Report, <E::Table as Table>::Alloc>,
     /// How many pieces were taken by a reading that was refused memory.
@@ -237,10 +31,10 @@ impl<'a, E: End + Drop> Stage for AtEnd<'a, E> {
         let mut words = Words::of(call);
         let verb = words.word()?;
         let verb = if verb == "next" { E::NEXT } else { verb };
-        match read_move(&self.alloc, self.tables, verb, &mut words)? {
-            Some(action) => self.act(&action, reply),
-            None => self.play_other(verb, &mut words, reply),
+        if self.actor.act(&mut self.end, verb, &mut words, reply)? {
+            return Ok(());
         }
+        self.play_other(verb, &mut words, reply)
     }
 
     fn show(&self, text: &mut String) -> Result<(), AllocError> {
@@ -253,23 +47,6 @@ impl<'a, E: End + Drop> Stage for AtEnd<'a, E> {
 }
 
 impl<'a, E: End + Drop> AtEnd<'a, E> {
-    /// Makes the call of a move.
-    fn act(&mut self, action: &Move, reply: &mut String) -> Result<(), Trouble> {
-        let args = lend(self.alloc, arguments_of(action))?;
-        let Some(answer) = self.end.act(action, &args) else {
-            return Err(Trouble::Unreadable);
-        };
-        self.names.learn(self.tables, action, &answer)?;
-        Ok(self.teller().write_reply(reply, &answer)?)
-    }
-
-    fn teller(&self) -> Teller<'_> {
-        Teller {
-            tables: self.tables,
-            names: &self.names,
-        }
-    }
-
     /// Makes a call that is no move.
     fn play_other(
         &mut self,
@@ -340,7 +117,7 @@ impl<'a, E: End + Drop> AtEnd<'a, E> {
         let before = self.reports.len();
         let end = self.end.read_all(left, &mut self.reports);
         for report in self.reports.get(before..).unwrap_or(&[]) {
-            E::learn(&mut self.names, self.tables, report)?;
+            E::learn(&mut self.actor.names, self.tables, report)?;
         }
         let taken = self.pieces.saturating_add(end.pieces);
         self.pieces = 0;
@@ -354,37 +131,22 @@ impl<'a, E: End + Drop> AtEnd<'a, E> {
     /// Appends what was read of pieces, one a line; equal ones that follow one another are one line.
     fn write_reports(&self, reply: &mut String) -> Result<(), AllocError> {
         write!(reply, "{} reports", self.reports.len())?;
-        let mut last = String::new(self.alloc);
-        let mut times = 0u32;
+        let mut lines = Repeated::nothing(self.alloc);
         for report in &self.reports {
-            let mut text = String::new(self.alloc);
-            E::write_report(self.teller(), &mut text, report)?;
-            if text.as_str() == last.as_str() {
-                times = times.saturating_add(1);
-            } else {
-                write_times(reply, times, last.as_str())?;
-                last = text;
-                times = 1;
-            }
+            self.write_report(report, &mut lines, reply)?;
         }
-        write_times(reply, times, last.as_str())
+        lines.end(reply)
     }
-}
 
-/// Appends a line, and how often it stands where that is more than once.
-fn write_times(reply: &mut String, times: u32, text: &str) -> Result<(), AllocError> {
-    match times {
-        0 => Ok(()),
-        1 => write!(reply, "\n{text}"),
-        _ => write!(reply, "\n{times} times {text}"),
-    }
-}
-
-/// The arguments of a move.
-fn arguments_of(action: &Move) -> &[SendArg] {
-    match action {
-        Move::ClientSend { args, .. } | Move::ServerSend { args, .. } => args.as_slice(),
-        _ => &[],
+    fn write_report(
+        &self,
+        report: &E::Report,
+        lines: &mut Repeated,
+        reply: &mut String,
+    ) -> Result<(), AllocError> {
+        let mut text = String::new(self.alloc);
+        E::write_report(self.actor.teller(), &mut text, report)?;
+        lines.put(reply, text)
     }
 }
 

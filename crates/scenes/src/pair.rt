@@ -6,8 +6,8 @@ use std::alloc::{AllocError, Allocator, Global};
 use std::fmt::Write;
 use wl_objects::Table;
 use wl_recording::{Direction, Passed, Recording};
-use wl_scenes::{Names, Teller, Trouble, Words, read_move, write_verdict};
-use wl_session::{Move, Pair, Reply, check};
+use wl_scenes::{Actor, Trouble, Words, write_verdict};
+use wl_session::{Pair, check};
 use wl_sigs::Tables;
 
 /// A pair, and what a scene has seen of it.
@@ -16,18 +16,16 @@ pub struct AtPair<'a, 't, T: Table + Drop> {
     pub alloc: Global,
     pub tables: &'a Tables,
     pub pair: Pair<'t, T>,
-    pub names: Names,
+    pub actor: Actor<'a>,
     /// The memory of the moves. It refuses none.
     pub granting: T::Alloc,
 }
 
 impl<'a, 't, T: Table + Drop> Stage for AtPair<'a, 't, T> {
     fn play(&mut self, call: &str, reply: &mut String) -> Result<(), Trouble> {
-        let mut words = Words::of(call);
-        let verb = words.word()?;
-        match read_move(&self.granting, self.tables, verb, &mut words)? {
-            Some(action) => self.act(action, reply),
-            None => self.tell(verb, &mut words, reply),
+        match call.strip_prefix("run ") {
+            Some(many) => self.play_many(many, reply),
+            None => self.play_one(call, reply),
         }
     }
 
@@ -43,14 +41,23 @@ impl<'a, 't, T: Table + Drop> Stage for AtPair<'a, 't, T> {
 }
 
 impl<'a, 't, T: Table + Drop> AtPair<'a, 't, T> {
-    /// Makes a move.
-    fn act(&mut self, action: Move<T::Alloc>, reply: &mut String) -> Result<(), Trouble> {
-        let mut moves = Vec::new(self.granting.clone()?);
-        moves.push(action)?;
-        match self.pair.run(&moves) {
-            Ok(replies) => answer(self.tables, &mut self.names, &moves, &replies, reply),
-            Err(_) => Ok(reply.push_str("out of memory")?),
+    /// Makes one call.
+    fn play_one(&mut self, call: &str, reply: &mut String) -> Result<(), Trouble> {
+        if self.actor.run(&mut self.pair, &self.granting, call, reply)? {
+            return Ok(());
         }
+        let mut words = Words::of(call);
+        let verb = words.word()?;
+        self.tell(verb, &mut words, reply)
+    }
+
+    /// Makes a move so many times in one run: their number and the call.
+    fn play_many(&mut self, words: &str, reply: &mut String) -> Result<(), Trouble> {
+        let mut words = Words::of(words);
+        let count = words.size()?;
+        let call = words.rest();
+        self.actor
+            .run_many(&mut self.pair, &self.granting, count, call, reply)
     }
 
     /// Appends what is asked for.
@@ -85,22 +92,6 @@ impl<'a, 't, T: Table + Drop> AtPair<'a, 't, T> {
         }
         Ok(())
     }
-}
-
-/// Appends the replies to these moves.
-fn answer<A: Allocator>(
-    tables: &Tables,
-    names: &mut Names,
-    moves: &[Move<A>],
-    replies: &[Reply<A>],
-    reply: &mut String,
-) -> Result<(), Trouble> {
-    for (action, answer) in moves.iter().zip(replies) {
-        names.learn(tables, action, answer)?;
-        let teller = Teller { tables, names };
-        teller.write_reply(reply, answer)?;
-    }
-    Ok(())
 }
 
 /// The first pieces of a recording.

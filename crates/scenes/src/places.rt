@@ -1,7 +1,7 @@
 //! Where a scene is played.
 ghost use Rattle.wl_message.specs.Arrived.{AreSizes};
 
-use crate::ends::{AtEnd, End};
+use crate::ends::AtEnd;
 use crate::pair::AtPair;
 use crate::playing::{Played, Refusal, play};
 use crate::recording::AtRecording;
@@ -12,7 +12,7 @@ use wl_client::Client;
 use wl_message::Sizes;
 use wl_objects::Table;
 use wl_recording::Recording;
-use wl_scenes::{Line, Names, Row, Scene, Trouble, Words};
+use wl_scenes::{Actor, End, Line, Row, Scene, Trouble, Words};
 use wl_server::Server;
 use wl_session::Pair;
 
@@ -172,7 +172,7 @@ fn at_end<T: Table<Alloc = RefusingAllocator>, E: End<Table = T> + Drop>(
         alloc: props.alloc,
         tables: props.tables,
         end,
-        names: Names::new(props.alloc)?,
+        actor: Actor::new(props.alloc, props.tables)?,
         reports: Vec::new(props.memory.clone()?),
         pieces: 0,
     };
@@ -205,7 +205,7 @@ fn with_pair<T: Table<Alloc = RefusingAllocator> + Drop>(
         alloc: props.alloc,
         tables: props.tables,
         pair,
-        names: Names::new(props.alloc)?,
+        actor: Actor::new(props.alloc, props.tables)?,
         granting: RefusingAllocator::new(props.alloc)?,
     };
     play(props, &mut stage, &scene.rows, refusal)

@@ -21,8 +21,9 @@
 //!    the other end wrote.
 //! 4. **Feed.** `feed` moves what was read into the end's inbox, as much as it has room for, and
 //!    returns how much that was. Bytes may come in any cut, down to single ones.
-//! 5. **Next.** `next` reads one message and returns its report, or `None` as long as none is
-//!    whole. The caller goes on until `None`, and sends its replies on the way.
+//! 5. **Next.** `next` reads one message and lends its report, or returns `None` as long as none is
+//!    whole. The caller goes on until `None`, and sends its replies on the way. `next_owned` returns
+//!    a report of its own, for a caller that keeps it.
 //!
 //! [`Client::read_all`] and [`Server::read_all`] are steps 4 and 5 for a list of pieces. No call
 //! blocks, and none calls back.
@@ -36,7 +37,7 @@
 //! stands for one, say its number. [`Arg::Fd`] sends a token, `take` returns it together with the
 //! first byte of its message, and the caller passes the descriptor along with these bytes. On the
 //! other side the caller feeds a token for each descriptor that came, with the bytes that they came
-//! with, and the report has it as [`Got::Fd`]. No token is lost or given to another message, and no
+//! with, and the report has it as [`GotRef::Fd`]. No token is lost or given to another message, and no
 //! descriptor is ever closed here.
 //!
 //! # Who owns what
@@ -49,17 +50,20 @@
 //! - An [`Object`] is a plain value: an id and a birth, which tells it from every other object that
 //!   ever had that id. A call that names an object of the past is refused, and never reaches its
 //!   successor.
-//! - A report owns its strings, its arrays and its tokens. After an event for an object that the
-//!   client has destroyed ([`Incoming::Discarded`]) the caller closes the descriptors that its
-//!   tokens stand for.
-//! - What allocates is given an allocator first, and returns an error where it has no memory.
+//! - A report of `next` ([`Incoming`], [`Request`]) lends its strings, its arrays and its tokens from
+//!   the end, until the next call that changes the end: to keep one beyond that is an error of the
+//!   compiler. [`Args`] goes through the arguments. A report of `next_owned` ([`OwnedIncoming`],
+//!   [`OwnedRequest`]) owns them. After an event for an object that the client has destroyed
+//!   ([`Incoming::Discarded`]) the caller closes the descriptors that its tokens stand for.
+//! - What allocates is given an allocator first, and returns an error where it has no memory. After
+//!   an end's `new` only the opening of an object allocates, and `next_owned`.
 //!
 //! # What an error leaves
 //!
 //! - [`SendError`] and [`GlobalError`]: nothing was written and nothing has changed. After `Full`,
 //!   take and send again.
 //! - [`NextError::Memory`] and [`NextError::OutFull`]: nothing has changed. The message stays, and
-//!   `next` can be called again.
+//!   can be read again. A client's `next` never returns either.
 //! - [`NextError::Fault`]: the other end broke a rule, and this end has failed for good. It reads
 //!   and writes nothing more, but `take` still hands out what waits: at a server that ends with the
 //!   wl_display.error that says why. Take it, write it, and close the socket.
@@ -84,8 +88,8 @@
 //! use anyhow::{Context, Result, bail};
 //! use std::io::Write;
 //! use wl::{
-//!     Arg, Direction, Got, Gots, Incoming, Object, Recording, Sizes, SlotTable, Tables, event,
-//!     request, trace,
+//!     Arg, Direction, Got, GotRef, Gots, Incoming, Object, OwnedIncoming, Recording, Sizes,
+//!     SlotTable, Tables, event, request, trace,
 //! };
 //!
 //! type Client<'t> = wl::Client<'t, SlotTable>;
@@ -138,44 +142,60 @@
 //!     made.context("the request makes no object")
 //! }
 //!
-//! /// Binds the global that the registry tells of next.
+//! /// Binds the global that the registry announces next. Its report is used while the client is
+//! /// called, so it owns its arguments.
 //! fn bind(client: &mut Client<'_>, registry: Object) -> Result<Object> {
-//!     let args = wait_for(client, registry, event::wl_registry::GLOBAL)?;
+//!     for _ in 0..u64::MAX {
+//!         let Some(report) = client.next_owned()? else {
+//!             break;
+//!         };
+//!         if let OwnedIncoming::Event {
+//!             target,
+//!             opcode,
+//!             args,
+//!         } = report
+//!         {
+//!             if target == registry && opcode == event::wl_registry::GLOBAL {
+//!                 return bind_announced(client, registry, &args);
+//!             }
+//!         }
+//!     }
+//!     bail!("no global was announced")
+//! }
+//!
+//! /// Binds the global that these arguments of wl_registry.global announce.
+//! fn bind_announced(client: &mut Client<'_>, registry: Object, args: &Gots) -> Result<Object> {
 //!     let [Got::Uint(name), Got::Str(Some(iface)), Got::Uint(version)] = args.as_slice() else {
 //!         bail!("the arguments are not those of wl_registry.global");
 //!     };
 //!     Ok(client.bind(registry, *name, iface.as_slice(), *version)?)
 //! }
 //!
-//! /// Reads events up to the next one of this kind for this object, and returns its arguments.
-//! fn wait_for(client: &mut Client<'_>, object: Object, wanted: u16) -> Result<Gots> {
+//! /// Reads events up to the next one of this kind for this object.
+//! fn wait_for(client: &mut Client<'_>, object: Object, wanted: u16) -> Result<()> {
 //!     for _ in 0..u64::MAX {
 //!         let Some(report) = client.next()? else {
 //!             break;
 //!         };
-//!         if let Incoming::Event {
-//!             target,
-//!             opcode,
-//!             args,
-//!         } = report
-//!         {
+//!         if let Incoming::Event { target, opcode, .. } = report {
 //!             if target == object && opcode == wanted {
-//!                 return Ok(args);
+//!                 return Ok(());
 //!             }
 //!         }
 //!     }
 //!     bail!("the event did not come")
 //! }
 //!
-//! /// Reads the requests that came, does what they ask, and tells new registries of the globals.
+//! /// Reads the requests that came, does what they ask, and announces the globals to new registries.
 //! fn serve(server: &mut Server<'_>) -> Result<()> {
+//!     let display = server.display();
 //!     for _ in 0..u64::MAX {
-//!         let Some(read) = server.next()? else {
+//!         let Some(mut read) = server.next()? else {
 //!             break;
 //!         };
-//!         if read.target == server.display() && read.opcode == request::wl_display::SYNC {
-//!             if let [Got::New(callback)] = read.args.as_slice() {
-//!                 server.send(*callback, event::wl_callback::DONE, &[Arg::Uint(0)])?;
+//!         if read.target == display && read.opcode == request::wl_display::SYNC {
+//!             if let Some(GotRef::New(callback)) = read.args.next() {
+//!                 server.send(callback, event::wl_callback::DONE, &[Arg::Uint(0)])?;
 //!             }
 //!         }
 //!     }
@@ -231,14 +251,14 @@
 //! ```
 #![tactic(auto)]
 
-pub use wl_client::{Client, Incoming, Tokens};
+pub use wl_client::{Client, Incoming, OwnedIncoming, Tokens};
 pub use wl_end::ReadAll;
 pub use wl_message::{BadSize, Fed, Full, Piece, Sizes, Taken};
 pub use wl_objects::{
-    Arg, Entry, Fault, Got, Gots, MapTable, Named, NextError, Object, SendError, SlotTable, State,
-    Table, TableError,
+    Arg, Args, Entry, Fault, Got, GotRef, Gots, MapTable, Named, NextError, Object, SendError,
+    SlotTable, State, Table, TableError,
 };
-pub use wl_server::{GlobalError, Request, Server};
+pub use wl_server::{GlobalError, OwnedRequest, Request, Server};
 pub use wl_session::{
     Carried, Direction, Move, Pair, Passed, Recording, RecordingError, Reply, SendArg, Verdict,
     check, trace,

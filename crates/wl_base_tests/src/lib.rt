@@ -6,6 +6,8 @@ mod message;
 #[cfg(test)]
 mod sigs;
 #[cfg(test)]
+mod streams;
+#[cfg(test)]
 mod table;
 #[cfg(test)]
 mod wire;

@@ -353,12 +353,12 @@ fn outboxes_are_refused(memory: &RefusingAllocator) -> Result<bool, AllocError> 
     Ok(all)
 }
 
-/// Whether each of the three allocations of an inbox is.
+/// Whether each of the five allocations of an inbox is.
 fn inboxes_are_refused(memory: &RefusingAllocator) -> Result<bool, AllocError> {
     let mut all = true;
-    for number in 0u64..4 {
+    for number in 0u64..6 {
         let is_made = makes_an_inbox(memory, number)?;
-        all = is_made == (number == 3) && memory.has_refused() == (number < 3) && all;
+        all = is_made == (number == 5) && memory.has_refused() == (number < 5) && all;
     }
     Ok(all)
 }

@@ -103,11 +103,11 @@ unfolding cutting
 place_within zero s p within = within
 place_within (suc n) s p within = place_step n s p (front usual_limit (drop p s)) refl within (λ z there. place_within n s (p + z) there)
 
-drop_whole : (xs : List Mark) → drop (length xs) xs ≡ []
+pub drop_whole : (xs : List Mark) → drop (length xs) xs ≡ []
 drop_whole [] = refl
 drop_whole (x ∷ xs) = drop_whole xs
 
-drop_front : (xs ys : List Mark) → drop (length xs) (xs ++ ys) ≡ ys
+pub drop_front : (xs ys : List Mark) → drop (length xs) (xs ++ ys) ≡ ys
 drop_front [] ys = refl
 drop_front (x ∷ xs) ys = drop_front xs ys
 

@@ -15,17 +15,17 @@ use Rattle.wl_table.specs.declared.object.Entry.{Entry}
 use Rattle.wl_table.specs.declared.object.State.TheVariants.{Live}
 use Rattle.wl_recording.specs.declared.piece.Direction.{Direction}
 use Rattle.wl_recording.specs.declared.piece.Direction.TheVariants.{ToServer, ToClient}
-use Rattle.wl_check.specs.declared.deed.Deed.{Deed}
+use Rattle.wl_check.specs.declared.effect.Effect.{Effect}
 use Rattle.wl_check.specs.declared.frames.Frame.{Frame}
 use Rattle.wl_check.specs.declared.progress.Tally.{Tally}
 use Rattle.wl_check.specs.declared.progress.Progress.{Progress}
 use Rattle.wl_check.specs.declared.verdict.Verdict.{Verdict}
 use Rattle.wl_check.specs.declared.verdict.Verdict.TheVariants.{Lawful, Broken}
 use Rattle.wl_check.specs.Merged.{same_direction}
-use Rattle.wl_check.specs.Deeds.{Call, deed, beginning}
-use Rattle.wl_check.specs.Places.{holder, is_ending, used, told, taken, taken_after, deletes, unless_deleted, object_after, Known, known, IsNext, IsFirst}
+use Rattle.wl_check.specs.Effects.{Call, effect, beginning}
+use Rattle.wl_check.specs.Places.{holder, is_ending, used, advertised_version, taken, taken_after, deletes, unless_deleted, object_after, Known, known, IsNext, IsFirst}
 use Rattle.wl_check.specs.Rules.{judged}
-use Rattle.wl_check.specs.Session.{Session, Judged, deeds, messages, ends_session, examined, fault_of, breaks, IsLawful, count_in, end_after, Answers, SaysLawful}
+use Rattle.wl_check.specs.Session.{Session, Judged, effects, messages, ends_session, examined, fault_of, breaks, IsLawful, count_in, end_after, Answers, SaysLawful}
 use Rattle.wl_check.specs.Seen.{known_in, tally_after, tally_in, no_tally}
 use Rattle.wl_check.specs.Text.{IsExamined}
 use Rattle.wl_check.proofs.Stepping.{known_next, named_next}
@@ -150,7 +150,7 @@ tallied_next s k d t u f e h is i =
 -- ---- a place of the session
 
 pub record IsAt {A : Type 0} (tables : List Interface) (s : Session) (k : ℕ) (p : Progress A) : Type 0 where
-  pub known_is : known_in p.known ≡ known (deeds tables (messages tables s)) (suc k)
+  pub known_is : known_in p.known ≡ known (effects tables (messages tables s)) (suc k)
   pub to_server : IsTallied s k ToServer p.to_server
   pub to_client : IsTallied s k ToClient p.to_client
   pub taken_to_server : p.known.taken_to_server ≤ k * 2 ^ 64
@@ -179,14 +179,14 @@ first_taken : (d : Direction) → taken_after beginning d 0 ≡ 0
 first_taken ToServer = refl
 first_taken ToClient = refl
 
-known_first : (tables : List Interface) (s : Session) (k : Known) → IsFirst k → k ≡ known (deeds tables (messages tables s)) 1
-unfolding holder is_ending used told taken
+known_first : (tables : List Interface) (s : Session) (k : Known) → IsFirst k → k ≡ known (effects tables (messages tables s)) 1
+unfolding holder is_ending used advertised_version taken
 known_first tables s k h =
-    let o = fun_ext (λ id. h.objects id ∙ sym (named_next (deeds tables (messages tables s)) 0 id ∙ first_object id)) in
+    let o = fun_ext (λ id. h.objects id ∙ sym (named_next (effects tables (messages tables s)) 0 id ∙ first_object id)) in
     let u = h.used_is in
-    let t = fun_ext (λ n. fun_ext (λ i. h.told_is n i)) in
+    let t = fun_ext (λ n. fun_ext (λ i. h.advertised_is n i)) in
     let d = fun_ext (λ x. h.taken_is x ∙ sym (first_taken x)) in
-    λ i. record { object = o i; used = u i; told = t i; taken = d i }
+    λ i. record { object = o i; used = u i; advertised_version = t i; taken = d i }
 
 pub at_first : {A : Type 0} (tables : List Interface) (s : Session) (p : Progress A) → IsFirst (known_in p.known) → p.to_server ≡ no_tally → p.to_client ≡ no_tally → p.known.taken_to_server ≡ 0 → p.known.taken_to_client ≡ 0 → IsAt tables s 0 p
 at_first tables s p k a b c d = record {
@@ -198,14 +198,14 @@ at_first tables s p k a b c d = record {
 }
 
 -- behind a message that keeps the rules
-pub at_next : {A : Type 0} (tables : List Interface) (s : Session) (k : ℕ) (f : Frame) (call : Call) (d : Deed) (p q : Progress A) → d ≡ deed tables call → slice_get s.frames k ≡ Some f → slice_get (messages tables s) k ≡ Some (Ok call)
+pub at_next : {A : Type 0} (tables : List Interface) (s : Session) (k : ℕ) (f : Frame) (call : Call) (d : Effect) (p q : Progress A) → d ≡ effect tables call → slice_get s.frames k ≡ Some f → slice_get (messages tables s) k ≡ Some (Ok call)
     → f.start + f.size ≤ length (s.streams f.direction) → IsNext (k + 1) d (known_in p.known) (known_in q.known) → q.to_server ≡ tally_after ToServer f p.to_server → q.to_client ≡ tally_after ToClient f p.to_client
     → q.known.taken_to_server < p.known.taken_to_server + 2 ^ 64 → q.known.taken_to_client < p.known.taken_to_client + 2 ^ 64 → IsAt tables s k p → IsAt tables s (k + 1) q
 at_next tables s k f call what p q what_is e m h n a b c d at =
-    let is : deeds tables (messages tables s) (suc k) ≡ what = rw (m, what_is) refl in
-    let next : IsNext (suc k) (deeds tables (messages tables s) (suc k)) (known_in p.known) (known_in q.known) = rw (is, ← add-one) n in
+    let is : effects tables (messages tables s) (suc k) ≡ what = rw (m, what_is) refl in
+    let next : IsNext (suc k) (effects tables (messages tables s) (suc k)) (known_in p.known) (known_in q.known) = rw (is, ← add-one) n in
     record {
-      known_is = rw add-one (known_next (deeds tables (messages tables s)) (suc k) (known_in p.known) (known_in q.known) at.known_is next);
+      known_is = rw add-one (known_next (effects tables (messages tables s)) (suc k) (known_in p.known) (known_in q.known) at.known_is next);
       to_server = tallied_next s k ToServer p.to_server q.to_server f e h a at.to_server;
       to_client = tallied_next s k ToClient p.to_client q.to_client f e h b at.to_client;
       taken_to_server = (let t = at.taken_to_server in omega (arith, c, t));
@@ -227,8 +227,8 @@ found_is tables s k f p stream x e at stream_is is =
 pub frame_is : (frames items : List Frame) (k : ℕ) (d : Frame) → items ≡ frames → k < length items → slice_get frames k ≡ Some (get_or items k d)
 frame_is frames items k d is h = ap (λ (l : List Frame). slice_get l k) (sym is) ∙ slice_get-get_or items k d h
 
-pub ends_is : (tables : List Interface) (call : Call) (d : Deed) (b : Bool) → d ≡ deed tables call → d.is_error ≡ b → ends_session (Ok call) ≡ b
-ends_is tables call d b is e = sym (ap (λ (x : Deed). x.is_error) is) ∙ e
+pub ends_is : (tables : List Interface) (call : Call) (d : Effect) (b : Bool) → d ≡ effect tables call → d.is_error ≡ b → ends_session (Ok call) ≡ b
+ends_is tables call d b is e = sym (ap (λ (x : Effect). x.is_error) is) ∙ e
 
 pub if_ok_to : {X E : Type 0} (r : Result X E) (P Q : X → Type 0) → ((x : X) → P x → Q x) → IfOk r P → IfOk r Q
 if_ok_to (Ok x) P Q f h = f x h

@@ -1,6 +1,6 @@
 pub mod Cutting
 pub mod Merging
-pub mod Verdicts
+pub mod JudgedMessages
 pub mod Stepping
 pub mod Reading
 pub mod Examined

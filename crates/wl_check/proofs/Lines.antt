@@ -7,10 +7,12 @@ use Rattle.wl_objects.specs.declared.error.Fault.{Fault}
 use Rattle.wl_recording.specs.declared.piece.Direction.{Direction}
 use Rattle.wl_recording.specs.declared.piece.Direction.TheVariants.{ToServer, ToClient}
 use Rattle.wl_check.specs.declared.progress.Progress.{Progress}
-use Rattle.wl_check.specs.Deeds.{Call}
+use Rattle.wl_check.specs.declared.scanning.Output.{Output}
+use Rattle.wl_check.specs.declared.scanning.Output.TheVariants.{Nothing, Lines}
+use Rattle.wl_check.specs.Effects.{Call}
 use Rattle.wl_check.specs.Places.{Known, known}
-use Rattle.wl_check.specs.Session.{Session, Judged, messages, deeds, ends_session}
-use Rattle.wl_check.specs.Trace.{call_line, judged_line, lines_within, lasting, trace_of}
+use Rattle.wl_check.specs.Session.{Session, Judged, messages, effects, ends_session}
+use Rattle.wl_check.specs.Trace.{call_line, judged_line, lines_within, lasting, trace_of, wanted}
 use Rattle.wl_check.specs.Seen.{known_in, taken_in}
 use Rattle.wl_check.proofs.Examined.{ArePassed, IsAt, behind, first_call}
 use Rattle.wl_check.proofs.Reading.{length_messages}
@@ -39,32 +41,48 @@ lasting_broken (x ∷ xs) (suc k) fault e a = on x xs k a ∙ ap suc (lasting_br
 
 -- ---- the lines
 
--- one line more
-pub lines_more : {A : Type 0} (tables : List Interface) (s : Session) (k : ℕ) (call : Call) (p : Progress A) (old new : List ℕ) → slice_get (messages tables s) k ≡ Some (Ok call) → IsAt tables s k p → old ≡ lines_within tables s k
-    → new ≡ old ++ call_line tables (known_in p.known) call → new ≡ lines_within tables s (k + 1)
+-- none yet
+pub lines_none : (tables : List Interface) (s : Session) (o : Output) → [] ≡ wanted o (lines_within tables s 0)
 unfolding lines_within
-lines_more tables s k call p old new m at old_is new_is =
-    let one : k + 1 ≡ suc k = add-one k in
-    let w : known (deeds tables (messages tables s)) (suc k) ≡ known_in p.known = sym at.known_is in
-    let l : judged_line tables (known (deeds tables (messages tables s)) (suc k)) (slice_get (messages tables s) k) ≡ call_line tables (known_in p.known) call =
-    ap (λ (o : Option Judged). judged_line tables (known (deeds tables (messages tables s)) (suc k)) o) m ∙ ap (λ (x : Known). call_line tables x call) w in
-    new_is ∙ ap (λ (x : List ℕ). x ++ call_line tables (known_in p.known) call) old_is ∙ ap (λ (x : List ℕ). lines_within tables s k ++ x) (sym l) ∙ ap (λ (n : ℕ). lines_within tables s n) (sym one)
+lines_none tables s Nothing = refl
+lines_none tables s Lines = refl
 
-pub trace_all : (tables : List Interface) (s : Session) (k : ℕ) (text : List ℕ) → length s.frames ≡ k → ArePassed (messages tables s) k → text ≡ lines_within tables s k → text ≡ trace_of tables s
-trace_all tables s k text e a t =
+-- one line more
+line_more : {A : Type 0} (tables : List Interface) (s : Session) (k : ℕ) (call : Call) (p : Progress A) → slice_get (messages tables s) k ≡ Some (Ok call) → IsAt tables s k p
+    → lines_within tables s k ++ call_line tables (known_in p.known) call ≡ lines_within tables s (k + 1)
+unfolding lines_within
+line_more tables s k call p m at =
+    let w : known (effects tables (messages tables s)) (suc k) ≡ known_in p.known = sym at.known_is in
+    let l : judged_line tables (known (effects tables (messages tables s)) (suc k)) (slice_get (messages tables s) k) ≡ call_line tables (known_in p.known) call =
+    ap (λ (o : Option Judged). judged_line tables (known (effects tables (messages tables s)) (suc k)) o) m ∙ ap (λ (x : Known). call_line tables x call) w in
+    ap (λ (x : List ℕ). lines_within tables s k ++ x) (sym l) ∙ ap (λ (n : ℕ). lines_within tables s n) (sym (add-one k))
+
+wanted_more : (o : Output) (lines line : List ℕ) → wanted o lines ++ wanted o line ≡ wanted o (lines ++ line)
+wanted_more Nothing lines line = refl
+wanted_more Lines lines line = refl
+
+pub lines_more : {A : Type 0} (tables : List Interface) (s : Session) (k : ℕ) (o : Output) (call : Call) (p : Progress A) (old new : List ℕ) → slice_get (messages tables s) k ≡ Some (Ok call) → IsAt tables s k p
+    → old ≡ wanted o (lines_within tables s k) → new ≡ old ++ wanted o (call_line tables (known_in p.known) call) → new ≡ wanted o (lines_within tables s (k + 1))
+lines_more tables s k o call p old new m at old_is new_is =
+    let line = call_line tables (known_in p.known) call in
+    new_is ∙ ap (λ (x : List ℕ). x ++ wanted o line) old_is ∙ wanted_more o (lines_within tables s k) line ∙ ap (wanted o) (line_more tables s k call p m at)
+
+pub trace_all : (tables : List Interface) (s : Session) (k : ℕ) (o : Output) (text : List ℕ) → length s.frames ≡ k → ArePassed (messages tables s) k → text ≡ wanted o (lines_within tables s k)
+    → text ≡ wanted o (trace_of tables s)
+trace_all tables s k o text e a t =
     let l : length (messages tables s) ≡ k = length_messages tables s ∙ e in
     let all : ArePassed (messages tables s) (length (messages tables s)) = subst (λ (n : ℕ). ArePassed (messages tables s) n) (sym l) a in
-    t ∙ ap (λ (n : ℕ). lines_within tables s n) (sym (lasting_all (messages tables s) all ∙ l))
+    t ∙ ap (λ (n : ℕ). wanted o (lines_within tables s n)) (sym (lasting_all (messages tables s) all ∙ l))
 
-pub trace_end : (tables : List Interface) (s : Session) (k : ℕ) (call : Call) (text : List ℕ) → slice_get (messages tables s) k ≡ Some (Ok call) → ends_session (Ok call) ≡ true → ArePassed (messages tables s) k
-    → text ≡ lines_within tables s (k + 1) → text ≡ trace_of tables s
-trace_end tables s k call text e ends a t =
+pub trace_end : (tables : List Interface) (s : Session) (k : ℕ) (o : Output) (call : Call) (text : List ℕ) → slice_get (messages tables s) k ≡ Some (Ok call) → ends_session (Ok call) ≡ true
+    → ArePassed (messages tables s) k → text ≡ wanted o (lines_within tables s (k + 1)) → text ≡ wanted o (trace_of tables s)
+trace_end tables s k o call text e ends a t =
     let one : k + 1 ≡ suc k = add-one k in
-    t ∙ ap (λ (n : ℕ). lines_within tables s n) (one ∙ sym (lasting_end (messages tables s) k call e ends a))
+    t ∙ ap (λ (n : ℕ). wanted o (lines_within tables s n)) (one ∙ sym (lasting_end (messages tables s) k call e ends a))
 
-pub trace_broken : (tables : List Interface) (s : Session) (k : ℕ) (fault : Fault) (text : List ℕ) → slice_get (messages tables s) k ≡ Some (Err fault) → ArePassed (messages tables s) k
-    → text ≡ lines_within tables s k → text ≡ trace_of tables s
-trace_broken tables s k fault text e a t = t ∙ ap (λ (n : ℕ). lines_within tables s n) (sym (lasting_broken (messages tables s) k fault e a))
+pub trace_broken : (tables : List Interface) (s : Session) (k : ℕ) (o : Output) (fault : Fault) (text : List ℕ) → slice_get (messages tables s) k ≡ Some (Err fault) → ArePassed (messages tables s) k
+    → text ≡ wanted o (lines_within tables s k) → text ≡ wanted o (trace_of tables s)
+trace_broken tables s k o fault text e a t = t ∙ ap (λ (n : ℕ). wanted o (lines_within tables s n)) (sym (lasting_broken (messages tables s) k fault e a))
 
 -- the count of tokens is small
 pub few_taken : {A : Type 0} (tables : List Interface) (s : Session) (k : ℕ) (p : Progress A) (d : Direction) → k < 2 ^ 63 → IsAt tables s k p → taken_in p.known d < 2 ^ 127

@@ -7,7 +7,7 @@ use Rattle.wl_recording.specs.Piece.{Piece}
 use Rattle.wl_check.specs.declared.frames.Frame.{Frame}
 use Rattle.wl_check.specs.Merged.{Mark, mark, Cutting, cutting, cut, same_direction, stream_of, tokens_of, framed, completed_at, merged_within, merged}
 use Rattle.wl_check.specs.Text.{marks_in}
-use Rattle.wl_check.proofs.Cutting.{more, goes_on}
+use Rattle.wl_check.proofs.Cutting.{more, goes_on, drop_whole, drop_front}
 use Rattle.wl_check.proofs.Merging.{stream_more}
 use Rattle.wl_check.proofs.Examined.{same_is}
 use Rattle.wl_check.proofs.Fresh.{some_at}
@@ -24,14 +24,6 @@ marks_own e d t (m ∷ ms) same = rw same (ap (λ (l : List Mark). m ∷ l) (mar
 marks_other : (e d : Direction) (t : ℕ) (ms : List Mark) → same_direction e d ≡ false → marks_in d (map (framed e t) ms) ≡ []
 marks_other e d t [] other = refl
 marks_other e d t (m ∷ ms) other = rw other (marks_other e d t ms other)
-
-drop_whole : (xs : List Mark) → drop (length xs) xs ≡ []
-drop_whole [] = refl
-drop_whole (x ∷ xs) = drop_whole xs
-
-drop_front : (xs ys : List Mark) → drop (length xs) (xs ++ ys) ≡ ys
-drop_front [] ys = refl
-drop_front (x ∷ xs) ys = drop_front xs ys
 
 both_step : (a : Cutting) (f : ℕ → Cutting) (b : Bool) → a.is_bad ≡ b → a.marks ++ drop (length a.marks) (goes_on a f).marks ≡ (goes_on a f).marks
 both_step a f true is = rw is (ap (λ (l : List Mark). a.marks ++ l) (drop_whole a.marks) ∙ append-nil a.marks)

@@ -4,61 +4,61 @@ use Rattle.std.specs.Prelude.{Option, option_map}
 use Rattle.std.proofs.Math.Path.{fun_ext}
 use Rattle.wl_sigs.specs.Tables.{Interface}
 use Rattle.wl_recording.specs.declared.piece.Direction.{Direction}
-use Rattle.wl_check.specs.declared.deed.Deed.{Deed}
+use Rattle.wl_check.specs.declared.effect.Effect.{Effect}
 use Rattle.wl_check.specs.declared.frames.Frame.{Frame}
-use Rattle.wl_check.specs.Places.{holder, is_ending, state_of, object_of, named, used, told, taken, Known, known}
+use Rattle.wl_check.specs.Places.{holder, is_ending, state_of, object_of, named, used, advertised_version, taken, Known, known}
 use Rattle.wl_check.specs.Rules.{judged}
-use Rattle.wl_check.specs.Session.{Judged, deed_of, deeds, judged_after, messages, Session}
+use Rattle.wl_check.specs.Session.{Judged, effect_of, effects, judged_after, messages, Session}
 use Rattle.wl_check.proofs.Stepping.{holder_before}
 
--- ---- what stands before a place tells all that is known there
+-- ---- what stands before a place fixes all that is known there
 
-abbrev Agree : (ℕ → Deed) → (ℕ → Deed) → ℕ → Type 0
+abbrev Agree : (ℕ → Effect) → (ℕ → Effect) → ℕ → Type 0
 Agree s t p = (q : ℕ) → q < p → s q ≡ t q
 
-less : (s t : ℕ → Deed) (p : ℕ) → Agree s t (suc p) → Agree s t p
+less : (s t : ℕ → Effect) (p : ℕ) → Agree s t (suc p) → Agree s t p
 less s t p a q h = a q (omega arith)
 
-holder_same : (s t : ℕ → Deed) (p i : ℕ) → Agree s t p → holder s p i ≡ holder t p i
+holder_same : (s t : ℕ → Effect) (p i : ℕ) → Agree s t p → holder s p i ≡ holder t p i
 unfolding holder
 holder_same s t zero i a = refl
 holder_same s t (suc p) i a = rw (a p (omega arith), holder_same s t p i (less s t p a)) refl
 
-is_ending_same : (s t : ℕ → Deed) (m p i : ℕ) → Agree s t p → is_ending s m p i ≡ is_ending t m p i
+is_ending_same : (s t : ℕ → Effect) (m p i : ℕ) → Agree s t p → is_ending s m p i ≡ is_ending t m p i
 unfolding is_ending
 is_ending_same s t m zero i a = refl
 is_ending_same s t m (suc p) i a = rw (a p (omega arith), is_ending_same s t m p i (less s t p a)) refl
 
-object_same : (s t : ℕ → Deed) (p i : ℕ) (o : Option ℕ) → Agree s t p → IfSome o (λ m. m < p)
+object_same : (s t : ℕ → Effect) (p i : ℕ) (o : Option ℕ) → Agree s t p → IfSome o (λ m. m < p)
     → option_map (λ m. object_of s m (state_of (is_ending s m p i))) o ≡ option_map (λ m. object_of t m (state_of (is_ending t m p i))) o
 object_same s t p i None a h = refl
 object_same s t p i (Some m) a h = rw (a m h, is_ending_same s t m p i a) refl
 
-named_same : (s t : ℕ → Deed) (p i : ℕ) → Agree s t p → named s p i ≡ named t p i
+named_same : (s t : ℕ → Effect) (p i : ℕ) → Agree s t p → named s p i ≡ named t p i
 named_same s t p i a = rw (holder_same s t p i a) (object_same s t p i (holder t p i) a (holder_before t p i))
 
-used_same : (s t : ℕ → Deed) (p : ℕ) → Agree s t p → used s p ≡ used t p
+used_same : (s t : ℕ → Effect) (p : ℕ) → Agree s t p → used s p ≡ used t p
 unfolding used
 used_same s t zero a = refl
 used_same s t (suc p) a = rw (a p (omega arith), used_same s t p (less s t p a)) refl
 
-told_same : (s t : ℕ → Deed) (p n i : ℕ) → Agree s t p → told s p n i ≡ told t p n i
-unfolding told
-told_same s t zero n i a = refl
-told_same s t (suc p) n i a = rw (a p (omega arith), told_same s t p n i (less s t p a)) refl
+advertised_same : (s t : ℕ → Effect) (p n i : ℕ) → Agree s t p → advertised_version s p n i ≡ advertised_version t p n i
+unfolding advertised_version
+advertised_same s t zero n i a = refl
+advertised_same s t (suc p) n i a = rw (a p (omega arith), advertised_same s t p n i (less s t p a)) refl
 
-taken_same : (s t : ℕ → Deed) (p : ℕ) (d : Direction) → Agree s t p → taken s p d ≡ taken t p d
+taken_same : (s t : ℕ → Effect) (p : ℕ) (d : Direction) → Agree s t p → taken s p d ≡ taken t p d
 unfolding taken
 taken_same s t zero d a = refl
 taken_same s t (suc p) d a = rw (a p (omega arith), taken_same s t p d (less s t p a)) refl
 
-known_same : (s t : ℕ → Deed) (p : ℕ) → Agree s t p → known s p ≡ known t p
+known_same : (s t : ℕ → Effect) (p : ℕ) → Agree s t p → known s p ≡ known t p
 known_same s t p a =
     let o = fun_ext (λ i. named_same s t p i a) in
     let u = used_same s t p a in
-    let g = fun_ext (λ n. fun_ext (λ i. told_same s t p n i a)) in
+    let g = fun_ext (λ n. fun_ext (λ i. advertised_same s t p n i a)) in
     let k = fun_ext (λ d. taken_same s t p d a) in
-    λ i. record { object = o i; used = u i; told = g i; taken = k i }
+    λ i. record { object = o i; used = u i; advertised_version = g i; taken = k i }
 
 -- ---- the messages of a front are those of the whole
 
@@ -71,16 +71,16 @@ get_end : {A : Type 0} (xs ys : List A) (y : A) → slice_get (xs ++ y ∷ ys) (
 get_end [] ys y = refl
 get_end (x ∷ xs) ys y = get_end xs ys y
 
-deeds_same : (tables : List Interface) (e ys : List Judged) (q : ℕ) → q < suc (length e) → deeds tables (e ++ ys) q ≡ deeds tables e q
-deeds_same tables e ys zero below = refl
-deeds_same tables e ys (suc j) below = ap (deed_of tables) (get_front e ys j (omega arith))
+effects_same : (tables : List Interface) (e ys : List Judged) (q : ℕ) → q < suc (length e) → effects tables (e ++ ys) q ≡ effects tables e q
+effects_same tables e ys zero below = refl
+effects_same tables e ys (suc j) below = ap (effect_of tables) (get_front e ys j (omega arith))
 
-front_known : (tables : List Interface) (e ys : List Judged) → known (deeds tables e) (suc (length e)) ≡ known (deeds tables (e ++ ys)) (suc (length e))
-front_known tables e ys = known_same (deeds tables e) (deeds tables (e ++ ys)) (suc (length e)) (λ q h. sym (deeds_same tables e ys q h))
+front_known : (tables : List Interface) (e ys : List Judged) → known (effects tables e) (suc (length e)) ≡ known (effects tables (e ++ ys)) (suc (length e))
+front_known tables e ys = known_same (effects tables e) (effects tables (e ++ ys)) (suc (length e)) (λ q h. sym (effects_same tables e ys q h))
 
 -- the judgement of the next frame
 abbrev next_of : List Interface → (Direction → List ℕ) → List Judged → Frame → Judged
-next_of tables streams e f = judged tables (known (deeds tables e) (suc (length e))) (streams f.direction) f
+next_of tables streams e f = judged tables (known (effects tables e) (suc (length e))) (streams f.direction) f
 
 after_front : (tables : List Interface) (streams : Direction → List ℕ) (e : List Judged) (fs : List Frame) → (ys : List Judged) × (judged_after tables streams e fs ≡ e ++ ys)
 unfolding judged_after
@@ -98,7 +98,7 @@ length_after tables streams e (f ∷ fs) =
     omega (arith, length_after tables streams (e ++ m ∷ []) fs, length-append e (m ∷ []))
 
 reading_after : (tables : List Interface) (streams : Direction → List ℕ) (e : List Judged) (fs : List Frame) (k n : ℕ) (f : Frame) → slice_get fs k ≡ Some f → n ≡ length e + k
-    → slice_get (judged_after tables streams e fs) n ≡ Some (judged tables (known (deeds tables (judged_after tables streams e fs)) (suc n)) (streams f.direction) f)
+    → slice_get (judged_after tables streams e fs) n ≡ Some (judged tables (known (effects tables (judged_after tables streams e fs)) (suc n)) (streams f.direction) f)
 unfolding judged_after
 reading_after tables streams e [] k n f is at = absurd (cc)
 reading_after tables streams e (x ∷ fs) zero n f is at =
@@ -114,7 +114,7 @@ reading_after tables streams e (x ∷ fs) (suc k) n f is at =
 
 -- a message is judged by what is known at its place
 pub reading : (tables : List Interface) (session : Session) (k : ℕ) (f : Frame) → slice_get session.frames k ≡ Some f
-    → slice_get (messages tables session) k ≡ Some (judged tables (known (deeds tables (messages tables session)) (suc k)) (session.streams f.direction) f)
+    → slice_get (messages tables session) k ≡ Some (judged tables (known (effects tables (messages tables session)) (suc k)) (session.streams f.direction) f)
 reading tables session k f is = reading_after tables session.streams [] session.frames k k f is (omega arith)
 
 pub length_messages : (tables : List Interface) (session : Session) → length (messages tables session) ≡ length session.frames

@@ -1,5 +1,5 @@
 pub mod Merged
-pub mod Deeds
+pub mod Effects
 pub mod Places
 pub mod Rules
 pub mod Session

@@ -6,7 +6,7 @@ use Rattle.wl_recording.specs.Piece.{Piece}
 use Rattle.wl_message.specs.Cut.{usual_limit, is_size, front, Front, More, Bad, Whole}
 use Rattle.wl_check.specs.declared.frames.Frame.{Frame}
 
--- where a message begins in its direction, and the size that its header tells
+-- where a message begins in its direction, and the size in its header
 pub record Mark : Type 0 where
   pub start : ℕ
   pub size : ℕ

@@ -18,7 +18,7 @@ use Rattle.wl_objects.specs.Messages.{Received, Made, made, received, is_bind, n
 use Rattle.wl_recording.specs.declared.piece.Direction.{Direction}
 use Rattle.wl_recording.specs.declared.piece.Direction.TheVariants.{ToServer, ToClient}
 use Rattle.wl_check.specs.declared.frames.Frame.{Frame}
-use Rattle.wl_check.specs.Deeds.{Call, side_of, first_number}
+use Rattle.wl_check.specs.Effects.{Call, side_of, first_number}
 use Rattle.wl_check.specs.Places.{Known}
 
 -- an object that is open
@@ -49,9 +49,9 @@ abbrev pub version_of : List Interface → Iface → ℕ
 version_of tables iface = option_map_or (λ (i : Interface). i.version) (interface_at tables iface.0) 0
 
 -- A bind of this name may make this object: its interface is in the tables, its version is at least 1, at most that of the
--- tables, and at most one of which an event told for this name and interface.
+-- tables, and at most one that an event advertised for this name and interface.
 abbrev pub may_bind : List Interface → Known → Option ℕ → Option Made → Bool
-may_bind tables k (Some name) (Some new) = nat_le 1 new.version && nat_le new.version (version_of tables new.iface) && nat_le new.version (k.told name new.iface.0)
+may_bind tables k (Some name) (Some new) = nat_le 1 new.version && nat_le new.version (version_of tables new.iface) && nat_le new.version (k.advertised_version name new.iface.0)
 may_bind tables k _ _ = false
 
 abbrev pub is_bad_bind : List Interface → Known → Side → ℕ → Received → Bool

@@ -14,10 +14,10 @@ use Rattle.wl_check.specs.declared.frames.Front.{Front}
 use Rattle.wl_check.specs.declared.frames.Front.TheVariants.{More, Bad, Whole}
 use Rattle.wl_check.specs.declared.frames.Stream.{Stream}
 use Rattle.wl_check.specs.declared.known.Knowledge.{Knowledge}
-use Rattle.wl_check.specs.declared.judging.Said.{Said}
+use Rattle.wl_check.specs.declared.judging.Message.{Message}
 use Rattle.wl_objects.specs.Messages.{Received}
 use Rattle.wl_objects.specs.declared.reading.Received.{Received as Read}
-use Rattle.wl_check.specs.Deeds.{Call}
+use Rattle.wl_check.specs.Effects.{Call}
 use Rattle.wl_check.specs.Places.{Known}
 use Rattle.wl_check.specs.declared.frames.Merged.{Merged}
 use Rattle.wl_check.specs.declared.frames.Frame.{Frame}
@@ -48,7 +48,7 @@ abbrev pub known_in : {A : Type 0} → Knowledge A → Known
 known_in k = record {
   object = get nat_cmp k.objects;
   used = k.used;
-  told = λ name iface. unwrap_or (get pair_cmp k.globals (name, iface)) 0;
+  advertised_version = λ name iface. unwrap_or (get pair_cmp k.globals (name, iface)) 0;
   taken = taken_in k;
 }
 
@@ -56,12 +56,12 @@ known_in k = record {
 abbrev pub read_of : Read → Received
 read_of read = record { target = read.target; entry = read.entry; signature = read.signature.now; values = read.values }
 
-abbrev pub call_of : Said → Call
-call_of said = record { direction = said.direction; opcode = said.opcode; received = read_of said.received }
+abbrev pub call_of : Message → Call
+call_of message = record { direction = message.direction; opcode = message.opcode; received = read_of message.received }
 
-abbrev pub judged_in : Result Said Fault → Result Call Fault
+abbrev pub judged_in : Result Message Fault → Result Call Fault
 judged_in (Err fault) = Err fault
-judged_in (Ok said) = Ok (call_of said)
+judged_in (Ok message) = Ok (call_of message)
 
 abbrev pub bytes_in : {A : Type 0} → Merged A → Direction → List ℕ
 bytes_in m ToServer = m.to_server.items

@@ -9,12 +9,12 @@ use Rattle.wl_objects.specs.Messages.{is_error}
 use Rattle.wl_recording.specs.declared.piece.Direction.{Direction}
 use Rattle.wl_recording.specs.declared.piece.Direction.TheVariants.{ToServer, ToClient}
 use Rattle.wl_recording.specs.Piece.{Piece}
-use Rattle.wl_check.specs.declared.deed.Deed.{Deed}
+use Rattle.wl_check.specs.declared.effect.Effect.{Effect}
 use Rattle.wl_check.specs.declared.frames.Frame.{Frame}
 use Rattle.wl_check.specs.declared.verdict.Verdict.{Verdict}
 use Rattle.wl_check.specs.declared.verdict.Verdict.TheVariants.{Lawful, Broken}
 use Rattle.wl_check.specs.Merged.{merged, stream_of, same_direction}
-use Rattle.wl_check.specs.Deeds.{Call, deed, nothing, beginning, side_of}
+use Rattle.wl_check.specs.Effects.{Call, effect, nothing, beginning, side_of}
 use Rattle.wl_check.specs.Places.{known}
 use Rattle.wl_check.specs.Rules.{judged}
 
@@ -30,20 +30,20 @@ session_of pieces = record { frames = merged pieces; streams = λ direction. str
 abbrev pub Judged : Type 0
 Judged = Result Call Fault
 
-abbrev pub deed_of : List Interface → Option Judged → Deed
-deed_of tables (Some (Ok call)) = deed tables call
-deed_of tables _ = nothing
+abbrev pub effect_of : List Interface → Option Judged → Effect
+effect_of tables (Some (Ok call)) = effect tables call
+effect_of tables _ = nothing
 
 -- What stands at each place. A message that breaks a rule does nothing.
-abbrev pub deeds : List Interface → List Judged → ℕ → Deed
-deeds tables messages zero = beginning
-deeds tables messages (suc k) = deed_of tables (slice_get messages k)
+abbrev pub effects : List Interface → List Judged → ℕ → Effect
+effects tables messages zero = beginning
+effects tables messages (suc k) = effect_of tables (slice_get messages k)
 
 -- these messages, and behind them those of the frames, each judged by what stands at the places before it
 unfoldable pub judged_after : List Interface → (Direction → List ℕ) → List Judged → List Frame → List Judged
 judged_after tables streams earlier [] = earlier
 judged_after tables streams earlier (frame ∷ frames) =
-    judged_after tables streams (earlier ++ judged tables (known (deeds tables earlier) (suc (length earlier))) (streams frame.direction) frame ∷ []) frames
+    judged_after tables streams (earlier ++ judged tables (known (effects tables earlier) (suc (length earlier))) (streams frame.direction) frame ∷ []) frames
 
 -- the messages of a session
 abbrev pub messages : List Interface → Session → List Judged

@@ -1,34 +1,34 @@
--- What is held, open, used and told at a place of a session, in words: by the messages that stand before it.
+-- What is held, open, used and advertised at a place of a session, in words: by the messages that stand before it.
 use Rattle.std.specs.Prelude.{◌≡◌, ◌≢◌, ℕ, suc, ◌<◌, ◌≤◌, true, false, List, [], ◌∷◌, ◌++◌, if◌then◌else◌, length, slice_get, drop, take, Some}
 use Rattle.std.specs.List.{filter, AllByRecursion}
 use Rattle.wl_message.specs.Cut.{usual_limit, is_size, front, Bad}
-use Rattle.wl_check.specs.declared.deed.Advertised.{Advertised}
+use Rattle.wl_check.specs.declared.effect.Advertised.{Advertised}
 use Rattle.wl_recording.specs.declared.piece.Direction.{Direction}
 use Rattle.wl_check.specs.declared.frames.Frame.{Frame}
-use Rattle.wl_check.specs.declared.deed.Deed.{Deed}
+use Rattle.wl_check.specs.declared.effect.Effect.{Effect}
 use Rattle.wl_recording.specs.Piece.{Piece}
 use Rattle.wl_check.specs.Merged.{Mark, mark, finish, same_direction, stream_of, tokens_of}
 use Rattle.wl_check.specs.Places.{makes, deletes, destroys}
 use Rattle.wl_check.specs.Session.{Judged, ends_session}
 
 -- The object that was made at a place, its birth, is held at a later one: no delete_id of its id stands between.
-pub record Held (session : ℕ → Deed) (place birth id : ℕ) : Type 0 where
+pub record Held (session : ℕ → Effect) (place birth id : ℕ) : Type 0 where
   pub before : birth < place
   pub made : makes (session birth) id ≡ true
   pub kept : (between : ℕ) → birth < between → between < place → deletes (session between) id ≡ false
 
 -- It is open where no message that destroys it stands between.
-abbrev pub IsOpen : (ℕ → Deed) → ℕ → ℕ → ℕ → Type 0
+abbrev pub IsOpen : (ℕ → Effect) → ℕ → ℕ → ℕ → Type 0
 IsOpen session place birth id = (between : ℕ) → birth < between → between < place → destroys (session between) id ≡ false
 
 -- an id was used before a place
-pub record WasUsed (session : ℕ → Deed) (place id : ℕ) : Type 0 where
+pub record WasUsed (session : ℕ → Effect) (place id : ℕ) : Type 0 where
   pub birth : ℕ
   pub before : birth < place
   pub made : makes (session birth) id ≡ true
 
--- one event before a place told of this name, this interface and at least this version
-pub record WasTold (session : ℕ → Deed) (place name iface version : ℕ) : Type 0 where
+-- one event before a place advertised this name, this interface and at least this version
+pub record WasAdvertised (session : ℕ → Effect) (place name iface version : ℕ) : Type 0 where
   pub event : ℕ
   pub before : event < place
   pub global : Advertised

@@ -3,10 +3,12 @@ use Rattle.std.specs.Prelude.{ℕ, zero, suc, List, [], ◌∷◌, ◌++◌, sli
 use Rattle.std.specs.declared.result.Result.TheVariants.{Ok, Err}
 use Rattle.wl_sigs.specs.Tables.{Interface}
 use Rattle.wl_lines.specs.Line.{line}
-use Rattle.wl_check.specs.Deeds.{Call, side_of}
+use Rattle.wl_check.specs.declared.scanning.Output.{Output}
+use Rattle.wl_check.specs.declared.scanning.Output.TheVariants.{Nothing, Lines}
+use Rattle.wl_check.specs.Effects.{Call, side_of}
 use Rattle.wl_check.specs.Places.{Known, known}
 use Rattle.wl_check.specs.Rules.{reader}
-use Rattle.wl_check.specs.Session.{Session, Judged, messages, deeds, ends_session}
+use Rattle.wl_check.specs.Session.{Session, Judged, messages, effects, ends_session}
 
 -- the line of a message, by what is known at its place
 abbrev pub call_line : List Interface → Known → Call → List ℕ
@@ -16,11 +18,16 @@ abbrev pub judged_line : List Interface → Known → Option Judged → List ℕ
 judged_line tables k (Some (Ok call)) = call_line tables k call
 judged_line tables k _ = []
 
+-- what is written of a session, where it has these lines
+abbrev pub wanted : Output → List ℕ → List ℕ
+wanted Nothing lines = []
+wanted Lines lines = lines
+
 -- the lines of the first messages of the merged list
 unfoldable pub lines_within : List Interface → Session → ℕ → List ℕ
 lines_within tables session zero = []
 lines_within tables session (suc k) =
-    lines_within tables session k ++ judged_line tables (known (deeds tables (messages tables session)) (suc k)) (slice_get (messages tables session) k)
+    lines_within tables session k ++ judged_line tables (known (effects tables (messages tables session)) (suc k)) (slice_get (messages tables session) k)
 
 -- How many messages stand before the verdict's end: all before the first that breaks a rule, or up to the first
 -- wl_display.error, itself among them.

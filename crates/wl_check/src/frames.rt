@@ -1,6 +1,6 @@
 //! A recording's messages in one list, in the order in which its pieces complete them.
 ghost use Rattle.std.specs.Prelude.{◌≡◌, ◌+◌, ◌^◌, ◌≤◌, ◌<◌, ◌++◌, [], false, map, drop, length, OnOk, IfOk};
-ghost use Rattle.wl_message.specs.Cut.{usual_limit, front, is_size, told_size};
+ghost use Rattle.wl_message.specs.Cut.{usual_limit, front, told_size};
 ghost use Rattle.wl_wire.specs.Word.{header_at};
 ghost use Rattle.wl_check.specs.Seen.{bytes_in, front_in, session_in, IsCut};
 ghost use Rattle.wl_recording.specs.Piece.{plain};
@@ -8,11 +8,9 @@ ghost use Rattle.wl_check.specs.Merged.{cut, cutting, framed};
 ghost use Rattle.wl_check.specs.Session.{session_of};
 
 use std::alloc::{AllocError, Allocator, Global};
+use wl_message::is_size;
 use wl_recording::{Direction, Passed};
 use wl_wire::Header;
-
-/// The most bytes that a message has.
-const LIMIT: u16 = 4096;
 
 /// A message of the list.
 #[derive(Clone, Copy, Debug)]
@@ -20,7 +18,7 @@ pub(crate) struct Frame {
     pub direction: Direction,
     /// Where it begins within its direction.
     pub start: usize,
-    /// The size that its header tells.
+    /// The size in its header.
     pub size: u16,
     /// How many tokens its direction brought with the pieces up to the one that completes it.
     pub tokens: u128,
@@ -29,11 +27,11 @@ pub(crate) struct Frame {
 /// What stands in front of bytes.
 #[derive(Clone, Copy, Debug)]
 pub(crate) enum Front {
-    /// No whole header, or one that tells more bytes than there are.
+    /// No whole header, or one with a size of more bytes than there are.
     More,
-    /// A header that tells a size which no message has.
+    /// A header with a size that no message may have.
     Bad(u16),
-    /// A message of so many bytes.
+    /// A message of this size.
     Whole(u16),
 }
 
@@ -54,13 +52,6 @@ pub(crate) struct Merged<A: Allocator = Global> {
     pub frames: Vec<Frame, A>,
     pub to_server: Vec<u8, A>,
     pub to_client: Vec<u8, A>,
-}
-
-/// Whether a message may have so many bytes.
-pub(crate) fn is_size(size: u16) -> bool
-    ensures { result ≡ is_size usual_limit size }
-{
-    size >= 8 && size % 4 == 0 && size <= LIMIT
 }
 
 /// The header that the first 8 bytes are.
@@ -90,7 +81,7 @@ fn front_of(bytes: &[u8]) -> Front
     Front::Whole(size)
 }
 
-/// Cuts a stream's bytes from a place on, and tells where it stops and whether at a bad size.
+/// Cuts a stream's bytes from a place on. Returns where it stops, and whether at a bad size.
 fn cut_on<A: Allocator>(
     bytes: &[u8],
     from: usize,

@@ -2,27 +2,29 @@
 ghost use Rattle.std.specs.Prelude.{◌≡◌, ◌+◌, ◌≤◌, ◌^◌, ◌<◌, ◌++◌, min, true, length, OnOk};
 ghost use Rattle.wl_sigs.specs.Valid.{Valid};
 ghost use Rattle.wl_message.specs.Cut.{usual_limit, is_size};
-ghost use Rattle.wl_check.specs.Deeds.{advertised, deed, first_number, is_global, side_of};
+ghost use Rattle.wl_check.specs.Effects.{advertised, effect, first_number, is_global, side_of};
 ghost use Rattle.wl_check.specs.Rules.{is_bad_bind, judged, judged_as, may_bind, version_of};
 ghost use Rattle.wl_check.specs.Seen.{call_of, judged_in, known_in, read_of, taken_in};
 ghost use Rattle.wl_check.specs.Trace.{call_line};
 
-use crate::deed::{Advertised, Deed};
-use crate::frames::{Frame, header_of, is_size};
-use crate::known::{Knowledge, Looker};
+use crate::effect::{Advertised, Effect};
+use crate::frames::{Frame, header_of};
+use crate::known::{Knowledge, ReaderLookup};
 use std::alloc::{AllocError, Allocator};
 use wl_lines::write_line;
+use wl_message::is_size;
 use wl_objects::{
     Fault, Made, REGISTRY, Received, Values, descriptors, is_bind, is_delete_id, is_error,
     made_by_message, receive_by,
 };
 use wl_recording::Direction;
+use wl_sigs::event::wl_registry::GLOBAL;
 use wl_sigs::{Destroys, Side, Tables};
 use wl_wire::{Header, Iface, ValueRef};
 
 /// A message that was read.
 #[derive(Debug, Drop)]
-pub(crate) struct Said<'t, 'a> {
+pub(crate) struct Message<'t, 'a> {
     pub direction: Direction,
     pub opcode: u16,
     pub received: Received<'t, 'a>,
@@ -38,14 +40,14 @@ pub(crate) fn side_of(direction: Direction) -> Side
     }
 }
 
-/// Judges the message that a frame tells, of its direction's stream: what it is, or the first rule
-/// that it breaks.
+/// Judges the message of a frame, in its direction's stream: what it is, or the first rule that it
+/// breaks.
 pub(crate) fn judge<'t: 'a, 'a, A: Allocator>(
     tables: &'t Tables,
     known: &Knowledge<A>,
     stream: &'a [u8],
     frame: &Frame,
-) -> Result<Said<'t, 'a>, Fault>
+) -> Result<Message<'t, 'a>, Fault>
     requires valid { Valid tables.now }
     requires header { frame.now.start + 8 ≤ length stream.now }
     requires whole { is_size usual_limit frame.now.size ≡ true
@@ -69,30 +71,30 @@ fn judge_as<'t: 'a, 'a, A: Allocator>(
     frame: &Frame,
     header: Header,
     body: &'a [u8],
-) -> Result<Said<'t, 'a>, Fault>
+) -> Result<Message<'t, 'a>, Fault>
     requires { Valid tables.now }
     ensures { judged_in result
         ≡ judged_as tables.now (known_in known.now) frame.now header body.now }
 {
     let direction = frame.direction;
     let side = side_of(direction);
-    let looker = Looker { known, direction };
+    let lookup = ReaderLookup { known, direction };
     let waiting = frame.tokens.saturating_sub(known.taken(direction));
-    let received = match receive_by(tables, side, &looker, header, body, count(waiting)) {
+    let received = match receive_by(tables, side, &lookup, header, body, count(waiting)) {
         Ok(received) => received,
         Err(fault) => return Err(fault),
     };
     if is_bad_bind(tables, known, side, header.opcode, &received) {
         return Err(Fault::BadBind);
     }
-    Ok(Said {
+    Ok(Message {
         direction,
         opcode: header.opcode,
         received,
     })
 }
 
-/// As many tokens as a reader can count.
+/// The number of tokens, or the greatest `usize` where there are more.
 fn count(tokens: u128) -> usize
     ensures { result ≡ min tokens 18446744073709551615 }
 {
@@ -131,7 +133,7 @@ fn may_bind<A: Allocator>(
         (Some(name), Some(new)) => {
             new.version >= 1
                 && new.version <= tables.version(new.iface).unwrap_or(0)
-                && new.version <= known.told(name, new.iface)
+                && new.version <= known.advertised_version(name, new.iface)
         }
         _ => false,
     }
@@ -151,10 +153,10 @@ fn first_number(values: &Values<'_>) -> Option<u32>
 fn is_global(side: Side, iface: Iface, opcode: u16) -> bool
     ensures { result ≡ is_global side iface opcode }
 {
-    side == Side::Event && iface == REGISTRY && opcode == 0
+    side == Side::Event && iface == REGISTRY && opcode == GLOBAL
 }
 
-/// What a `global` event tells, if its interface is in the tables.
+/// The global that a `global` event advertises, if its interface is in the tables.
 fn advertised(tables: &Tables, values: &Values<'_>) -> Option<Advertised>
     ensures { result ≡ advertised tables.now values.now }
 {
@@ -177,16 +179,16 @@ fn advertised(tables: &Tables, values: &Values<'_>) -> Option<Advertised>
     }
 }
 
-impl<'t, 'a> Said<'t, 'a> {
+impl<'t, 'a> Message<'t, 'a> {
     /// What the message does.
-    pub(crate) fn deed(&self, tables: &Tables) -> Deed
-        ensures { result ≡ deed tables.now (call_of self.now) }
+    pub(crate) fn effect(&self, tables: &Tables) -> Effect
+        ensures { result ≡ effect tables.now (call_of self.now) }
     {
         let side = side_of(self.direction);
         let iface = self.received.entry.iface;
         let kinds = self.received.signature.kinds();
         let values = &self.received.values;
-        Deed {
+        Effect {
             direction: self.direction,
             made: match self.direction {
                 Direction::ToServer => {
@@ -226,9 +228,9 @@ impl<'t, 'a> Said<'t, 'a> {
             ++ call_line tables.now (known_in known.now) (call_of self.now)) }
     {
         let direction = self.direction;
-        let looker = Looker { known, direction };
+        let lookup = ReaderLookup { known, direction };
         let taken = known.taken(direction);
         let side = side_of(direction);
-        write_line(text, tables, side, &looker, &self.received, taken)
+        write_line(text, tables, side, &lookup, &self.received, taken)
     }
 }

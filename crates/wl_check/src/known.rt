@@ -6,38 +6,33 @@ ghost use Rattle.std.specs.Option.{unwrap_or};
 ghost use Rattle.wl_table.specs.declared.object.State.TheVariants.{Live};
 ghost use Rattle.wl_sigs.specs.Fixed.{display};
 ghost use Rattle.wl_sigs.specs.Valid.{Valid};
-ghost use Rattle.wl_check.specs.Places.{ending, entry_of, frees, is_id, is_made, new_of, used_after, told_once, IsFirst, IsNext};
+ghost use Rattle.wl_check.specs.Places.{ending, entry_of, frees, is_id, is_made, new_of, used_after, advertised_once, IsFirst, IsNext};
 ghost use Rattle.wl_check.specs.Rules.{is_free, reader};
 ghost use Rattle.wl_check.specs.Seen.{known_in, pair_cmp, taken_in};
 
-use crate::deed::{Advertised, Deed};
+use crate::effect::{Advertised, Effect};
 use std::alloc::{AllocError, Allocator, Global};
 use std::collections::BTreeMap;
 use wl_objects::{DISPLAY, Entry, Lookup, Made, NewId, State};
 use wl_recording::Direction;
 use wl_sigs::Tables;
+use wl_table::{DISPLAY_ID, MAX_IDS};
 use wl_wire::Iface;
 
-/// The most ids that a connection has, id 1 counted.
-const MAX_IDS: u32 = 1_048_576;
-
-/// The id of wl_display.
-const DISPLAY_ID: u32 = 1;
-
 /// What is known at a place: the objects that are held, where those that are ending are zombies;
-/// the greatest id that was used; the globals of which events told; how many tokens were taken.
+/// the greatest id that was used; the globals that were advertised; how many tokens were taken.
 #[derive(Drop)]
 pub(crate) struct Knowledge<A: Allocator = Global> {
     pub objects: BTreeMap<u32, Entry, A>,
     pub used: u32,
-    /// For each name and each interface of the tables, the greatest version that was told.
+    /// For each name and each interface of the tables, the greatest advertised version.
     pub globals: BTreeMap<(u32, u16), u32, A>,
     pub taken_to_server: u128,
     pub taken_to_client: u128,
 }
 
 /// Frees an id, unless it is that of wl_display.
-fn delete<A: Allocator + Clone>(objects: &mut BTreeMap<u32, Entry, A>, id: Option<u32>)
+fn free_id<A: Allocator + Clone>(objects: &mut BTreeMap<u32, Entry, A>, id: Option<u32>)
     ensures { (other : ℕ) → get nat_cmp objects.new other
         ≡ cond (frees id other) None (get nat_cmp objects.old other) }
 {
@@ -49,7 +44,7 @@ fn delete<A: Allocator + Clone>(objects: &mut BTreeMap<u32, Entry, A>, id: Optio
 }
 
 /// Makes a zombie of an object.
-fn destroy<A: Allocator>(objects: &mut BTreeMap<u32, Entry, A>, id: Option<u32>)
+fn make_zombie<A: Allocator>(objects: &mut BTreeMap<u32, Entry, A>, id: Option<u32>)
     ensures { (other : ℕ) → get nat_cmp objects.new other
         ≡ cond (is_id id other) (option_map ending (get nat_cmp objects.old other))
         (get nat_cmp objects.old other) }
@@ -62,7 +57,7 @@ fn destroy<A: Allocator>(objects: &mut BTreeMap<u32, Entry, A>, id: Option<u32>)
 }
 
 /// Opens an object that was made at a place.
-fn open<A: Allocator + Clone>(
+fn open_object<A: Allocator + Clone>(
     objects: &mut BTreeMap<u32, Entry, A>,
     place: u64,
     made: Option<Made>,
@@ -84,18 +79,18 @@ fn open<A: Allocator + Clone>(
     Ok(())
 }
 
-/// Remembers what an event tells of a global.
-fn remember<A: Allocator + Clone>(
+/// Remembers a global that an event advertises.
+fn remember_global<A: Allocator + Clone>(
     globals: &mut BTreeMap<(u32, u16), u32, A>,
-    told: &Advertised,
+    global: &Advertised,
 ) -> Result<(), AllocError>
     ensures { OnOk result ((q : ℕ × ℕ)
         → unwrap_or (get pair_cmp globals.new q) 0
-        ≡ told_once told.now q.0 q.1 (unwrap_or (get pair_cmp globals.old q) 0)) }
+        ≡ advertised_once global.now q.0 q.1 (unwrap_or (get pair_cmp globals.old q) 0)) }
 {
-    let key = (told.name, told.iface.0);
+    let key = (global.name, global.iface.0);
     let before = globals.get(&key).copied().unwrap_or(0);
-    let version = told.version.max(before);
+    let version = global.version.max(before);
     globals.insert(key, version)?;
     Ok(())
 }
@@ -125,37 +120,37 @@ impl<A: Allocator + Clone> Knowledge<A> {
         })
     }
 
-    /// What is known behind a message that stands at a place. Without memory, nothing is to be
-    /// read from it any more.
-    pub(crate) fn apply(&mut self, place: u64, deed: &Deed) -> Result<(), AllocError>
+    /// What is known behind a message that stands at a place. Where memory runs out, a part of the
+    /// effect may have been applied, and the value is of no more use.
+    pub(crate) fn apply(&mut self, place: u64, effect: &Effect) -> Result<(), AllocError>
         requires to_server { self.old.taken_to_server + 2 ^ 64 < 2 ^ 128 }
         requires to_client { self.old.taken_to_client + 2 ^ 64 < 2 ^ 128 }
         ensures known { OnOk result
-            (IsNext place deed.now (known_in self.old) (known_in self.new)) }
+            (IsNext place effect.now (known_in self.old) (known_in self.new)) }
         ensures few_to_server { OnOk result
             (self.new.taken_to_server < self.old.taken_to_server + 2 ^ 64) }
         ensures few_to_client { OnOk result
             (self.new.taken_to_client < self.old.taken_to_client + 2 ^ 64) }
     {
-        delete(&mut self.objects, deed.deleted);
-        destroy(&mut self.objects, deed.destroyed);
-        open(&mut self.objects, place, deed.made)?;
-        if let Some(told) = &deed.advertised {
-            remember(&mut self.globals, told)?;
+        free_id(&mut self.objects, effect.deleted);
+        make_zombie(&mut self.objects, effect.destroyed);
+        open_object(&mut self.objects, place, effect.made)?;
+        if let Some(global) = &effect.advertised {
+            remember_global(&mut self.globals, global)?;
         }
-        self.used = used_after(self.used, deed);
-        match deed.direction {
-            Direction::ToServer => self.taken_to_server += deed.tokens as u128,
-            Direction::ToClient => self.taken_to_client += deed.tokens as u128,
+        self.used = used_after(self.used, effect);
+        match effect.direction {
+            Direction::ToServer => self.taken_to_server += effect.tokens as u128,
+            Direction::ToClient => self.taken_to_client += effect.tokens as u128,
         }
         Ok(())
     }
 }
 
-fn used_after(used: u32, deed: &Deed) -> u32
-    ensures { result ≡ used_after deed.now used }
+fn used_after(used: u32, effect: &Effect) -> u32
+    ensures { result ≡ used_after effect.now used }
 {
-    match deed.made {
+    match effect.made {
         Some(new) => new.id.max(used),
         None => used,
     }
@@ -172,9 +167,9 @@ impl<A: Allocator> Knowledge<A> {
         }
     }
 
-    /// The greatest version of which an event told for this name and this interface, or 0.
-    pub(crate) fn told(&self, name: u32, iface: Iface) -> u32
-        ensures { result ≡ (known_in self.now).told name iface.0 }
+    /// The greatest version that an event advertised for this name and this interface, or 0.
+    pub(crate) fn advertised_version(&self, name: u32, iface: Iface) -> u32
+        ensures { result ≡ (known_in self.now).advertised_version name iface.0 }
     {
         self.globals.get(&(name, iface.0)).copied().unwrap_or(0)
     }
@@ -190,13 +185,13 @@ impl<A: Allocator> Knowledge<A> {
 
 /// What the reader of a message knows: of a request, only the open objects.
 #[derive(Drop)]
-pub(crate) struct Looker<'a, A: Allocator = Global> {
+pub(crate) struct ReaderLookup<'a, A: Allocator = Global> {
     pub known: &'a Knowledge<A>,
     pub direction: Direction,
 }
 
-impl<'a, A: Allocator> Lookup for Looker<'a, A> {
-    ghost reader = { λ looker. reader (known_in looker.known.now) looker.direction };
+impl<'a, A: Allocator> Lookup for ReaderLookup<'a, A> {
+    ghost reader = { λ lookup. reader (known_in lookup.known.now) lookup.direction };
 
     fn object(&self, id: u32) -> Option<Entry> {
         let entry = *self.known.objects.get(&id)?;

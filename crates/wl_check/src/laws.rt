@@ -4,11 +4,11 @@ ghost use Rattle.std.specs.Prelude.{◌≡◌, ◌↔◌, ◌<◌, ◌≤◌, �
 ghost use Rattle.wl_sigs.specs.Tables.{Interface};
 ghost use Rattle.wl_message.specs.Cut.{usual_limit, messages_of, rest_of};
 ghost use Rattle.wl_check.specs.Merged.{cut, stream_of};
-ghost use Rattle.wl_check.specs.Places.{holder, is_ending, used, told};
-ghost use Rattle.wl_check.specs.Session.{Session, deeds, examined, messages, session_of};
+ghost use Rattle.wl_check.specs.Places.{holder, is_ending, used, advertised_version};
+ghost use Rattle.wl_check.specs.Session.{Session, effects, examined, messages, session_of};
 ghost use Rattle.wl_recording.specs.declared.piece.Direction.{Direction as Way};
 ghost use Rattle.wl_recording.specs.Piece.{Piece};
-ghost use Rattle.wl_check.specs.Text.{marks_in, part_of, sound, Brings, ComeInOrder, EndsWith, Held, IsExamined, IsOpen, WasTold, WasUsed};
+ghost use Rattle.wl_check.specs.Text.{marks_in, part_of, sound, Brings, ComeInOrder, EndsWith, Held, IsExamined, IsOpen, WasAdvertised, WasUsed};
 
 /// The messages of a stream are those that its sizes cut off. A bad size, if one follows them, stands
 /// behind them and is the last.
@@ -43,31 +43,31 @@ pub fn a_piece_brings_last_bytes()
 /// An id names the object that was made with it, until its delete_id.
 pub fn an_id_names_what_is_held()
     ensures { (tables : List Interface) (session : Session) (place birth id : ℕ)
-        → (holder (deeds tables (messages tables session)) place id ≡ Some birth)
-        ↔ Held (deeds tables (messages tables session)) place birth id }
+        → (holder (effects tables (messages tables session)) place id ≡ Some birth)
+        ↔ Held (effects tables (messages tables session)) place birth id }
 {}
 
 /// An object is ending where a message destroyed it.
 pub fn an_object_is_open_until_destroyed()
     ensures { (tables : List Interface) (session : Session) (place birth id : ℕ)
-        → (is_ending (deeds tables (messages tables session)) birth place id ≡ false)
-        ↔ IsOpen (deeds tables (messages tables session)) place birth id }
+        → (is_ending (effects tables (messages tables session)) birth place id ≡ false)
+        ↔ IsOpen (effects tables (messages tables session)) place birth id }
 {}
 
 /// The ids used before a place are those from 1 to the greatest.
 pub fn ids_are_used_in_order()
     ensures { (tables : List Interface) (session : Session) (place id : ℕ)
-        → ((0 < id) × (id ≤ used (deeds tables (messages tables session)) place))
-        ↔ WasUsed (deeds tables (messages tables session)) place id }
+        → ((0 < id) × (id ≤ used (effects tables (messages tables session)) place))
+        ↔ WasUsed (effects tables (messages tables session)) place id }
 {}
 
-/// A version of a global was told where one event told of the name, the interface and at least
-/// this version.
-pub fn one_event_tells_of_a_global()
+/// A version of a global was advertised where one event advertised the name, the interface and at
+/// least this version.
+pub fn one_event_advertises_a_version()
     ensures { (tables : List Interface) (session : Session) (place name iface version : ℕ)
         → 0 < version
-        → (version ≤ told (deeds tables (messages tables session)) place name iface)
-        ↔ WasTold (deeds tables (messages tables session)) place name iface version }
+        → (version ≤ advertised_version (effects tables (messages tables session)) place name iface)
+        ↔ WasAdvertised (effects tables (messages tables session)) place name iface version }
 {}
 
 /// A message is examined where no wl_display.error stands before it.

@@ -1,17 +1,18 @@
 //! Whether recorded sessions are lawful.
 //!
-//! A recording tells what passed between a client and a server, piece by piece. Here its messages
-//! are put into one list, each is judged by what stands before it, and the first that breaks a rule
-//! is named.
+//! A recording holds what passed between a client and a server, piece by piece. Its messages are put
+//! into one list and each is judged by what stands before it. The verdict names the first that
+//! breaks a rule.
 #![tactic(auto)]
 
 mod checking;
-mod deed;
+mod effect;
 mod frames;
 mod judging;
 mod known;
 pub mod laws;
 mod progress;
+mod scanning;
 mod tracing;
 mod verdict;
 

@@ -6,7 +6,7 @@ ghost use Rattle.wl_check.specs.Places.{IsFirst, IsNext};
 ghost use Rattle.wl_sigs.specs.Valid.{Valid};
 ghost use Rattle.wl_check.specs.Seen.{known_in, no_tally, tally_after, tally_in};
 
-use crate::deed::Deed;
+use crate::effect::Effect;
 use crate::frames::{Frame, Merged};
 use crate::known::Knowledge;
 use crate::verdict::Verdict;
@@ -69,7 +69,7 @@ impl<A: Allocator + Clone> Progress<A> {
         &mut self,
         place: u64,
         frame: &Frame,
-        deed: &Deed,
+        effect: &Effect,
     ) -> Result<(), AllocError>
         requires taken_to_server { self.old.known.taken_to_server + 2 ^ 64 < 2 ^ 128 }
         requires taken_to_client { self.old.known.taken_to_client + 2 ^ 64 < 2 ^ 128 }
@@ -77,7 +77,7 @@ impl<A: Allocator + Clone> Progress<A> {
         requires to_client { self.old.to_client.count + 1 < 2 ^ 64 }
         requires end { frame.now.start + frame.now.size < 2 ^ 64 }
         ensures known { OnOk result
-            (IsNext place deed.now (known_in self.old.known) (known_in self.new.known)) }
+            (IsNext place effect.now (known_in self.old.known) (known_in self.new.known)) }
         ensures to_server { OnOk result
             (self.new.to_server ≡ tally_after ToServer frame.now self.old.to_server) }
         ensures to_client { OnOk result
@@ -87,7 +87,7 @@ impl<A: Allocator + Clone> Progress<A> {
         ensures few_to_client { OnOk result
             (self.new.known.taken_to_client < self.old.known.taken_to_client + 2 ^ 64) }
     {
-        self.known.apply(place, deed)?;
+        self.known.apply(place, effect)?;
         self.to_server = tally_after(Direction::ToServer, frame, self.to_server);
         self.to_client = tally_after(Direction::ToClient, frame, self.to_client);
         Ok(())

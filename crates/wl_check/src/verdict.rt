@@ -1,4 +1,4 @@
-//! What a checker answers.
+//! What a check finds.
 use wl_objects::Fault;
 use wl_recording::Direction;
 

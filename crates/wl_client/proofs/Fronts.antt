@@ -1,10 +1,11 @@
 -- What an end finds, where the frame of a message was told.
-use Rattle.std.proofs.Common.{◌≡◌, ℕ, ◌≤◌, List, [], ◌++◌, length, take, drop, sym, ap, ◌∙◌, subst, arith}
+use Rattle.std.proofs.Common.{◌≡◌, ℕ, true, ◌≤◌, List, [], ◌++◌, length, take, drop, sym, ap, ◌∙◌, subst, arith}
 use Rattle.std.proofs.lemmas.List.{take-append-drop, append_assoc, take-take}
 use Rattle.std.proofs.lemmas.List.Sums.{count_by-le-length}
 use Rattle.std.specs.Prelude.{if◌then◌else◌}
 use Rattle.std.specs.declared.option.Option.{Option}
 use Rattle.std.specs.declared.option.Option.TheVariants.{Some}
+use Rattle.std.specs.declared.result.Result.{Result}
 use Rattle.std.specs.declared.result.Result.TheVariants.{Ok, Err}
 use Rattle.wl_wire.specs.declared.header.Header.{Header}
 use Rattle.wl_wire.specs.Word.{IsHeader, header_at, header_bytes}
@@ -19,18 +20,22 @@ use Rattle.wl_message.specs.Cut.{usual_limit, front, Whole, HasMessage, message_
 use Rattle.wl_table.specs.declared.object.State.{State as ObjectState}
 use Rattle.wl_table.specs.declared.object.State.TheVariants.{Live, Zombie}
 use Rattle.wl_table.specs.View.{View}
+use Rattle.wl_objects.specs.declared.error.Fault.{Fault}
 use Rattle.wl_objects.specs.Reading.{descriptors, is_descriptor_kind}
 use Rattle.wl_objects.specs.Messages.{Received, received, reader_of}
 use Rattle.wl_end.specs.Core.{Core}
-use Rattle.wl_end.specs.Receiving.{Found, found, found_at, found_in, takes, header_of}
+use Rattle.wl_end.specs.Receiving.{Found, found, found_at, found_in, takes, own_tokens, header_of}
 use Rattle.wl_client.specs.declared.reading.Step.{Step}
-use Rattle.wl_client.specs.declared.reading.Stop.{Stop}
 use Rattle.wl_client.specs.declared.reading.Stop.TheVariants as stops
-use Rattle.wl_client.specs.Reports.{Report, Event, Discarded, needs_memory, is_error_event, is_delete_event, deleted_id, error_report, delete_report, plain_report}
+use Rattle.wl_client.specs.Reports.{Report, report, Event, Discarded, needs_memory, is_error_event, is_delete_event, deleted_id, error_report, delete_report, plain_report}
 use Rattle.wl_client.specs.Steps.{end_with, report_by}
 use Rattle.wl_client.proofs.Firsts.{reports_first}
 use Rattle.wl_end.proofs.Receivings.{is_received}
-use Rattle.wl_client.specs.Reading.{IsStepOf, IsFront, headed}
+use Rattle.wl_client.specs.Reading.{IsStep, IsStepOf, IsAhead, IsFront, IsOwnedFront, body_of, headed}
+use Rattle.wl_client.specs.Outlines.{outlined}
+use Rattle.wl_client.specs.Seen.{report_of}
+use Rattle.wl_client.specs.declared.reading.OwnedStep.{OwnedStep}
+use Rattle.wl_end.proofs.Coming.{IsFound, is_found, reported_own}
 
 -- a frame as it is told
 pub record IsFrame (core : Core) (h : Header) (body : List ℕ) (waiting : ℕ) : Type 0 where
@@ -80,60 +85,105 @@ few_of core h body waiting m v e =
     let small : length m.signature.kinds ≤ 20 = v.small.arguments event_side m.entry.iface.0 h.opcode m.signature p.signature in
     record { values = omega (arith, p.values); taken = omega (arith, few_taken m.signature.kinds) }
 
-pub step_is : {A : Type 0} (core : Core) (h : Header) (body : List ℕ) (waiting : ℕ) (step : Step A) → Valid core.tables → IsFrame core h body waiting
-    → IsStepOf core.tables core.view (take 20 core.inbox.tokens) h (received core.tables event_side (reader_of core.view) h body waiting) (Ok step)
-    → IsFront core (found core event_side) (Ok (Some step))
-step_is core h body waiting step v f s =
-    let m = s.0 in
-    let p = is_received core.tables event_side (reader_of core.view) h body waiting m s.1 in
-    let b = few_of core h body waiting m v s.1 in (
-      headed h m,
-      found_frame core event_side h body waiting f ∙ ap (found_in h.size h.opcode) s.1,
-      record {
+-- ---- a message's own tokens are enough for its report
+
+plain_own : (core : Core) (f : Found) (s : ObjectState) → IsFound core event_side f → plain_report (end_with [] core.view (own_tokens core f.message)) f.opcode f.message s ≡ plain_report core f.opcode f.message s
+plain_own core f Live h = ap (λ l. Event f.message.target f.opcode l) (reported_own core event_side f h)
+plain_own core f Zombie h = ap (λ (l : List ℕ). Discarded f.message.target f.opcode l) (take-take (takes f.message) (takes f.message) core.inbox.tokens (omega arith))
+
+report_own : (core : Core) (f : Found) → IsFound core event_side f → report_by core.view (own_tokens core f.message) f ≡ report core f
+report_own core f h =
+    ap (λ (x : Report). if is_error_event f then error_report core f.message.values else if is_delete_event f then delete_report core (deleted_id f) else x)
+    (plain_own core f f.message.entry.state h)
+
+-- ---- what comes of a frame
+
+ahead : (core : Core) (h : Header) (body : List ℕ) (waiting : ℕ) (step : Step) (m : Received) → Valid core.tables → IsFrame core h body waiting
+    → received core.tables event_side (reader_of core.view) h body waiting ≡ Ok m → found core event_side ≡ Ok (Some (headed h m)) → IsStep core.tables core.view body (headed h m) step
+    → IsAhead core (headed h m) step
+ahead core h body waiting step m v f e found_it s =
+    let p = is_received core.tables event_side (reader_of core.view) h body waiting m e in
+    let b = few_of core h body waiting m v e in
+    let behind : body_of core h.size ≡ body = ap (drop 8) f.parts in
+    record {
+      can_take = record {
         message = f.whole;
         few = b.taken;
         waiting = omega (arith, p.tokens, f.tokens);
-      },
-      record {
-        report = s.2.report ∙ report_first core.view 20 core.inbox.tokens (headed h m) b.values b.taken;
-        objects = s.2.objects;
-        can = s.2.can;
-        globals = s.2.globals;
-        bytes = s.2.bytes;
-        tokens_taken = s.2.tokens_taken;
-        last = s.2.last;
-      },
-    )
+      };
+      is_step = subst (λ (l : List ℕ). IsStep core.tables core.view l (headed h m) step) (sym behind) s;
+      is_reported =
+          ap (λ (k : ℕ). outlined (body_of core k) (take step.tokens core.inbox.tokens) step.outline) s.bytes
+          ∙ (ap (λ (k : ℕ). outlined (body_of core h.size) (take k core.inbox.tokens) step.outline) s.tokens_taken
+          ∙ (ap (λ (l : List ℕ). outlined l (own_tokens core m) step.outline) behind
+          ∙ (s.report (own_tokens core m) ∙ report_own core (headed h m) (is_found core event_side (headed h m) found_it))));
+    }
 
-pub stop_is : (A : Type 0) (core : Core) (h : Header) (body : List ℕ) (waiting : ℕ) (stop : Stop) → Valid core.tables → IsFrame core h body waiting
-    → IsStepOf {A = A} core.tables core.view (take 20 core.inbox.tokens) h (received core.tables event_side (reader_of core.view) h body waiting) (Err stop)
-    → IsFront {A = A} core (found core event_side) (Err stop)
-stop_is A core h body waiting (stops.Fault fault) v f s = found_frame core event_side h body waiting f ∙ ap (found_in h.size h.opcode) s
-stop_is A core h body waiting stops.Memory v f s =
-    let m = s.0 in
-    let b = few_of core h body waiting m v s.1 in (
-      headed h m,
-      found_frame core event_side h body waiting f ∙ ap (found_in h.size h.opcode) s.1,
-      ap needs_memory (sym (report_first core.view 20 core.inbox.tokens (headed h m) b.values b.taken)) ∙ s.2,
-    )
+pub found_headed : (core : Core) (h : Header) (body : List ℕ) (waiting : ℕ) (m : Received) → IsFrame core h body waiting
+    → received core.tables event_side (reader_of core.view) h body waiting ≡ Ok m → found core event_side ≡ Ok (Some (headed h m))
+found_headed core h body waiting m f e = found_frame core event_side h body waiting f ∙ ap (found_in h.size h.opcode) e
+
+step_is : (core : Core) (h : Header) (body : List ℕ) (waiting : ℕ) (step : Step) → Valid core.tables → IsFrame core h body waiting
+    → IsStepOf core.tables core.view h body (received core.tables event_side (reader_of core.view) h body waiting) (Ok step)
+    → IsFront core (found core event_side) (Ok (Some step))
+step_is core h body waiting step v f s =
+    let e = found_headed core h body waiting s.0 f s.1 in
+    (headed h s.0, e, ahead core h body waiting step s.0 v f s.1 e s.2)
+
+fault_is : (core : Core) (h : Header) (body : List ℕ) (waiting : ℕ) (fault : Fault) → IsFrame core h body waiting
+    → received core.tables event_side (reader_of core.view) h body waiting ≡ Err fault → found core event_side ≡ Err fault
+fault_is core h body waiting fault f s = found_frame core event_side h body waiting f ∙ ap (found_in h.size h.opcode) s
+
+-- what is reported by the tokens that wait first
+by_first : (core : Core) (h : Header) (body : List ℕ) (waiting : ℕ) (step : Step) (m : Received) → Valid core.tables
+    → received core.tables event_side (reader_of core.view) h body waiting ≡ Ok m → IsStep core.tables core.view body (headed h m) step
+    → outlined body (take 20 core.inbox.tokens) step.outline ≡ report core (headed h m)
+by_first core h body waiting step m v e s =
+    let b = few_of core h body waiting m v e in
+    s.report (take 20 core.inbox.tokens) ∙ report_first core.view 20 core.inbox.tokens (headed h m) b.values b.taken
 
 -- ---- as the code has it
 
 framed : (core : Core) (o : Option Frame) (f : Frame) → o ≡ Some f → Tells core.inbox (Ok o) → IsHeader f.header → IsFrame core f.header f.body.now f.tokens
 framed core o f e t h = let k = rw e at t in record { header = h; whole = k.0; parts = k.1; tokens = k.2 }
 
-pub step_told : {A : Type 0} (core before : Core) (o : Option Frame) (f : Frame) (first : List ℕ) (step : Step A) → core ≡ before → o ≡ Some f → Tells core.inbox (Ok o) → IsHeader f.header → Valid core.tables
-    → first ≡ take 20 core.inbox.tokens → IsStepOf core.tables core.view first f.header (received core.tables event_side (reader_of core.view) f.header f.body.now f.tokens) (Ok step)
+pub step_told : (core before : Core) (o : Option Frame) (f : Frame) (step : Step) → core ≡ before → o ≡ Some f → Tells core.inbox (Ok o) → IsHeader f.header → Valid core.tables
+    → IsStepOf core.tables core.view f.header f.body.now (received core.tables event_side (reader_of core.view) f.header f.body.now f.tokens) (Ok step)
     → IsFront before (found before event_side) (Ok (Some step))
-step_told core before o f first step same e t h v w s =
+step_told core before o f step same e t h v s =
     subst (λ (c : Core). IsFront c (found c event_side) (Ok (Some step))) same
-    (step_is core f.header f.body.now f.tokens step v (framed core o f e t h)
-    (subst (λ (l : List ℕ). IsStepOf core.tables core.view l f.header (received core.tables event_side (reader_of core.view) f.header f.body.now f.tokens) (Ok step)) w s))
+    (step_is core f.header f.body.now f.tokens step v (framed core o f e t h) s)
 
-pub stop_told : (A : Type 0) (core before : Core) (o : Option Frame) (f : Frame) (first : List ℕ) (stop : Stop) → core ≡ before → o ≡ Some f → Tells core.inbox (Ok o) → IsHeader f.header → Valid core.tables
-    → first ≡ take 20 core.inbox.tokens → IsStepOf {A = A} core.tables core.view first f.header (received core.tables event_side (reader_of core.view) f.header f.body.now f.tokens) (Err stop)
-    → IsFront {A = A} before (found before event_side) (Err stop)
-stop_told A core before o f first stop same e t h v w s =
-    subst (λ (c : Core). IsFront {A = A} c (found c event_side) (Err stop)) same
-    (stop_is A core f.header f.body.now f.tokens stop v (framed core o f e t h)
-    (subst (λ (l : List ℕ). IsStepOf {A = A} core.tables core.view l f.header (received core.tables event_side (reader_of core.view) f.header f.body.now f.tokens) (Err stop)) w s))
+pub fault_told : (core before : Core) (o : Option Frame) (f : Frame) (fault : Fault) → core ≡ before → o ≡ Some f → Tells core.inbox (Ok o) → IsHeader f.header
+    → received core.tables event_side (reader_of core.view) f.header f.body.now f.tokens ≡ Err fault → found before event_side ≡ Err fault
+fault_told core before o f fault same e t h s =
+    subst (λ (c : Core). found c event_side ≡ Err fault) same
+    (fault_is core f.header f.body.now f.tokens fault (framed core o f e t h) s)
+
+pub owned_told : {A : Type 0} (core before : Core) (o : Option Frame) (f : Frame) (owned : OwnedStep A) (first : List ℕ) → core ≡ before → o ≡ Some f → Tells core.inbox (Ok o) → IsHeader f.header → Valid core.tables
+    → first ≡ take 20 core.inbox.tokens
+    → IsStepOf core.tables core.view f.header f.body.now (received core.tables event_side (reader_of core.view) f.header f.body.now f.tokens) (Ok owned.step)
+    → report_of owned.report ≡ outlined f.body.now first owned.step.outline
+    → IsOwnedFront before (found before event_side) (Ok (Some owned))
+owned_told core before o f owned first same e t h v w s r =
+    let fr = framed core o f e t h in
+    let there = found_headed core f.header f.body.now f.tokens s.0 fr s.1 in
+    subst (λ (c : Core). IsOwnedFront c (found c event_side) (Ok (Some owned))) same (
+      headed f.header s.0,
+      there,
+      ahead core f.header f.body.now f.tokens owned.step s.0 v fr s.1 there s.2,
+      r ∙ (ap (λ (l : List ℕ). outlined f.body.now l owned.step.outline) w ∙ by_first core f.header f.body.now f.tokens owned.step s.0 v s.1 s.2),
+    )
+
+pub memory_told : (A : Type 0) (core before : Core) (o : Option Frame) (f : Frame) (step : Step) (first : List ℕ) → core ≡ before → o ≡ Some f → Tells core.inbox (Ok o) → IsHeader f.header → Valid core.tables
+    → first ≡ take 20 core.inbox.tokens
+    → IsStepOf core.tables core.view f.header f.body.now (received core.tables event_side (reader_of core.view) f.header f.body.now f.tokens) (Ok step)
+    → needs_memory (outlined f.body.now first step.outline) ≡ true
+    → IsOwnedFront {A = A} before (found before event_side) (Err stops.Memory)
+memory_told A core before o f step first same e t h v w s n =
+    let fr = framed core o f e t h in
+    subst (λ (c : Core). IsOwnedFront {A = A} c (found c event_side) (Err stops.Memory)) same (
+      headed f.header s.0,
+      found_headed core f.header f.body.now f.tokens s.0 fr s.1,
+      ap needs_memory (sym (ap (λ (l : List ℕ). outlined f.body.now l step.outline) w ∙ by_first core f.header f.body.now f.tokens step s.0 v s.1 s.2)) ∙ n,
+    )

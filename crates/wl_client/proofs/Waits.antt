@@ -20,7 +20,7 @@ use Rattle.wl_end.specs.Outcomes.{Gives, left}
 use Rattle.wl_end.proofs.Coming.{is_found, past_shorter, none_short}
 use Rattle.wl_end.proofs.Receivings.{some_report}
 use Rattle.wl_end.proofs.Appended.{kept_again, kept_more, behind_again, more_behind}
-use Rattle.wl_client.specs.declared.incoming.Incoming.{Incoming}
+use Rattle.wl_client.specs.declared.incoming.OwnedIncoming.{OwnedIncoming}
 use Rattle.wl_client.specs.Seen.{report_of, report_in}
 use Rattle.wl_client.specs.State.{State}
 use Rattle.wl_client.specs.Reports.{Report, IsNext, needs_memory, Event, Discarded, Deleted, Stray, Error, report, plain_report, error_report, delete_report, deleted, deleted_id, is_error_event, is_delete_event, answer_found, next_answer, state_found, after_next}
@@ -149,12 +149,12 @@ last_one state middle reports r h e n = some_reads h (error e n)
 
 -- ---- reports that are appended
 
-pub pushed_kept : {A : Type 0} (xs before reserved after : List (Incoming A)) (x : Incoming A) → take (length xs) before ≡ xs → reserved ≡ before → after ≡ reserved ++ x ∷ [] → take (length xs) after ≡ xs
+pub pushed_kept : {A : Type 0} (xs before reserved after : List (OwnedIncoming A)) (x : OwnedIncoming A) → take (length xs) before ≡ xs → reserved ≡ before → after ≡ reserved ++ x ∷ [] → take (length xs) after ≡ xs
 pushed_kept xs before reserved after x k r e =
     let same : after ≡ before ++ x ∷ [] = e ∙ ap (λ l. l ++ x ∷ []) r in
     kept_again xs before after k (ap (take (length before)) same ∙ kept_more before (x ∷ []))
 
-pub pushed_appended : {A : Type 0} (xs before reserved after : List (Incoming A)) (x : Incoming A) → take (length xs) before ≡ xs → reserved ≡ before → after ≡ reserved ++ x ∷ []
+pub pushed_appended : {A : Type 0} (xs before reserved after : List (OwnedIncoming A)) (x : OwnedIncoming A) → take (length xs) before ≡ xs → reserved ≡ before → after ≡ reserved ++ x ∷ []
     → appended xs after ≡ appended xs before ++ report_of x ∷ []
 pushed_appended xs before reserved after x k r e =
     let same : after ≡ before ++ x ∷ [] = e ∙ ap (λ l. l ++ x ∷ []) r in
@@ -163,14 +163,14 @@ pushed_appended xs before reserved after x k r e =
     ∙ ap (λ l. appended xs before ++ l) (ap (appended before) same ∙ more_behind report_of before (x ∷ []))
 
 -- the report that is read, and what is left
-pub told_read : {A : Type 0} (state new : State) (wants : Bool) (some : Option (Incoming A)) (x : Incoming A) → some ≡ Some x → Told state wants (report_in (Ok some)) → next_answer state ≡ Ok (Some (report_of x))
-told_read state new wants some x e t = told_report state new wants (report_of x) (subst (λ (o : Option (Incoming _)). Told state wants (report_in (Ok o))) e t)
+pub told_read : {A : Type 0} (state new : State) (wants : Bool) (some : Option (OwnedIncoming A)) (x : OwnedIncoming A) → some ≡ Some x → Told state wants (report_in (Ok some)) → next_answer state ≡ Ok (Some (report_of x))
+told_read state new wants some x e t = told_report state new wants (report_of x) (subst (λ (o : Option (OwnedIncoming _)). Told state wants (report_in (Ok o))) e t)
 
-pub told_left : {A : Type 0} (state new : State) (some : Option (Incoming A)) (x : Incoming A) → some ≡ Some x → new ≡ left state (after_next state) (report_in (Ok some)) → new ≡ after_next state
-told_left state new some x e l = l ∙ ap (λ (o : Option (Incoming _)). left state (after_next state) (report_in (Ok o))) e
+pub told_left : {A : Type 0} (state new : State) (some : Option (OwnedIncoming A)) (x : OwnedIncoming A) → some ≡ Some x → new ≡ left state (after_next state) (report_in (Ok some)) → new ≡ after_next state
+told_left state new some x e l = l ∙ ap (λ (o : Option (OwnedIncoming _)). left state (after_next state) (report_in (Ok o))) e
 
 -- a message more
-pub reads_more : {A : Type 0} (state middle new : State) (xs before reserved after : List (Incoming A)) (x : Incoming A) → ReadsSome state (appended xs before) middle → next_answer middle ≡ Ok (Some (report_of x))
+pub reads_more : {A : Type 0} (state middle new : State) (xs before reserved after : List (OwnedIncoming A)) (x : OwnedIncoming A) → ReadsSome state (appended xs before) middle → next_answer middle ≡ Ok (Some (report_of x))
     → new ≡ after_next middle → is_last (report_of x) ≡ false → take (length xs) before ≡ xs → reserved ≡ before → after ≡ reserved ++ x ∷ [] → ReadsSome state (appended xs after) new
 reads_more state middle new xs before reserved after x h e l n k r p =
     let reports = pushed_appended xs before reserved after x k r p in
@@ -178,7 +178,7 @@ reads_more state middle new xs before reserved after x h e l n k r p =
     (subst (λ (rs : List Report). ReadsSome state rs (after_next middle)) (sym reports) (one_more state middle (appended xs before) (report_of x) h e n))
 
 -- wl_display.error
-pub reads_last : {A : Type 0} (state middle new : State) (xs before reserved after : List (Incoming A)) (x : Incoming A) → ReadsSome state (appended xs before) middle → next_answer middle ≡ Ok (Some (report_of x))
+pub reads_last : {A : Type 0} (state middle new : State) (xs before reserved after : List (OwnedIncoming A)) (x : OwnedIncoming A) → ReadsSome state (appended xs before) middle → next_answer middle ≡ Ok (Some (report_of x))
     → new ≡ after_next middle → is_last (report_of x) ≡ true → take (length xs) before ≡ xs → reserved ≡ before → after ≡ reserved ++ x ∷ [] → Reads state (appended xs after) None new
 reads_last state middle new xs before reserved after x h e l n k r p =
     let reports = pushed_appended xs before reserved after x k r p in
@@ -186,14 +186,14 @@ reads_last state middle new xs before reserved after x h e l n k r p =
     (subst (λ (rs : List Report). Reads state rs None (after_next middle)) (sym reports) (last_one state middle (appended xs before) (report_of x) h e n))
 
 -- a stop
-pub reads_stop : {A : Type 0} (state middle new : State) (xs before reserved : List (Incoming A)) (why : NextError) → ReadsSome state (appended xs before) middle → middle.core.failed ≡ false
+pub reads_stop : {A : Type 0} (state middle new : State) (xs before reserved : List (OwnedIncoming A)) (why : NextError) → ReadsSome state (appended xs before) middle → middle.core.failed ≡ false
     → IsNext middle (Err why) → new ≡ left {R = Option Report} middle (after_next middle) (Err why) → reserved ≡ before → ReadsUntil state (appended xs reserved) (Some why) new
 reads_stop state middle new xs before reserved why h s t l r =
     let until = stopped state middle new (appended xs before) why h (told_error middle new why s t l) in
     subst (λ rs. ReadsUntil state (appended xs rs) (Some why) new) (sym r) until
 
 -- nothing is read where there is nothing to report
-pub nothing_read : {A : Type 0} (state new : State) (some : Option (Incoming A)) → (HasReport state → ⊥) → IsNext state (report_in (Ok some)) → new ≡ left state (after_next state) (report_in (Ok some))
+pub nothing_read : {A : Type 0} (state new : State) (some : Option (OwnedIncoming A)) → (HasReport state → ⊥) → IsNext state (report_in (Ok some)) → new ≡ left state (after_next state) (report_in (Ok some))
     → ReadsSome state [] new × (next_answer new ≡ Ok None)
 nothing_read state new (Some x) n t l = absurd (n (report_of x, told_report state new _ (report_of x) t))
 nothing_read state new None n t l =

@@ -1,8 +1,25 @@
 -- What is known of a bind that may be written.
-use Rattle.std.specs.Prelude.{◌≤◌, ℕ, List}
-use Rattle.wl_objects.specs.Writing.{EachFits, bind_values, message_len}
+use Rattle.std.specs.Prelude.{◌≡◌, ◌<◌, ◌^◌, ◌≤◌, ℕ, List, Option, Some}
+use Rattle.std.specs.declared.result.Result.TheVariants.{Ok}
+use Rattle.wl_sigs.specs.declared.signature.Side.TheVariants.{Request}
+use Rattle.wl_sigs.specs.Tables.{Message, signature_at}
+use Rattle.wl_sigs.specs.Valid.{Valid}
+use Rattle.wl_table.specs.declared.object.Object.{Object}
+use Rattle.wl_table.specs.View.{Sound, next_id}
+use Rattle.wl_objects.specs.Writing.{EachFits, bind_values, message_bytes, message_len}
+use Rattle.wl_end.specs.Spelled.{MessageSpells}
+use Rattle.wl_client.specs.State.{State}
+use Rattle.wl_client.specs.Calls.{bind_answer}
 
 -- a bind of an interface of this name has a spelling, and is not too long
 pub record FitsBind (iface : List ℕ) : Type 0 where
   pub fits : (name version id : ℕ) → EachFits (bind_values name iface version id)
   pub len : (name version id : ℕ) → message_len (bind_values name iface version id) ≤ 4096
+
+-- A bind that is accepted is a spelling, by the tables' signature, of its values: the new object by the next id.
+abbrev pub BindSpells : State → Object → ℕ → List ℕ → ℕ → Type 0
+BindSpells state target name iface version =
+    Valid state.core.tables → Sound state.core.view → name < 2 ^ 32 → version < 2 ^ 32
+    → (new : Option Object) → bind_answer state target name iface version ≡ Ok new
+    → (signature : Message) → signature_at state.core.tables 1 Request 0 ≡ Some signature
+    → MessageSpells signature.kinds target.id 0 (bind_values name iface version (next_id state.core.view)) (message_bytes target.id 0 (bind_values name iface version (next_id state.core.view)))

@@ -6,3 +6,4 @@ pub mod Seen
 pub mod Steps
 pub mod Reading
 pub mod Binding
+pub mod Outlines

@@ -5,20 +5,20 @@ use Rattle.std.specs.declared.result.Result.TheVariants.{Ok, Err}
 use Rattle.wl_table.specs.declared.object.Object.{Object}
 use Rattle.wl_objects.specs.declared.error.NextError.{NextError}
 use Rattle.wl_objects.specs.declared.error.SendError.{SendError}
-use Rattle.wl_client.specs.declared.incoming.Incoming.{Incoming}
-use Rattle.wl_client.specs.declared.incoming.Incoming.TheVariants as incoming
+use Rattle.wl_client.specs.declared.incoming.OwnedIncoming.{OwnedIncoming}
+use Rattle.wl_client.specs.declared.incoming.OwnedIncoming.TheVariants as incoming
 use Rattle.wl_client.specs.Reports.{Report, Event, Discarded, Deleted, Stray, Error}
 
 -- what an owned report is
-abbrev pub report_of : {A : Type 0} → Incoming A → Report
+abbrev pub report_of : {A : Type 0} → OwnedIncoming A → Report
 report_of (incoming.Event target opcode args) = Event target opcode args
 report_of (incoming.Discarded target opcode tokens) = Discarded target opcode tokens
 report_of (incoming.Deleted object) = Deleted object
 report_of (incoming.Stray id) = Stray id
 report_of (incoming.Error id named code text) = Error id named code text
 
--- what `next` answered
-abbrev pub report_in : {A : Type 0} → Result (Option (Incoming A)) NextError → Result (Option Report) NextError
+-- what `next_owned` returned
+abbrev pub report_in : {A : Type 0} → Result (Option (OwnedIncoming A)) NextError → Result (Option Report) NextError
 report_in (Err why) = Err why
 report_in (Ok None) = Ok None
 report_in (Ok (Some read)) = Ok (Some (report_of read))

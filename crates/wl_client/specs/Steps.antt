@@ -24,7 +24,7 @@ abbrev pub end_with : List Interface → View → List ℕ → Core
 end_with tables view tokens = record {
   tables = tables;
   view = view;
-  inbox = record { bytes = []; tokens = tokens; capacity = 0; token_capacity = 0 };
+  inbox = record { bytes = []; tokens = tokens; capacity = 0; token_capacity = 0; last = []; last_tokens = [] };
   outbox = no_messages 0 0;
   failed = false;
   read = 0;

@@ -12,7 +12,7 @@ use Rattle.wl_message.specs.declared.amounts.Fed.{Fed}
 use Rattle.wl_end.specs.declared.streams.ReadAll.{ReadAll}
 use Rattle.wl_end.specs.Core.{with_arrived, no_room}
 use Rattle.wl_end.specs.Streams.{Wants, IsTaken, taken_bytes, taken_tokens, NoneFits}
-use Rattle.wl_client.specs.declared.incoming.Incoming.{Incoming}
+use Rattle.wl_client.specs.declared.incoming.OwnedIncoming.{OwnedIncoming}
 use Rattle.wl_client.specs.State.{State, with_core}
 use Rattle.wl_client.specs.Reports.{Report, Error, next_answer, after_next}
 use Rattle.wl_client.specs.Seen.{report_of}
@@ -58,7 +58,7 @@ pub record ReadsAll (state : State) (pieces : List Part) (reports : List Report)
   pub to_the_end : answer.stop ≡ None → last.core.failed ≡ false → (answer.part ≡ no_room) × NoneFits (free_tokens last.core.inbox) pieces answer.pieces
 
 -- the reports that stand behind these others
-abbrev pub appended : {A : Type 0} → List (Incoming A) → List (Incoming A) → List Report
+abbrev pub appended : {A : Type 0} → List (OwnedIncoming A) → List (OwnedIncoming A) → List Report
 appended before after = map report_of (drop (length before) after)
 
 -- What waits is read: all of it, with nothing left to read; or up to a stop, or to wl_display.error, where there is none.

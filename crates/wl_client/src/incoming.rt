@@ -1,25 +1,31 @@
 //! What a client reports.
+ghost use Rattle.std.specs.Prelude.{◌≡◌, IfOk, OnErr, ◌≤◌, true, length, take};
+ghost use Rattle.wl_client.specs.Reports.{needs_memory};
+ghost use Rattle.wl_client.specs.Seen.{report_of};
+ghost use Rattle.wl_client.specs.Outlines.{lent_report, outlined};
 
 use crate::tokens::Tokens;
-use std::alloc::{Allocator, Global};
-use wl_objects::{Gots, Named, Object};
+use crate::values::text_at;
+use std::alloc::{AllocError, Allocator, Global};
+use wl_objects::{Args, Gots, Named, Object, ParsedArgs};
 use wl_wire::Bytes;
 
-/// A message that the client read, in memory of its own.
-#[derive(Debug, Drop)]
-pub enum Incoming<A: Allocator = Global> {
+/// A message that the client read. What it lends is lent from the client, until it reads the next
+/// message.
+#[derive(Clone, Copy)]
+pub enum Incoming<'a> {
     /// An event for a live object.
     Event {
         target: Object,
         opcode: u16,
-        args: Gots<A>,
+        args: Args<'a>,
     },
     /// An event for an object that the client has destroyed. The tokens that came with it are
-    /// handed out, so that the caller can close what they stand for.
+    /// returned, so that the caller can close what they stand for.
     Discarded {
         target: Object,
         opcode: u16,
-        tokens: Tokens,
+        tokens: &'a [u32],
     },
     /// wl_display.delete_id of an object: its id is free again.
     Deleted {
@@ -35,6 +41,161 @@ pub enum Incoming<A: Allocator = Global> {
         id: u32,
         named: Named,
         code: u32,
+        text: &'a [u8],
+    },
+}
+
+/// A message that the client read, in memory of its own. The cases are those of `Incoming`.
+#[derive(Debug, Drop)]
+pub enum OwnedIncoming<A: Allocator = Global> {
+    Event {
+        target: Object,
+        opcode: u16,
+        args: Gots<A>,
+    },
+    Discarded {
+        target: Object,
+        opcode: u16,
+        tokens: Tokens,
+    },
+    Deleted {
+        object: Object,
+    },
+    Stray {
+        id: u32,
+    },
+    Error {
+        id: u32,
+        named: Named,
+        code: u32,
         text: Bytes<A>,
     },
+}
+
+/// The report of a message but for its body and its tokens, which a report lends or copies.
+#[derive(Drop)]
+pub(crate) enum Outline {
+    Event {
+        target: Object,
+        opcode: u16,
+        args: ParsedArgs,
+        /// The birth that an object got which the message made.
+        birth: u64,
+    },
+    Discarded {
+        target: Object,
+        opcode: u16,
+        /// How many tokens the message took.
+        tokens: usize,
+    },
+    Deleted {
+        object: Object,
+    },
+    Stray {
+        id: u32,
+    },
+    Error {
+        id: u32,
+        named: Named,
+        code: u32,
+        args: ParsedArgs,
+    },
+}
+
+impl Outline {
+    /// The report of a message with this body and these tokens, which are lent.
+    pub(crate) fn lend<'a>(&self, body: &'a [u8], tokens: &'a [u32]) -> Incoming<'a>
+        ensures { lent_report result ≡ outlined body.now tokens.now self.now }
+    {
+        match self {
+            Outline::Event {
+                target,
+                opcode,
+                args,
+                birth,
+            } => Incoming::Event {
+                target: *target,
+                opcode: *opcode,
+                args: Args::of(args, body, tokens, *birth),
+            },
+            Outline::Discarded {
+                target,
+                opcode,
+                tokens: count,
+            } => Incoming::Discarded {
+                target: *target,
+                opcode: *opcode,
+                tokens: first(tokens, *count),
+            },
+            Outline::Deleted { object } => Incoming::Deleted { object: *object },
+            Outline::Stray { id } => Incoming::Stray { id: *id },
+            Outline::Error {
+                id,
+                named,
+                code,
+                args,
+            } => Incoming::Error {
+                id: *id,
+                named: *named,
+                code: *code,
+                text: text_at(args, body, 2),
+            },
+        }
+    }
+
+    /// The report of a message with this body and these tokens, in memory of its own. Memory is
+    /// taken only for the arguments of an event, where there are some, and for the text of an error.
+    pub(crate) fn to_owned<A: Allocator + Clone + Drop>(
+        &self,
+        alloc: &A,
+        body: &[u8],
+        tokens: &[u32],
+    ) -> Result<OwnedIncoming<A>, AllocError>
+        requires { length tokens.now ≤ 20 }
+        ensures ok { IfOk result
+            (λ report. report_of report ≡ outlined body.now tokens.now self.now) }
+        ensures err { OnErr result (needs_memory (outlined body.now tokens.now self.now) ≡ true) }
+    {
+        match self {
+            Outline::Event {
+                target,
+                opcode,
+                args,
+                birth,
+            } => Ok(OwnedIncoming::Event {
+                target: *target,
+                opcode: *opcode,
+                args: Args::of(args, body, tokens, *birth).to_owned(alloc)?,
+            }),
+            Outline::Discarded {
+                target,
+                opcode,
+                tokens: count,
+            } => Ok(OwnedIncoming::Discarded {
+                target: *target,
+                opcode: *opcode,
+                tokens: Tokens::copy_of(first(tokens, *count)),
+            }),
+            Outline::Deleted { object } => Ok(OwnedIncoming::Deleted { object: *object }),
+            Outline::Stray { id } => Ok(OwnedIncoming::Stray { id: *id }),
+            Outline::Error {
+                id,
+                named,
+                code,
+                args,
+            } => Ok(OwnedIncoming::Error {
+                id: *id,
+                named: *named,
+                code: *code,
+                text: Bytes::copy_of(alloc.clone()?, text_at(args, body, 2))?,
+            }),
+        }
+    }
+}
+
+/// The first tokens, `count` of them if there are so many.
+fn first(tokens: &[u32], count: usize) -> &[u32]
+    ensures { result.now ≡ take count tokens.now }
+{
+    &tokens[..count.min(tokens.len())]
 }

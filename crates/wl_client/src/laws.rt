@@ -5,6 +5,8 @@ ghost use Rattle.wl_message.specs.declared.amounts.Fed.{Fed};
 ghost use Rattle.wl_message.specs.InStep.{Part, part_bytes, part_tokens};
 ghost use Rattle.wl_objects.specs.declared.error.NextError.{NextError};
 ghost use Rattle.wl_end.specs.Streams.{waiting, BeginWith, IsTaken, taken_bytes, taken_tokens, untaken};
+ghost use Rattle.wl_table.specs.declared.object.Object.{Object};
+ghost use Rattle.wl_client.specs.Binding.{BindSpells};
 ghost use Rattle.wl_client.specs.State.{State};
 ghost use Rattle.wl_client.specs.Reports.{Report};
 ghost use Rattle.wl_client.specs.Streams.{Reads, ReadsSome, arrived, ComeInStep};
@@ -47,4 +49,10 @@ pub fn whole_messages_are_read()
     ensures { (state last : State) (reports : List Report) (stop : Option NextError)
         → Reads state reports stop last
         → BeginWith state.core.inbox.bytes (length reports) last.core.inbox.bytes }
+{}
+
+/// What an accepted bind writes is a spelling by the tables' signature.
+pub fn binds_are_spelled()
+    ensures { (state : State) (registry : Object) (name version : ℕ) (iface : List ℕ)
+        → BindSpells state registry name iface version }
 {}

@@ -3,6 +3,7 @@
 
 mod binding;
 mod client;
+mod end;
 mod globals;
 mod incoming;
 mod laws;
@@ -11,10 +12,11 @@ mod sending;
 mod steps;
 mod streams;
 mod tokens;
+mod transport;
 mod values;
 
 pub use client::Client;
 pub use globals::Global;
-pub use incoming::Incoming;
+pub use incoming::{Incoming, OwnedIncoming};
 pub use laws::{any_cut_reads, one_reading};
 pub use tokens::Tokens;

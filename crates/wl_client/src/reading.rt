@@ -5,18 +5,21 @@ ghost use Rattle.wl_sigs.specs.declared.signature.Side.TheVariants.{Event as eve
 ghost use Rattle.wl_sigs.specs.Valid.{Valid};
 ghost use Rattle.wl_message.specs.Cut.{Whole, front, usual_limit};
 ghost use Rattle.wl_objects.specs.Messages.{reader_of, received};
-ghost use Rattle.wl_end.specs.Core.{HasDisplay};
+ghost use Rattle.wl_end.specs.Core.{HasDisplay, with_failure};
 ghost use Rattle.wl_end.specs.Outcomes.{left};
 ghost use Rattle.wl_end.specs.Receiving.{found};
 ghost use Rattle.wl_client.specs.State.{Global as Told};
-ghost use Rattle.wl_client.specs.Reports.{IsNext, after_next};
+ghost use Rattle.std.specs.Borrow.{sem};
+ghost use Rattle.std.specs.Io.BufRead.{Rests};
+ghost use Rattle.wl_client.specs.Reports.{IsNext, after_next, next_answer};
+ghost use Rattle.wl_client.specs.Outlines.{client_row, lent_in, lent_report, outline_in, outlined};
 ghost use Rattle.wl_client.specs.Seen.{report_in};
 ghost use Rattle.wl_client.specs.Steps.{CanChange, state_of, stepped};
-ghost use Rattle.wl_client.specs.Reading.{IsFront, IsStepOf, step_in, taught};
+ghost use Rattle.wl_client.specs.Reading.{IsFront, IsOwnedFront, IsStepOf, owned_in, step_in, taught, taught_by_owned};
 
 use crate::client::Client;
-use crate::incoming::Incoming;
-use crate::steps::{Change, Lesson, change_of, lesson_of, make, report};
+use crate::incoming::{Incoming, Outline, OwnedIncoming};
+use crate::steps::{Change, Lesson, change_of, lesson_of, make, outline_of};
 use crate::tokens::{MAX_TOKENS, Tokens};
 use std::alloc::Allocator;
 use wl_end::Core;
@@ -26,8 +29,8 @@ use wl_sigs::{Side, Tables};
 
 /// What the reading of a message comes to, before the message is taken.
 #[derive(Drop)]
-pub(crate) struct Step<A: Allocator> {
-    report: Incoming<A>,
+pub(crate) struct Step {
+    outline: Outline,
     change: Change,
     lesson: Lesson,
     /// How many bytes the message has.
@@ -38,6 +41,13 @@ pub(crate) struct Step<A: Allocator> {
     last: bool,
 }
 
+/// The same, with the report in memory of its own.
+#[derive(Drop)]
+pub(crate) struct OwnedStep<A: Allocator> {
+    step: Step,
+    report: OwnedIncoming<A>,
+}
+
 /// Why a message was not read.
 #[derive(Clone, Copy, Debug)]
 pub(crate) enum Stop {
@@ -46,62 +56,144 @@ pub(crate) enum Stop {
 }
 
 impl<'t, T: Table> Client<'t, T> {
-    /// Reads the next message, once it is whole; none before.
+    /// Reads the next message, once it is whole; none before. Takes no memory, and never returns
+    /// `Memory`.
     ///
     /// A fault makes the client fail for good, and so does wl_display.error once it is reported.
+    pub fn next(&mut self) -> Result<Option<Incoming<'_>>, NextError>
+        ensures* state { sem 𝓛
+            (Rests (client_row T.row T.Alloc.row T.Table T.Alloc.Allocator T.Alloc.Clone) self.entry
+            (λ client. client ≡ after_next self.old)) }
+        ensures answer { lent_in result ≡ next_answer self.old }
+    {
+        match self.step()? {
+            Some(outline) => Ok(Some(self.lend(outline))),
+            None => Ok(None),
+        }
+    }
+
+    /// Reads the next message as `next` does, and returns a report in memory of its own.
+    ///
     /// Where there is no memory for the report the message stays and can be read again. That can
     /// be only at an `Event` that has arguments and at an `Error`: `Discarded`, `Deleted`, `Stray`
     /// and an event without arguments take no memory.
-    pub fn next(&mut self) -> Result<Option<Incoming<T::Alloc>>, NextError>
+    pub fn next_owned(&mut self) -> Result<Option<OwnedIncoming<T::Alloc>>, NextError>
         ensures answer { IsNext self.old (report_in result) }
         ensures state { self.new ≡ left self.old (after_next self.old) (report_in result) }
     {
-        match read(&self.alloc, &mut self.core)? {
+        match read_owned(&self.alloc, &mut self.core)? {
+            None => Ok(None),
+            Some(owned) => {
+                self.globals.learn(owned.step.lesson);
+                Ok(Some(owned.report))
+            }
+        }
+    }
+
+    /// Reads the next message, and leaves its body and its tokens in the inbox.
+    fn step(&mut self) -> Result<Option<Outline>, NextError>
+        ensures answer { outline_in self.new.core.inbox result ≡ next_answer self.old }
+        ensures state { self.new ≡ after_next self.old }
+    {
+        match read(&mut self.core)? {
             None => Ok(None),
             Some(step) => {
                 self.globals.learn(step.lesson);
-                Ok(Some(step.report))
+                Ok(Some(step.outline))
             }
         }
+    }
+
+    /// Lends the report of the message that was read last.
+    fn lend(&self, outline: Outline) -> Incoming<'_>
+        ensures { lent_report result
+            ≡ outlined self.now.core.inbox.last self.now.core.inbox.last_tokens outline }
+    {
+        outline.lend(self.core.inbox.last(), self.core.inbox.last_tokens())
     }
 }
 
 /// Reads the next message at an end, and takes it.
-fn read<T: Table>(
-    alloc: &T::Alloc,
-    core: &mut Core<'_, T>,
-) -> Result<Option<Step<T::Alloc>>, NextError>
-    ensures answer { IsNext (state_of core.old []) (step_in result) }
+fn read<T: Table>(core: &mut Core<'_, T>) -> Result<Option<Step>, NextError>
+    ensures answer { step_in core.new.inbox result ≡ next_answer (state_of core.old []) }
     ensures state { (globals : List Told)
-        → state_of core.new (taught globals result)
-        ≡ left (state_of core.old globals) (after_next (state_of core.old globals))
-        (step_in result) }
+        → state_of core.new (taught globals result) ≡ after_next (state_of core.old globals) }
 {
     if core.failed {
         return Err(NextError::Failed);
     }
-    match step_in_front(alloc, core) {
+    match step_in_front(core) {
         Ok(None) => Ok(None),
         Ok(Some(step)) => {
             take(core, step.change, step.bytes, step.tokens, step.last);
             Ok(Some(step))
         }
-        Err(Stop::Memory) => Err(NextError::Memory),
-        Err(Stop::Fault(fault)) => {
-            core.failed = true;
-            let offset = core.read;
-            Err(NextError::Fault { fault, offset })
+        Err(fault) => Err(fail(core, fault)),
+    }
+}
+
+/// Reads the next message at an end, copies its report, and takes it.
+fn read_owned<T: Table>(
+    alloc: &T::Alloc,
+    core: &mut Core<'_, T>,
+) -> Result<Option<OwnedStep<T::Alloc>>, NextError>
+    ensures answer { IsNext (state_of core.old []) (owned_in result) }
+    ensures state { (globals : List Told)
+        → state_of core.new (taught_by_owned globals result)
+        ≡ left (state_of core.old globals) (after_next (state_of core.old globals))
+        (owned_in result) }
+{
+    if core.failed {
+        return Err(NextError::Failed);
+    }
+    match owned_in_front(alloc, core) {
+        Ok(None) => Ok(None),
+        Ok(Some(owned)) => {
+            let step = &owned.step;
+            take(core, step.change, step.bytes, step.tokens, step.last);
+            Ok(Some(owned))
         }
+        Err(Stop::Memory) => Err(NextError::Memory),
+        Err(Stop::Fault(fault)) => Err(fail(core, fault)),
+    }
+}
+
+/// Makes the end fail with a fault of the message in front.
+fn fail<T: Table>(core: &mut Core<'_, T>, fault: Fault) -> NextError
+    ensures error { result ≡ NextError.Fault fault core.old.read }
+    ensures state { core.new ≡ with_failure core.old }
+{
+    core.failed = true;
+    NextError::Fault {
+        fault,
+        offset: core.read,
     }
 }
 
 /// What the message in front comes to, once it is whole. Nothing changes.
-pub(crate) fn step_in_front<T: Table>(
-    alloc: &T::Alloc,
-    core: &mut Core<'_, T>,
-) -> Result<Option<Step<T::Alloc>>, Stop>
+pub(crate) fn step_in_front<T: Table>(core: &mut Core<'_, T>) -> Result<Option<Step>, Fault>
     ensures same { core.new ≡ core.old }
     ensures comes { IsFront core.old (found core.old event_side) result }
+{
+    valid(core.tables);
+    let frame = match core.inbox.frame() {
+        Ok(Some(frame)) => frame,
+        Ok(None) => return Ok(None),
+        Err(_) => return Err(Fault::BadSize),
+    };
+    match step_of(core.tables, &core.table, frame) {
+        Ok(step) => Ok(Some(step)),
+        Err(fault) => Err(fault),
+    }
+}
+
+/// The same, with the report in memory of its own.
+fn owned_in_front<T: Table>(
+    alloc: &T::Alloc,
+    core: &mut Core<'_, T>,
+) -> Result<Option<OwnedStep<T::Alloc>>, Stop>
+    ensures same { core.new ≡ core.old }
+    ensures comes { IsOwnedFront core.old (found core.old event_side) result }
 {
     valid(core.tables);
     let waiting = Tokens::waiting(&core.inbox);
@@ -110,43 +202,40 @@ pub(crate) fn step_in_front<T: Table>(
         Ok(None) => return Ok(None),
         Err(_) => return Err(Stop::Fault(Fault::BadSize)),
     };
-    let step = step_of(alloc, core.tables, &core.table, &waiting, frame)?;
-    Ok(Some(step))
+    let step = match step_of(core.tables, &core.table, frame) {
+        Ok(step) => step,
+        Err(fault) => return Err(Stop::Fault(fault)),
+    };
+    match step.outline.to_owned(alloc, frame.body, waiting.as_slice()) {
+        Ok(report) => Ok(Some(OwnedStep { step, report })),
+        Err(_) => Err(Stop::Memory),
+    }
 }
 
 /// What a message comes to. Nothing changes.
-fn step_of<T: Table>(
-    alloc: &T::Alloc,
-    tables: &Tables,
-    table: &T,
-    waiting: &Tokens,
-    frame: Frame<'_>,
-) -> Result<Step<T::Alloc>, Stop>
+fn step_of<T: Table>(tables: &Tables, table: &T, frame: Frame<'_>) -> Result<Step, Fault>
     requires valid { Valid tables.now }
     requires display { HasDisplay (T.view table.now) }
     ensures header { IsHeader frame.entry.header }
-    ensures comes { IsStepOf tables.now (T.view table.now) waiting.now frame.entry.header
+    ensures comes { IsStepOf tables.now (T.view table.now) frame.entry.header frame.entry.body.now
         (received tables.now event_side
         (reader_of
         (T.view table.now)) frame.entry.header frame.entry.body.now frame.entry.tokens) result }
 {
     let header = frame.header;
     let opcode = header.opcode;
-    let message = match receive(tables, Side::Event, table, header, frame.body, frame.tokens) {
+    let body = frame.body;
+    let message = match receive(tables, Side::Event, table, header, body, frame.tokens) {
         Ok(message) => message,
-        Err(fault) => return Err(Stop::Fault(fault)),
-    };
-    let report = match report(alloc, table, opcode, &message, waiting) {
-        Ok(report) => report,
-        Err(_) => return Err(Stop::Memory),
+        Err(fault) => return Err(fault),
     };
     Ok(Step {
-        report,
-        change: change_of(table, opcode, &message),
-        lesson: lesson_of(tables, opcode, &message),
+        change: change_of(table, opcode, &message, body),
+        lesson: lesson_of(tables, opcode, &message, body),
         bytes: header.size,
         tokens: descriptors(message.signature.kinds()),
         last: is_error(Side::Event, message.entry.iface, opcode),
+        outline: outline_of(table, opcode, message, body),
     })
 }
 

@@ -1,24 +1,23 @@
 //! The steps in which a client reads a message.
-ghost use Rattle.std.specs.Prelude.{◌≡◌, ◌≢◌, List, [], true, false, IfOk, OnErr, Some};
+ghost use Rattle.std.specs.Prelude.{◌≡◌, ◌≢◌, ℕ, List, [], Some};
 ghost use Rattle.wl_table.specs.View.{look};
 ghost use Rattle.wl_end.specs.Core.{HasDisplay, with_view};
 ghost use Rattle.wl_client.specs.State.{Global as Told};
-ghost use Rattle.wl_client.specs.Reports.{delete_report, error_report, needs_memory};
-ghost use Rattle.wl_client.specs.Seen.{report_of};
+ghost use Rattle.wl_objects.specs.Parsed.{AreParsed, spelled_in};
+ghost use Rattle.wl_objects.specs.Messages.{reader_of};
+ghost use Rattle.wl_client.specs.Reports.{delete_report, error_report};
+ghost use Rattle.wl_client.specs.Outlines.{outlined};
 ghost use Rattle.wl_client.specs.Steps.{CanChange, changed, end_with, found_as, globals_by, learnt, report_by, view_by};
 
 use crate::globals::Global;
-use crate::incoming::Incoming;
-use crate::tokens::Tokens;
+use crate::incoming::Outline;
 use crate::values::{id_at, number_at, text_at};
-use std::alloc::{AllocError, Allocator};
 use wl_end::Core;
 use wl_objects::{
-    Object, REGISTRY, Received, State, Table, Values, descriptors, is_delete_id, is_error, named,
-    report_arguments,
+    Object, ParsedArgs, REGISTRY, Received, State, Table, descriptors, is_delete_id, is_error,
+    named,
 };
 use wl_sigs::{Destroys, Side, Tables};
-use wl_wire::Bytes;
 
 /// What a message does to the objects.
 #[derive(Clone, Copy, Debug)]
@@ -40,7 +39,13 @@ pub(crate) enum Lesson {
 }
 
 /// What a message changes among the objects.
-pub(crate) fn change_of<T: Table>(table: &T, opcode: u16, message: &Received<'_, '_>) -> Change
+pub(crate) fn change_of<T: Table>(
+    table: &T,
+    opcode: u16,
+    message: &Received<'_, '_>,
+    body: &[u8],
+) -> Change
+    requires parsed { spelled_in body.now message.now.args ≡ message.now.values }
     requires display { HasDisplay (T.view table.now) }
     requires row { look (T.view table.now) message.now.target.id ≡ Some message.now.entry }
     requires lasts { message.now.target.id ≡ 1
@@ -53,7 +58,7 @@ pub(crate) fn change_of<T: Table>(table: &T, opcode: u16, message: &Received<'_,
         return Change::Nothing;
     }
     if is_delete_id(Side::Event, message.entry.iface, opcode) {
-        let id = number_at(&message.values, 0);
+        let id = number_at(&message.args, body, 0);
         return match table.look(id) {
             Some(_) if id != 1 => Change::Close(id),
             _ => Change::Nothing,
@@ -79,7 +84,13 @@ pub(crate) fn make<T: Table>(core: &mut Core<'_, T>, change: Change)
 }
 
 /// What a message teaches of globals: only events on a live wl_registry do.
-pub(crate) fn lesson_of(tables: &Tables, opcode: u16, message: &Received<'_, '_>) -> Lesson
+pub(crate) fn lesson_of(
+    tables: &Tables,
+    opcode: u16,
+    message: &Received<'_, '_>,
+    body: &[u8],
+) -> Lesson
+    requires parsed { spelled_in body.now message.now.args ≡ message.now.values }
     ensures { (globals : List Told)
         → learnt globals result ≡ globals_by tables.now globals (found_as opcode message.now) }
 {
@@ -88,87 +99,81 @@ pub(crate) fn lesson_of(tables: &Tables, opcode: u16, message: &Received<'_, '_>
     }
     match opcode {
         0 => {
-            let name = number_at(&message.values, 0);
-            match tables.interface(text_at(&message.values, 1)) {
+            let name = number_at(&message.args, body, 0);
+            match tables.interface(text_at(&message.args, body, 1)) {
                 None => Lesson::Forget(name),
                 Some(iface) => Lesson::Remember(Global {
                     name,
                     iface,
-                    version: number_at(&message.values, 2),
+                    version: number_at(&message.args, body, 2),
                 }),
             }
         }
-        1 => Lesson::Forget(number_at(&message.values, 0)),
+        1 => Lesson::Forget(number_at(&message.args, body, 0)),
         _ => Lesson::Nothing,
     }
 }
 
-/// What is reported of a message, in memory of its own, where these tokens wait. Memory is taken
-/// only for the arguments of an event, where there are some, and for the text of an error.
-pub(crate) fn report<A: Allocator + Clone + Drop, T: Table>(
-    alloc: &A,
+/// The outline of a message's report.
+pub(crate) fn outline_of<T: Table>(
     table: &T,
     opcode: u16,
-    message: &Received<'_, '_>,
-    waiting: &Tokens,
-) -> Result<Incoming<A>, AllocError>
-    ensures ok { IfOk result
-        (λ report. report_of report
-        ≡ report_by (T.view table.now) waiting.now (found_as opcode message.now)) }
-    ensures err { OnErr result
-        (needs_memory (report_by (T.view table.now) waiting.now (found_as opcode message.now))
-        ≡ true) }
+    message: Received<'_, '_>,
+    body: &[u8],
+) -> Outline
+    requires parsed { AreParsed (reader_of (T.view table.now)) body.now message.args
+        message.values }
+    ensures { (tokens : List ℕ) → outlined body.now tokens result
+        ≡ report_by (T.view table.now) tokens (found_as opcode message.entry) }
 {
     if is_error(Side::Event, message.entry.iface, opcode) {
-        return error_report(alloc, table, &message.values);
+        return error_outline(table, message.args, body);
     }
     if is_delete_id(Side::Event, message.entry.iface, opcode) {
-        return Ok(delete_report(table, number_at(&message.values, 0)));
+        return delete_outline(table, number_at(&message.args, body, 0));
     }
     let target = message.target;
     match message.entry.state {
-        State::Zombie => Ok(Incoming::Discarded {
+        State::Zombie => Outline::Discarded {
             target,
             opcode,
-            tokens: waiting.first(descriptors(message.signature.kinds())),
-        }),
-        State::Live => Ok(Incoming::Event {
+            tokens: descriptors(message.signature.kinds()),
+        },
+        State::Live => Outline::Event {
             target,
             opcode,
-            args: report_arguments(alloc, table, &message.values, waiting.as_slice())?,
-        }),
+            args: message.args,
+            birth: table.births(),
+        },
     }
 }
 
-/// The report of wl_display.error.
-fn error_report<A: Allocator + Clone + Drop, T: Table>(
-    alloc: &A,
-    table: &T,
-    values: &Values<'_>,
-) -> Result<Incoming<A>, AllocError>
-    ensures { IfOk result (λ report. report_of report
-        ≡ error_report (end_with [] (T.view table.now) []) values.now) }
+/// The outline of wl_display.error.
+fn error_outline<T: Table>(table: &T, args: ParsedArgs, body: &[u8]) -> Outline
+    ensures { (tokens : List ℕ) → outlined body.now tokens result
+        ≡ error_report (end_with [] (T.view table.now) tokens) (spelled_in body.now args) }
 {
-    let id = id_at(values, 0);
-    Ok(Incoming::Error {
+    let id = id_at(&args, body, 0);
+    Outline::Error {
         id,
         named: named(table, id),
-        code: number_at(values, 1),
-        text: Bytes::copy_of(alloc.clone()?, text_at(values, 2))?,
-    })
+        code: number_at(&args, body, 1),
+        args,
+    }
 }
 
-/// The report of wl_display.delete_id.
-fn delete_report<A: Allocator, T: Table>(table: &T, id: u32) -> Incoming<A>
-    ensures { report_of result ≡ delete_report (end_with [] (T.view table.now) []) id }
+/// The outline of wl_display.delete_id.
+fn delete_outline<T: Table>(table: &T, id: u32) -> Outline
+    ensures { (body tokens : List ℕ) → outlined body tokens result
+        ≡ delete_report (end_with [] (T.view table.now) tokens) id }
 {
     match table.look(id) {
-        Some(entry) if id != 1 => Incoming::Deleted {
+        Some(entry) if id != 1 => Outline::Deleted {
             object: Object {
                 id,
                 birth: entry.birth,
             },
         },
-        _ => Incoming::Stray { id },
+        _ => Outline::Stray { id },
     }
 }

@@ -7,8 +7,8 @@ ghost use Rattle.wl_client.specs.Seen.{report_of};
 ghost use Rattle.wl_client.specs.Streams.{is_last, appended, HasReport, WaitingIsRead, PieceIsRead, ReadsAll};
 
 use crate::client::Client;
-use crate::incoming::Incoming;
-use crate::reading::{Stop, step_in_front};
+use crate::incoming::OwnedIncoming;
+use crate::reading::step_in_front;
 use std::alloc::Allocator;
 use wl_end::ReadAll;
 use wl_message::Piece;
@@ -26,7 +26,7 @@ impl<'t, T: Table> Client<'t, T> {
     pub fn read_all(
         &mut self,
         pieces: &[Piece<'_>],
-        reports: &mut Vec<Incoming<T::Alloc>, T::Alloc>,
+        reports: &mut Vec<OwnedIncoming<T::Alloc>, T::Alloc>,
     ) -> ReadAll
         ensures reports { take (length reports.old.items) reports.new.items ≡ reports.old.items }
         ensures reads { self.old.core.failed ≡ false
@@ -72,7 +72,7 @@ impl<'t, T: Table> Client<'t, T> {
     /// Reads all that waits; or up to what stops it, or up to wl_display.error, which is no stop.
     fn read_waiting(
         &mut self,
-        reports: &mut Vec<Incoming<T::Alloc>, T::Alloc>,
+        reports: &mut Vec<OwnedIncoming<T::Alloc>, T::Alloc>,
     ) -> Result<(), Option<NextError>>
         requires { self.old.core.failed ≡ false }
         ensures reports { take (length reports.old.items) reports.new.items ≡ reports.old.items }
@@ -83,7 +83,7 @@ impl<'t, T: Table> Client<'t, T> {
             if reports.reserve(1).is_err() {
                 return self.read_without_room();
             }
-            match self.next() {
+            match self.next_owned() {
                 Err(why) => return Err(Some(why)),
                 Ok(None) => return Ok(()),
                 Ok(Some(report)) => {
@@ -106,7 +106,7 @@ impl<'t, T: Table> Client<'t, T> {
         if self.has_report() {
             return Err(Some(NextError::Memory));
         }
-        match self.next() {
+        match self.next_owned() {
             Err(why) => Err(Some(why)),
             Ok(_) => Ok(()),
         }
@@ -119,9 +119,8 @@ impl<'t, T: Table> Client<'t, T> {
         ensures yes { result ≡ true → HasReport self.old }
         ensures no { result ≡ false → HasReport self.old → ⊥ }
     {
-        match step_in_front(&self.alloc, &mut self.core) {
+        match step_in_front(&mut self.core) {
             Ok(Some(_)) => true,
-            Err(Stop::Memory) => true,
             _ => false,
         }
     }
@@ -131,7 +130,7 @@ impl<'t, T: Table> Client<'t, T> {
     fn read_piece(
         &mut self,
         piece: Piece<'_>,
-        reports: &mut Vec<Incoming<T::Alloc>, T::Alloc>,
+        reports: &mut Vec<OwnedIncoming<T::Alloc>, T::Alloc>,
     ) -> Result<(), ReadAll>
         requires open { self.old.core.failed ≡ false }
         requires room { length piece.tokens.now ≤ free_tokens self.old.core.inbox }
@@ -155,8 +154,8 @@ impl<'t, T: Table> Client<'t, T> {
 }
 
 /// Whether this is the report of wl_display.error.
-fn is_last<A: Allocator>(report: &Incoming<A>) -> bool
+fn is_last<A: Allocator>(report: &OwnedIncoming<A>) -> bool
     ensures { result ≡ is_last (report_of report.now) }
 {
-    matches!(report, Incoming::Error { .. })
+    matches!(report, OwnedIncoming::Error { .. })
 }

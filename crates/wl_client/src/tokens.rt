@@ -36,19 +36,21 @@ impl Tokens {
         Self { items, count }
     }
 
-    /// The first of these tokens, so many of them if there are so many.
-    pub(crate) fn first(&self, count: usize) -> Self
-        ensures { result ≡ take count self.now }
+    /// A copy of tokens, of which there are no more than a message can have.
+    pub(crate) fn copy_of(tokens: &[u32]) -> Self
+        requires { length tokens.now ≤ 20 }
+        ensures { result ≡ tokens.now }
     {
-        Self {
-            items: self.items,
-            count: count.min(self.count),
-        }
+        let mut items = [0; MAX_TOKENS];
+        let count = tokens.len();
+        items[..count].copy_from_slice(tokens);
+        Self { items, count }
     }
 
     /// The tokens, lent.
     pub fn as_slice(&self) -> &[u32]
-        ensures { result.now ≡ self.now }
+        ensures tokens { result.now ≡ self.now }
+        ensures few { length result.now ≤ 20 }
     {
         &self.items[..self.count]
     }

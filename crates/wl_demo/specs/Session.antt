@@ -37,29 +37,29 @@ abbrev pub new_object : Given
 new_object = New tt
 
 -- the server gives wl_compositor of version 6 and wl_seat of version 9
-abbrev pub giving : List Interface → List Move
-giving tables = AddGlobal (named tables (codes "wl_compositor")) 6 ∷ AddGlobal (named tables (codes "wl_seat")) 9 ∷ []
+abbrev pub adding_globals : List Interface → List Move
+adding_globals tables = AddGlobal (named tables (codes "wl_compositor")) 6 ∷ AddGlobal (named tables (codes "wl_seat")) 9 ∷ []
 
 -- wl_display.get_registry
-abbrev pub asking : List Move
-asking = ClientSend the_display 1 (new_object ∷ []) ∷ []
+abbrev pub getting_registry : List Move
+getting_registry = ClientSend the_display 1 (new_object ∷ []) ∷ []
 
 -- wl_registry.global, for all that is owed
-abbrev pub announcing : List Move
-announcing = Announce ∷ []
+abbrev pub announcing_globals : List Move
+announcing_globals = Announce ∷ []
 
 -- wl_registry.bind of both globals, and wl_display.sync
-abbrev pub binding : List Move
-binding = ClientBind the_registry 1 (codes "wl_compositor") 6 ∷ ClientBind the_registry 2 (codes "wl_seat") 9
+abbrev pub binding_globals : List Move
+binding_globals = ClientBind the_registry 1 (codes "wl_compositor") 6 ∷ ClientBind the_registry 2 (codes "wl_seat") 9
     ∷ ClientSend the_display 0 (new_object ∷ []) ∷ []
 
 -- wl_callback.done
-abbrev pub ending_callback : List Move
-ending_callback = ServerSend the_callback 0 (Uint 1 ∷ []) ∷ []
+abbrev pub finishing_callback : List Move
+finishing_callback = ServerSend the_callback 0 (Uint 1 ∷ []) ∷ []
 
 -- wl_compositor.create_surface, wl_surface.commit and wl_surface.destroy
-abbrev pub drawing : List Move
-drawing = ClientSend the_compositor 0 (new_object ∷ []) ∷ ClientSend the_surface 6 [] ∷ ClientSend the_surface 0 [] ∷ []
+abbrev pub drawing_surface : List Move
+drawing_surface = ClientSend the_compositor 0 (new_object ∷ []) ∷ ClientSend the_surface 6 [] ∷ ClientSend the_surface 0 [] ∷ []
 
 -- A part of a session: a move once, or again and again until it does nothing more.
 pub data Part : Type 0 where
@@ -79,10 +79,10 @@ to_client piece = Until (CarryToClient piece) ∷ Until ClientNext ∷ []
 -- the whole session
 abbrev pub session : List Interface → ℕ → List Part
 session tables piece =
-    each_once (giving tables)
-    ++ each_once asking ++ to_server piece
-    ++ each_once announcing ++ to_client piece
-    ++ each_once binding ++ to_server piece
-    ++ each_once ending_callback ++ to_client piece
-    ++ each_once drawing ++ to_server piece
+    each_once (adding_globals tables)
+    ++ each_once getting_registry ++ to_server piece
+    ++ each_once announcing_globals ++ to_client piece
+    ++ each_once binding_globals ++ to_server piece
+    ++ each_once finishing_callback ++ to_client piece
+    ++ each_once drawing_surface ++ to_server piece
     ++ to_client piece

@@ -6,7 +6,10 @@ ghost use Rattle.wl_demo.specs.Playing as playing;
 ghost use Rattle.wl_demo.specs.Playing.{Plays, Ran};
 ghost use Rattle.wl_demo.specs.Session.{Until, each_once, session, to_client, to_server};
 
-use crate::session::{announcing, asking, binding, drawing, ending_callback, giving, one};
+use crate::session::{
+    adding_globals, announcing_globals, binding_globals, drawing_surface, finishing_callback,
+    getting_registry, list_of,
+};
 use std::alloc::{AllocError, Allocator};
 use wl_objects::{NextError, SendError, Table};
 use wl_server::GlobalError;
@@ -22,16 +25,16 @@ pub fn play<T: Table>(
 ) -> Result<(), AllocError>
     ensures { OnOk result (Plays (session tables.now piece) pair.old pair.new) }
 {
-    play_all(pair, &giving(alloc, tables)?)?;
-    play_all(pair, &asking(alloc)?)?;
+    play_all(pair, &adding_globals(alloc, tables)?)?;
+    play_all(pair, &getting_registry(alloc)?)?;
     read_at_server(alloc, pair, piece)?;
-    play_all(pair, &announcing(alloc)?)?;
+    play_all(pair, &announcing_globals(alloc)?)?;
     read_at_client(alloc, pair, piece)?;
-    play_all(pair, &binding(alloc)?)?;
+    play_all(pair, &binding_globals(alloc)?)?;
     read_at_server(alloc, pair, piece)?;
-    play_all(pair, &ending_callback(alloc)?)?;
+    play_all(pair, &finishing_callback(alloc)?)?;
     read_at_client(alloc, pair, piece)?;
-    play_all(pair, &drawing(alloc)?)?;
+    play_all(pair, &drawing_surface(alloc)?)?;
     read_at_server(alloc, pair, piece)?;
     read_at_client(alloc, pair, piece)
 }
@@ -68,7 +71,7 @@ fn repeat<T: Table>(
 ) -> Result<(), AllocError>
     ensures { OnOk result (Plays (Until (move_of action) ∷ []) pair.old pair.new) }
 {
-    let moves = one(alloc, action)?;
+    let moves = list_of(alloc, action)?;
     'again: loop {
         let replies = run_all(pair, &moves)?;
         if !do_something(&replies) {

@@ -9,6 +9,8 @@ use std::alloc::{AllocError, Allocator};
 use wl_objects::{DISPLAY as DISPLAY_INTERFACE, Object};
 use wl_session::{Move, SendArg};
 use wl_sigs::Tables;
+use wl_sigs::event::wl_callback;
+use wl_sigs::request::{wl_compositor, wl_display, wl_surface};
 
 const DISPLAY: Object = Object { id: 1, birth: 0 };
 
@@ -18,30 +20,18 @@ const COMPOSITOR: Object = Object { id: 3, birth: 2 };
 
 const CALLBACK: Object = Object { id: 5, birth: 4 };
 
-/// It has the id of the callback, which is gone by then.
+/// The surface has the id of the callback, which is gone by then.
 const SURFACE: Object = Object { id: 5, birth: 5 };
-
-const SYNC: u16 = 0;
-
-const GET_REGISTRY: u16 = 1;
-
-const CREATE_SURFACE: u16 = 0;
-
-const DESTROY: u16 = 0;
-
-const COMMIT: u16 = 6;
-
-const DONE: u16 = 0;
 
 /// A list of moves.
 pub type Moves<A> = Vec<Move<A>, A>;
 
-/// The server gives two globals.
-pub fn giving<A: Allocator + Clone + Drop>(
+/// The server adds two globals.
+pub fn adding_globals<A: Allocator + Clone + Drop>(
     alloc: &A,
     tables: &Tables,
 ) -> Result<Moves<A>, AllocError>
-    ensures { IfOk result (λ moves. moves_of moves.items ≡ session.giving tables.now) }
+    ensures { IfOk result (λ moves. moves_of moves.items ≡ session.adding_globals tables.now) }
 {
     let mut moves = Vec::with_capacity(alloc.clone()?, 2)?;
     moves.push_reserved(global(tables, b"wl_compositor", 6));
@@ -50,54 +40,54 @@ pub fn giving<A: Allocator + Clone + Drop>(
 }
 
 /// The client asks for the registry.
-pub fn asking<A: Allocator + Clone + Drop>(alloc: &A) -> Result<Moves<A>, AllocError>
-    ensures { IfOk result (λ moves. moves_of moves.items ≡ session.asking) }
+pub fn getting_registry<A: Allocator + Clone + Drop>(alloc: &A) -> Result<Moves<A>, AllocError>
+    ensures { IfOk result (λ moves. moves_of moves.items ≡ session.getting_registry) }
 {
-    let args = one(alloc, SendArg::New)?;
-    one(alloc, request(DISPLAY, GET_REGISTRY, args))
+    let args = list_of(alloc, SendArg::New)?;
+    list_of(alloc, request(DISPLAY, wl_display::GET_REGISTRY, args))
 }
 
 /// The server writes what it owes to the registry.
-pub fn announcing<A: Allocator + Clone + Drop>(alloc: &A) -> Result<Moves<A>, AllocError>
-    ensures { IfOk result (λ moves. moves_of moves.items ≡ session.announcing) }
+pub fn announcing_globals<A: Allocator + Clone + Drop>(alloc: &A) -> Result<Moves<A>, AllocError>
+    ensures { IfOk result (λ moves. moves_of moves.items ≡ session.announcing_globals) }
 {
-    one(alloc, Move::Announce)
+    list_of(alloc, Move::Announce)
 }
 
 /// The client binds both globals and asks for a callback.
-pub fn binding<A: Allocator + Clone + Drop>(alloc: &A) -> Result<Moves<A>, AllocError>
-    ensures { IfOk result (λ moves. moves_of moves.items ≡ session.binding) }
+pub fn binding_globals<A: Allocator + Clone + Drop>(alloc: &A) -> Result<Moves<A>, AllocError>
+    ensures { IfOk result (λ moves. moves_of moves.items ≡ session.binding_globals) }
 {
-    let callback = one(alloc, SendArg::New)?;
+    let callback = list_of(alloc, SendArg::New)?;
     let mut moves = Vec::with_capacity(alloc.clone()?, 3)?;
     moves.push_reserved(bind(alloc, 1, b"wl_compositor", 6)?);
     moves.push_reserved(bind(alloc, 2, b"wl_seat", 9)?);
-    moves.push_reserved(request(DISPLAY, SYNC, callback));
+    moves.push_reserved(request(DISPLAY, wl_display::SYNC, callback));
     Ok(moves)
 }
 
 /// The server is done with the callback.
-pub fn ending_callback<A: Allocator + Clone + Drop>(alloc: &A) -> Result<Moves<A>, AllocError>
-    ensures { IfOk result (λ moves. moves_of moves.items ≡ session.ending_callback) }
+pub fn finishing_callback<A: Allocator + Clone + Drop>(alloc: &A) -> Result<Moves<A>, AllocError>
+    ensures { IfOk result (λ moves. moves_of moves.items ≡ session.finishing_callback) }
 {
-    let args = one(alloc, SendArg::Uint(1))?;
-    one(alloc, event(CALLBACK, DONE, args))
+    let args = list_of(alloc, SendArg::Uint(1))?;
+    list_of(alloc, event(CALLBACK, wl_callback::DONE, args))
 }
 
 /// The client makes a surface, commits it and destroys it.
-pub fn drawing<A: Allocator + Clone + Drop>(alloc: &A) -> Result<Moves<A>, AllocError>
-    ensures { IfOk result (λ moves. moves_of moves.items ≡ session.drawing) }
+pub fn drawing_surface<A: Allocator + Clone + Drop>(alloc: &A) -> Result<Moves<A>, AllocError>
+    ensures { IfOk result (λ moves. moves_of moves.items ≡ session.drawing_surface) }
 {
-    let surface = one(alloc, SendArg::New)?;
+    let surface = list_of(alloc, SendArg::New)?;
     let mut moves = Vec::with_capacity(alloc.clone()?, 3)?;
-    moves.push_reserved(request(COMPOSITOR, CREATE_SURFACE, surface));
-    moves.push_reserved(request(SURFACE, COMMIT, Vec::new(alloc.clone()?)));
-    moves.push_reserved(request(SURFACE, DESTROY, Vec::new(alloc.clone()?)));
+    moves.push_reserved(request(COMPOSITOR, wl_compositor::CREATE_SURFACE, surface));
+    moves.push_reserved(request(SURFACE, wl_surface::COMMIT, Vec::new(alloc.clone()?)));
+    moves.push_reserved(request(SURFACE, wl_surface::DESTROY, Vec::new(alloc.clone()?)));
     Ok(moves)
 }
 
-/// The giving of a global. A name that is not in the tables stands for wl_display, which no server
-/// gives.
+/// The move that adds a global. A name that is not in the tables stands for wl_display, which no
+/// server can add.
 fn global<A: Allocator>(tables: &Tables, name: &[u8], version: u32) -> Move<A>
     ensures { move_of result ≡ AddGlobal (session.named tables.now name.now) version }
 {
@@ -107,7 +97,7 @@ fn global<A: Allocator>(tables: &Tables, name: &[u8], version: u32) -> Move<A>
     }
 }
 
-/// The binding of a global.
+/// The move that binds a global.
 fn bind<A: Allocator + Clone + Drop>(
     alloc: &A,
     name: u32,
@@ -125,7 +115,7 @@ fn bind<A: Allocator + Clone + Drop>(
     })
 }
 
-/// A request with these arguments.
+/// The move that sends a request.
 fn request<A: Allocator>(target: Object, opcode: u16, args: Vec<SendArg<A>, A>) -> Move<A>
     ensures { move_of result ≡ ClientSend target opcode (args_of args.items) }
 {
@@ -136,7 +126,7 @@ fn request<A: Allocator>(target: Object, opcode: u16, args: Vec<SendArg<A>, A>) 
     }
 }
 
-/// An event with these arguments.
+/// The move that sends an event.
 fn event<A: Allocator>(target: Object, opcode: u16, args: Vec<SendArg<A>, A>) -> Move<A>
     ensures { move_of result ≡ ServerSend target opcode (args_of args.items) }
 {
@@ -148,7 +138,7 @@ fn event<A: Allocator>(target: Object, opcode: u16, args: Vec<SendArg<A>, A>) ->
 }
 
 /// The list of one item.
-pub fn one<X: Drop, A: Allocator + Clone + Drop>(
+pub fn list_of<X: Drop, A: Allocator + Clone + Drop>(
     alloc: &A,
     item: X,
 ) -> Result<Vec<X, A>, AllocError>

@@ -7,7 +7,7 @@ use Rattle.std.specs.declared.result.Result.{Result}
 use Rattle.std.specs.declared.result.Result.TheVariants.{Ok, Err}
 use Rattle.std.proofs.lemmas.Bool.{le-ltb}
 use Rattle.std.proofs.lemmas.Bool.Decides.{nat_tests}
-use Rattle.std.proofs.lemmas.List.{append_assoc, append-nil, get_or_append_left, length-drop, length-replicate, take-append-le, drop-append-le}
+use Rattle.std.proofs.lemmas.List.{append_assoc, append-nil, get_or_append_left, length-drop, length-replicate, length-take-le, take-append-drop, take-append-le, drop-append-le}
 use Rattle.wl_wire.specs.declared.header.Header.{Header}
 use Rattle.wl_wire.specs.Argument.{Argument}
 use Rattle.wl_wire.specs.Word.{number_at}
@@ -20,7 +20,7 @@ use Rattle.wl_message.proofs.Cuts.{whole_stays, bad_stays}
 use Rattle.wl_table.specs.declared.object.Entry.{Entry}
 use Rattle.wl_objects.specs.declared.error.Fault.{Fault}
 use Rattle.wl_objects.specs.declared.error.Fault.TheVariants as faults
-use Rattle.wl_objects.specs.Reading.{Reader, forgiving, arguments_at, descriptors}
+use Rattle.wl_objects.specs.Reading.{Reader, forgiving, arguments_at, descriptors, reports_of}
 use Rattle.wl_objects.specs.Messages.{Received, reader_of, is_error, is_empty, received_whole, received_as, received_by, received}
 use Rattle.wl_end.specs.Core.{Core, with_arrived}
 use Rattle.wl_end.specs.Receiving.{Found, found_in, found_at, found, header_of, takes, reported, own_tokens, past_found}
@@ -192,12 +192,23 @@ reported_stays core side f bytes tokens h = reports_stay (reader_of core.view) c
 pub own_stay : (core : Core) (side : Side) (f : Found) (bytes tokens : List ℕ) → IsFound core side f → own_tokens (with_arrived core bytes tokens) f.message ≡ own_tokens core f.message
 own_stay core side f bytes tokens h = take-append-le (takes f.message) core.inbox.tokens tokens h.enough
 
+-- its own tokens are enough for its report
+pub reported_own : (core : Core) (side : Side) (f : Found) → IsFound core side f → reports_of (reader_of core.view) (own_tokens core f.message) f.message.values ≡ reported core f.message
+reported_own core side f h =
+    let n = takes f.message in
+    let own = take n core.inbox.tokens in
+    let len : length own ≡ n = length-take-le n core.inbox.tokens h.enough in
+    let whole : own ++ drop n core.inbox.tokens ≡ core.inbox.tokens = take-append-drop n core.inbox.tokens in
+    sym (reports_stay (reader_of core.view) own (drop n core.inbox.tokens) f.message.values (omega (arith, len, h.count))) ∙ ap (λ (l : List ℕ). reports_of (reader_of core.view) l f.message.values) whole
+
 -- what comes behind it stays behind it
 pub past_stays : (core : Core) (side : Side) (f : Found) (bytes tokens : List ℕ) → IsFound core side f → past_found (with_arrived core bytes tokens) f ≡ with_arrived (past_found core f) bytes tokens
 past_stays core side f bytes tokens h =
     let b = drop-append-le f.size core.inbox.bytes bytes h.there in
     let t = drop-append-le (takes f.message) core.inbox.tokens tokens h.enough in
-    λ i. record (past_found core f) { inbox = record core.inbox { bytes = b i; tokens = t i } }
+    let last = ap (drop 8) (take-append-le f.size core.inbox.bytes bytes h.there) in
+    let own = own_stay core side f bytes tokens h in
+    λ i. record (past_found core f) { inbox = record core.inbox { bytes = b i; tokens = t i; last = last i; last_tokens = own i } }
 
 -- fewer bytes wait behind it
 pub past_shorter : (core : Core) (side : Side) (f : Found) → IsFound core side f → length (past_found core f).inbox.bytes < length core.inbox.bytes

@@ -11,7 +11,7 @@ use Rattle.wl_wire.specs.declared.kind.Kind.{Kind}
 use Rattle.wl_wire.specs.declared.header.Header.{Header}
 use Rattle.wl_wire.specs.Word.{header_bytes, header_at, number_at, IsHeader}
 use Rattle.wl_wire.specs.Argument.{Argument, Int, Uint, Fixed, Str, Obj, New, NewNamed, Array, Fd}
-use Rattle.wl_wire.proofs.Canonicals.{header_at-bytes, header_bytes-at}
+use Rattle.wl_wire.proofs.Canonicals.{canonical-spells, header_at-bytes, header_bytes-at}
 use Rattle.wl_wire.proofs.Numbers.{number_at_fits}
 use Rattle.wl_sigs.specs.declared.signature.Side.{Side}
 use Rattle.wl_sigs.specs.Tables.{Interface, Message, signature_at}
@@ -26,6 +26,8 @@ use Rattle.wl_objects.specs.declared.error.Fault.{Fault}
 use Rattle.wl_objects.specs.declared.error.Fault.TheVariants as faults
 use Rattle.wl_objects.specs.Reading.{Reader, forgiving, arguments_at, descriptors, kind_at}
 use Rattle.wl_objects.specs.Spelling.{SpellsAll}
+use Rattle.wl_objects.specs.Spelling as spelling
+use Rattle.wl_wire.specs.Spelling.{Suits}
 use Rattle.wl_objects.specs.Writing.{Given, wired, spelled, lost_place, wrong_place, can_name, is_live, is_live_as, message_len, message_bytes}
 use Rattle.wl_objects.specs.Carried.{InRange}
 use Rattle.wl_objects.specs.Messages.{Received, received, received_by, received_as, received_whole, is_empty, is_error, checked, reader_of}
@@ -35,7 +37,7 @@ use Rattle.wl_objects.proofs.Meeting.{met}
 use Rattle.wl_objects.proofs.Wholes.{length-message, message-words, meets-spelled, written-spelled, passes}
 use Rattle.wl_end.specs.Core.{Core}
 use Rattle.wl_end.specs.Receiving.{Found, found, found_at, found_in, header_of}
-use Rattle.wl_end.specs.Spelled.{CallsSpell, FoundSpells}
+use Rattle.wl_end.specs.Spelled.{MessageSpells, CallsSpell, FoundSpells}
 use Rattle.wl_end.specs.Streams.{BeginWith}
 use Rattle.wl_end.proofs.Receivings.{is_received}
 
@@ -97,6 +99,31 @@ calls_spell core side target opcode list signature s e r =
       whole = ap (λ (k : ℕ). header_bytes (record { object = target.id; size = k; opcode = opcode }) ++ spelled values) (sym len);
       size = subst (IsSize usual_limit) (sym len) (record { header = least; words = words; within = omega (arith, any, p.len) });
       each = written-spelled n 0 signature.kinds list low p.suit r (λ object k d h. nulls k d h object);
+    }
+
+-- values that suit their kinds, one for each
+abbrev pub EachSuits : List Kind → List Argument → Type 0
+EachSuits [] [] = Unit {0}
+EachSuits (kind ∷ kinds) (value ∷ values) = Suits kind value × EachSuits kinds values
+EachSuits _ _ = ⊥
+
+suited-spelled : (kinds : List Kind) (values : List Argument) → EachSuits kinds values → SpellsAll kinds values (spelled values)
+suited-spelled [] [] s = spelling.none refl
+suited-spelled [] (value ∷ values) s = absurd s
+suited-spelled (kind ∷ kinds) [] s = absurd s
+suited-spelled (kind ∷ kinds) (value ∷ values) s = spelling.more (canonical-spells kind value s.0) (suited-spelled kinds values s.1) refl
+
+-- a message that an end writes of itself
+pub own-spelled : (kinds : List Kind) (object opcode : ℕ) (values : List Argument) → EachSuits kinds values → message_len values ≤ 4096 → MessageSpells kinds object opcode values (message_bytes object opcode values)
+own-spelled kinds object opcode values s l =
+    let len : length (message_bytes object opcode values) ≡ message_len values = length-message object opcode values in
+    let words = message-words values in
+    let least = len-least values in
+    record {
+      arguments = spelled values;
+      whole = ap (λ (k : ℕ). header_bytes (record { object = object; size = k; opcode = opcode }) ++ spelled values) (sym len);
+      size = subst (IsSize usual_limit) (sym len) (record { header = least; words = words; within = l });
+      each = suited-spelled kinds values s;
     }
 
 -- ---- what is read

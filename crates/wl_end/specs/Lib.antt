@@ -4,3 +4,4 @@ pub mod Sending
 pub mod Outcomes
 pub mod Streams
 pub mod Spelled
+pub mod Transport

@@ -5,12 +5,15 @@
 //! tells which end is meant.
 #![tactic(auto)]
 
+mod end;
 mod laws;
 mod sending;
 mod shared;
 mod streams;
 mod taking;
+mod transport;
 
+pub use end::End;
 pub use laws::{found_stays, taking_keeps_pieces};
 pub use shared::Core;
 pub use streams::ReadAll;

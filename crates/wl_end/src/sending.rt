@@ -18,16 +18,12 @@ use wl_objects::{
     Arg, Entry, Object, SendError, Table, TableError, call_makes, check_call, encode_bind,
     encode_call, encode_error, encode_number, message_len, tokens_of,
 };
+use wl_sigs::event::wl_display::DELETE_ID;
 use wl_sigs::{Destroys, Side, Signature};
+use wl_table::DISPLAY_ID;
 use wl_wire::Iface;
 
-/// The id of wl_display.
-const DISPLAY_ID: u32 = 1;
-
-/// The opcode of wl_display.delete_id.
-const DELETE_ID: u16 = 1;
-
-/// How many bytes wl_display.delete_id has.
+/// The number of bytes of wl_display.delete_id.
 const DELETE_ID_LEN: usize = 12;
 
 /// The most arguments that a message has.

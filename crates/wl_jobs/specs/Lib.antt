@@ -1,5 +1,5 @@
 pub mod Verdict
 pub mod Failing
 pub mod Output
-pub mod Stopping
 pub mod Running
+pub mod Writing

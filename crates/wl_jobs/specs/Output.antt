@@ -7,12 +7,13 @@ use Rattle.wl_recording.specs.Text.{Recorded, IsFirstBad}
 use Rattle.wl_check.specs.declared.verdict.Verdict.{Verdict}
 use Rattle.wl_check.specs.Session.{Answers, session_of}
 use Rattle.wl_check.specs.Trace.{trace_of}
-use Rattle.wl_jobs.specs.declared.job.Job.{Job}
-use Rattle.wl_jobs.specs.declared.job.Job.TheVariants.{Trace, Check, Demo}
+use Rattle.wl_command.specs.declared.job.Job.{Job}
+use Rattle.wl_command.specs.declared.job.Job.TheVariants.{Trace, Check, Demo}
 use Rattle.wl_demo.specs.Demo.{IsShown}
 use Rattle.wl_jobs.specs.declared.failure.Failure.{Failure}
 use Rattle.wl_jobs.specs.declared.failure.Failure.TheVariants.{CannotRead, TooLong, BadLine, CannotWrite, Memory}
-use Rattle.wl_jobs.specs.Failing.{status_of}
+use Rattle.wl_jobs.specs.Failing.{failure_line, status_of}
+use Rattle.wl_jobs.specs.Writing.{AppendsFront}
 use Rattle.wl_jobs.specs.Verdict.{verdict_line, last_line, verdict_status}
 
 -- The text is a recording, and the output is the line of the verdict on it.
@@ -70,9 +71,11 @@ IsRefused job known CannotWrite = ⊥
 IsRefused job known Memory = Unit {0}
 
 -- What a job over a reader and two writers does: it prints all and says nothing; or it prints nothing, for the failure of its status; or its
--- output was made, and was not taken.
-pub data Acted {O E : Type 0} (contents : O → Option (List ℕ)) (job : Job) (known : Option (List ℕ)) (out out' : O) (err err' : E) (status : ℕ) : Type 0 where
+-- output was made, and was not taken, or not all of it. A failure's line goes to standard error, as far as that takes it.
+pub data Acted {O E : Type 0} (contents : O → Option (List ℕ)) (said : E → Option (List ℕ)) (job : Job) (known : Option (List ℕ)) (out out' : O) (err err' : E) (status : ℕ) : Type 0 where
   printed : (output : List ℕ) → IsDone job known output status → Appends (contents out) (contents out') output → err' ≡ err
-      → Acted contents job known out out' err err' status
-  refused : (why : Failure) → status ≡ status_of why → IsRefused job known why → out' ≡ out → Acted contents job known out out' err err' status
-  not_taken : (output : List ℕ) (other : ℕ) → status ≡ 3 → IsDone job known output other → Acted contents job known out out' err err' status
+      → Acted contents said job known out out' err err' status
+  refused : (why : Failure) → status ≡ status_of why → IsRefused job known why → out' ≡ out → AppendsFront (said err) (said err') (failure_line why)
+      → Acted contents said job known out out' err err' status
+  not_taken : (output : List ℕ) (other : ℕ) → status ≡ 3 → IsDone job known output other → AppendsFront (contents out) (contents out') output
+      → AppendsFront (said err) (said err') (failure_line CannotWrite) → Acted contents said job known out out' err err' status

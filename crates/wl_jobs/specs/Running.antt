@@ -1,31 +1,66 @@
 -- What a run of the whole program does.
-use Rattle.std.specs.Prelude.{◌≡◌, ◌≢◌, ◌⊎◌, ℕ, List, Option, string_bytes}
+use Rattle.std.specs.Prelude.{◌≡◌, ◌≢◌, ℕ, List, Option, String, Vec, codes, string_bytes}
 use Rattle.std.specs.declared.result.Result.{Result}
 use Rattle.std.specs.declared.result.Result.TheVariants.{Ok, Err}
 use Rattle.std.specs.Io.KnownBytes.{Appends}
-use Rattle.wl_jobs.specs.declared.job.Job.{Job}
-use Rattle.wl_jobs.specs.declared.job.Stop.{Stop}
+use Rattle.std.specs.IoError.{error_kind}
+use Rattle.std.specs.declared.io.Error.{Error}
+use Rattle.std.specs.declared.io.ErrorKind.{ErrorKind}
+use Rattle.std.specs.declared.io.ErrorKind.TheVariants.{OutOfMemory}
+use Rattle.wl_command.specs.declared.job.Job.{Job}
+use Rattle.wl_command.specs.declared.job.Stop.{Stop}
+use Rattle.wl_command.specs.Asking.{Asks, Stops, texts_of}
+use Rattle.wl_jobs.specs.declared.failure.Failure.{Failure}
+use Rattle.wl_jobs.specs.declared.failure.Failure.TheVariants.{CannotRead, TooLong, BadLine, CannotWrite, Memory}
+use Rattle.wl_jobs.specs.Failing.{failure_line, status_of}
 use Rattle.wl_jobs.specs.Output.{Acted, NamesFile, ReadsFile}
-use Rattle.wl_jobs.specs.Stopping.{IsStop}
+use Rattle.wl_jobs.specs.Writing.{AppendsFront}
 
--- A job that names a file is done over the very reader that opening this file gave. Where it cannot be opened nothing is printed, and the
--- status is 3. A job that reads none is done over an empty one.
-pub data Opened {R O E X : Type 0} (remaining : R → Option (List ℕ)) (contents : O → Option (List ℕ)) (opens : List ℕ → Result R X → Type 0) (job : Job)
-    (out out' : O) (err err' : E) (status : ℕ) : Type 0 where
-  over : (name : List ℕ) (file : R) → NamesFile job name → opens name (Ok file) → Acted contents job (remaining file) out out' err err' status
-      → Opened remaining contents opens job out out' err err' status
-  not_opened : (name : List ℕ) (why : X) → NamesFile job name → opens name (Err why) → status ≡ 3 → out' ≡ out → Opened remaining contents opens job out out' err err' status
-  alone : (known : Option (List ℕ)) → (ReadsFile job → ⊥) → Acted contents job known out out' err err' status → Opened remaining contents opens job out out' err err' status
+-- what stops a file from being opened
+abbrev pub IsOpenFailure : List ℕ → ErrorKind → Failure → Type 0
+IsOpenFailure name kind (CannotRead it) = (kind ≢ OutOfMemory) × (it.now ≡ name)
+IsOpenFailure name kind Memory = kind ≡ OutOfMemory
+IsOpenFailure name kind TooLong = ⊥
+IsOpenFailure name kind (BadLine line) = ⊥
+IsOpenFailure name kind CannotWrite = ⊥
 
--- Help is printed and nothing is said, or the output was not taken; for anything else nothing is printed, and the status is that of the stop.
-pub data Told {O E : Type 0} (contents : O → Option (List ℕ)) (stop : Stop) (out out' : O) (err err' : E) (status : ℕ) : Type 0 where
-  helped : stop.status ≡ 0 → status ≡ 0 → Appends (contents out) (contents out') (string_bytes stop.text) → err' ≡ err → Told contents stop out out' err err' status
-  not_taken : stop.status ≡ 0 → status ≡ 3 → Told contents stop out out' err err' status
-  faulty : stop.status ≢ 0 → status ≡ stop.status → out' ≡ out → Told contents stop out out' err err' status
+-- A job that names a file is done over the very reader that opening this file gave. Where it cannot be opened nothing is printed, and standard
+-- error is given the failure's line: the status is 4 for want of memory, and else 3. A job that reads none is done over an empty one.
+pub data Opened {R O E : Type 0} (remaining : R → Option (List ℕ)) (contents : O → Option (List ℕ)) (said : E → Option (List ℕ))
+    (opens : List ℕ → Result R Error → Type 0) (job : Job) (out out' : O) (err err' : E) (status : ℕ) : Type 0 where
+  over : (name : List ℕ) (file : R) → NamesFile job name → opens name (Ok file) → Acted contents said job (remaining file) out out' err err' status
+      → Opened remaining contents said opens job out out' err err' status
+  not_opened : (name : List ℕ) (why : Error) (failure : Failure) → NamesFile job name → opens name (Err why) → IsOpenFailure name (error_kind why) failure
+      → status ≡ status_of failure → out' ≡ out → AppendsFront (said err) (said err') (failure_line failure)
+      → Opened remaining contents said opens job out out' err err' status
+  alone : (known : Option (List ℕ)) → (ReadsFile job → ⊥) → Acted contents said job known out out' err err' status
+      → Opened remaining contents said opens job out out' err err' status
 
--- The words ask for a job, which is done; or for none; or they could not be read.
-pub data Runs {W R O E X : Type 0} (words : Result W X) (remaining : R → Option (List ℕ)) (contents : O → Option (List ℕ)) (opens : List ℕ → Result R X → Type 0)
-    (out out' : O) (err err' : E) (status : ℕ) : Type 0 where
-  did : (list : W) (job : Job) → words ≡ Ok list → Opened remaining contents opens job out out' err err' status → Runs words remaining contents opens out out' err err' status
-  stopped : (list : W) (stop : Stop) → words ≡ Ok list → IsStop stop → Told contents stop out out' err err' status → Runs words remaining contents opens out out' err err' status
-  not_read : (why : X) → words ≡ Err why → (status ≡ 2) ⊎ (status ≡ 4) → out' ≡ out → Runs words remaining contents opens out out' err err' status
+-- Help is printed and nothing is said, or the output did not take it, or not all of it; for anything else nothing is printed, the status is that of
+-- the stop, and standard error is given its text, or the line for want of memory, as far as it takes that.
+pub data Told {O E : Type 0} (contents : O → Option (List ℕ)) (said : E → Option (List ℕ)) (stop : Stop) (out out' : O) (err err' : E) (status : ℕ) : Type 0 where
+  helped : stop.status ≡ 0 → status ≡ 0 → Appends (contents out) (contents out') (string_bytes stop.text) → err' ≡ err → Told contents said stop out out' err err' status
+  not_taken : stop.status ≡ 0 → status ≡ 3 → AppendsFront (contents out) (contents out') (string_bytes stop.text)
+      → AppendsFront (said err) (said err') (failure_line CannotWrite) → Told contents said stop out out' err err' status
+  no_memory : stop.status ≡ 4 → status ≡ 4 → out' ≡ out → AppendsFront (said err) (said err') (failure_line Memory) → Told contents said stop out out' err err' status
+  faulty : stop.status ≢ 0 → stop.status ≢ 4 → status ≡ stop.status → out' ≡ out → AppendsFront (said err) (said err') (string_bytes stop.text)
+      → Told contents said stop out out' err err' status
+
+-- what is said of words that are no text
+abbrev pub no_text_line : List ℕ
+no_text_line = codes "error: a word of the command line is not UTF-8\n"
+
+-- Why words could not be read: for want of memory, with the status 4, or they are no text, with the status 2.
+pub data Unread {E : Type 0} (said : E → Option (List ℕ)) (kind : ErrorKind) (err err' : E) (status : ℕ) : Type 0 where
+  no_memory : kind ≡ OutOfMemory → status ≡ 4 → AppendsFront (said err) (said err') (failure_line Memory) → Unread said kind err err' status
+  no_text : kind ≢ OutOfMemory → status ≡ 2 → AppendsFront (said err) (said err') no_text_line → Unread said kind err err' status
+
+-- The words ask for a job, and this job is done; or they ask for none, and are told why; or they could not be read.
+pub data Runs {A M R O E : Type 0} (words : Result (Vec (String A) M) Error) (remaining : R → Option (List ℕ)) (contents : O → Option (List ℕ))
+    (said : E → Option (List ℕ)) (opens : List ℕ → Result R Error → Type 0) (out out' : O) (err err' : E) (status : ℕ) : Type 0 where
+  did : (list : Vec (String A) M) (job : Job) → words ≡ Ok list → Asks (texts_of list.items) job
+      → Opened remaining contents said opens job out out' err err' status → Runs words remaining contents said opens out out' err err' status
+  stopped : (list : Vec (String A) M) (stop : Stop) → words ≡ Ok list → Stops (texts_of list.items) stop
+      → Told contents said stop out out' err err' status → Runs words remaining contents said opens out out' err err' status
+  not_read : (why : Error) → words ≡ Err why → Unread said (error_kind why) err err' status → out' ≡ out
+      → Runs words remaining contents said opens out out' err err' status

@@ -1,17 +1,17 @@
 //! A job done over any reader and writers.
-ghost use Rattle.std.specs.Prelude.{◌≡◌, ◌≤◌, ◌⊎◌, ℕ, IfOk, IfErr, OnOk, IsErr, Some, List, ◌≢◌};
-ghost use Rattle.std.specs.Io.KnownBytes.{Appends};
+ghost use Rattle.std.specs.Prelude.{◌≡◌, ◌≤◌, ◌⊎◌, ℕ, IfOk, IfErr, IsErr, Some, List, ◌≢◌};
 ghost use Rattle.wl_sigs.specs.Core.{core_tables};
 ghost use Rattle.wl_jobs.specs.Failing.{IsReadFailure, IsRefusal};
 ghost use Rattle.wl_jobs.specs.Output.{Acted, IsChecked, IsDone, IsRead, IsRefused, IsTraced, ReadsFile};
 ghost use Rattle.wl_recording.specs.Text.{IsFirstBad};
 
 use crate::failure::Failure;
-use crate::job::Job;
 use crate::verdict::{status_of, write_broken, write_verdict};
+use crate::writing::write_through;
 use std::alloc::{Allocator, Global};
-use std::io::{self, ErrorKind, Read, Write};
+use std::io::{ErrorKind, Read, Write};
 use wl_check::{check, trace};
+use wl_command::Job;
 use wl_demo::demo;
 use wl_recording::Recording;
 use wl_sigs::Tables;
@@ -116,14 +116,6 @@ fn output<'a, 'b, A: Allocator, R: Read>(
     }
 }
 
-/// Writes all the bytes through.
-pub(crate) fn write_through<O: Write>(out: &mut O, bytes: &[u8]) -> io::Result<()>
-    ensures { OnOk result (Appends (O.contents out.old) (O.contents out.new) bytes.now) }
-{
-    out.write_all(bytes)?;
-    out.flush()
-}
-
 /// Does the job and returns the exit status: 0 or 1 where `out` has taken the whole output, 1 where
 /// it tells of a broken rule; else the status of a `Failure`, whose line goes to `err`.
 ///
@@ -139,8 +131,9 @@ pub fn act<A: Allocator, R: Read, O: Write, E: Write>(
     err: &mut E,
 ) -> u8
     // The output was written whole, and nothing to `err`: 0 stands for a lawful session or a
-    // demonstration, 1 for a broken session; or no output was written; or writing it failed.
-    ensures acted { Acted O.contents job.now (R.remaining file.old)
+    // demonstration, 1 for a broken session; or no output was written; or writing it failed, and a
+    // beginning of it was written. In the last two cases `err` was given the failure's line.
+    ensures acted { Acted O.contents E.contents job.now (R.remaining file.old)
         out.old out.new err.old err.new result }
     // A recording with a bad line is refused, where the job reads one.
     ensures bad { (text : List ℕ) (n : ℕ) → R.remaining file.old ≡ Some text → IsFirstBad text n

@@ -1,9 +1,12 @@
 //! Why a job has no output.
-ghost use Rattle.std.specs.Prelude.{◌≡◌, OnOk};
+ghost use Rattle.std.specs.Prelude.{◌≡◌, ◌++◌, OnOk};
 ghost use Rattle.std.specs.Io.KnownBytes.{Appends};
 ghost use Rattle.wl_jobs.specs.declared.failure.Failure.TheVariants as failures;
-ghost use Rattle.wl_jobs.specs.Failing.{failure_line, recording_failure, status_of};
+ghost use Rattle.wl_jobs.specs.Failing.{failure_line, failure_text, recording_failure, status_of};
+ghost use Rattle.wl_jobs.specs.Writing.{AppendsFront};
 
+use crate::writing::write_whole;
+use itoa::Buffer;
 use std::alloc::AllocError;
 use std::error::Error;
 use std::fmt::{self, Display, Formatter};
@@ -32,15 +35,16 @@ impl Display for Failure<'_> {
     ghost output = { λ failure. Some (failure_text failure) };
 
     fn fmt<W: fmt::Write>(&self, f: &mut Formatter<W>) -> fmt::Result {
-        match self {
-            Failure::CannotRead(name) => write!(f, "cannot read {name}"),
-            Failure::TooLong => f.write_str("file too long"),
-            Failure::BadLine(line) => write!(f, "line {line}: bad line"),
-            Failure::CannotWrite => f.write_str("cannot write"),
-            Failure::Memory => f.write_str("out of memory"),
-        }
+        let mut digits = Buffer::new();
+        let Parts(first, second, third) = self.parts(&mut digits);
+        f.write_str(first)?;
+        f.write_str(second)?;
+        f.write_str(third)
     }
 }
+
+/// A text in three parts, so that it can be written without allocating.
+struct Parts<'a>(&'a str, &'a str, &'a str);
 
 impl Error for Failure<'_> {}
 
@@ -55,17 +59,39 @@ impl Failure<'_> {
         }
     }
 
-    /// Writes the line of this failure to `err`, which is standard error.
-    pub fn say<E: Write>(&self, err: &mut E) -> io::Result<()>
-        ensures { OnOk result
-            (Appends (E.contents err.old) (E.contents err.new) (failure_line self.now)) }
+    /// Its text. `digits` is room for a number.
+    fn parts<'b>(&'b self, digits: &'b mut Buffer) -> Parts<'b>
+        ensures { result.0.now ++ (result.1.now ++ result.2.now) ≡ failure_text self.now }
     {
-        writeln!(err, "waywire: {self}")
+        match self {
+            Failure::CannotRead(name) => Parts("cannot read ", name, ""),
+            Failure::TooLong => Parts("file too long", "", ""),
+            Failure::BadLine(line) => Parts("line ", digits.format(*line), ": bad line"),
+            Failure::CannotWrite => Parts("cannot write", "", ""),
+            Failure::Memory => Parts("out of memory", "", ""),
+        }
+    }
+
+    /// Writes the line of this failure to `err`, which is standard error. Where that fails, a
+    /// beginning of the line was written.
+    pub fn say<E: Write>(&self, err: &mut E) -> io::Result<()>
+        ensures whole { OnOk result
+            (Appends (E.contents err.old) (E.contents err.new) (failure_line self.now)) }
+        ensures front { AppendsFront (E.contents err.old) (E.contents err.new) (failure_line self.now) }
+    {
+        let mut digits = Buffer::new();
+        let Parts(first, second, third) = self.parts(&mut digits);
+        write_whole(err, b"waywire: ")?;
+        write_whole(err, first.as_bytes())?;
+        write_whole(err, second.as_bytes())?;
+        write_whole(err, third.as_bytes())?;
+        write_whole(err, b"\n")
     }
 
     /// Says so on `err`, and returns the exit status. Where `err` fails, nothing more is said.
     pub fn tell<E: Write>(&self, err: &mut E) -> u8
-        ensures { result ≡ status_of self.now }
+        ensures status { result ≡ status_of self.now }
+        ensures said { AppendsFront (E.contents err.old) (E.contents err.new) (failure_line self.now) }
     {
         let _ = self.say(err);
         self.status()

@@ -1,16 +1,15 @@
-//! The jobs of the command `waywire`: which one a command line asks for, and what it prints.
+//! The jobs of the command `waywire`: what each prints, and a run of the whole program.
 //!
 //! A job is done over any reader and any writers. What it prints is whole before any of it is
-//! written.
+//! written. What the words of a command line ask for is in `wl_command`.
 #![tactic(auto)]
 
 mod acting;
 mod failure;
-mod job;
 mod running;
 mod verdict;
+mod writing;
 
 pub use acting::act;
 pub use failure::Failure;
-pub use job::{Job, Stop, job_of};
 pub use running::{Ending, run};

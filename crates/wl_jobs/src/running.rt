@@ -1,15 +1,20 @@
 //! A run of the whole program, over whatever opens files, and any writers.
-ghost use Rattle.std.specs.Prelude.{◌≡◌, ◌⊎◌};
+ghost use Rattle.std.specs.Prelude.{◌≡◌};
 ghost use Rattle.std.specs.Fn.{FnOnceReturnsAt};
+ghost use Rattle.std.specs.IoError.{error_kind};
 ghost use Rattle.std.specs.Process.{exit_status};
-ghost use Rattle.wl_jobs.specs.Running.{Opened, Runs};
+ghost use Rattle.wl_jobs.specs.Running.{IsOpenFailure, Opened, Runs, Told, Unread};
 
 use crate::acting::act;
 use crate::failure::Failure;
-use crate::job::{Job, job_of};
+use crate::writing::{write_through, write_whole};
 use std::alloc::Global;
 use std::io::{self, Eprint, ErrorKind, Read, Write};
 use std::process::{ExitCode, Termination};
+use wl_command::{Job, Stop, job_of};
+
+/// What is said of words that are no text.
+const NO_TEXT: &[u8] = b"error: a word of the command line is not UTF-8\n";
 
 /// How a run ended, which is what the program ends with. Only `run` makes one.
 #[derive(Debug, Drop)]
@@ -37,13 +42,13 @@ pub fn run<R: Read + Drop, F: FnOnce(&str) -> io::Result<R>, O: Write, E: Write>
     err: &mut E,
 ) -> Ending
     requires { F.IsAlwaysCallable opener }
-    ensures { Runs words R.remaining O.contents (FnOnceReturnsAt F.FnOnce opener)
+    ensures { Runs words R.remaining O.contents E.contents (FnOnceReturnsAt F.FnOnce opener)
         out.old out.new err.old err.new result.status }
 {
     let status = match words {
         Ok(words) => match job_of(alloc, words.as_slice()) {
             Ok(job) => done(alloc, &job, opener, out, err),
-            Err(stop) => stop.tell(out, err),
+            Err(stop) => tell(&stop, out, err),
         },
         Err(error) => not_read(&error, err),
     };
@@ -52,13 +57,41 @@ pub fn run<R: Read + Drop, F: FnOnce(&str) -> io::Result<R>, O: Write, E: Write>
 
 /// Says why the words of a command line could not be read, and returns the status.
 fn not_read<E: Write>(error: &io::Error, err: &mut E) -> u8
-    ensures { (result ≡ 2) ⊎ (result ≡ 4) }
+    ensures { Unread E.contents (error_kind error.now) err.old err.new result }
 {
     if error.kind() == ErrorKind::OutOfMemory {
         return Failure::Memory.tell(err);
     }
-    let _ = writeln!(err, "error: a word of the command line is not UTF-8");
+    let _ = write_whole(err, NO_TEXT);
     2
+}
+
+/// Prints help to `out`, and anything else to `err`, and returns the exit status: that of the
+/// stop, or 3 where `out` does not take the help.
+fn tell<O: Write, E: Write>(stop: &Stop, out: &mut O, err: &mut E) -> u8
+    ensures { Told O.contents E.contents stop.now out.old out.new err.old err.new result }
+{
+    match stop.status {
+        0 => match write_through(out, stop.text.as_bytes()) {
+            Ok(()) => 0,
+            Err(_) => Failure::CannotWrite.tell(err),
+        },
+        4 => Failure::Memory.tell(err),
+        status => {
+            let _ = write_whole(err, stop.text.as_bytes());
+            status
+        }
+    }
+}
+
+/// Why a file of this name could not be opened.
+fn open_failure<'a>(name: &'a str, error: &io::Error) -> Failure<'a>
+    ensures { IsOpenFailure name.entry.now (error_kind error.now) result }
+{
+    if error.kind() == ErrorKind::OutOfMemory {
+        return Failure::Memory;
+    }
+    Failure::CannotRead(name)
 }
 
 /// Opens what the job reads, does it, and returns the status.
@@ -70,13 +103,13 @@ fn done<R: Read + Drop, F: FnOnce(&str) -> io::Result<R>, O: Write, E: Write>(
     err: &mut E,
 ) -> u8
     requires { F.IsAlwaysCallable opener }
-    ensures { Opened R.remaining O.contents (FnOnceReturnsAt F.FnOnce opener) job.now
+    ensures { Opened R.remaining O.contents E.contents (FnOnceReturnsAt F.FnOnce opener) job.now
         out.old out.new err.old err.new result }
 {
     match job {
         Job::Trace { file: name } | Job::Check { file: name } => match opener(name.as_str()) {
             Ok(mut file) => act(alloc, alloc, job, &mut file, out, err),
-            Err(_) => Failure::CannotRead(name.as_str()).tell(err),
+            Err(error) => open_failure(name.as_str(), &error).tell(err),
         },
         Job::Demo { .. } => act(alloc, alloc, job, &mut io::empty(), out, err),
     }

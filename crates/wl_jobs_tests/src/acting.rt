@@ -2,7 +2,8 @@ use refusing::RefusingAllocator;
 use std::alloc::{AllocError, Global};
 use std::io::{self, Error, ErrorKind, Read, Write};
 use std::test::Fail;
-use wl_jobs::{Failure, Job, act};
+use wl_command::Job;
+use wl_jobs::{Failure, act};
 
 /// A stream that fails at its first call.
 #[derive(Drop)]

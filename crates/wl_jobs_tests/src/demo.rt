@@ -3,7 +3,8 @@ use refusing::RefusingAllocator;
 use std::alloc::{AllocError, Global};
 use std::io;
 use std::test::Fail;
-use wl_jobs::{Job, act, job_of};
+use wl_command::{Job, job_of};
+use wl_jobs::act;
 
 /// What a demonstration prints.
 const LINES: &[u8] = b"-> wl_display@1.get_registry(new id wl_registry@2)

@@ -1,6 +1,6 @@
 use std::alloc::{AllocError, Global};
 use std::test::Fail;
-use wl_jobs::{Job, Stop, job_of};
+use wl_command::{Job, Stop, job_of};
 
 /// Command lines that ask for no job, and a part of what is said.
 const FAULTY: [(&[&str], &str); 12] = [

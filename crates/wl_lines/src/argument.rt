@@ -41,7 +41,7 @@ pub(crate) fn write_arguments<A: Allocator, L: Lookup>(
     Ok(())
 }
 
-/// How many tokens have been taken behind an argument.
+/// The number of tokens that have been taken once this argument was read.
 fn taken_after(taken: u128, value: ValueRef<'_>) -> u128
     requires { taken < 2 ^ 127 + 2 ^ 64 }
     ensures { result ≡ taken_after taken (lent value.entry) }
@@ -52,7 +52,7 @@ fn taken_after(taken: u128, value: ValueRef<'_>) -> u128
     }
 }
 
-/// Appends one argument, where so many tokens were taken before it.
+/// Appends one argument, where `taken` tokens were taken before it.
 fn write_argument<A: Allocator, L: Lookup>(
     out: &mut Vec<u8, A>,
     tables: &Tables,
@@ -142,6 +142,3 @@ fn write_named<A: Allocator>(
         Err(_) => Err(AllocError),
     }
 }
-
-#[cfg(test)]
-mod tests;

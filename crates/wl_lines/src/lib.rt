@@ -1,13 +1,11 @@
 //! The lines of a trace: one message of a session, as text.
 //!
-//! A line tells which way a message went, the object that it is for, its name and its arguments,
+//! A line says which way a message went, the object that it is for, its name and its arguments,
 //! as `-> wl_display@1.get_registry(new id wl_registry@2)`.
 #![tactic(auto)]
 
 mod argument;
 mod line;
-#[cfg(test)]
-mod tests;
 mod text;
 
 pub use line::write_line;

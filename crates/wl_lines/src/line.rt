@@ -12,8 +12,8 @@ use wl_sigs::{Side, Tables};
 /// Appends the line of a message that was read, and its line feed, before the message changes what
 /// `lookup` knows.
 ///
-/// `taken` is how many tokens were taken in the message's direction before it, so that its
-/// first descriptor is printed as one more. Where memory runs out, a part of the line may have
+/// `taken` is the number of tokens that were taken in the message's direction before it, so that
+/// its first descriptor is printed as one more. Where memory runs out, a part of the line may have
 /// been appended.
 pub fn write_line<A: Allocator, L: Lookup>(
     out: &mut Vec<u8, A>,

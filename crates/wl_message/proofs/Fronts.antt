@@ -1,11 +1,11 @@
 -- What stands in front of bytes.
-use Rattle.std.proofs.Common.{◌≡◌, ℕ, zero, suc, ◌+◌, ◌-◌, ◌<◌, ◌≤◌, min, Bool, true, false, cond, List, [], ◌∷◌, ◌++◌, length, take, drop, refl, sym, ap, subst, ◌∙◌, arith, ltb}
+use Rattle.std.proofs.Common.{◌≡◌, ℕ, zero, suc, ◌+◌, ◌-◌, ◌<◌, ◌≤◌, min, Bool, true, false, cond, List, [], ◌∷◌, ◌++◌, length, take, drop, length-take-le, refl, sym, ap, subst, ◌∙◌, arith, ltb}
 use Rattle.std.proofs.lemmas.Bool.Decides.{nat_tests}
 use Rattle.std.proofs.Math.Seq.{take-add}
 use Rattle.wl_wire.specs.Word.{header_bytes}
 use Rattle.wl_wire.specs.declared.header.Header.{Header}
-use Rattle.wl_message.specs.Arrived.{HasParts}
-use Rattle.wl_message.specs.Cut.{front, Front, More, Bad, Whole, told_size, is_size, IsSize, HasMessage, message_size}
+use Rattle.wl_message.specs.Arrived.{HasParts, IsCopy}
+use Rattle.wl_message.specs.Cut.{usual_limit, front, Front, More, Bad, Whole, told_size, is_size, IsSize, HasMessage, message_size}
 
 -- the test tells the fact
 pub size_is : (limit n : ℕ) → is_size limit n ≡ true → IsSize limit n
@@ -63,6 +63,23 @@ pub parts_of : (bytes : List ℕ) (h : Header) → 8 ≤ h.size → h.size ≤ l
 parts_of bytes h low there e =
     let n : 8 + (h.size - 8) ≡ h.size = omega arith in
     record { header = low; there = there; parts = ap (λ (k : ℕ). take k bytes) (sym n) ∙ take-add 8 (h.size - 8) bytes ∙ ap (λ (l : List ℕ). l ++ take (h.size - 8) (drop 8 bytes)) e }
+
+-- ---- a copy of the message in front
+
+copy_of : (bytes copy : List ℕ) (n : ℕ) → copy ≡ take n bytes → length copy ≡ n → front usual_limit bytes ≡ Whole n → IsCopy bytes copy
+copy_of bytes copy n e l f = record { whole = f ∙ ap Whole (sym l); same = e ∙ ap (λ (k : ℕ). take k bytes) (sym l) }
+
+pub copy_is : (bytes copy : List ℕ) (n : ℕ) → HasMessage (front usual_limit bytes) → n ≡ message_size (front usual_limit bytes) → copy ≡ take n bytes → IsCopy bytes copy
+copy_is bytes copy n h s e =
+    let there : message_size (front usual_limit bytes) ≤ length bytes = (has_message usual_limit bytes h).there in
+    let l : length copy ≡ n = ap length e ∙ length-take-le n bytes (omega (arith, s, there)) in
+    copy_of bytes copy n e l (has_at (front usual_limit bytes) h ∙ ap Whole (sym s))
+
+pub copied_size : (bytes copy : List ℕ) → IsCopy bytes copy → message_size (front usual_limit bytes) ≡ length copy
+copied_size bytes copy c = ap message_size c.whole
+
+pub copy_there : (bytes copy : List ℕ) → IsCopy bytes copy → length copy ≤ length bytes
+copy_there bytes copy c = (front_stands usual_limit bytes (length copy) c.whole).there
 
 -- the front of two lists, one after the other
 pub take_both : (a b : List ℕ) (n k : ℕ) → k ≡ min (length a) n → take k a ++ take (n - k) b ≡ take n (a ++ b)

@@ -80,6 +80,10 @@ some-parted : (ks : List Mark) (bs ts : List ℕ) → Parts ks bs ts → AllByRe
 some-parted [] bs ts h e = tt
 some-parted (k ∷ ks) bs ts h e = (omega (arith, length-take k.len bs, h.bytes, e.0), some-parted ks _ _ (parts_tail k ks bs ts h) e.1)
 
+-- each message of an outbox has bytes
+pub some_messages : (h : Kept) → IsKept h → AllByRecursion (λ (m : Message). 0 < length m.bytes) (outgoing h).messages
+some_messages h i = some-parted h.marks _ _ (record { bytes = omega (arith, i.bytes, length-drop h.left h.bytes); tokens = i.tokens }) i.each
+
 length-parted : (ks : List Mark) (bs ts : List ℕ) → length (parted ks bs ts) ≡ length ks
 length-parted [] bs ts = refl
 length-parted (k ∷ ks) bs ts = ap suc (length-parted ks _ _)

@@ -4,3 +4,4 @@ pub mod Keeps
 pub mod Cuts
 pub mod Passing
 pub mod Steps
+pub mod Flushing

@@ -46,7 +46,7 @@ none_at (x ∷ xs) ys h = cc h
 none_of : (p : Part) (parts : List Part) → p.tokens ++ part_tokens parts ≡ [] → part_tokens parts ≡ []
 none_of p parts e = none_at p.tokens (part_tokens parts) e
 
-side : (a b : ℕ) → (a < b) ⊎ (b ≤ a)
+pub side : (a b : ℕ) → (a < b) ⊎ (b ≤ a)
 side a b = elim (ltb a b) as (λ c. ltb a b ≡ c → (a < b) ⊎ (b ≤ a)) [ true ↦ λ h. inl (grind (arith, nat_tests)) | false ↦ λ h. inr (grind (arith, nat_tests)) ] refl
 
 joined_at : (needs : List Need) (p q : Part) (parts : List Part) → InStep needs (p ∷ q ∷ parts)

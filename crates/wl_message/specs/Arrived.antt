@@ -8,16 +8,19 @@ use Rattle.wl_message.specs.declared.inbox.BadSize.{BadSize}
 use Rattle.wl_message.specs.declared.inbox.Frame.{Frame}
 use Rattle.wl_message.specs.Cut.{usual_limit, front, More, Bad, Whole}
 
--- an inbox: the bytes and the tokens that wait, and how many of each may wait
+-- An inbox: the bytes and the tokens that wait, how many of each may wait, the body of the message that was taken out last, and the
+-- tokens that were taken with it.
 pub record Arrived : Type 0 where
   pub bytes : List ℕ
   pub tokens : List ℕ
   pub capacity : ℕ
   pub token_capacity : ℕ
+  pub last : List ℕ
+  pub last_tokens : List ℕ
 
--- nothing waits
+-- nothing waits, and no message was taken out
 abbrev pub nothing_arrived : ℕ → ℕ → Arrived
-nothing_arrived bytes tokens = record { bytes = []; tokens = []; capacity = bytes; token_capacity = tokens }
+nothing_arrived bytes tokens = record { bytes = []; tokens = []; capacity = bytes; token_capacity = tokens; last = []; last_tokens = [] }
 
 -- how many bytes are free
 abbrev pub free_bytes : Arrived → ℕ
@@ -38,9 +41,19 @@ fed a bytes tokens = record {
 abbrev pub with_more : Arrived → List ℕ → List ℕ → Arrived
 with_more a bytes tokens = record a { bytes = a.bytes ++ bytes; tokens = a.tokens ++ tokens }
 
--- without so many of the first bytes and tokens
+-- without the message in front, which has so many bytes and takes so many tokens
 abbrev pub without_first : Arrived → ℕ → ℕ → Arrived
-without_first a bytes tokens = record a { bytes = drop bytes a.bytes; tokens = drop tokens a.tokens }
+without_first a bytes tokens = record a {
+  bytes = drop bytes a.bytes;
+  tokens = drop tokens a.tokens;
+  last = drop 8 (take bytes a.bytes);
+  last_tokens = take tokens a.tokens;
+}
+
+-- a copy of the whole message in front
+pub record IsCopy (bytes copy : List ℕ) : Type 0 where
+  pub whole : front usual_limit bytes ≡ Whole (length copy)
+  pub same : copy ≡ take (length copy) bytes
 
 -- The header of the message in front, a bad size there, or nothing as long as more bytes are needed.
 abbrev pub TellsHeader : List ℕ → Result (Option Header) BadSize → Type 0

@@ -3,3 +3,4 @@ pub mod Outgoing
 pub mod Marks
 pub mod Arrived
 pub mod InStep
+pub mod Streams

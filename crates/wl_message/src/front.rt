@@ -1,5 +1,5 @@
 //! The front and the back of rings.
-ghost use Rattle.std.specs.Prelude.{◌≡◌, ◌≤◌, ◌+◌, ◌++◌, length, take, drop, vec_capacity, vec_len};
+ghost use Rattle.std.specs.Prelude.{◌≡◌, ◌≤◌, ◌<◌, ◌+◌, ◌++◌, length, take, drop, vec_capacity, vec_len};
 ghost use Rattle.circular_buffer.specs.Buffer.{buffer};
 
 use circular_buffer::HeapCircularBuffer;
@@ -40,6 +40,26 @@ pub(crate) fn move_first<T: Copy + Drop, A: Allocator>(
     ring.read_into(&mut to[..n]);
 }
 
+/// Moves as many of the first items as a slice has places into that slice, and keeps a copy of
+/// them in a store, in place of what is there.
+pub(crate) fn take_first<T: Copy + Drop, A: Allocator>(
+    ring: &mut HeapCircularBuffer<T, A>,
+    to: &mut [T],
+    copy: &mut Vec<T, A>,
+)
+    requires ring { length to.old ≤ length ring.old.items }
+    requires copy { ring.old.capacity ≤ vec_capacity copy.old }
+    ensures ring { ring.new ≡ buffer (drop (length to.old) ring.old.items) ring.old.capacity }
+    ensures to { to.new ≡ take (length to.old) ring.old.items }
+    ensures copy { copy.new.items ≡ take (length to.old) ring.old.items }
+    ensures room { vec_capacity copy.old ≤ vec_capacity copy.new }
+{
+    let _waiting = ring.len();
+    copy.clear();
+    ring.read_into(to);
+    let _ = copy.extend_from_slice(to);
+}
+
 /// Copies the first n bytes into a store, in place of what is there. They stay in the ring.
 pub(crate) fn copy_front<A: Allocator>(
     ring: &HeapCircularBuffer<u8, A>,
@@ -56,6 +76,20 @@ pub(crate) fn copy_front<A: Allocator>(
     to.clear();
     store(to, &first[..count]);
     store(to, &second[..n - count]);
+}
+
+/// Some of the first items, at most so many; none only where there are none.
+pub(crate) fn first_part<T: Copy + Drop, A: Allocator>(
+    ring: &HeapCircularBuffer<T, A>,
+    most: usize,
+) -> &[T]
+    ensures front { result.now ≡ take (length result.now) ring.now.items }
+    ensures most { length result.now ≤ most }
+    ensures some { 0 < most → 0 < length ring.now.items → 0 < length result.now }
+{
+    let (first, second) = ring.as_slices();
+    let part = if first.is_empty() { second } else { first };
+    &part[..part.len().min(most)]
 }
 
 /// Appends bytes to a store that has room for them.

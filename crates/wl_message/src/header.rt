@@ -1,8 +1,8 @@
 //! The header in front of bytes.
-ghost use Rattle.std.specs.Prelude.{◌≡◌, ◌≤◌, IfOk, IfSome, length, take, vec_capacity};
+ghost use Rattle.std.specs.Prelude.{◌≡◌, ◌≤◌, true, IfOk, IfSome, length, take, vec_capacity};
 ghost use Rattle.wl_wire.specs.Word.{header_bytes};
 ghost use Rattle.wl_message.specs.Cut.{told_size, is_size, usual_limit, front, HasMessage, message_size};
-ghost use Rattle.wl_message.specs.Arrived.{TellsHeader, HasParts};
+ghost use Rattle.wl_message.specs.Arrived.{TellsHeader, HasParts, IsCopy};
 
 use crate::front::copy_front;
 use crate::inbox::BadSize;
@@ -30,8 +30,8 @@ pub(crate) fn header_of<A: Allocator>(
     Header::from_bytes(first)
 }
 
-/// Whether a message may have so many bytes.
-fn is_size(size: u16) -> bool
+/// Whether a message may have this size.
+pub fn is_size(size: u16) -> bool
     ensures { result ≡ is_size usual_limit size }
 {
     size >= 8 && size % 4 == 0 && size <= LIMIT
@@ -64,15 +64,32 @@ pub(crate) fn header_in_front<A: Allocator>(
 
 /// How many bytes the whole message in front has.
 #[tactic(auto, using(crate::proofs::Fronts::has_message))]
-pub(crate) fn message_len<A: Allocator>(
-    bytes: &HeapCircularBuffer<u8, A>,
-    store: &mut Vec<u8, A>,
-) -> usize
+fn message_len<A: Allocator>(bytes: &HeapCircularBuffer<u8, A>, store: &mut Vec<u8, A>) -> usize
     requires message { HasMessage (front usual_limit bytes.now.items) }
     requires room { 4096 ≤ vec_capacity store.old }
     ensures room { 4096 ≤ vec_capacity store.new }
     ensures len { result ≡ message_size (front usual_limit bytes.now.items) }
     ensures there { result ≤ length bytes.now.items }
+    ensures within { result ≤ 4096 }
 {
     header_of(bytes, store).size as usize
+}
+
+/// Copies the whole message in front into the store, unless it stands there.
+#[tactic(auto, using(crate::proofs::Fronts::copy_is))]
+pub(crate) fn copy_message<A: Allocator>(
+    bytes: &HeapCircularBuffer<u8, A>,
+    store: &mut Vec<u8, A>,
+    is_copied: bool,
+)
+    requires message { HasMessage (front usual_limit bytes.now.items) }
+    requires room { 4096 ≤ vec_capacity store.old }
+    requires copied { is_copied ≡ true → IsCopy bytes.now.items store.old.items }
+    ensures room { 4096 ≤ vec_capacity store.new }
+    ensures copy { IsCopy bytes.now.items store.new.items }
+{
+    if !is_copied {
+        let size = message_len(bytes, store);
+        copy_front(bytes, store, size);
+    }
 }

@@ -1,19 +1,23 @@
 //! Bytes and tokens that came in.
-ghost use Rattle.std.specs.Prelude.{◌≡◌, ◌≤◌, ◌↔◌, [], length, take, IfOk, IsTrue, slice_get};
+ghost use Rattle.std.specs.Prelude.{◌≡◌, ◌≤◌, ◌<◌, ◌↔◌, [], length, take, IfOk, OnErr, IsTrue, slice_get};
 ghost use Rattle.std.specs.Borrow.{sem};
 ghost use Rattle.std.specs.Io.BufRead.{Rests};
+ghost use Rattle.std.specs.Io.KnownBytes.{Keeps};
 ghost use Rattle.wl_message.specs.Cut.{usual_limit, front, HasMessage, message_size};
 ghost use Rattle.wl_message.specs.Arrived.{nothing_arrived, free_bytes, free_tokens, fed, with_more, without_first, Tells};
+ghost use Rattle.wl_message.specs.Streams.{Gives};
 ghost use Rattle.wl_message.specs.contracts.inbox.Inbox.{the_row};
 
 use crate::amounts::Fed;
-use crate::front::{copy_front, remove_first};
-use crate::header::{LIMIT, header_in_front, message_len};
+use crate::front::{append, copy_front, remove_first, take_first};
+use crate::header::{LIMIT, copy_message, header_in_front};
 use circular_buffer::HeapCircularBuffer;
 use std::alloc::{AllocError, Allocator, Global};
 use std::error::Error;
 use std::fmt::{self, Display, Formatter};
+use std::io::{self, Read};
 use std::marker::Model;
+use std::mem;
 use wl_wire::Header;
 
 /// A whole message in front of an inbox.
@@ -56,11 +60,16 @@ pub struct Inbox<A: Allocator = Global> {
     tokens: HeapCircularBuffer<u32, A>,
     // Room for one whole message, which is lent from here: in the ring it may stand in two parts.
     message: Vec<u8, A>,
+    // Whether `message` is a copy of the whole message in front.
+    is_copied: bool,
+    // The message that was taken out last, with its header, and its tokens.
+    last: Vec<u8, A>,
+    last_tokens: Vec<u32, A>,
 }
 
 impl<A: Allocator> Model for Inbox<A> {
-    ghost use Rattle.std.specs.Prelude.{◌≤◌, vec_capacity};
-    ghost use Rattle.wl_message.specs.Arrived.{Arrived};
+    ghost use Rattle.std.specs.Prelude.{◌≡◌, ◌≤◌, true, drop, vec_capacity};
+    ghost use Rattle.wl_message.specs.Arrived.{Arrived, IsCopy};
 
     ghost Value = { Arrived };
 
@@ -69,9 +78,16 @@ impl<A: Allocator> Model for Inbox<A> {
       tokens = i.tokens.items;
       capacity = i.bytes.capacity;
       token_capacity = i.tokens.capacity;
+      last = drop 8 i.last.items;
+      last_tokens = i.last_tokens.items;
     } };
 
-    ghost invariant = { λ i. 4096 ≤ vec_capacity i.message };
+    ghost invariant = { λ i. record {
+      room : 4096 ≤ vec_capacity i.message;
+      last_room : 4096 ≤ vec_capacity i.last;
+      token_room : i.tokens.capacity ≤ vec_capacity i.last_tokens;
+      copied : i.is_copied ≡ true → IsCopy i.bytes.items i.message.items;
+    } };
 }
 
 impl<A: Allocator + Clone + Drop> Inbox<A> {
@@ -84,7 +100,10 @@ impl<A: Allocator + Clone + Drop> Inbox<A> {
         Ok(Inbox {
             bytes: HeapCircularBuffer::with_capacity(alloc.clone()?, bytes)?,
             tokens: HeapCircularBuffer::with_capacity(alloc.clone()?, tokens)?,
-            message: Vec::with_capacity(alloc, LIMIT as usize)?,
+            message: Vec::with_capacity(alloc.clone()?, LIMIT as usize)?,
+            is_copied: false,
+            last: Vec::with_capacity(alloc.clone()?, LIMIT as usize)?,
+            last_tokens: Vec::with_capacity(alloc, tokens)?,
         })
     }
 }
@@ -124,11 +143,29 @@ impl<A: Allocator> Inbox<A> {
         } else {
             bytes
         };
+        self.is_copied = false;
         let byte_count = self.bytes.fill_from_slice(bytes);
         Fed {
             bytes: byte_count,
             tokens: token_count,
         }
+    }
+
+    /// Reads once, at most 4096 bytes and at most as many as are free, and takes in what was read.
+    pub(crate) fn read_from<R: Read>(&mut self, reader: &mut R) -> io::Result<usize>
+        requires { 0 < free_bytes self.old }
+        ensures ok { IfOk result
+            (λ n. Gives self.old (R.remaining reader.old) n self.new (R.remaining reader.new)) }
+        ensures err { OnErr result
+            ((self.new ≡ self.old) × Keeps (R.remaining reader.old) (R.remaining reader.new)) }
+    {
+        let most = self.room().min(LIMIT as usize);
+        self.is_copied = false;
+        self.message.clear();
+        let _ = self.message.resize(most, 0);
+        let n = reader.read(&mut self.message)?;
+        append(&mut self.bytes, &self.message[..n]);
+        Ok(n)
     }
 
     /// The first message, once it is whole; none before. It stays in the inbox.
@@ -139,11 +176,13 @@ impl<A: Allocator> Inbox<A> {
         ensures tells { Tells self.old result }
     {
         let tokens = self.tokens.len();
+        self.is_copied = false;
         let header = match header_in_front(&self.bytes, &mut self.message)? {
             Some(header) => header,
             None => return Ok(None),
         };
         copy_front(&self.bytes, &mut self.message, header.size as usize);
+        self.is_copied = true;
         Ok(Some(Frame {
             header,
             body: &self.message[8..],
@@ -159,7 +198,8 @@ impl<A: Allocator> Inbox<A> {
     }
 
     /// Takes the first message out, and as many of the first tokens as the slice has places, in
-    /// order.
+    /// order. `last` and `last_tokens` lend them until the next call of `pop`.
+    #[tactic(auto, using(crate::proofs::Fronts::copied_size, crate::proofs::Fronts::copy_there))]
     pub fn pop(&mut self, tokens: &mut [u32])
         requires message { HasMessage (front usual_limit self.old.bytes) }
         requires tokens { length tokens.old ≤ length self.old.tokens }
@@ -168,8 +208,24 @@ impl<A: Allocator> Inbox<A> {
             ≡ without_first self.old (message_size (front usual_limit self.old.bytes))
             (length tokens.old) }
     {
-        let size = message_len(&self.bytes, &mut self.message);
-        self.tokens.read_into(tokens);
-        remove_first(&mut self.bytes, size);
+        copy_message(&self.bytes, &mut self.message, self.is_copied);
+        self.is_copied = false;
+        take_first(&mut self.tokens, tokens, &mut self.last_tokens);
+        remove_first(&mut self.bytes, self.message.len());
+        mem::swap(&mut self.message, &mut self.last);
+    }
+
+    /// The body of the message that was taken out last; no bytes before the first one.
+    pub fn last(&self) -> &[u8]
+        ensures { result.now ≡ self.now.last }
+    {
+        &self.last[self.last.len().min(8)..]
+    }
+
+    /// The tokens that were taken out with the message that was taken out last.
+    pub fn last_tokens(&self) -> &[u32]
+        ensures { result.now ≡ self.now.last_tokens }
+    {
+        &self.last_tokens
     }
 }

@@ -1,11 +1,12 @@
 //! Messages that wait to go out.
 ghost use Rattle.std.specs.Prelude.{◌≡◌, ◌≤◌, ◌<◌, ◌+◌, ◌↔◌, ◌⊎◌, ◌++◌, false, [], length, take, drop, IfOk, OnOk, OnErr, IsErr, IsTrue};
 ghost use Rattle.wl_message.specs.Cut.{usual_limit, IsMessage};
-ghost use Rattle.wl_message.specs.Outgoing.{no_messages, waiting_bytes, waiting_tokens, ordinary_len, room_of, token_room_of, with_message, with_error, Goes, goes, after_taking};
+ghost use Rattle.wl_message.specs.Outgoing.{no_messages, waiting_bytes, waiting_tokens, ordinary_len, room_of, token_room_of, with_message, with_error, MayGo, Goes, goes, after_taking};
 ghost use Rattle.wl_message.specs.Marks.{Reaches};
+ghost use Rattle.wl_message.specs.Streams.{NextHasTokens};
 
 use crate::amounts::{Full, Taken};
-use crate::front::{append, move_first, remove_first};
+use crate::front::{append, first_part, move_first, remove_first};
 use crate::marks::{Mark, Reach, push_mark, reach_into};
 use circular_buffer::HeapCircularBuffer;
 use std::alloc::{AllocError, Allocator, Global};
@@ -121,6 +122,7 @@ impl<A: Allocator> Outbox<A> {
         ensures waits { IsTrue result
             ↔ ((waiting_bytes self.now ≡ []) × (waiting_tokens self.now ≡ [])) }
         ensures messages { IsTrue result ↔ ((self.now.left ≡ []) × (self.now.messages ≡ [])) }
+        ensures bytes { IsTrue result ↔ (waiting_bytes self.now ≡ []) }
     {
         self.bytes.is_empty()
     }
@@ -224,5 +226,36 @@ impl<A: Allocator> Outbox<A> {
         self.error_from = self.error_from.saturating_sub(taken.bytes);
         self.error_to = self.error_to.saturating_sub(taken.bytes);
         taken
+    }
+
+    /// How many of the first bytes can go without a token.
+    pub(crate) fn tokenless_len(&self) -> usize
+        ensures may { MayGo self.now result 0 result }
+        ensures stops { (waiting_bytes (after_taking self.now result) ≡ [])
+            ⊎ NextHasTokens (after_taking self.now result) }
+    {
+        self.goes(self.bytes.len(), 0).bytes
+    }
+
+    /// Some of the first bytes, at most so many; none only where none wait.
+    pub(crate) fn part(&self, most: usize) -> &[u8]
+        ensures front { result.now ≡ take (length result.now) (waiting_bytes self.now) }
+        ensures most { length result.now ≤ most }
+        ensures some { 0 < most → 0 < length (waiting_bytes self.now) → 0 < length result.now }
+    {
+        first_part(&self.bytes, most)
+    }
+
+    /// Takes out the first n bytes, with which no token goes.
+    pub(crate) fn skip(&mut self, n: usize)
+        requires { MayGo self.old n 0 n }
+        ensures { self.new ≡ after_taking self.old n }
+    {
+        let reach = self.reach(n, 0);
+        remove_first(&mut self.bytes, n);
+        remove_first(&mut self.marks, reach.begun);
+        self.left = reach.left;
+        self.error_from = self.error_from.saturating_sub(n);
+        self.error_to = self.error_to.saturating_sub(n);
     }
 }

@@ -34,11 +34,6 @@ abbrev pub received_in : Result Read Fault → Result Received Fault
 received_in (Err fault) = Err fault
 received_in (Ok read) = Ok (record { target = read.target; entry = read.entry; signature = read.signature.now; values = read.values })
 
--- these values, and the bytes that were found behind them
-abbrev pub with_rest : List Argument → Result (Bor (List ℕ)) Fault → Result (List Argument × List ℕ) Fault
-with_rest values (Err fault) = Err fault
-with_rest values (Ok rest) = Ok (values, rest.now)
-
 -- a signature that was found
 abbrev pub signature_in : Result (Entry × Bor Message) SendError → Result Message SendError
 signature_in (Err refusal) = Err refusal

@@ -5,6 +5,7 @@
 //! The table of objects stands in `wl_table`, and is given out here too.
 #![tactic(auto)]
 
+mod args;
 mod argument;
 mod calling;
 mod error;
@@ -12,18 +13,21 @@ pub mod laws;
 mod lookup;
 mod made;
 mod messages;
+mod parsed;
 mod reading;
 mod reporting;
 pub mod samples;
 mod values;
 mod writing;
 
+pub use args::Args;
 pub use argument::{Arg, Got, GotRef, Named};
 pub use calling::check_call;
 pub use error::{Fault, NextError, SendError};
 pub use lookup::{Held, Lookup, NewId};
 pub use made::{Made, call_makes, made_by_message};
 pub use messages::{DISPLAY, REGISTRY, is_bind, is_delete_id, is_error, is_hidden};
+pub use parsed::{MAX_ARGS, ParsedArg, ParsedArgs};
 pub use reading::{Received, descriptors, receive, receive_by};
 pub use reporting::{Gots, named, report_arguments};
 pub use values::Values;

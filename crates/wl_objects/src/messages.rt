@@ -2,7 +2,7 @@
 ghost use Rattle.std.specs.Prelude.{◌≡◌};
 ghost use Rattle.wl_objects.specs.Messages.{is_error, is_delete_id, is_bind, is_hidden};
 
-use wl_sigs::Side;
+use wl_sigs::{Side, event, request};
 use wl_wire::Iface;
 
 /// The place of wl_display in all tables.
@@ -15,21 +15,21 @@ pub const REGISTRY: Iface = Iface(1);
 pub fn is_error(side: Side, iface: Iface, opcode: u16) -> bool
     ensures { result ≡ is_error side iface opcode }
 {
-    side == Side::Event && iface == DISPLAY && opcode == 0
+    side == Side::Event && iface == DISPLAY && opcode == event::wl_display::ERROR
 }
 
 /// Whether this is wl_display.delete_id.
 pub fn is_delete_id(side: Side, iface: Iface, opcode: u16) -> bool
     ensures { result ≡ is_delete_id side iface opcode }
 {
-    side == Side::Event && iface == DISPLAY && opcode == 1
+    side == Side::Event && iface == DISPLAY && opcode == event::wl_display::DELETE_ID
 }
 
 /// Whether this is wl_registry.bind.
 pub fn is_bind(side: Side, iface: Iface, opcode: u16) -> bool
     ensures { result ≡ is_bind side iface opcode }
 {
-    side == Side::Request && iface == REGISTRY && opcode == 0
+    side == Side::Request && iface == REGISTRY && opcode == request::wl_registry::BIND
 }
 
 /// Whether an end writes this message by calls of its own: bind, and the events of wl_display and
@@ -38,7 +38,7 @@ pub fn is_hidden(side: Side, iface: Iface, opcode: u16) -> bool
     ensures { result ≡ is_hidden side iface opcode }
 {
     match side {
-        Side::Request => iface == REGISTRY && opcode == 0,
+        Side::Request => iface == REGISTRY && opcode == request::wl_registry::BIND,
         Side::Event => iface == DISPLAY || iface == REGISTRY,
     }
 }

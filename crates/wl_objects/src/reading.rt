@@ -1,20 +1,21 @@
 //! One message read against an end's table.
 ghost use Rattle.std.specs.Prelude.{◌≡◌, IfOk};
-ghost use Rattle.wl_wire.specs.Argument.{lent};
 ghost use Rattle.wl_wire.specs.Word.{IsHeader};
 ghost use Rattle.wl_sigs.specs.Valid.{Valid};
 ghost use Rattle.wl_table.specs.View.{look};
-ghost use Rattle.wl_objects.specs.Reading.{arguments_at, descriptors, forgiving, value_fault, object_fault, new_fault, iface_of, values_at};
+ghost use Rattle.wl_objects.specs.Reading.{descriptors, object_fault, new_fault, iface_of};
 ghost use Rattle.wl_objects.specs.Messages.{reader_of, received};
-ghost use Rattle.wl_objects.specs.Seen.{received_in, with_rest};
+ghost use Rattle.wl_objects.specs.Seen.{received_in};
+ghost use Rattle.wl_objects.specs.Parsed.{AreParsed};
 
 use crate::error::Fault;
 use crate::lookup::{Held, Lookup, NewId};
 use crate::messages::is_error;
-use crate::values::{Values, kind_at};
+use crate::parsed::{ParsedArgs, parse_body};
+use crate::values::Values;
 use wl_sigs::{Side, Signature, Tables};
 use wl_table::{Entry, Object, Table};
-use wl_wire::{Header, Iface, Kind, ValueRef, read_ref};
+use wl_wire::{Header, Iface, Kind};
 
 /// A message that was read: nothing is wrong with it, and nothing has changed yet.
 #[derive(Debug, Drop)]
@@ -27,6 +28,8 @@ pub struct Received<'t, 'a> {
     pub signature: &'t Signature,
     /// The arguments as they are spelled.
     pub values: Values<'a>,
+    /// The same arguments, parsed, their objects as they are now.
+    pub args: ParsedArgs,
 }
 
 /// Reads one whole message, where so many tokens wait. Takes no memory.
@@ -43,6 +46,8 @@ pub fn receive<'t: 'a, 'a, T: Table>(
 ) -> Result<Received<'t, 'a>, Fault>
     ensures answer { received_in result
         ≡ received tables.now side (reader_of (T.view table.now)) header body.now waiting }
+    ensures args { IfOk result
+        (λ m. AreParsed (reader_of (T.view table.now)) body.now m.args m.values) }
     // Always so, and known because the tables were asked and the header was given.
     ensures valid { IfOk result (λ _. Valid tables.now) }
     ensures header { IsHeader header }
@@ -61,6 +66,7 @@ pub fn receive_by<'t: 'a, 'a, L: Lookup>(
 ) -> Result<Received<'t, 'a>, Fault>
     ensures answer { received_in result
         ≡ received tables.now side (L.reader lookup.now) header body.now waiting }
+    ensures args { IfOk result (λ m. AreParsed (L.reader lookup.now) body.now m.args m.values) }
     ensures valid { IfOk result (λ _. Valid tables.now) }
 {
     let entry = match lookup.object(header.object) {
@@ -76,7 +82,7 @@ pub fn receive_by<'t: 'a, 'a, L: Lookup>(
     }
     let forgives = is_error(side, entry.iface, header.opcode);
     let kinds = signature.kinds();
-    let rest = rest_behind(lookup, forgives, kinds, body)?;
+    let (args, rest) = parse_body(lookup, forgives, kinds, body)?;
     if !rest.is_empty() {
         return Err(Fault::TrailingBytes);
     }
@@ -91,6 +97,7 @@ pub fn receive_by<'t: 'a, 'a, L: Lookup>(
         entry,
         signature,
         values: Values::of(kinds, forgives, body),
+        args,
     })
 }
 
@@ -101,56 +108,8 @@ pub fn descriptors(kinds: &[Kind]) -> usize
     kinds.iter().filter(|kind| matches!(kind, Kind::Fd)).count()
 }
 
-/// What stands behind the arguments at the front of the bytes, or the first fault of these.
-fn rest_behind<'a, L: Lookup>(
-    lookup: &L,
-    forgives: bool,
-    kinds: &[Kind],
-    body: &'a [u8],
-) -> Result<&'a [u8], Fault>
-    ensures { with_rest (values_at forgives kinds.now body.now) result
-        ≡ arguments_at (forgiving forgives (L.reader lookup.now)) 0 kinds.now body.now }
-{
-    let mut rest = body;
-    'kinds: for (place, kind) in kinds.iter().enumerate() {
-        match read_ref(kind_at(forgives, *kind), rest) {
-            Ok((value, len)) => {
-                if let Some(fault) = value_fault(lookup, forgives, place, *kind, value) {
-                    return Err(fault);
-                }
-                rest = &rest[len..];
-            }
-            Err(fault) => return Err(Fault::BadArgument(place, fault)),
-        }
-    }
-    Ok(rest)
-}
-
-/// What is wrong with a value that its bytes spell.
-fn value_fault<L: Lookup>(
-    lookup: &L,
-    forgives: bool,
-    place: usize,
-    kind: Kind,
-    value: ValueRef<'_>,
-) -> Option<Fault>
-    ensures { result ≡ value_fault (forgiving forgives (L.reader lookup.now)) place kind
-        (lent value.entry) }
-{
-    match value {
-        ValueRef::Obj(id) => {
-            if forgives || id == 0 {
-                return None;
-            }
-            object_fault(place, iface_of(kind), lookup.object(id))
-        }
-        ValueRef::New(id) | ValueRef::NewNamed { id, .. } => new_fault(place, lookup.new_id(id)),
-        _ => None,
-    }
-}
-
 /// The interface that a kind asks of an object.
-fn iface_of(kind: Kind) -> Option<Iface>
+pub(crate) fn iface_of(kind: Kind) -> Option<Iface>
     ensures { result ≡ iface_of kind }
 {
     match kind {
@@ -159,7 +118,11 @@ fn iface_of(kind: Kind) -> Option<Iface>
     }
 }
 
-fn object_fault(place: usize, iface: Option<Iface>, entry: Option<Entry>) -> Option<Fault>
+pub(crate) fn object_fault(
+    place: usize,
+    iface: Option<Iface>,
+    entry: Option<Entry>,
+) -> Option<Fault>
     ensures { result ≡ object_fault place iface entry }
 {
     match (iface, entry) {
@@ -169,7 +132,7 @@ fn object_fault(place: usize, iface: Option<Iface>, entry: Option<Entry>) -> Opt
     }
 }
 
-fn new_fault(place: usize, id: NewId) -> Option<Fault>
+pub(crate) fn new_fault(place: usize, id: NewId) -> Option<Fault>
     ensures { result ≡ new_fault place id }
 {
     match id {

@@ -7,6 +7,10 @@ ghost use Rattle.wl_objects.specs.Writing.{given, given_of, wired, on_wire, mess
 
 use crate::argument::Arg;
 use std::alloc::Allocator;
+use wl_sigs::event::wl_display::ERROR;
+use wl_sigs::event::wl_registry::GLOBAL;
+use wl_sigs::request::wl_registry::BIND;
+use wl_table::DISPLAY_ID;
 use wl_wire::{ValueRef, encode_value};
 
 /// The most bytes that a message has.
@@ -124,7 +128,7 @@ pub fn encode_bind<A: Allocator>(
 {
     let named = ValueRef::NewNamed { iface, version, id };
     let len = 12 + named.spelled_len();
-    start(store, registry, len, 0);
+    start(store, registry, len, BIND);
     append(store, ValueRef::Uint(name));
     append(store, named);
 }
@@ -148,7 +152,7 @@ pub fn encode_error<A: Allocator>(store: &mut Vec<u8, A>, object: u32, code: u32
     ensures capacity { vec_capacity store.old ≤ vec_capacity store.new }
 {
     let text = ValueRef::Str(Some(text));
-    start(store, 1, 16 + text.spelled_len(), 0);
+    start(store, DISPLAY_ID, 16 + text.spelled_len(), ERROR);
     append(store, ValueRef::Obj(object));
     append(store, ValueRef::Uint(code));
     append(store, text);
@@ -171,7 +175,7 @@ pub fn encode_global<A: Allocator>(
     ensures capacity { vec_capacity store.old ≤ vec_capacity store.new }
 {
     let iface = ValueRef::Str(Some(iface));
-    start(store, registry, 16 + iface.spelled_len(), 0);
+    start(store, registry, 16 + iface.spelled_len(), GLOBAL);
     append(store, ValueRef::Uint(global));
     append(store, iface);
     append(store, ValueRef::Uint(version));

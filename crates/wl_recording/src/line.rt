@@ -54,14 +54,14 @@ fn without_return(line: &[u8]) -> &[u8]
     }
 }
 
-/// Whether a line says nothing, as an empty line or a comment.
+/// Whether a line has no piece: it is empty or a comment.
 pub fn is_skipped(line: &[u8]) -> bool
     ensures { IsTrue result ↔ IsSkipped line.now }
 {
     line.is_empty() || line[0] == b'#'
 }
 
-/// The piece that a line tells, if it tells one.
+/// The piece of a line, if the line is one.
 pub fn read_piece<A: Allocator>(alloc: A, line: &[u8]) -> Result<Option<Passed<A>>, AllocError>
     ensures { IfOk result (λ found. MatchOption found ((piece : Piece) → IsPiece line.now piece → ⊥)
         (λ kept. IsPiece line.now (plain kept))) }
@@ -96,7 +96,7 @@ fn strip_sign(line: &[u8]) -> Option<(Direction, &[u8])>
     Some((Direction::ToClient, rest))
 }
 
-// The number of tokens that the rest of a line tells.
+// The number of tokens in the rest of a line.
 fn read_tokens(count: &[u8]) -> Option<u32>
     ensures { MatchOption result ((tokens : ℕ) → SpellsTokens count.now tokens → ⊥)
         (λ tokens. SpellsTokens count.now tokens) }

@@ -19,7 +19,7 @@ use wl_wire::Bytes;
 pub enum RecordingError {
     /// RP1: this line, counted from 1, is neither skipped nor a piece, and it is the first such line.
     BadLine { line: usize },
-    /// RP2: there is no memory for the pieces.
+    /// RP2: out of memory, for the pieces.
     Memory,
 }
 
@@ -74,7 +74,7 @@ impl<A: Allocator> Model for Recording<A> {
 }
 
 impl<A: Allocator> Recording<A> {
-    /// A recording of nothing. It takes no memory.
+    /// A recording of nothing. It allocates nothing.
     pub fn new(alloc: A) -> Self
         ensures { result ≡ [] }
     {
@@ -93,22 +93,22 @@ impl<A: Allocator> Recording<A> {
 }
 
 impl<A: Allocator + Clone> Recording<A> {
-    /// The recording that a text tells.
+    /// The recording of a text.
     ///
     /// The text is lines, each ended by a line feed, which the last may lack; one carriage return
     /// before a line feed is dropped. An empty line and a line that begins with `#` are skipped. Each
-    /// other line tells one piece, as `> 0100000001000c0002000000 +1`: `>` to the server or `<` to the
+    /// other line is one piece, as `> 0100000001000c0002000000 +1`: `>` to the server or `<` to the
     /// client; a space; `-` for no bytes, or two hexadecimal digits, of either case, for each byte; and
     /// where tokens came, a space, a plus sign and their number, 1 to 65,535, in 1 to 5 decimal digits.
     ///
     /// `BadLine` (RP1) comes exactly where some line is none of these, with the number of the first
-    /// such line. `Memory` (RP2) may come in place of any answer.
+    /// such line. `Memory` (RP2) may come in place of any result.
     pub fn parse(alloc: A, text: &[u8]) -> Result<Self, RecordingError>
         ensures told { IfOk result (λ pieces. Recorded text.now pieces) }
         ensures bad { IfErr result
             (λ e. (e ≡ Memory) ⊎ ((n : ℕ) × (e ≡ BadLine n) × IsFirstBad text.now n)) }
 
-        // and what the text tells, or where it is bad, is the answer
+        // and the result is the recording of the text, or its bad line
         ensures only { (pieces : List Piece) → Recorded text.now pieces → (result ≡ Ok pieces)
             ⊎ (result ≡ Err Memory) }
         ensures first { (n : ℕ) → IsFirstBad text.now n → (result ≡ Err (BadLine n))
@@ -117,7 +117,7 @@ impl<A: Allocator + Clone> Recording<A> {
         Recording::read(alloc, text)
     }
 
-    // The recording that a text tells, or its first bad line.
+    // The recording of a text, or its first bad line.
     fn read(alloc: A, text: &[u8]) -> Result<Self, RecordingError>
         ensures told { IfOk result (λ pieces. Recorded text.now pieces) }
         ensures bad { IfErr result
@@ -156,8 +156,8 @@ impl<A: Allocator + Clone> Recording<A> {
     /// Adds what passed at once, at most 65,536 tokens among it.
     ///
     /// Nothing is added where nothing passed. One piece counts at most 65,535 tokens, so 65,536 are
-    /// added as two pieces: 65,535 tokens alone, and then the bytes with one token. Where there is no
-    /// memory for all of it, none is added.
+    /// added as two pieces: 65,535 tokens alone, and then the bytes with one token. Where memory
+    /// runs out, nothing is added.
     pub fn add(&mut self, direction: Direction, bytes: &[u8], tokens: u32) -> Result<(), AllocError>
         requires { tokens ≤ 65536 }
         ensures ok { OnOk result (self.new ≡ self.old ++ passed direction bytes.now tokens) }
@@ -172,7 +172,7 @@ impl<A: Allocator + Clone> Recording<A> {
 
     /// Adds what is about to pass, with zeros in place of its bytes, as `add` would.
     ///
-    /// So all memory is asked for before anything moves: what passes is then written over the zeros by
+    /// So everything is allocated before anything moves: what passes is then written over the zeros by
     /// `fill_last`, which cannot fail. `filled_passed` of the proofs says that both together are `add`.
     pub fn prepare(
         &mut self,
@@ -209,7 +209,7 @@ impl<A: Allocator + Clone> Recording<A> {
         Ok(())
     }
 
-    /// Writes these bytes over those of the last piece. It takes no memory.
+    /// Writes these bytes over those of the last piece. It allocates nothing.
     pub fn fill_last(&mut self, bytes: &[u8])
         requires { length bytes.now ≡ last_len self.old }
         ensures { self.new ≡ with_last_bytes self.old bytes.now }

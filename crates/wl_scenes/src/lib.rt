@@ -4,21 +4,28 @@
 //! plays them. The form is in docs/SCENES.md.
 #![tactic(auto)]
 
+mod acting;
 mod bytes;
+mod ends;
 mod line;
 mod moves;
 mod names;
+mod repeated;
 mod replies;
 mod scene;
 mod trouble;
 mod words;
 
+pub use acting::Actor;
 pub use bytes::{Chunk, put_bytes, read_chunk, read_chunks, write_bytes, write_chunk, write_text};
+pub use ends::End;
 pub use line::{Line, Memory};
-pub use moves::{bytes_of, iface_of, lend, message_of, read_arguments, read_move};
+pub use moves::{arguments_of, bytes_of, iface_of, lend, message_of, read_arguments, read_move};
 pub use names::Names;
+pub use repeated::Repeated;
 pub use replies::{
-    Teller, put_name, write_arguments, write_object, write_sent, write_stop, write_verdict,
+    OUT_OF_MEMORY, Teller, put_name, write_arguments, write_object, write_sent, write_stop,
+    write_verdict,
 };
 pub use scene::{Row, Scene, is_told, read_scenes};
 pub use trouble::Trouble;

@@ -187,6 +187,14 @@ pub fn bytes_of<A: Allocator + Clone + Drop>(alloc: &A, word: &str) -> Result<Ve
     Ok(bytes)
 }
 
+/// The arguments of a move.
+pub fn arguments_of<A: Allocator>(action: &Move<A>) -> &[SendArg<A>] {
+    match action {
+        Move::ClientSend { args, .. } | Move::ServerSend { args, .. } => args.as_slice(),
+        _ => &[],
+    }
+}
+
 /// The arguments, lent.
 pub fn lend<A: Allocator>(alloc: Global, args: &[SendArg<A>]) -> Result<Vec<Arg<'_>>, AllocError> {
     let mut list = Vec::new(alloc);

@@ -3,7 +3,7 @@
 use std::alloc::{AllocError, Allocator, Global};
 use std::collections::BTreeMap;
 use wl_objects::{Got, Object};
-use wl_server::Request;
+use wl_server::OwnedRequest;
 use wl_session::{Move, Reply};
 use wl_sigs::{Side, Tables};
 use wl_wire::{Iface, Kind};
@@ -76,7 +76,7 @@ impl Names {
     pub fn add_read<A: Allocator>(
         &mut self,
         tables: &Tables,
-        request: &Request<A>,
+        request: &OwnedRequest<A>,
     ) -> Result<(), AllocError> {
         for arg in request.args.as_slice() {
             match arg {

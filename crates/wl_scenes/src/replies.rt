@@ -4,14 +4,14 @@ use crate::bytes::{write_bytes, write_text};
 use crate::names::Names;
 use std::alloc::{AllocError, Allocator};
 use std::fmt::Write;
-use wl_client::Incoming;
+use wl_client::OwnedIncoming;
 use wl_objects::{Got, Named, NextError, Object, SendError};
-use wl_server::{GlobalError, Request};
+use wl_server::{GlobalError, OwnedRequest};
 use wl_session::{Carried, Direction, Reply, Verdict};
 use wl_sigs::{Side, Tables};
 
 /// What is said where there is no memory.
-const OUT_OF_MEMORY: &str = "out of memory";
+pub const OUT_OF_MEMORY: &str = "out of memory";
 
 /// Writes replies: with the names of messages, from the tables and the objects that were seen.
 #[derive(Clone, Copy)]
@@ -48,10 +48,10 @@ impl<'a> Teller<'a> {
     pub fn write_incoming<A: Allocator>(
         self,
         out: &mut String,
-        report: &Incoming<A>,
+        report: &OwnedIncoming<A>,
     ) -> Result<(), AllocError> {
         match report {
-            Incoming::Event {
+            OwnedIncoming::Event {
                 target,
                 opcode,
                 args,
@@ -60,7 +60,7 @@ impl<'a> Teller<'a> {
                 self.write_message(out, Side::Event, *target, *opcode)?;
                 write_arguments(out, args.as_slice())
             }
-            Incoming::Discarded {
+            OwnedIncoming::Discarded {
                 target,
                 opcode,
                 tokens,
@@ -69,12 +69,12 @@ impl<'a> Teller<'a> {
                 self.write_message(out, Side::Event, *target, *opcode)?;
                 write_tokens(out, tokens.as_slice())
             }
-            Incoming::Deleted { object } => {
+            OwnedIncoming::Deleted { object } => {
                 out.push_str("deleted ")?;
                 write_object(out, *object)
             }
-            Incoming::Stray { id } => write!(out, "stray {id}"),
-            Incoming::Error {
+            OwnedIncoming::Stray { id } => write!(out, "stray {id}"),
+            OwnedIncoming::Error {
                 id,
                 named,
                 code,
@@ -92,7 +92,7 @@ impl<'a> Teller<'a> {
     pub fn write_request<A: Allocator>(
         self,
         out: &mut String,
-        request: &Request<A>,
+        request: &OwnedRequest<A>,
     ) -> Result<(), AllocError> {
         out.push_str("request ")?;
         self.write_message(out, Side::Request, request.target, request.opcode)?;

@@ -17,7 +17,7 @@ use Rattle.wl_end.specs.Core.{Core, feeds, no_room, in_room}
 use Rattle.wl_end.specs.Streams.{IsTaken, taken_bytes, taken_tokens, NoneFits}
 use Rattle.wl_end.proofs.Appended.{kept_again, behind_again, none_behind}
 use Rattle.wl_end.proofs.Pieces.{taken_bytes-at, taken_tokens-at, is_taken_at, part_bytes-next, part_tokens-next, is_taken_none, taken_bytes-none, taken_tokens-none}
-use Rattle.wl_server.specs.declared.request.Request.{Request}
+use Rattle.wl_server.specs.declared.request.OwnedRequest.{OwnedRequest}
 use Rattle.wl_server.specs.State.{State}
 use Rattle.wl_server.specs.Seen.{report_of}
 use Rattle.wl_server.specs.Requests.{Report, next_answer, after_next}
@@ -47,7 +47,7 @@ fed_bytes core bytes tokens r h room e = ap (λ (f : Fed). f.bytes) (e ∙ feeds
 -- ---- a piece
 
 -- once it was fed at first
-pub fed_first : {A : Type 0} (state new : State) (bytes tokens : List ℕ) (r : Fed) (xs : List (Request A)) → state.core.failed ≡ false → length tokens ≤ free_tokens state.core.inbox → r ≡ feeds state.core bytes tokens
+pub fed_first : {A : Type 0} (state new : State) (bytes tokens : List ℕ) (r : Fed) (xs : List (OwnedRequest A)) → state.core.failed ≡ false → length tokens ≤ free_tokens state.core.inbox → r ≡ feeds state.core bytes tokens
     → new ≡ arrived state (take r.bytes bytes) (take r.tokens tokens) → ReadsSome (arrived state (take r.bytes bytes) tokens) (appended xs xs) new
 fed_first state new bytes tokens r xs s room e n =
     let t = fed_tokens state.core bytes tokens r s room e in
@@ -57,18 +57,18 @@ fed_first state new bytes tokens r xs s room e n =
     (subst (λ (rs : List Report). ReadsSome (arrived state (take r.bytes bytes) tokens) rs (arrived state (take r.bytes bytes) tokens)) (sym (none_behind report_of xs)) nothing)
 
 -- what was read at two times
-pub read_again : {A : Type 0} (state middle last : State) (xs before after : List (Request A)) → ReadsSome state (appended xs before) middle → take (length xs) before ≡ xs → take (length before) after ≡ before
+pub read_again : {A : Type 0} (state middle last : State) (xs before after : List (OwnedRequest A)) → ReadsSome state (appended xs before) middle → take (length xs) before ≡ xs → take (length before) after ≡ before
     → ReadsSome middle (appended before after) last → ReadsSome state (appended xs after) last
 read_again state middle last xs before after h k m g =
     subst (λ (rs : List Report). ReadsSome state rs last) (sym (behind_again report_of xs before after k m)) (some_then h g)
 
-pub until_again : {A : Type 0} (state middle last : State) (xs before after : List (Request A)) (stop : Option NextError) → ReadsSome state (appended xs before) middle → take (length xs) before ≡ xs
+pub until_again : {A : Type 0} (state middle last : State) (xs before after : List (OwnedRequest A)) (stop : Option NextError) → ReadsSome state (appended xs before) middle → take (length xs) before ≡ xs
     → take (length before) after ≡ before → ReadsUntil middle (appended before after) stop last → ReadsUntil state (appended xs after) stop last
 until_again state middle last xs before after stop h k m g =
     subst (λ (rs : List Report). ReadsUntil state rs stop last) (sym (behind_again report_of xs before after k m)) (until_then state middle last (appended xs before) (appended before after) stop h g)
 
 -- once more of it was fed
-pub fed_more : {A : Type 0} (state middle new : State) (bytes tokens rest others : List ℕ) (k n : ℕ) (xs : List (Request A)) (after : List (Request A)) → ReadsSome (arrived state (take k bytes) tokens) (appended xs after) middle
+pub fed_more : {A : Type 0} (state middle new : State) (bytes tokens rest others : List ℕ) (k n : ℕ) (xs : List (OwnedRequest A)) (after : List (OwnedRequest A)) → ReadsSome (arrived state (take k bytes) tokens) (appended xs after) middle
     → new ≡ arrived middle (take n rest) others → rest ≡ drop k bytes → others ≡ [] → ReadsSome (arrived state (take (k + n) bytes) tokens) (appended xs after) new
 fed_more state middle new bytes tokens rest others k n xs after h e r o =
     let more = take n rest in

@@ -4,7 +4,7 @@ use Rattle.std.specs.Prelude.{Option, not, ◌&&◌, nat_lt, slice_get, IsOk, Is
 use Rattle.std.specs.Option.{option_and_then}
 use Rattle.std.specs.declared.result.Result.{Result}
 use Rattle.std.specs.declared.result.Result.TheVariants.{Ok, Err}
-use Rattle.std.proofs.lemmas.List.{take-append-drop}
+use Rattle.std.proofs.lemmas.List.{take-append-drop, length-take-le}
 use Rattle.std.proofs.lemmas.Bool.Decides.{nat_tests}
 use Rattle.std.proofs.lemmas.Grind.{common_steps}
 use Rattle.wl_wire.specs.Word.{header_bytes, IsHeader}
@@ -28,16 +28,20 @@ use Rattle.wl_objects.specs.declared.error.NextError.{NextError}
 use Rattle.wl_objects.specs.declared.error.NextError.TheVariants as errors
 use Rattle.wl_table.specs.declared.object.Entry.{Entry}
 use Rattle.wl_table.specs.View.{View, look}
-use Rattle.wl_objects.specs.Reading.{descriptors, Reported}
+use Rattle.wl_objects.specs.declared.parsed.ParsedArg.{ParsedArg}
+use Rattle.wl_objects.specs.Parsed.{AreParsed, reported_in}
+use Rattle.wl_objects.specs.Reading.{descriptors, reports_of, Reported}
 use Rattle.wl_objects.specs.Messages.{Received, received, reader_of, is_bind}
 use Rattle.wl_end.specs.Core.{Core, HasDisplay}
-use Rattle.wl_end.specs.Receiving.{Found, found, found_at, found_in, header_of}
+use Rattle.wl_end.specs.Receiving.{Found, found, found_at, found_in, header_of, takes}
 use Rattle.wl_end.specs.Sending.{delete_id_len, fits}
 use Rattle.wl_end.specs.Outcomes.{answers_with}
-use Rattle.wl_end.proofs.Receivings.{is_received, reports-same, SameFirst, some_reported}
+use Rattle.wl_end.proofs.Receivings.{is_received}
+use Rattle.wl_end.proofs.Coming.{is_found}
+use Rattle.wl_end.proofs.Descriptors.{fds, reports_stay}
 use Rattle.wl_server.specs.State.{Global}
 use Rattle.wl_server.specs.Requests.{request, judged, is_good_bind_of}
-use Rattle.wl_server.specs.Steps.{Step, step_of, step_with, step_found, front_step, state_of, CanTake, step_needs, IsFront}
+use Rattle.wl_server.specs.Steps.{Step, step_of, step_found, front_step, state_of, pending_in, pending_of, CanTake}
 
 -- A whole message stands in front, of this header and body, with so many tokens waiting.
 pub record Stands (core : Core) (h : Header) (body : List ℕ) (waiting : ℕ) : Type 0 where
@@ -75,10 +79,10 @@ request_is : (core : Core) (globals : List Global) (h : Header) (body : List ℕ
 request_is core globals h body waiting s r e = ap (judged (state_of core globals)) (found_is core h body waiting s r e)
 
 abbrev pub Answers : Core → List Global → Result (Option Step) NextError → Type 0
-Answers core globals result = IsFront (state_of core globals) result
+Answers core globals result = result ≡ front_step (state_of core globals)
 
 answers_as : (core : Core) (globals : List Global) (x : Result (Option Found) Fault) (result : Result (Option Step) NextError) → request (state_of core globals) ≡ x → result ≡ step_found core x → Answers core globals result
-answers_as core globals x result e h = inl (h ∙ sym (ap (step_found core) e))
+answers_as core globals x result e h = h ∙ sym (ap (step_found core) e)
 
 pub answers_fault : (core : Core) (globals : List Global) (h : Header) (body : List ℕ) (waiting : ℕ) (fault : Fault) → Stands core h body waiting → Err fault ≡ read_by core h body waiting
     → Answers core globals (Err (errors.Fault fault core.read))
@@ -96,24 +100,10 @@ pub answers_full : (core : Core) (globals : List Global) (h : Header) (body : Li
     → is_bad core.tables globals h.opcode m ≡ false → (destroys_target m.signature.destroys && nat_lt (room_of core.outbox) delete_id_len) ≡ true → Answers core globals (Err errors.OutFull)
 answers_full core globals h body waiting m s e b f = answers_as core globals (Ok (Some (the_found h m))) _ (request_some core globals h body waiting m s e b) (rw f refl)
 
-same_step : (core : Core) (h : Header) (tokens : List ℕ) (m : Received) → SameFirst 20 tokens core.inbox.tokens → length m.values ≤ 20
-    → step_with core.tables core.view tokens h.opcode h.size m ≡ step_of core (the_found h m)
-same_step core h tokens m t l =
-    ap (λ (args : List Reported). let s = step_of core (the_found h m) in let it : Step = record s { report = record s.report { args = args } } in it) (reports-same (reader_of core.view) 20 tokens core.inbox.tokens m.values l t)
-
 front_ok : (core : Core) (globals : List Global) (h : Header) (body : List ℕ) (waiting : ℕ) (m : Received) → Stands core h body waiting → Ok m ≡ read_by core h body waiting
     → is_bad core.tables globals h.opcode m ≡ false → (destroys_target m.signature.destroys && nat_lt (room_of core.outbox) delete_id_len) ≡ false
     → front_step (state_of core globals) ≡ Ok (Some (step_of core (the_found h m)))
 front_ok core globals h body waiting m s e b f = ap (step_found core) (request_some core globals h body waiting m s e b) ∙ rw f refl
-
-pub answers_memory : (core : Core) (globals : List Global) (h : Header) (body : List ℕ) (waiting : ℕ) (m : Received) → Stands core h body waiting → Ok m ≡ read_by core h body waiting
-    → is_bad core.tables globals h.opcode m ≡ false → (destroys_target m.signature.destroys && nat_lt (room_of core.outbox) delete_id_len) ≡ false
-    → m.values ≢ [] → Answers core globals (Err errors.Memory)
-answers_memory core globals h body waiting m s e b f k =
-    let needs : answers_with step_needs (front_step (state_of core globals)) ≡ true =
-    ap (answers_with step_needs) (front_ok core globals h body waiting m s e b f) ∙ some_reported (reader_of core.view) core.inbox.tokens m.values k in
-    let ok : IsOk (front_step (state_of core globals)) = subst IsOk (sym (front_ok core globals h body waiting m s e b f)) (search rules) in
-    inr (refl, needs, ok)
 
 -- ---- what is known of a request that was read
 
@@ -142,9 +132,9 @@ room_for : (core : Core) (d : Destroys) → (destroys_target d && nat_lt (room_o
 room_for core Nothing f t = cc t
 room_for core Target f t = grind (arith, common_steps, nat_tests, f)
 
-pub can_take : (core : Core) (h : Header) (body : List ℕ) (waiting : ℕ) (tokens : List ℕ) (m : Received) → Valid core.tables → HasDisplay core.view → Stands core h body waiting → Ok m ≡ read_by core h body waiting
-    → (destroys_target m.signature.destroys && nat_lt (room_of core.outbox) delete_id_len) ≡ false → CanTake core (step_with core.tables core.view tokens h.opcode h.size m)
-can_take core h body waiting tokens m v d s e f =
+pub can_take : (core : Core) (h : Header) (body : List ℕ) (waiting : ℕ) (m : Received) (args : List ParsedArg) → Valid core.tables → HasDisplay core.view → Stands core h body waiting → Ok m ≡ read_by core h body waiting
+    → (destroys_target m.signature.destroys && nat_lt (room_of core.outbox) delete_id_len) ≡ false → CanTake core (pending_in core (pending_of core.tables core.view.births h m args))
+can_take core h body waiting m args v d s e f =
     let r = is_received core.tables request_side (reader_of core.view) h body waiting m (sym e) in
     let row : look core.view m.target.id ≡ Some m.entry = ap (look core.view) r.id ∙ r.row in
     record {
@@ -158,13 +148,33 @@ can_take core h body waiting tokens m v d s e f =
       room = room_for core m.signature.destroys f;
     }
 
-pub answers_ok : (core : Core) (globals : List Global) (h : Header) (body : List ℕ) (waiting : ℕ) (tokens : List ℕ) (m : Received) (step : Step) → Valid core.tables → Stands core h body waiting → Ok m ≡ read_by core h body waiting
-    → is_bad core.tables globals h.opcode m ≡ false → (destroys_target m.signature.destroys && nat_lt (room_of core.outbox) delete_id_len) ≡ false → SameFirst 20 tokens core.inbox.tokens
-    → step ≡ step_with core.tables core.view tokens h.opcode h.size m → Answers core globals (Ok (Some step))
-answers_ok core globals h body waiting tokens m step v s e b f t i =
-    let r = is_received core.tables request_side (reader_of core.view) h body waiting m (sym e) in
-    let few : length m.values ≤ 20 = omega (arith, r.values, few_kinds core.tables v m.entry.iface.0 h.opcode m.signature r.signature) in
-    inl (ap (λ (x : Step). let it : Result (Option Step) NextError = Ok (Some x) in it) (i ∙ same_step core h tokens m t few) ∙ sym (front_ok core globals h body waiting m s e b f))
+-- ---- the request that was read is what stands in front
+
+-- its own tokens are enough for its report
+tokens_enough : (core : Core) (f : Found) → found core request_side ≡ Ok (Some f) → reports_of (reader_of core.view) (take (takes f.message) core.inbox.tokens) f.message.values ≡ reports_of (reader_of core.view) core.inbox.tokens f.message.values
+tokens_enough core f e =
+    let n = takes f.message in
+    let tokens = core.inbox.tokens in
+    let is = is_found core request_side f e in
+    let enough : fds f.message.values ≤ length (take n tokens) = let l = length-take-le n tokens is.enough in omega (arith, l, is.count) in
+    sym (reports_stay (reader_of core.view) (take n tokens) (drop n tokens) f.message.values enough)
+    ∙ ap (λ (l : List ℕ). reports_of (reader_of core.view) l f.message.values) (take-append-drop n tokens)
+
+same_step : (core : Core) (h : Header) (body : List ℕ) (waiting : ℕ) (m : Received) (args : List ParsedArg) → Stands core h body waiting → Ok m ≡ read_by core h body waiting → AreParsed (reader_of core.view) body args m.values
+    → pending_in core (pending_of core.tables core.view.births h m args) ≡ step_of core (the_found h m)
+same_step core h body waiting m args s e a =
+    let rest : drop 8 (take h.size core.inbox.bytes) ≡ body = ap (drop 8) s.bytes in
+    let tokens = take (takes m) core.inbox.tokens in
+    let f = the_found h m in
+    ap (λ (l : List Reported). let step = step_of core f in let it : Step = record step { report = record step.report { args = l } } in it)
+    (ap (λ (b : List ℕ). reported_in b core.view.births tokens args) rest
+    ∙ (a.reported tokens ∙ tokens_enough core f (found_is core h body waiting s (Ok m) e)))
+
+pub answers_ok : (core : Core) (globals : List Global) (h : Header) (body : List ℕ) (waiting : ℕ) (m : Received) (args : List ParsedArg) → Stands core h body waiting → Ok m ≡ read_by core h body waiting
+    → is_bad core.tables globals h.opcode m ≡ false → (destroys_target m.signature.destroys && nat_lt (room_of core.outbox) delete_id_len) ≡ false → AreParsed (reader_of core.view) body args m.values
+    → Answers core globals (Ok (Some (pending_in core (pending_of core.tables core.view.births h m args))))
+answers_ok core globals h body waiting m args s e b f a =
+    ap (λ (x : Step). let it : Result (Option Step) NextError = Ok (Some x) in it) (same_step core h body waiting m args s e a) ∙ sym (front_ok core globals h body waiting m s e b f)
 
 -- what `frame` tells
 pub stands_by : (core : Core) (o : Option Frame) (f : Frame) → o ≡ Some f → Tells core.inbox (Ok o) → IsHeader f.header → Stands core f.header f.body.now f.tokens

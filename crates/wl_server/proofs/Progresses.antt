@@ -9,7 +9,7 @@ use Rattle.wl_table.specs.View.{View}
 use Rattle.wl_objects.specs.Writing.{message_len}
 use Rattle.wl_end.specs.Core.{Core, IsOrdinary}
 use Rattle.wl_end.specs.Sending.{with_sent}
-use Rattle.wl_server.specs.declared.announcing.Told.{Told}
+use Rattle.wl_server.specs.declared.announce.Announced.{Announced}
 use Rattle.wl_server.specs.State.{State, Global, Registry, RiseFrom}
 use Rattle.wl_server.specs.Announcing.{Due, Fitting, due_len, due_to, owed, owed_in, opcode_of, values_of, with_dues, marked, all_marked, after_announce}
 use Rattle.wl_server.specs.Tellings.{Progress, IsBlocked, IsTold}
@@ -76,7 +76,7 @@ most core now done (d ∷ ds) n w o fit b f =
     ]
 
 -- the end of the telling
-pub finished : (state : State) (told : Told) (now : Core) (ms : List Registry) → IsOrdinary state.core.outbox → IsTold state.core state.registries (owed state) told now ms
+pub finished : (state : State) (told : Announced) (now : Core) (ms : List Registry) → IsOrdinary state.core.outbox → IsTold state.core state.registries (owed state) told now ms
     → Fitting state told.count × (record { core = now; globals = state.globals; registries = ms } ≡ after_announce state told.count)
 finished state told now ms o t =
     let p = t.progress in
@@ -107,7 +107,7 @@ pub owed-next : (globals : List Global) (i : ℕ) (ms : List Registry) (r : Regi
 owed-next globals i ms r l e = rw (drop-cons ms i r l, ← e, add-one) refl
 
 -- the telling once the next registry was told
-pub told-next : (core : Core) (rs : List Registry) (all : List Due) (count : ℕ) (now : Core) (ms : List Registry) (globals : List Global) (i high : ℕ) (r after : Registry) (told : Told) (new : Core)
+pub told-next : (core : Core) (rs : List Registry) (all : List Due) (count : ℕ) (now : Core) (ms : List Registry) (globals : List Global) (i high : ℕ) (r after : Registry) (told : Announced) (new : Core)
     → IsOrdinary core.outbox → RiseFrom 0 high rs → Progress core rs all count now ms (owed_in globals (drop i ms)) → i < length ms → r ≡ get_or ms i r
     → (t : IsTold now (r ∷ []) (due_to globals r) told new (after ∷ [])) → Progress core rs all (count + told.count) new (set ms i after) (t.rest ++ owed_in globals (drop (i + 1) ms))
 told-next core rs all count now ms globals i high r after told new o rise p l e t =
@@ -123,7 +123,7 @@ some-left true now rest e h = absurd (cc)
 some-left false now rest e h = h
 
 -- where all was told, the registries behind are left
-pub told-whole : (core : Core) (rs : List Registry) (all : List Due) (count : ℕ) (now : Core) (ms : List Registry) (globals : List Global) (i high : ℕ) (r after : Registry) (told : Told) (new : Core)
+pub told-whole : (core : Core) (rs : List Registry) (all : List Due) (count : ℕ) (now : Core) (ms : List Registry) (globals : List Global) (i high : ℕ) (r after : Registry) (told : Announced) (new : Core)
     → IsOrdinary core.outbox → RiseFrom 0 high rs → Progress core rs all count now ms (owed_in globals (drop i ms)) → i < length ms → r ≡ get_or ms i r
     → (t : IsTold now (r ∷ []) (due_to globals r) told new (after ∷ [])) → told.all ≡ true → Progress core rs all (count + told.count) new (set ms i after) (owed_in globals (drop (i + 1) (set ms i after)))
 told-whole core rs all count now ms globals i high r after told new o rise p l e t whole =
@@ -133,7 +133,7 @@ told-whole core rs all count now ms globals i high r after told new o rise p l e
     (told-next core rs all count now ms globals i high r after told new o rise p l e t))
 
 -- where it was not, the telling ends
-pub told-part : (core : Core) (rs : List Registry) (all : List Due) (count : ℕ) (now : Core) (ms : List Registry) (globals : List Global) (i high : ℕ) (r after : Registry) (told : Told) (new : Core)
+pub told-part : (core : Core) (rs : List Registry) (all : List Due) (count : ℕ) (now : Core) (ms : List Registry) (globals : List Global) (i high : ℕ) (r after : Registry) (told : Announced) (new : Core)
     → IsOrdinary core.outbox → RiseFrom 0 high rs → Progress core rs all count now ms (owed_in globals (drop i ms)) → i < length ms → r ≡ get_or ms i r
     → (t : IsTold now (r ∷ []) (due_to globals r) told new (after ∷ [])) → told.all ≡ false → IsTold core rs all (record { count = count + told.count; all = false }) new (set ms i after)
 told-part core rs all count now ms globals i high r after told new o rise p l e t part = record {
@@ -151,7 +151,7 @@ told-end core rs all count now ms globals i p l = record {
 }
 
 -- the registries' births still rise
-pub rising-told : (core : Core) (rs : List Registry) (all : List Due) (told : Told) (now : Core) (ms : List Registry) → IsTold core rs all told now ms → RiseFrom 0 core.view.births rs → RiseFrom 0 now.view.births ms
+pub rising-told : (core : Core) (rs : List Registry) (all : List Due) (told : Announced) (now : Core) (ms : List Registry) → IsTold core rs all told now ms → RiseFrom 0 core.view.births rs → RiseFrom 0 now.view.births ms
 rising-told core rs all told now ms t h =
     let view : now.view ≡ core.view = ap (λ (c : Core). c.view) t.progress.written ∙ view-dues core t.progress.done in
     subst (λ (v : View). RiseFrom 0 v.births ms) (sym view) (subst (RiseFrom 0 core.view.births) (sym t.progress.marks) (rising-all t.progress.done 0 core.view.births rs h))

@@ -1,7 +1,7 @@
 -- Each open registry goes on standing in its server's list.
 use Rattle.std.proofs.Common.{◌≡◌, ◌≢◌, ◌⊎◌, ℕ, Bool, true, false, cond, eqb, List, [], ◌∷◌, ◌++◌, Some, None, refl, sym, ap, subst, ◌∙◌, inl, inr, arith, ⊎_elim}
-use Rattle.std.specs.Prelude.{Option, nat_eq}
-use Rattle.std.proofs.lemmas.Bool.{eqb-true}
+use Rattle.std.specs.Prelude.{Option, OnOk, OnErr, nat_eq, not, if◌then◌else◌}
+use Rattle.std.proofs.lemmas.Bool.{eqb-true, eqb-false, eq-eqb, ne_eqb}
 use Rattle.std.specs.declared.result.Result.{Result}
 use Rattle.std.specs.declared.result.Result.TheVariants.{Ok, Err}
 use Rattle.wl_wire.specs.declared.kind.Iface.{Iface}
@@ -11,27 +11,30 @@ use Rattle.wl_wire.specs.Argument.{Argument}
 use Rattle.wl_sigs.specs.declared.signature.Side.TheVariants.{Event}
 use Rattle.wl_sigs.specs.declared.signature.Destroys.{Destroys}
 use Rattle.wl_sigs.specs.declared.signature.Destroys.TheVariants.{Nothing, Target}
-use Rattle.wl_sigs.specs.Tables.{Interface, Message, new_objects}
+use Rattle.wl_sigs.specs.Tables.{Interface, Message, interface_at, new_objects}
 use Rattle.wl_sigs.specs.Fixed.{display, registry}
 use Rattle.wl_sigs.specs.Valid.{Valid}
 use Rattle.wl_table.specs.declared.object.Object.{Object}
 use Rattle.wl_table.specs.declared.object.Entry.{Entry}
 use Rattle.wl_table.specs.declared.object.State.TheVariants.{Live}
 use Rattle.wl_table.specs.View.{View, Sound, look, opening, closed}
-use Rattle.wl_table.specs.Views.{row-opened_at, row-closed, look-opening, eqb_is, cases_row, some_is}
+use Rattle.wl_table.specs.Views.{row-opened_at, row-closed, look-opening, look-opened_at, look-closed, eqb_is, cases_row, some_is}
 use Rattle.wl_objects.specs.declared.error.SendError.{SendError}
+use Rattle.wl_objects.specs.declared.error.SendError.TheVariants as refusals
 use Rattle.wl_objects.specs.Writing.{Given}
-use Rattle.wl_objects.specs.Messages.{Made, made, opens, same_iface, checked, Server, after}
+use Rattle.wl_objects.specs.Messages.{Made, made, opens, same_iface, checked, is_hidden, live_row, Server, after}
+use Rattle.wl_objects.specs.Writing.{is_live_as}
 use Rattle.wl_objects.proofs.Wholes.{passes}
 use Rattle.wl_end.specs.Core.{Core}
-use Rattle.wl_end.specs.Sending.{after_send, after_checked, made_at, version_at}
+use Rattle.wl_end.specs.Sending.{after_send, after_checked, made_at, version_at, fits, delete_id_len}
 use Rattle.wl_server.specs.State.{Registry, untold}
-use Rattle.wl_server.specs.Registries.{without_registry, registry_birth, IsAmong, HasRegistries, BirthsAreOnce}
+use Rattle.wl_server.specs.Registries.{without_registry, registry_birth, IsAmong, IsRegistry, IsFresh, HasRegistries, BirthsAreOnce}
 use Rattle.wl_server.specs.Requests.{registries_after}
+use Rattle.wl_server.specs.Calls.{ends_by_event, drop_at, drop_refusal, after_drop}
 use Rattle.wl_server.specs.Announcing.{Due, marked_in, all_marked}
 use Rattle.wl_server.specs.Steps.{Step, core_by, registries_by, CanTake}
 use Rattle.wl_server.specs.Tellings.{IsTold}
-use Rattle.wl_server.specs.declared.announcing.Told.{Told}
+use Rattle.wl_server.specs.declared.announce.Announced.{Announced}
 use Rattle.wl_server.proofs.Risings.{rise-without}
 use Rattle.wl_server.proofs.Taking.{rise-opened}
 use Rattle.wl_server.proofs.Dues.{either-object, rising-marked, view-dues}
@@ -72,6 +75,39 @@ among_all_marked : (o : Object) (ds : List Due) (rs : List Registry) → IsAmong
 among_all_marked o [] rs h = h
 among_all_marked o (d ∷ ds) rs h = among_all_marked o ds (marked_in d rs) (among_marked o d rs h)
 
+-- ---- what stands in the list
+
+among_before : (o : Object) (rs : List Registry) (r : Registry) → IsAmong o (rs ++ r ∷ []) → (r.object ≡ o) ⊎ IsAmong o rs
+among_before o [] r h = h
+among_before o (x ∷ rs) r h = elim h as (λ _. (r.object ≡ o) ⊎ ((x.object ≡ o) ⊎ IsAmong o rs)) [
+  | inl p ↦ inr (inl p)
+  | inr p ↦ elim (among_before o rs r p) as (λ _. (r.object ≡ o) ⊎ ((x.object ≡ o) ⊎ IsAmong o rs)) [ inl q ↦ inl q | inr q ↦ inr (inr q) ]
+]
+
+left_if : (o : Object) (birth : ℕ) (r : Registry) (rs ls : List Registry) (b : Bool) → nat_eq r.object.birth birth ≡ b → (IsAmong o ls → (o.birth ≢ birth) × IsAmong o rs) → IsAmong o (cond b ls (r ∷ ls))
+    → (o.birth ≢ birth) × ((r.object ≡ o) ⊎ IsAmong o rs)
+left_if o birth r rs ls true e f h = let k = f h in (k.0, inr k.1)
+left_if o birth r rs ls false e f h = elim h as (λ _. (o.birth ≢ birth) × ((r.object ≡ o) ⊎ IsAmong o rs)) [
+  | inl p ↦ (λ is. eqb-false r.object.birth birth e (ap (λ (x : Object). x.birth) p ∙ is), inl p)
+  | inr p ↦ (let k = f p in (k.0, inr k.1))
+]
+
+-- what is left is of another birth
+among_left : (o : Object) (birth : ℕ) (rs : List Registry) → IsAmong o (without_registry registry_birth true birth rs) → (o.birth ≢ birth) × IsAmong o rs
+among_left o birth [] h = absurd h
+among_left o birth (r ∷ rs) h = left_if o birth r rs (without_registry registry_birth true birth rs) (nat_eq r.object.birth birth) refl (among_left o birth rs) h
+
+among_unmarked : (o : Object) (d : Due) (rs : List Registry) → IsAmong o (marked_in d rs) → IsAmong o rs
+among_unmarked o d [] h = absurd h
+among_unmarked o d (r ∷ rs) h = elim h as (λ _. (r.object ≡ o) ⊎ IsAmong o rs) [
+  | inl p ↦ inl (sym (either-object (nat_eq r.object.birth d.object.birth) d.owing r) ∙ p)
+  | inr p ↦ inr (among_unmarked o d rs p)
+]
+
+among_all_unmarked : (o : Object) (ds : List Due) (rs : List Registry) → IsAmong o (all_marked ds rs) → IsAmong o rs
+among_all_unmarked o [] rs h = h
+among_all_unmarked o (d ∷ ds) rs h = among_unmarked o d rs (among_all_unmarked o ds (marked_in d rs) h)
+
 -- ---- an object is opened
 
 is_same : (i : Iface) → i ≡ registry → same_iface i registry ≡ true
@@ -85,9 +121,38 @@ old_there : (rs : List Registry) (r : Registry) (b : Bool) (o : Object) → IsAm
 old_there rs r true o h = among_more o rs r h
 old_there rs r false o h = h
 
-pub has_opened : (core : Core) (rs : List Registry) (m : Option Made) → HasRegistries core.view rs → HasRegistries (opens core.view m) (registries_after core rs m)
-has_opened core rs None h = h
-has_opened core rs (Some m) h =
+-- the rows that were there stay
+pub row_kept : (v : View) (m : Option Made) (id : ℕ) (d : Entry) → IsFresh v m → look v id ≡ Some d → look (opens v m) id ≡ Some d
+row_kept v None id d f row = row
+row_kept v (Some m) id d f row =
+    let other : eqb id m.id ≡ false = ne_eqb id m.id (λ e. (let no = sym row ∙ (ap (look v) e ∙ f) in cc no)) in
+    look-opened_at v m.id m.iface m.version id ∙ rw other row
+
+registry_kept : (v : View) (m : Option Made) (o : Object) → IsFresh v m → IsRegistry v o → IsRegistry (opens v m) o
+registry_kept v m o f r = record { entry = r.entry; row = row_kept v m o.id r.entry f r.row; birth = r.birth; iface = r.iface }
+
+same_is : (a b : Iface) → same_iface a b ≡ true → a ≡ b
+same_is a b h = let e : a.0 ≡ b.0 = eqb-true a.0 b.0 h in λ i. record { 0 = e i }
+
+registry_new : (v : View) (m : Made) → same_iface m.iface registry ≡ true → IsRegistry (opens v (Some m)) (record { id = m.id; birth = v.births })
+registry_new v m is = record {
+  entry = record { birth = v.births; iface = m.iface; version = m.version; state = Live };
+  row = look-opened_at v m.id m.iface m.version m.id ∙ rw (eq-eqb m.id m.id refl) refl;
+  birth = refl;
+  iface = same_is m.iface registry is;
+}
+
+each_opened : (v : View) (rs : List Registry) (m : Made) (r : Registry) (b : Bool) (o : Object) → same_iface m.iface registry ≡ b → r.object ≡ record { id = m.id; birth = v.births } → IsFresh v (Some m)
+    → ((x : Object) → IsAmong x rs → IsRegistry v x) → IsAmong o (cond b (rs ++ r ∷ []) rs) → IsRegistry (opens v (Some m)) o
+each_opened v rs m r true o is s f h a = elim (among_before o rs r a) as (λ _. IsRegistry (opens v (Some m)) o) [
+  | inl p ↦ subst (IsRegistry (opens v (Some m))) (sym s ∙ p) (registry_new v m is)
+  | inr p ↦ registry_kept v (Some m) o f (h o p)
+]
+each_opened v rs m r false o is s f h a = registry_kept v (Some m) o f (h o a)
+
+pub has_opened : (core : Core) (rs : List Registry) (m : Option Made) → IsFresh core.view m → HasRegistries core.view rs → HasRegistries (opens core.view m) (registries_after core rs m)
+has_opened core rs None f h = h
+has_opened core rs (Some m) f h =
     let v = core.view in
     let r : Registry = untold (record { id = m.id; birth = v.births }) in
     record {
@@ -97,6 +162,7 @@ has_opened core rs (Some m) h =
           new_there rs r m.iface (same_iface m.iface registry) (record { id = id; birth = e.birth }) refl (sym (ap (λ (x : Entry). x.iface) p.1) ∙ is) (λ i. record { id = sym p.0 i; birth = sym birth i })))
           (λ p. old_there rs r (same_iface m.iface registry) (record { id = id; birth = e.birth }) (h.all id e p.1 is))
           (row-opened_at v m.id m.iface m.version id e there);
+      only = λ o a. each_opened v rs m r (same_iface m.iface registry) o refl refl f h.only a;
     }
 
 pub births_opened : (v : View) (m : Option Made) → BirthsAreOnce v → BirthsAreOnce (opens v m)
@@ -118,27 +184,35 @@ births_opened v (Some m) h = record {
       (row-opened_at v m.id m.iface m.version id e there);
 }
 
--- the row of a birth stays the only one of it
-pub only_there : (v : View) (m : Option Made) (id birth : ℕ) (d : Entry) → BirthsAreOnce v → look v id ≡ Some d → d.birth ≡ birth → (q : ℕ) (e : Entry) → look (opens v m) q ≡ Some e → e.birth ≡ birth → q ≡ id
-only_there v None id birth d h row is q e there same = h.one q id e d there row (same ∙ sym is)
-only_there v (Some m) id birth d h row is q e there same = ⊎_elim
-    (λ p. (let new = ap (λ (x : Entry). x.birth) p.1 in let less = h.counted id d row in absurd (omega (arith, new, less, same, is))))
-    (λ p. h.one q id e d p.1 row (same ∙ sym is))
-    (row-opened_at v m.id m.iface m.version q e there)
-
 -- ---- an object is closed
 
-pub has_closed : (v : View) (rs : List Registry) (id birth : ℕ) → ((q : ℕ) (e : Entry) → look v q ≡ Some e → e.birth ≡ birth → q ≡ id) → HasRegistries v rs
+registry_apart : (v : View) (id : ℕ) (d : Entry) (o : Object) → look v id ≡ Some d → o.birth ≢ d.birth → IsRegistry v o → IsRegistry (closed v id) o
+registry_apart v id d o row ne r =
+    let other : eqb o.id id ≡ false = ne_eqb o.id id (λ e. (let same = sym r.row ∙ (ap (look v) e ∙ row) in let is : r.entry ≡ d = cc same in ne (sym r.birth ∙ ap (λ (x : Entry). x.birth) is))) in
+    record { entry = r.entry; row = look-closed v id o.id ∙ rw other r.row; birth = r.birth; iface = r.iface }
+
+-- the object of this row and birth
+pub has_closed : (v : View) (rs : List Registry) (id birth : ℕ) (d : Entry) → BirthsAreOnce v → look v id ≡ Some d → d.birth ≡ birth → HasRegistries v rs
     → HasRegistries (closed v id) (without_registry registry_birth true birth rs)
-has_closed v rs id birth f h = record {
+has_closed v rs id birth d b row is h = record {
   rising = rise-without 0 v.births birth rs h.rising;
-  all = λ q e there is. (let r = row-closed v id q e there in
-      among_other (record { id = q; birth = e.birth }) birth rs (λ k. r.0 (f q e r.1 k)) (h.all q e r.1 is));
+  all = λ q e there reg. (let r = row-closed v id q e there in
+      among_other (record { id = q; birth = e.birth }) birth rs (λ k. r.0 (b.one q id e d r.1 row (k ∙ sym is))) (h.all q e r.1 reg));
+  only = λ o a. (let k = among_left o birth rs a in registry_apart v id d o row (λ e. k.0 (e ∙ is)) (h.only o k.1));
 }
 
--- one that is no registry, or whatever it was: the list is not shorter
-pub has_fewer : (v : View) (rs : List Registry) (id : ℕ) → HasRegistries v rs → HasRegistries (closed v id) rs
-has_fewer v rs id h = record { rising = h.rising; all = λ q e there is. h.all q e (row-closed v id q e there).1 is }
+registry_other : (v : View) (id : ℕ) (o : Object) → ((d : Entry) → look v id ≡ Some d → d.iface ≢ registry) → IsRegistry v o → IsRegistry (closed v id) o
+registry_other v id o f r =
+    let other : eqb o.id id ≡ false = ne_eqb o.id id (λ e. f r.entry (ap (look v) (sym e) ∙ r.row) r.iface) in
+    record { entry = r.entry; row = look-closed v id o.id ∙ rw other r.row; birth = r.birth; iface = r.iface }
+
+-- one that is no registry
+pub has_fewer : (v : View) (rs : List Registry) (id : ℕ) → ((d : Entry) → look v id ≡ Some d → d.iface ≢ registry) → HasRegistries v rs → HasRegistries (closed v id) rs
+has_fewer v rs id f h = record {
+  rising = h.rising;
+  all = λ q e there is. h.all q e (row-closed v id q e there).1 is;
+  only = λ o a. registry_other v id o f (h.only o a);
+}
 
 pub births_closed : (v : View) (id : ℕ) → BirthsAreOnce v → BirthsAreOnce (closed v id)
 births_closed v id h = record {
@@ -148,13 +222,14 @@ births_closed v id h = record {
 
 -- ---- a request is read
 
-pub has_step : (core : Core) (rs : List Registry) (step : Step) → CanTake core step → BirthsAreOnce core.view → HasRegistries core.view rs → HasRegistries (core_by core step).view (registries_by core rs step)
-has_step core rs step can b h = by_case step.destroys
+pub has_step : (core : Core) (rs : List Registry) (step : Step) → CanTake core step → IsFresh core.view step.made → BirthsAreOnce core.view → HasRegistries core.view rs
+    → HasRegistries (core_by core step).view (registries_by core rs step)
+has_step core rs step can f b h = by_case step.destroys
   where
     by_case : (d : Destroys) → HasRegistries (core_by core (record step { destroys = d })).view (registries_by core rs (record step { destroys = d }))
-    by_case Nothing = has_opened core rs step.made h
-    by_case Target = has_closed (opens core.view step.made) (registries_after core rs step.made) step.report.target.id step.report.target.birth
-        (only_there core.view step.made step.report.target.id step.report.target.birth can.entry b can.row can.birth) (has_opened core rs step.made h)
+    by_case Nothing = has_opened core rs step.made f h
+    by_case Target = has_closed (opens core.view step.made) (registries_after core rs step.made) step.report.target.id step.report.target.birth can.entry
+        (births_opened core.view step.made b) (row_kept core.view step.made step.report.target.id can.entry f can.row) can.birth (has_opened core rs step.made f h)
 
 pub births_step : (core : Core) (step : Step) → BirthsAreOnce core.view → BirthsAreOnce (core_by core step).view
 births_step core step h = by_case step.destroys
@@ -162,6 +237,17 @@ births_step core step h = by_case step.destroys
     by_case : (d : Destroys) → BirthsAreOnce (core_by core (record step { destroys = d })).view
     by_case Nothing = births_opened core.view step.made h
     by_case Target = births_closed (opens core.view step.made) step.report.target.id (births_opened core.view step.made h)
+
+-- the same, where memory may have been refused
+pub has_applied : {X E : Type 0} (r : Result X E) (core now : Core) (rs ms : List Registry) (step : Step) → CanTake core step → OnOk r (now ≡ core_by core step) → OnOk r (ms ≡ registries_by core rs step)
+    → OnErr r ((now ≡ core) × (ms ≡ rs)) → OnOk r (IsFresh core.view step.made) → BirthsAreOnce core.view → HasRegistries core.view rs → HasRegistries now.view ms
+has_applied (Ok x) core now rs ms step can c m err f b h =
+    subst (λ (k : Core). HasRegistries k.view ms) (sym c) (subst (HasRegistries (core_by core step).view) (sym m) (has_step core rs step can f b h))
+has_applied (Err x) core now rs ms step can c m err f b h = subst (λ (k : Core). HasRegistries k.view ms) (sym err.0) (subst (HasRegistries core.view) (sym err.1) h)
+
+pub births_applied : {X E : Type 0} (r : Result X E) (core now : Core) (rs ms : List Registry) (step : Step) → OnOk r (now ≡ core_by core step) → OnErr r ((now ≡ core) × (ms ≡ rs)) → BirthsAreOnce core.view → BirthsAreOnce now.view
+births_applied (Ok x) core now rs ms step c err b = subst (λ (k : Core). BirthsAreOnce k.view) (sym c) (births_step core step b)
+births_applied (Err x) core now rs ms step c err b = subst (λ (k : Core). BirthsAreOnce k.view) (sym err.0) b
 
 -- ---- an event is written
 
@@ -185,34 +271,71 @@ none_made core target opcode list m v e =
     let p = passes core.tables Event core.view target opcode list m e in
     makes_none core.tables (version_at (look core.view target.id)) m.kinds _ (v.few_objects_made.events p.entry.iface.0 opcode m p.exists)
 
--- what the objects are after an event, which makes none
+-- what is sent to is no registry
+not_sent_to : (iface : Iface) (opcode : ℕ) → is_hidden Event iface opcode ≡ false → iface ≢ registry
+not_sent_to iface opcode h is = let no : is_hidden Event registry opcode ≡ false = subst (λ (i : Iface). is_hidden Event i opcode ≡ false) is h in cc no
+
+not_target : (core : Core) (target : Object) (opcode : ℕ) (list : List Given) (m : Message) → checked core.tables Event core.view target opcode list ≡ Ok m
+    → (d : Entry) → look core.view target.id ≡ Some d → d.iface ≢ registry
+not_target core target opcode list m e d row is =
+    let p = passes core.tables Event core.view target opcode list m e in
+    let same = sym p.row ∙ row in
+    let one : p.entry ≡ d = cc same in
+    not_sent_to p.entry.iface opcode p.shown (ap (λ (x : Entry). x.iface) one ∙ is)
+
+-- what the objects are after an event, which makes none and ends no registry
 abbrev After : Core → Object → Core → Type 0
-After core target now = (now.view ≡ core.view) ⊎ (now.view ≡ closed core.view target.id)
+After core target now = (now.view ≡ core.view) ⊎ ((now.view ≡ closed core.view target.id) × ((d : Entry) → look core.view target.id ≡ Some d → d.iface ≢ registry))
 
 after_event : (core : Core) (target : Object) (opcode : ℕ) (list : List Given) → Valid core.tables → After core target (after_send core Event target opcode list)
 after_event core target opcode list v = by_result (checked core.tables Event core.view target opcode list) refl
   where
-    by_what : (m : Message) (what : Destroys) → made_at core target m list ≡ None → After core target (after_checked core Event target opcode list (Ok (record m { destroys = what })))
-    by_what m Nothing e = inl (ap (λ (o : Option Made). after Server core.view o Nothing target.id) e)
-    by_what m Target e = inr (ap (λ (o : Option Made). after Server core.view o Target target.id) e)
+    by_what : (m : Message) (what : Destroys) → made_at core target m list ≡ None → ((d : Entry) → look core.view target.id ≡ Some d → d.iface ≢ registry)
+        → After core target (after_checked core Event target opcode list (Ok (record m { destroys = what })))
+    by_what m Nothing e f = inl (ap (λ (o : Option Made). after Server core.view o Nothing target.id) e)
+    by_what m Target e f = inr (ap (λ (o : Option Made). after Server core.view o Target target.id) e, f)
 
     by_result : (x : Result Message SendError) → checked core.tables Event core.view target opcode list ≡ x → After core target (after_checked core Event target opcode list x)
     by_result (Err why) e = inl refl
-    by_result (Ok m) e = by_what m m.destroys (none_made core target opcode list m v e)
+    by_result (Ok m) e = by_what m m.destroys (none_made core target opcode list m v e) (not_target core target opcode list m e)
 
 pub has_sent : (core now : Core) (rs : List Registry) (target : Object) (opcode : ℕ) (list : List Given) → Valid core.tables → now ≡ after_send core Event target opcode list → HasRegistries core.view rs → HasRegistries now.view rs
 has_sent core now rs target opcode list v e h =
     subst (λ (k : Core). HasRegistries k.view rs) (sym e) (elim (after_event core target opcode list v) [
       | inl p ↦ subst (λ (w : View). HasRegistries w rs) (sym p) h
-      | inr p ↦ subst (λ (w : View). HasRegistries w rs) (sym p) (has_fewer core.view rs target.id h)
+      | inr p ↦ subst (λ (w : View). HasRegistries w rs) (sym p.0) (has_fewer core.view rs target.id p.1 h)
     ])
 
 pub births_sent : (core now : Core) (target : Object) (opcode : ℕ) (list : List Given) → Valid core.tables → now ≡ after_send core Event target opcode list → BirthsAreOnce core.view → BirthsAreOnce now.view
 births_sent core now target opcode list v e h =
     subst (λ (k : Core). BirthsAreOnce k.view) (sym e) (elim (after_event core target opcode list v) [
       | inl p ↦ subst BirthsAreOnce (sym p) h
-      | inr p ↦ subst BirthsAreOnce (sym p) (births_closed core.view target.id h)
+      | inr p ↦ subst BirthsAreOnce (sym p.0) (births_closed core.view target.id h)
     ])
+
+-- ---- an object is dropped
+
+no_registry : (tables : List Interface) → Valid tables → ends_by_event (interface_at tables registry.0) ≡ false
+no_registry tables v = rw v.fixed_three.registry refl
+
+-- what can be dropped is no registry
+not_dropped : (core : Core) (object : Object) → Valid core.tables → drop_refusal core object ≡ None → (d : Entry) → look core.view object.id ≡ Some d → d.iface ≢ registry
+not_dropped core object v e d row is = by_failed core.failed e
+  where
+    by_ends : (b : Bool) → ends_by_event (interface_at core.tables d.iface.0) ≡ b → (x : Option SendError) → (if not b then Some refusals.NotDroppable else x) ≡ None → ⊥
+    by_ends true t x h = let no = sym t ∙ (ap (λ (i : Iface). ends_by_event (interface_at core.tables i.0)) is ∙ no_registry core.tables v) in cc no
+    by_ends false t x h = cc h
+
+    by_birth : (b : Bool) → drop_at core (if b then look core.view object.id else None) ≡ None → ⊥
+    by_birth true h = by_ends (ends_by_event (interface_at core.tables d.iface.0)) refl (if fits core.outbox delete_id_len 0 then None else Some refusals.Full) (ap (drop_at core) (sym row) ∙ h)
+    by_birth false h = cc h
+
+    by_failed : (b : Bool) → (if b then Some refusals.Failed else drop_at core (live_row core.view object)) ≡ None → ⊥
+    by_failed true h = cc h
+    by_failed false h = by_birth (is_live_as object.birth (look core.view object.id)) h
+
+pub has_dropped : (core : Core) (rs : List Registry) (object : Object) → Valid core.tables → None ≡ drop_refusal core object → HasRegistries core.view rs → HasRegistries (after_drop core object).view rs
+has_dropped core rs object v e h = has_fewer core.view rs object.id (not_dropped core object v (sym e)) h
 
 -- ---- registries are told
 
@@ -220,19 +343,21 @@ pub has_marked : (v : View) (d : Due) (rs : List Registry) → HasRegistries v r
 has_marked v d rs h = record {
   rising = rising-marked d 0 v.births rs h.rising;
   all = λ id e there is. among_marked (record { id = id; birth = e.birth }) d rs (h.all id e there is);
+  only = λ o a. h.only o (among_unmarked o d rs a);
 }
 
-view_told : (core : Core) (rs : List Registry) (all : List Due) (told : Told) (now : Core) (ms : List Registry) → IsTold core rs all told now ms → now.view ≡ core.view
+view_told : (core : Core) (rs : List Registry) (all : List Due) (told : Announced) (now : Core) (ms : List Registry) → IsTold core rs all told now ms → now.view ≡ core.view
 view_told core rs all told now ms t = ap (λ (c : Core). c.view) t.progress.written ∙ view-dues core t.progress.done
 
-pub has_told : (core : Core) (rs : List Registry) (all : List Due) (told : Told) (now : Core) (ms : List Registry) → IsTold core rs all told now ms → HasRegistries core.view rs → HasRegistries now.view ms
+pub has_told : (core : Core) (rs : List Registry) (all : List Due) (told : Announced) (now : Core) (ms : List Registry) → IsTold core rs all told now ms → HasRegistries core.view rs → HasRegistries now.view ms
 has_told core rs all told now ms t h = record {
   rising = rising-told core rs all told now ms t h.rising;
   all = λ id e there is. subst (IsAmong (record { id = id; birth = e.birth })) (sym t.progress.marks)
       (among_all_marked (record { id = id; birth = e.birth }) t.progress.done rs (h.all id e (ap (λ (w : View). look w id) (sym (view_told core rs all told now ms t)) ∙ there) is));
+  only = λ o a. subst (λ (w : View). IsRegistry w o) (sym (view_told core rs all told now ms t)) (h.only o (among_all_unmarked o t.progress.done rs (subst (IsAmong o) t.progress.marks a)));
 }
 
-pub births_told : (core : Core) (rs : List Registry) (all : List Due) (told : Told) (now : Core) (ms : List Registry) → IsTold core rs all told now ms → BirthsAreOnce core.view → BirthsAreOnce now.view
+pub births_told : (core : Core) (rs : List Registry) (all : List Due) (told : Announced) (now : Core) (ms : List Registry) → IsTold core rs all told now ms → BirthsAreOnce core.view → BirthsAreOnce now.view
 births_told core rs all told now ms t h = subst BirthsAreOnce (sym (view_told core rs all told now ms t)) h
 
 -- ---- a new server, and any sound table
@@ -247,6 +372,7 @@ pub has_none : HasRegistries (opening display) []
 has_none = record {
   rising = omega arith;
   all = λ id e there is. (let i = ap (λ (x : Entry). x.iface.0) (first_row id e there).1 in let k = ap (λ (x : Iface). x.0) is in absurd (omega (arith, i, k)));
+  only = λ o a. absurd a;
 }
 
 pub births_of_sound : (v : View) → Sound v → BirthsAreOnce v

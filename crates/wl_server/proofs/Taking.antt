@@ -1,5 +1,5 @@
 -- What a server is after the step of a request.
-use Rattle.std.proofs.Common.{◌≡◌, ◌≢◌, ◌⊎◌, ℕ, ◌+◌, Bool, true, false, List, [], ◌∷◌, ◌++◌, Some, None, refl, sym, ap, subst, ◌∙◌, inl, inr, arith, rules, eqb, cond}
+use Rattle.std.proofs.Common.{◌≡◌, ◌≢◌, ◌⊎◌, ℕ, zero, suc, ◌+◌, ◌<◌, ◌≤◌, length, take, drop, get_or, Bool, true, false, List, [], ◌∷◌, ◌++◌, Some, None, map, refl, sym, ap, subst, ◌∙◌, inl, inr, arith, rules, eqb, cond}
 use Rattle.std.specs.Prelude.{Option, not, nat_eq, if◌then◌else◌, IsOk, IsTrue, is_some}
 use Rattle.std.specs.List.{filter}
 use Rattle.std.specs.declared.result.Result.{Result}
@@ -16,14 +16,19 @@ use Rattle.wl_table.specs.View.{View, is_held, look}
 use Rattle.wl_table.specs.Views.{look-opened_at}
 use Rattle.wl_objects.specs.Messages.{Made, made, opens, same_iface, reader_of}
 use Rattle.wl_sigs.specs.Fixed.{registry}
-use Rattle.wl_end.specs.Core.{Core}
-use Rattle.wl_end.specs.Receiving.{Found}
+use Rattle.wl_wire.specs.Word.{header_bytes}
+use Rattle.wl_wire.specs.declared.header.Header.{Header}
+use Rattle.wl_message.specs.Cut.{usual_limit, front, Whole}
+use Rattle.wl_message.specs.Arrived.{Arrived, without_first}
+use Rattle.wl_end.specs.Core.{Core, past, with_view}
+use Rattle.wl_end.specs.Receiving.{Found, is_none}
 use Rattle.wl_end.specs.Outcomes.{answers_with, left}
 use Rattle.wl_end.proofs.Receivings.{some_reported}
 use Rattle.wl_server.specs.State.{State, Global, Registry, RiseFrom, with_core, untold}
-use Rattle.wl_server.specs.Requests.{Report, request, is_out_full, next_answer, after_next, answer_found, state_found, state_past, registries_after, needs_memory, IsNext}
+use Rattle.wl_server.specs.Requests.{Report, request, made_in, is_out_full, next_answer, after_next, answer_found, state_found, state_past, registries_after, needs_memory, opens_object, IsNext, IsLentNext}
 use Rattle.wl_server.specs.Registries.{without_registry, registry_birth}
-use Rattle.wl_server.specs.Steps.{Step, step_of, step_found, front_step, after_front, after_step, report_by, core_by, core_told, registries_by, state_of, step_needs, IsFront}
+use Rattle.wl_server.specs.declared.pending.PendingRequest.{PendingRequest}
+use Rattle.wl_server.specs.Steps.{Step, pending_in, report_over, taken_report, step_of, step_found, front_step, checked_front, after_front, after_step, report_by, core_by, core_told, core_without, registries_by, state_of}
 use Rattle.wl_server.proofs.Risings.{rise-below, rise-new}
 
 -- ---- the registries
@@ -68,8 +73,12 @@ answer-found core (Err fault) = refl
 answer-found core (Ok None) = refl
 answer-found core (Ok (Some f)) = answer-by core f (is_out_full core f) refl
 
-pub answer-front : (state : State) → state.core.failed ≡ false → next_answer state ≡ report_by (front_step state)
-answer-front state h = ap (λ (b : Bool). if b then Err errors.Failed else answer_found state.core (request state)) h ∙ sym (answer-found state.core (request state))
+pub answer-checked : (state : State) → next_answer state ≡ report_by (checked_front state)
+answer-checked state = by_failed state.core.failed
+  where
+    by_failed : (b : Bool) → (if b then Err errors.Failed else answer_found state.core (request state)) ≡ report_by (if b then Err errors.Failed else front_step state)
+    by_failed true = refl
+    by_failed false = sym (answer-found state.core (request state))
 
 left-by : (state : State) (f : Found) (b : Bool) → is_out_full state.core f ≡ b → after_front state (step_found state.core (Ok (Some f))) ≡ state_found state (Ok (Some f))
 left-by state f true e = rw (e) refl
@@ -87,80 +96,131 @@ left-found state (Err fault) = refl
 left-found state (Ok None) = refl
 left-found state (Ok (Some f)) = left-by state f (is_out_full state.core f) refl
 
-pub left-front : (state : State) → state.core.failed ≡ false → after_next state ≡ after_front state (front_step state)
-left-front state h = ap (λ (b : Bool). if b then state else state_found state (request state)) h ∙ sym (left-found state (request state))
-
--- ---- memory is needed only for arguments
-
-ok-report : (x : Result (Option Step) NextError) → IsOk x → IsOk (report_by x)
-ok-report (Ok None) h = h
-ok-report (Ok (Some step)) h = h
-ok-report (Err why) h = h
-
-needs-report : (x : Result (Option Step) NextError) → answers_with needs_memory (report_by x) ≡ answers_with step_needs x
-needs-report (Ok None) = refl
-needs-report (Ok (Some step)) = refl
-needs-report (Err why) = refl
-
-pub gives-front : (state : State) (x : Result (Option Step) NextError) → state.core.failed ≡ false → IsFront state x → IsNext state (report_by x)
-gives-front state x h g = elim g as (λ _. IsNext state (report_by x)) [
-  | inl e ↦ inl (ap report_by e ∙ sym (answer-front state h))
-  | inr m ↦ inr (ap report_by m.0, ap (answers_with needs_memory) (answer-front state h) ∙ needs-report (front_step state) ∙ m.1, subst IsOk (sym (answer-front state h)) (ok-report (front_step state) m.2))
-]
+pub left-checked : (state : State) → after_next state ≡ after_front state (checked_front state)
+left-checked state = by_failed state.core.failed
+  where
+    by_failed : (b : Bool) → (if b then state else state_found state (request state)) ≡ after_front state (if b then Err errors.Failed else front_step state)
+    by_failed true = refl
+    by_failed false = sym (left-found state (request state))
 
 -- ---- each way that a read goes
 
-after-is : (state : State) (x : Result (Option Step) NextError) → state.core.failed ≡ false → x ≡ front_step state → after_front state x ≡ after_next state
-after-is state x h e = ap (after_front state) e ∙ sym (left-front state h)
+pub after-is : (state : State) (x : Result (Option Step) NextError) → x ≡ checked_front state → after_front state x ≡ after_next state
+after-is state x e = ap (after_front state) e ∙ sym (left-checked state)
 
-either : {A B C : Type 0} → (A → C) → (B → C) → A ⊎ B → C
-either f g (inl a) = f a
-either f g (inr b) = g b
+pub answer-is : (state : State) (x : Result (Option Step) NextError) → x ≡ checked_front state → report_by x ≡ next_answer state
+answer-is state x e = ap report_by e ∙ sym (answer-checked state)
 
-pub leaves-none : (state : State) → state.core.failed ≡ false → IsFront state (Ok None) → state ≡ after_next state
-leaves-none state h g = either (λ e. after-is state (Ok None) h e) (λ m. absurd (cc m.0)) g
+-- what stands in front is never a lack of memory
+no-memory-found : (core : Core) (x : Result (Option Found) Fault) → step_found core x ≢ Err errors.Memory
+no-memory-found core (Err fault) e = cc e
+no-memory-found core (Ok None) e = cc e
+no-memory-found core (Ok (Some f)) e = by_full (is_out_full core f) e
+  where
+    by_full : (b : Bool) → (if b then Err errors.OutFull else Ok (Some (step_of core f))) ≡ Err errors.Memory → ⊥
+    by_full true k = cc k
+    by_full false k = cc k
 
-pub leaves-err : (state : State) (core : Core) (why : NextError) → state.core.failed ≡ false → IsFront state (Err why) → core ≡ core_told state.core why
-    → with_core state core ≡ left state (after_next state) (let it : Result (Option Report) NextError = Err why in it)
-leaves-err state core errors.Memory h g e = ap (with_core state) e
-leaves-err state core errors.Failed h g e = ap (with_core state) e ∙ either (λ a. after-is state (Err errors.Failed) h a) (λ m. absurd (cc m.0)) g
-leaves-err state core errors.OutFull h g e = ap (with_core state) e ∙ either (λ a. after-is state (Err errors.OutFull) h a) (λ m. absurd (cc m.0)) g
-leaves-err state core (errors.Fault fault offset) h g e = ap (with_core state) e ∙ either (λ a. after-is state (Err (errors.Fault fault offset)) h a) (λ m. absurd (cc m.0)) g
+no-memory : (state : State) → checked_front state ≢ Err errors.Memory
+no-memory state = by_failed state.core.failed
+  where
+    by_failed : (b : Bool) → (if b then Err errors.Failed else front_step state) ≢ Err errors.Memory
+    by_failed true e = cc e
+    by_failed false e = no-memory-found state.core (request state) e
 
-pub leaves-some : (state : State) (core : Core) (registries : List Registry) (step : Step) → state.core.failed ≡ false → IsFront state (Ok (Some step))
-    → core ≡ core_by state.core step → registries ≡ registries_by state.core state.registries step → record state { core = core; registries = registries } ≡ after_next state
-leaves-some state core registries step h g c r =
-    (λ i. record state { core = c i; registries = r i }) ∙ either (λ a. after-is state (Ok (Some step)) h a) (λ m. absurd (cc m.0)) g
+-- so what is left after an error is what the error leaves
+pub leaves-err : (state : State) (why : NextError) → Err why ≡ checked_front state → with_core state (core_told state.core why) ≡ left state (after_next state) (let it : Result (Option Report) NextError = Err why in it)
+leaves-err state errors.Memory e = absurd (no-memory state (sym e))
+leaves-err state errors.Failed e = after-is state (Err errors.Failed) e
+leaves-err state errors.OutFull e = after-is state (Err errors.OutFull) e
+leaves-err state (errors.Fault fault offset) e = after-is state (Err (errors.Fault fault offset)) e
 
--- a message without arguments makes no object
+-- what stands in front does not depend on the registries
+pub seen-by : (state : State) (globals : List Global) (x : Result (Option Step) NextError) → state.core.failed ≡ false → globals ≡ state.globals → x ≡ front_step (state_of state.core globals) → x ≡ checked_front state
+seen-by state globals x h e g =
+    subst (λ (l : List Global). x ≡ front_step (state_of state.core l)) e g ∙ sym (ap (λ (b : Bool). if b then Err errors.Failed else front_step state) h)
+
+-- ---- where memory can be refused
+
+-- what was found, behind a step
+found-by : (state : State) (step : Step) → Ok (Some step) ≡ checked_front state → (f : Found) × (request state ≡ Ok (Some f)) × (step ≡ step_of state.core f)
+found-by state step e = by_failed state.core.failed e
+  where
+    by_found : (x : Result (Option Found) Fault) → request state ≡ x → Ok (Some step) ≡ step_found state.core x → (f : Found) × (request state ≡ Ok (Some f)) × (step ≡ step_of state.core f)
+    by_found (Err fault) r k = absurd (cc k)
+    by_found (Ok None) r k = absurd (cc k)
+    by_found (Ok (Some f)) r k = by_full (is_out_full state.core f) k
+      where
+        by_full : (b : Bool) → Ok (Some step) ≡ (if b then Err errors.OutFull else Ok (Some (step_of state.core f))) → (g : Found) × (request state ≡ Ok (Some g)) × (step ≡ step_of state.core g)
+        by_full true q = absurd (cc q)
+        by_full false q = (f, r, cc q)
+
+    by_failed : (b : Bool) → Ok (Some step) ≡ (if b then Err errors.Failed else front_step state) → (f : Found) × (request state ≡ Ok (Some f)) × (step ≡ step_of state.core f)
+    by_failed true k = absurd (cc k)
+    by_failed false k = by_found (request state) refl k
+
+is_made : (o : Option Made) → o ≢ None → is_some o ≡ true
+is_made None h = absurd (h refl)
+is_made (Some m) h = refl
+
+-- a request that opens an object
+pub opens-one : (state : State) (step : Step) → Ok (Some step) ≡ checked_front state → step.made ≢ None → IsLentNext state (let it : Result (Option Report) NextError = Err errors.Memory in it)
+opens-one state step e m =
+    let f = found-by state step e in
+    let answer : next_answer state ≡ Ok (Some step.report) = sym (answer-is state (Ok (Some step)) e) in
+    inr (refl, ap (opens_object state.core) f.1 ∙ (sym (ap (λ (s : Step). is_some s.made) f.2) ∙ is_made step.made m), subst IsOk (sym answer) (search rules))
+
+-- and it has arguments
 made-nothing : (tables : List Interface) (version : ℕ) (ks : List Kind) → made tables version ks [] ≡ None
 made-nothing tables version [] = refl
 made-nothing tables version (k ∷ ks) = refl
 
--- so the report of a request that makes one needs memory
-made-some : (state : State) (x : Result (Option Found) Fault) (step : Step) → Ok (Some step) ≡ step_found state.core x → step.made ≢ None → step_needs step ≡ true
-made-some state (Err fault) step e m = absurd (cc e)
-made-some state (Ok None) step e m = absurd (cc e)
-made-some state (Ok (Some f)) step e m = by_full (is_out_full state.core f) e
-  where
-    has_values : step ≡ step_of state.core f → f.message.values ≢ []
-    has_values same none =
-        m (ap (λ (s : Step). s.made) same ∙ ap (made state.core.tables f.message.entry.version f.message.signature.kinds) none
-        ∙ made-nothing state.core.tables f.message.entry.version f.message.signature.kinds)
+made-some : (core : Core) (f : Found) → made_in core f.message ≢ None → f.message.values ≢ []
+made-some core f m none = m (ap (made core.tables f.message.entry.version f.message.signature.kinds) none ∙ made-nothing core.tables f.message.entry.version f.message.signature.kinds)
 
-    by_full : (b : Bool) → Ok (Some step) ≡ (if b then Err errors.OutFull else Ok (Some (step_of state.core f))) → step_needs step ≡ true
-    by_full true e = absurd (cc e)
-    by_full false e =
-        let same : step ≡ step_of state.core f = cc e in
-        ap step_needs same ∙ some_reported (reader_of state.core.view) state.core.inbox.tokens f.message.values (has_values same)
+pub needs-some : (state : State) (step : Step) → Ok (Some step) ≡ checked_front state → needs_memory step.report ≡ true → IsNext state (let it : Result (Option Report) NextError = Err errors.Memory in it)
+needs-some state step e n =
+    let answer : next_answer state ≡ Ok (Some step.report) = sym (answer-is state (Ok (Some step)) e) in
+    inr (refl, ap (answers_with needs_memory) answer ∙ n, subst IsOk (sym answer) (search rules))
 
-pub memory-wanted : (state : State) (step : Step) → state.core.failed ≡ false → IsFront state (Ok (Some step)) → step.made ≢ None
-    → IsNext state (let it : Result (Option Report) NextError = Err errors.Memory in it)
-memory-wanted state step h g m = either
-    (λ e. (let answer : next_answer state ≡ Ok (Some step.report) = answer-front state h ∙ ap report_by (sym e) in
-    inr (refl, ap (answers_with needs_memory) answer ∙ made-some state (request state) step e m, subst IsOk (sym answer) (search rules))))
-    (λ k. absurd (cc k.0)) g
+pub memory-wanted : (state : State) (step : Step) → Ok (Some step) ≡ checked_front state → step.made ≢ None → IsNext state (let it : Result (Option Report) NextError = Err errors.Memory in it)
+memory-wanted state step e m =
+    let f = found-by state step e in
+    let some : f.0.message.values ≢ [] = made-some state.core f.0 (λ none. m (ap (λ (s : Step). s.made) f.2 ∙ none)) in
+    needs-some state step e (ap (λ (s : Step). needs_memory s.report) f.2 ∙ some_reported (reader_of state.core.view) state.core.inbox.tokens f.0.message.values some)
 
--- what stands in front does not depend on the registries
-pub seen-by : (state : State) (globals : List Global) (x : Result (Option Step) NextError) → globals ≡ state.globals → IsFront (state_of state.core globals) x → IsFront state x
-seen-by state globals x e g = subst (λ (l : List Global). IsFront (state_of state.core l) x) e g
+pub some-args : {X Y : Type 0} (f : X → Y) (xs : List X) → xs ≢ [] → not (is_none (map f xs)) ≡ true
+some-args f [] h = absurd (h refl)
+some-args f (x ∷ xs) h = refl
+
+-- ---- what was taken last
+
+inbox-without : (d : Destroys) (id : ℕ) (core : Core) → (core_without d id core).inbox ≡ core.inbox
+inbox-without Nothing id core = refl
+inbox-without Target id core = refl
+
+pub inbox-taken : (core : Core) (step : Step) → (core_by core step).inbox ≡ without_first core.inbox step.size step.tokens
+inbox-taken core step = inbox-without step.destroys step.report.target.id (past (with_view core (opens core.view step.made)) step.size step.tokens)
+
+-- ---- the tokens of a request in front
+
+pub first-taken : (n : ℕ) (a b : List ℕ) → n ≤ length a → n ≤ length b → ((k : ℕ) → k < n → get_or a k 0 ≡ get_or b k 0) → take n a ≡ take n b
+first-taken zero a b p q f = refl
+first-taken (suc n) [] b p q f = absurd (omega (arith, p))
+first-taken (suc n) (x ∷ a) [] p q f = absurd (omega (arith, q))
+first-taken (suc n) (x ∷ a) (y ∷ b) p q f =
+    let one : x ≡ y = f 0 (omega arith) in
+    let more = first-taken n a b (omega (arith, p)) (omega (arith, q)) (λ k l. f (suc k) (omega (arith, l))) in
+    λ i. one i ∷ more i
+
+-- the body of the message in front
+pub body-front : (bytes body : List ℕ) (n : ℕ) (h : Header) → front usual_limit bytes ≡ Whole n → front usual_limit bytes ≡ Whole h.size → take h.size bytes ≡ header_bytes h ++ body → body ≡ drop 8 (take n bytes)
+body-front bytes body n h f g t =
+    let both = sym f ∙ g in
+    let same : n ≡ h.size = cc both in
+    sym (ap (λ (k : ℕ). drop 8 (take k bytes)) same ∙ ap (drop 8) t)
+
+-- ---- the report that is lent
+
+pub taken-is : (core now : Core) (p : PendingRequest) → now ≡ core_by core (pending_in core p) → taken_report now p ≡ (pending_in core p).report
+taken-is core now p e = ap (λ (k : Core). taken_report k p) e ∙ ap (λ (b : Arrived). report_over b.last b.last_tokens p) (inbox-taken core (pending_in core p))

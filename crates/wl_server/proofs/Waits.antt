@@ -20,7 +20,7 @@ use Rattle.wl_end.specs.Outcomes.{Gives, left}
 use Rattle.wl_end.proofs.Coming.{is_found, past_shorter, none_short}
 use Rattle.wl_end.proofs.Receivings.{some_report}
 use Rattle.wl_end.proofs.Appended.{kept_again, kept_more, behind_again, more_behind}
-use Rattle.wl_server.specs.declared.request.Request.{Request}
+use Rattle.wl_server.specs.declared.request.OwnedRequest.{OwnedRequest}
 use Rattle.wl_server.specs.Seen.{report_of, report_in}
 use Rattle.wl_server.specs.State.{State}
 use Rattle.wl_server.specs.Requests.{Report, IsNext, needs_memory, report, judged, request, destroys_it, made_in, is_out_full, state_past, answer_found, next_answer, state_found, after_next}
@@ -155,12 +155,12 @@ one_more state middle reports r h e = some_then h (some_one e)
 
 -- ---- reports that are appended
 
-pub pushed_kept : {A : Type 0} (xs before reserved after : List (Request A)) (x : Request A) → take (length xs) before ≡ xs → reserved ≡ before → after ≡ reserved ++ x ∷ [] → take (length xs) after ≡ xs
+pub pushed_kept : {A : Type 0} (xs before reserved after : List (OwnedRequest A)) (x : OwnedRequest A) → take (length xs) before ≡ xs → reserved ≡ before → after ≡ reserved ++ x ∷ [] → take (length xs) after ≡ xs
 pushed_kept xs before reserved after x k r e =
     let same : after ≡ before ++ x ∷ [] = e ∙ ap (λ l. l ++ x ∷ []) r in
     kept_again xs before after k (ap (take (length before)) same ∙ kept_more before (x ∷ []))
 
-pub pushed_appended : {A : Type 0} (xs before reserved after : List (Request A)) (x : Request A) → take (length xs) before ≡ xs → reserved ≡ before → after ≡ reserved ++ x ∷ []
+pub pushed_appended : {A : Type 0} (xs before reserved after : List (OwnedRequest A)) (x : OwnedRequest A) → take (length xs) before ≡ xs → reserved ≡ before → after ≡ reserved ++ x ∷ []
     → appended xs after ≡ appended xs before ++ report_of x ∷ []
 pushed_appended xs before reserved after x k r e =
     let same : after ≡ before ++ x ∷ [] = e ∙ ap (λ l. l ++ x ∷ []) r in
@@ -169,14 +169,14 @@ pushed_appended xs before reserved after x k r e =
     ∙ ap (λ l. appended xs before ++ l) (ap (appended before) same ∙ more_behind report_of before (x ∷ []))
 
 -- the report that is read, and what is left
-pub told_read : {A : Type 0} (state new : State) (wants : Bool) (some : Option (Request A)) (x : Request A) → some ≡ Some x → Told state wants (report_in (Ok some)) → next_answer state ≡ Ok (Some (report_of x))
-told_read state new wants some x e t = told_report state new wants (report_of x) (subst (λ (o : Option (Request _)). Told state wants (report_in (Ok o))) e t)
+pub told_read : {A : Type 0} (state new : State) (wants : Bool) (some : Option (OwnedRequest A)) (x : OwnedRequest A) → some ≡ Some x → Told state wants (report_in (Ok some)) → next_answer state ≡ Ok (Some (report_of x))
+told_read state new wants some x e t = told_report state new wants (report_of x) (subst (λ (o : Option (OwnedRequest _)). Told state wants (report_in (Ok o))) e t)
 
-pub told_left : {A : Type 0} (state new : State) (some : Option (Request A)) (x : Request A) → some ≡ Some x → new ≡ left state (after_next state) (report_in (Ok some)) → new ≡ after_next state
-told_left state new some x e l = l ∙ ap (λ (o : Option (Request _)). left state (after_next state) (report_in (Ok o))) e
+pub told_left : {A : Type 0} (state new : State) (some : Option (OwnedRequest A)) (x : OwnedRequest A) → some ≡ Some x → new ≡ left state (after_next state) (report_in (Ok some)) → new ≡ after_next state
+told_left state new some x e l = l ∙ ap (λ (o : Option (OwnedRequest _)). left state (after_next state) (report_in (Ok o))) e
 
 -- a message more
-pub reads_more : {A : Type 0} (state middle new : State) (xs before reserved after : List (Request A)) (x : Request A) → ReadsSome state (appended xs before) middle → next_answer middle ≡ Ok (Some (report_of x))
+pub reads_more : {A : Type 0} (state middle new : State) (xs before reserved after : List (OwnedRequest A)) (x : OwnedRequest A) → ReadsSome state (appended xs before) middle → next_answer middle ≡ Ok (Some (report_of x))
     → new ≡ after_next middle → take (length xs) before ≡ xs → reserved ≡ before → after ≡ reserved ++ x ∷ [] → ReadsSome state (appended xs after) new
 reads_more state middle new xs before reserved after x h e l k r p =
     let reports = pushed_appended xs before reserved after x k r p in
@@ -184,23 +184,23 @@ reads_more state middle new xs before reserved after x h e l k r p =
     (subst (λ (rs : List Report). ReadsSome state rs (after_next middle)) (sym reports) (one_more state middle (appended xs before) (report_of x) h e))
 
 -- a stop
-pub reads_stop : {A : Type 0} (state middle new : State) (xs before reserved : List (Request A)) (why : NextError) → ReadsSome state (appended xs before) middle → middle.core.failed ≡ false
+pub reads_stop : {A : Type 0} (state middle new : State) (xs before reserved : List (OwnedRequest A)) (why : NextError) → ReadsSome state (appended xs before) middle → middle.core.failed ≡ false
     → IsNext middle (Err why) → new ≡ left {R = Option Report} middle (after_next middle) (Err why) → reserved ≡ before → ReadsUntil state (appended xs reserved) (Some why) new
 reads_stop state middle new xs before reserved why h s t l r =
     let until = stopped state middle new (appended xs before) why h (told_error middle new why s t l) in
     subst (λ rs. ReadsUntil state (appended xs rs) (Some why) new) (sym r) until
 
 -- nothing more
-pub reads_end : {A : Type 0} (state middle new : State) (xs before reserved : List (Request A)) (wants : Bool) (some : Option (Request A)) → ReadsSome state (appended xs before) middle → some ≡ None
+pub reads_end : {A : Type 0} (state middle new : State) (xs before reserved : List (OwnedRequest A)) (wants : Bool) (some : Option (OwnedRequest A)) → ReadsSome state (appended xs before) middle → some ≡ None
     → Told middle wants (report_in (Ok some)) → new ≡ left middle (after_next middle) (report_in (Ok some)) → reserved ≡ before → ReadsSome state (appended xs reserved) new × (next_answer new ≡ Ok None)
 reads_end state middle new xs before reserved wants some h n t l r =
-    let e : next_answer middle ≡ Ok None = told_none middle new wants (subst (λ (o : Option (Request _)). Told middle wants (report_in (Ok o))) n t) in
-    let same : new ≡ middle = l ∙ ap (λ (o : Option (Request _)). left middle (after_next middle) (report_in (Ok o))) n ∙ none_leaves middle e in
+    let e : next_answer middle ≡ Ok None = told_none middle new wants (subst (λ (o : Option (OwnedRequest _)). Told middle wants (report_in (Ok o))) n t) in
+    let same : new ≡ middle = l ∙ ap (λ (o : Option (OwnedRequest _)). left middle (after_next middle) (report_in (Ok o))) n ∙ none_leaves middle e in
     let both : State → Type 0 = λ (s : State). ReadsSome state (appended xs reserved) s × (next_answer s ≡ Ok None) in
     subst both (sym same) (subst (λ rs. ReadsSome state (appended xs rs) middle) (sym r) h, e)
 
 -- nothing is read where there is nothing to report
-pub nothing_read : {A : Type 0} (state new : State) (some : Option (Request A)) → (HasReport state → ⊥) → IsNext state (report_in (Ok some)) → new ≡ left state (after_next state) (report_in (Ok some))
+pub nothing_read : {A : Type 0} (state new : State) (some : Option (OwnedRequest A)) → (HasReport state → ⊥) → IsNext state (report_in (Ok some)) → new ≡ left state (after_next state) (report_in (Ok some))
     → ReadsSome state [] new × (next_answer new ≡ Ok None)
 nothing_read state new (Some x) n t l = absurd (n (report_of x, told_report state new _ (report_of x) t))
 nothing_read state new None n t l =

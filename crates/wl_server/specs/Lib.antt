@@ -8,3 +8,5 @@ pub mod Seen
 pub mod Steps
 pub mod Tellings
 pub mod Errors
+pub mod Spelled
+pub mod Lent

@@ -1,11 +1,11 @@
 -- The open registries, in the order of their births, whatever is kept of each.
-use Rattle.std.specs.Prelude.{◌≡◌, ◌⊎◌, ℕ, ◌<◌, Bool, true, false, nat_eq, if◌then◌else◌, List, [], ◌∷◌, ◌++◌, Some}
+use Rattle.std.specs.Prelude.{◌≡◌, ◌⊎◌, ℕ, ◌<◌, Bool, true, false, nat_eq, if◌then◌else◌, List, [], ◌∷◌, ◌++◌, Option, Some, None}
 use Rattle.wl_wire.specs.declared.kind.Iface.{Iface}
 use Rattle.wl_sigs.specs.Fixed.{registry}
 use Rattle.wl_table.specs.declared.object.Object.{Object}
 use Rattle.wl_table.specs.declared.object.Entry.{Entry}
 use Rattle.wl_table.specs.View.{View, look}
-use Rattle.wl_objects.specs.Messages.{same_iface}
+use Rattle.wl_objects.specs.Messages.{Made, same_iface}
 use Rattle.wl_server.specs.State.{Registry, RiseFrom}
 
 -- The registries after an object of this interface was opened: a new registry stands last.
@@ -29,10 +29,23 @@ abbrev pub IsAmong : Object → List Registry → Type 0
 IsAmong object [] = ⊥
 IsAmong object (r ∷ registries) = (r.object ≡ object) ⊎ IsAmong object registries
 
--- Each object of interface wl_registry stands among these, and their births rise.
+-- this is an open object of interface wl_registry
+pub record IsRegistry (view : View) (object : Object) : Type 0 where
+  pub entry : Entry
+  pub row : look view object.id ≡ Some entry
+  pub birth : entry.birth ≡ object.birth
+  pub iface : entry.iface ≡ registry
+
+-- These are the open objects of interface wl_registry: all of them, no other, and by rising births.
 pub record HasRegistries (view : View) (registries : List Registry) : Type 0 where
   pub rising : RiseFrom 0 view.births registries
   pub all : (id : ℕ) (e : Entry) → look view id ≡ Some e → e.iface ≡ registry → IsAmong (record { id = id; birth = e.birth }) registries
+  pub only : (object : Object) → IsAmong object registries → IsRegistry view object
+
+-- the id at which an object is to be opened has no row
+abbrev pub IsFresh : View → Option Made → Type 0
+IsFresh view None = Unit {0}
+IsFresh view (Some m) = look view m.id ≡ None
 
 -- Each birth in a table was counted, and is that of one id.
 pub record BirthsAreOnce (view : View) : Type 0 where

@@ -1,5 +1,5 @@
 -- What a server reads, and what it makes of it.
-use Rattle.std.specs.Prelude.{ℕ, Bool, false, ◌&&◌, not, nat_lt, nat_le, bytes_eq, if◌then◌else◌, List, [], ◌∷◌, codes, Option, Some, None}
+use Rattle.std.specs.Prelude.{ℕ, Bool, false, ◌&&◌, not, nat_lt, nat_le, bytes_eq, if◌then◌else◌, List, [], ◌∷◌, codes, is_some, Option, Some, None}
 use Rattle.std.specs.declared.result.Result.{Result}
 use Rattle.std.specs.declared.result.Result.TheVariants.{Ok, Err}
 use Rattle.wl_wire.specs.Argument.{Argument, Uint, NewNamed}
@@ -139,3 +139,12 @@ after_next state = if state.core.failed then state else state_found state (reque
 -- What `next` answers where memory can be refused: no memory stands only in place of a report that needs some.
 abbrev pub IsNext : State → Result (Option Report) NextError → Type 0
 IsNext state result = Gives errors.Memory (answers_with needs_memory (next_answer state)) (next_answer state) result
+
+-- whether what stands in front opens an object
+abbrev pub opens_object : Core → Result (Option Found) Fault → Bool
+opens_object core (Ok (Some f)) = is_some (made_in core f.message)
+opens_object core _ = false
+
+-- The same for a lent report: no memory stands only in place of a request that opens an object.
+abbrev pub IsLentNext : State → Result (Option Report) NextError → Type 0
+IsLentNext state result = Gives errors.Memory (opens_object state.core (request state)) (next_answer state) result

@@ -3,15 +3,27 @@ use Rattle.std.specs.Prelude.{Option, Some, None}
 use Rattle.std.specs.declared.result.Result.{Result}
 use Rattle.std.specs.declared.result.Result.TheVariants.{Ok, Err}
 use Rattle.wl_objects.specs.declared.error.NextError.{NextError}
+use Rattle.wl_objects.specs.Parsed.{seen_args}
 use Rattle.wl_server.specs.declared.request.Request.{Request}
+use Rattle.wl_server.specs.declared.request.OwnedRequest.{OwnedRequest}
 use Rattle.wl_server.specs.Requests.{Report}
 
 -- what an owned report is
-abbrev pub report_of : {A : Type 0} → Request A → Report
+abbrev pub report_of : {A : Type 0} → OwnedRequest A → Report
 report_of read = record { target = read.target; opcode = read.opcode; args = read.args }
 
--- what `next` answered
-abbrev pub report_in : {A : Type 0} → Result (Option (Request A)) NextError → Result (Option Report) NextError
+-- what `next_owned` answered
+abbrev pub report_in : {A : Type 0} → Result (Option (OwnedRequest A)) NextError → Result (Option Report) NextError
 report_in (Err why) = Err why
 report_in (Ok None) = Ok None
 report_in (Ok (Some read)) = Ok (Some (report_of read))
+
+-- what a lent report is
+abbrev pub lent_report : Request → Report
+lent_report read = record { target = read.target; opcode = read.opcode; args = seen_args read.args }
+
+-- what `next` answered
+abbrev pub lent_in : Result (Option Request) NextError → Result (Option Report) NextError
+lent_in (Err why) = Err why
+lent_in (Ok None) = Ok None
+lent_in (Ok (Some read)) = Ok (Some (lent_report read))

@@ -1,5 +1,5 @@
 -- How a server reads a request: what it makes of the message in front, and then what the reading leaves.
-use Rattle.std.specs.Prelude.{◌≡◌, ◌≢◌, ℕ, ◌≤◌, Bool, if◌then◌else◌, List, [], length, Option, Some, None, IsTrue}
+use Rattle.std.specs.Prelude.{◌≡◌, ◌≢◌, ℕ, ◌≤◌, Bool, if◌then◌else◌, List, [], length, take, drop, Option, Some, None, IsTrue}
 use Rattle.std.specs.declared.result.Result.{Result}
 use Rattle.std.specs.declared.result.Result.TheVariants.{Ok, Err}
 use Rattle.wl_sigs.specs.declared.signature.Destroys.{Destroys}
@@ -11,18 +11,20 @@ use Rattle.wl_objects.specs.declared.error.Fault.{Fault}
 use Rattle.wl_objects.specs.declared.error.NextError.{NextError}
 use Rattle.wl_objects.specs.declared.error.NextError.TheVariants as errors
 use Rattle.wl_table.specs.View.{View, look, closed}
+use Rattle.wl_wire.specs.declared.header.Header.{Header}
 use Rattle.wl_objects.specs.declared.reading.Received.{Received as Read}
-use Rattle.wl_objects.specs.Reading.{reports_of, descriptors}
+use Rattle.wl_objects.specs.Reading.{descriptors}
+use Rattle.wl_objects.specs.declared.parsed.ParsedArg.{ParsedArg}
+use Rattle.wl_objects.specs.Parsed.{reported_in}
 use Rattle.wl_objects.specs.Messages.{Made, Received, made, reader_of, opens}
 use Rattle.wl_end.specs.Core.{Core, past, with_view}
 use Rattle.wl_end.specs.Outcomes.{Gives, answers_with}
 use Rattle.wl_end.specs.Receiving.{Found, takes}
 use Rattle.wl_end.specs.Sending.{with_delete_id, with_error_event, fits, delete_id_len}
-use Rattle.wl_server.specs.declared.step.Step.{Step as OwnedStep}
+use Rattle.wl_server.specs.declared.pending.PendingRequest.{PendingRequest}
 use Rattle.wl_server.specs.State.{State, Global, Registry, with_core}
 use Rattle.wl_server.specs.Requests.{Report, request, report, made_in, is_out_full, registries_after, fault_code, fault_message, needs_memory}
 use Rattle.wl_server.specs.Registries.{without_registry, registry_birth}
-use Rattle.wl_server.specs.Seen.{report_of}
 
 -- what a request is and does: its report, its numbers of bytes and tokens, the object that it makes, and whether it destroys its target
 pub record Step : Type 0 where
@@ -35,32 +37,47 @@ pub record Step : Type 0 where
 abbrev pub step_of : Core → Found → Step
 step_of core f = record { report = report core f; size = f.size; tokens = takes f.message; made = made_in core f.message; destroys = f.message.signature.destroys }
 
--- the same, where these tokens wait first
-abbrev pub step_with : List Interface → View → List ℕ → ℕ → ℕ → Received → Step
-step_with tables view tokens opcode size message = record {
-  report = record { target = message.target; opcode = opcode; args = reports_of (reader_of view) tokens message.values };
-  size = size;
+-- ---- a request that was read and not yet taken
+
+-- its report, over a message's body and tokens
+abbrev pub report_over : List ℕ → List ℕ → PendingRequest → Report
+report_over body tokens p = record { target = p.target; opcode = p.opcode; args = reported_in body p.birth tokens p.args }
+
+-- what it is and does, over the message in front of an end
+abbrev pub pending_in : Core → PendingRequest → Step
+pending_in core p = record {
+  report = report_over (drop 8 (take p.size core.inbox.bytes)) (take p.tokens core.inbox.tokens) p;
+  size = p.size;
+  tokens = p.tokens;
+  made = p.made;
+  destroys = p.destroys;
+}
+
+-- a message as it was read, without where it lies
+abbrev pub received_now : Read → Received
+received_now read = record { target = read.target; entry = read.entry; signature = read.signature.now; values = read.values }
+
+-- what a message is and does, where these are its arguments and a new object gets this birth
+abbrev pub pending_of : List Interface → ℕ → Header → Received → List ParsedArg → PendingRequest
+pending_of tables birth header message args = record {
+  target = message.target;
+  opcode = header.opcode;
+  args = args;
+  birth = birth;
+  size = header.size;
   tokens = descriptors message.signature.kinds;
   made = made tables message.entry.version message.signature.kinds message.values;
   destroys = message.signature.destroys;
 }
 
--- a message that was read, without where it lies
-abbrev pub received_now : Read → Received
-received_now read = record { target = read.target; entry = read.entry; signature = read.signature.now; values = read.values }
+abbrev pub pendings_in : Core → Result (Option PendingRequest) NextError → Result (Option Step) NextError
+pendings_in core (Err why) = Err why
+pendings_in core (Ok None) = Ok None
+pendings_in core (Ok (Some p)) = Ok (Some (pending_in core p))
 
--- whether the report of a step needs memory
-abbrev pub step_needs : Step → Bool
-step_needs step = needs_memory step.report
-
--- what the code's own step is
-abbrev pub step_in : {A : Type 0} → OwnedStep A → Step
-step_in step = record { report = report_of step.report; size = step.size; tokens = step.tokens; made = step.made; destroys = step.destroys }
-
-abbrev pub steps_in : {A : Type 0} → Result (Option (OwnedStep A)) NextError → Result (Option Step) NextError
-steps_in (Err why) = Err why
-steps_in (Ok None) = Ok None
-steps_in (Ok (Some step)) = Ok (Some (step_in step))
+-- its report, over the message that an end took last
+abbrev pub taken_report : Core → PendingRequest → Report
+taken_report core p = report_over core.inbox.last core.inbox.last_tokens p
 
 -- ---- what stands in front
 
@@ -73,7 +90,7 @@ step_found core (Err fault) = Err (errors.Fault fault core.read)
 step_found core (Ok None) = Ok None
 step_found core (Ok (Some f)) = if is_out_full core f then Err errors.OutFull else Ok (Some (step_of core f))
 
--- the request in front, where memory is not wanted
+-- the request in front
 abbrev pub front_step : State → Result (Option Step) NextError
 front_step state = step_found state.core (request state)
 
@@ -89,9 +106,9 @@ pub record CanTake (core : Core) (step : Step) : Type 0 where
   pub not_display : step.destroys ≡ Target → step.report.target.id ≢ 1
   pub room : step.destroys ≡ Target → IsTrue (fits core.outbox delete_id_len 0)
 
--- what is known of the request in front where memory can be refused
-abbrev pub IsFront : State → Result (Option Step) NextError → Type 0
-IsFront state result = Gives errors.Memory (answers_with step_needs (front_step state)) (front_step state) result
+-- the request in front, unless the server has failed
+abbrev pub checked_front : State → Result (Option Step) NextError
+checked_front state = if state.core.failed then Err errors.Failed else front_step state
 
 -- ---- what the reading leaves
 
@@ -116,6 +133,11 @@ abbrev pub core_told : Core → NextError → Core
 core_told core (errors.Fault fault offset) = with_error_event core 1 (fault_code fault) (fault_message fault)
 core_told core why = core
 
+-- the same, where that was what the front came to
+abbrev pub core_unless : {X : Type 0} → Core → Result X NextError → Core
+core_unless core (Ok found) = core
+core_unless core (Err why) = core_told core why
+
 -- what a read leaves, by the step in front
 abbrev pub after_front : State → Result (Option Step) NextError → State
 after_front state (Ok None) = state
@@ -127,3 +149,9 @@ abbrev pub report_by : Result (Option Step) NextError → Result (Option Report)
 report_by (Ok None) = Ok None
 report_by (Ok (Some step)) = Ok (Some step.report)
 report_by (Err why) = Err why
+
+-- what a read answers, by the request that was taken
+abbrev pub taken_in : Core → Result (Option PendingRequest) NextError → Result (Option Report) NextError
+taken_in core (Err why) = Err why
+taken_in core (Ok None) = Ok None
+taken_in core (Ok (Some p)) = Ok (Some (taken_report core p))

@@ -12,7 +12,7 @@ use Rattle.wl_end.specs.declared.streams.ReadAll.{ReadAll}
 use Rattle.wl_end.specs.Core.{with_arrived, no_room}
 use Rattle.wl_end.specs.Streams.{Wants, IsTaken, taken_bytes, taken_tokens, NoneFits}
 use Rattle.wl_server.specs.State.{State, with_core}
-use Rattle.wl_server.specs.declared.request.Request.{Request}
+use Rattle.wl_server.specs.declared.request.OwnedRequest.{OwnedRequest}
 use Rattle.wl_server.specs.Requests.{Report, next_answer, after_next}
 use Rattle.wl_server.specs.Seen.{report_of}
 
@@ -51,7 +51,7 @@ pub record ReadsAll (state : State) (pieces : List Part) (reports : List Report)
   pub to_the_end : answer.stop ≡ None → (answer.part ≡ no_room) × NoneFits (free_tokens last.core.inbox) pieces answer.pieces
 
 -- the reports that stand behind these others
-abbrev pub appended : {A : Type 0} → List (Request A) → List (Request A) → List Report
+abbrev pub appended : {A : Type 0} → List (OwnedRequest A) → List (OwnedRequest A) → List Report
 appended before after = map report_of (drop (length before) after)
 
 -- What waits is read: all of it, with nothing left to read; or up to a stop.

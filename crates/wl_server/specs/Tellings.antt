@@ -6,7 +6,7 @@ use Rattle.wl_table.specs.declared.object.Object.{Object}
 use Rattle.wl_objects.specs.Writing.{message_len}
 use Rattle.wl_end.specs.Core.{Core}
 use Rattle.wl_end.specs.Sending.{with_sent}
-use Rattle.wl_server.specs.declared.announcing.Told.{Told}
+use Rattle.wl_server.specs.declared.announce.Announced.{Announced}
 use Rattle.wl_server.specs.State.{Registry}
 use Rattle.wl_server.specs.Announcing.{Due, Owing, due_len, opcode_of, values_of, with_dues, all_marked}
 
@@ -35,7 +35,7 @@ IsBlocked core [] = ⊥
 IsBlocked core (due ∷ dues) = room_of core.outbox < message_len (values_of core.tables due.owing)
 
 -- All that was owed is told, or as much as fits.
-pub record IsTold (core : Core) (registries : List Registry) (all : List Due) (told : Told) (now : Core) (marked : List Registry) : Type 0 where
+pub record IsTold (core : Core) (registries : List Registry) (all : List Due) (told : Announced) (now : Core) (marked : List Registry) : Type 0 where
   pub rest : List Due
   pub progress : Progress core registries all told.count now marked rest
   pub end : MatchBool told.all (rest ≡ []) (IsBlocked now rest)

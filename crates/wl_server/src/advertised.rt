@@ -7,7 +7,7 @@ use std::marker::Model;
 use wl_objects::Object;
 use wl_wire::Iface;
 
-/// The most globals that a server gives in its life.
+/// The most globals that a server advertises in its life.
 pub(crate) const MAX_GLOBALS: usize = 1024;
 
 /// A global. Its name is its place, counted from 1.

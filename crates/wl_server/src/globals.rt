@@ -13,8 +13,8 @@ use wl_sigs::Tables;
 use wl_wire::{Iface, ValueRef};
 
 impl<'t, T: Table> Server<'t, T> {
-    /// Adds a global, and answers its name. G1 to G4 are tested in their order. The registries are
-    /// told of it by `announce`.
+    /// Adds a global, and returns its name. G1 to G4 are tested in their order. `announce` writes it
+    /// to the registries.
     pub fn add_global(&mut self, iface: Iface, version: u32) -> Result<u32, GlobalError>
         ensures answer { Gives GlobalError.Memory true (add_answer self.old iface version) result }
         ensures ok { OnOk result (self.new ≡ with_global self.old iface version) }
@@ -42,7 +42,7 @@ impl<'t, T: Table> Server<'t, T> {
     }
 
     /// Withdraws a global. G1 is tested before G5. It can still be bound, and `announce` tells the
-    /// registries that were told of it. Takes no memory.
+    /// registries that were told of it. Never returns out of memory.
     pub fn withdraw(&mut self, name: u32) -> Result<(), GlobalError>
         ensures answer { refusal_in result ≡ withdraw_refusal self.old name }
         ensures ok { OnOk result (self.new ≡ after_withdraw self.old name) }

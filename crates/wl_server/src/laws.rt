@@ -6,7 +6,12 @@ ghost use Rattle.wl_message.specs.InStep.{Part, part_bytes, part_tokens};
 ghost use Rattle.wl_objects.specs.declared.error.NextError.{NextError};
 ghost use Rattle.wl_end.specs.Streams.{waiting, BeginWith, IsTaken, taken_bytes, taken_tokens, untaken};
 ghost use Rattle.wl_server.specs.State.{State};
-ghost use Rattle.wl_server.specs.Requests.{Report};
+ghost use Rattle.wl_sigs.specs.Tables.{Interface};
+ghost use Rattle.wl_objects.specs.declared.error.Fault.{Fault};
+ghost use Rattle.wl_server.specs.Announcing.{Due};
+ghost use Rattle.wl_server.specs.Calls.{is_error_text};
+ghost use Rattle.wl_server.specs.Requests.{Report, fault_message};
+ghost use Rattle.wl_server.specs.Spelled.{DeleteSpells, DueSpells, ErrorSpells};
 ghost use Rattle.wl_server.specs.Streams.{Reads, ReadsSome, arrived, ComeInStep};
 
 /// What waits is read in one way. What is read of it is read in the same way when more comes behind
@@ -46,4 +51,14 @@ pub fn whole_messages_are_read()
     ensures { (state last : State) (reports : List Report) (stop : Option NextError)
         → Reads state reports stop last
         → BeginWith state.core.inbox.bytes (length reports) last.core.inbox.bytes }
+{}
+
+/// What a server writes of itself is a spelling by the tables' signature: a delete_id, the error of
+/// a fault or of the compositor, and what a registry is told.
+pub fn own_messages_are_spelled()
+    ensures delete_id { (tables : List Interface) (id : ℕ) → DeleteSpells tables id }
+    ensures error { (tables : List Interface) (object code : ℕ) (text : List ℕ)
+        → ErrorSpells tables object code text }
+    ensures fault { (fault : Fault) → is_error_text (fault_message fault) ≡ true }
+    ensures told { (tables : List Interface) (due : Due) → DueSpells tables due }
 {}

@@ -2,17 +2,19 @@
 #![tactic(auto)]
 
 mod advertised;
-mod announcing;
-mod calling;
+mod announce;
+mod end;
 mod faults;
 mod globals;
 mod laws;
-mod receiving;
+mod pending;
+mod read_all;
+mod receive;
 mod request;
+mod send;
 mod server;
-mod step;
-mod streams;
+mod transport;
 
-pub use laws::{any_cut_reads, one_reading};
-pub use request::{GlobalError, Request};
+pub use laws::{any_cut_reads, one_reading, own_messages_are_spelled};
+pub use request::{GlobalError, OwnedRequest, Request};
 pub use server::Server;

@@ -3,11 +3,20 @@
 use std::alloc::{Allocator, Global};
 use std::error::Error;
 use std::fmt::{self, Display, Formatter};
-use wl_objects::{Gots, Object};
+use wl_objects::{Args, Gots, Object};
+
+/// A request that the server read. Strings, arrays and tokens are lent from the server, until its
+/// next call.
+#[derive(Clone, Copy)]
+pub struct Request<'a> {
+    pub target: Object,
+    pub opcode: u16,
+    pub args: Args<'a>,
+}
 
 /// A request that the server read, in memory of its own.
 #[derive(Debug, Drop)]
-pub struct Request<A: Allocator = Global> {
+pub struct OwnedRequest<A: Allocator = Global> {
     pub target: Object,
     pub opcode: u16,
     pub args: Gots<A>,

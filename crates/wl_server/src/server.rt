@@ -15,12 +15,12 @@ use wl_objects::{Object, Table};
 use wl_sigs::Tables;
 use wl_wire::Iface;
 
-/// The server's end of one connection: its objects, its two boxes, the globals that it gives, and
-/// what each open registry was told of them.
+/// The server's end of one connection: its objects, its two boxes, the globals that it
+/// advertises, and what each open registry was told of them.
 #[derive(Drop)]
 pub struct Server<'t, T: Table> {
     pub(crate) core: Core<'t, T>,
-    /// What gives reports and the marks of registries their memory.
+    /// Allocates owned reports and the marks of registries.
     pub(crate) alloc: T::Alloc,
     /// In the order of their names.
     pub(crate) globals: Vec<Advertised, T::Alloc>,
@@ -72,7 +72,7 @@ impl<'t, T: Table> Server<'t, T> {
         self.core.display()
     }
 
-    /// The interface and version of an object that is live. Answers at a failed server too.
+    /// The interface and version of an object that is live, at a failed server too.
     pub fn live(&self, object: Object) -> Option<(Iface, u32)>
         ensures { result ≡ live self.now.core object }
     {
@@ -100,7 +100,7 @@ impl<'t, T: Table> Server<'t, T> {
         &self.core.table
     }
 
-    /// Takes in what comes: as many tokens as fit, and where these are all, as many bytes as fit.
+    /// Takes in what was received: as many tokens as fit, and if these are all, as many bytes as fit.
     /// A failed server takes nothing. Whatever waits, the inbox can hold the longest message.
     pub fn feed(&mut self, bytes: &[u8], tokens: &[u32]) -> Fed
         ensures fed { result ≡ feeds self.old.core bytes.now tokens.now }
@@ -120,8 +120,8 @@ impl<'t, T: Table> Server<'t, T> {
         self.core.goes(bytes, tokens)
     }
 
-    /// Hands out what waits to go, as much as the slices hold. The tokens of a message go with its
-    /// first byte.
+    /// Moves out what waits to be sent, as much as the slices hold. The tokens of a message go with
+    /// its first byte.
     pub fn take(&mut self, bytes: &mut [u8], tokens: &mut [u32]) -> Taken
         ensures taken { result ≡ goes self.old.core.outbox (length bytes.old) (length tokens.old) }
         ensures bytes { bytes.new ≡ take result.bytes (waiting_bytes self.old.core.outbox)

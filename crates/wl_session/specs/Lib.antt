@@ -1,2 +1,4 @@
 pub mod Meaning
 pub mod Room
+pub mod Copied
+pub mod Tee

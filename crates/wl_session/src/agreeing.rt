@@ -8,7 +8,9 @@ ghost use Rattle.wl_world.specs.Runs.{Agree};
 ghost use Rattle.wl_session.specs.Room.{AreSame};
 
 use crate::pair::Pair;
+use wl_client::Client;
 use wl_objects::{Entry, State, Table};
+use wl_server::Server;
 
 impl<'t, T: Table> Pair<'t, T> {
     /// Whether both ends have the same objects under the same ids, and the client has destroyed none
@@ -18,16 +20,24 @@ impl<'t, T: Table> Pair<'t, T> {
         ensures drained { (world : World) → Stands self.now world → world.ended ≡ false
             → drained self.now → IsTrue result }
     {
-        let client = self.client.table();
-        let server = self.server.table();
-        let used = used_ids(client).max(used_ids(server));
-        for id in 1..used + 1 {
-            if !are_same(client.look(id), server.look(id)) {
-                return false;
-            }
-        }
-        true
+        same_rows(&self.client, &self.server)
     }
+}
+
+/// Whether a client and a server have the same objects under the same ids, and the client has
+/// destroyed none of them.
+pub fn same_rows<T: Table>(client: &Client<'_, T>, server: &Server<'_, T>) -> bool
+    ensures { IsTrue result ↔ Agree client.now.core.view server.now.core.view }
+{
+    let client = client.table();
+    let server = server.table();
+    let used = used_ids(client).max(used_ids(server));
+    for id in 1..used + 1 {
+        if !are_same(client.look(id), server.look(id)) {
+            return false;
+        }
+    }
+    true
 }
 
 /// How many ids were used in a table.

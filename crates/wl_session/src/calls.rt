@@ -5,9 +5,9 @@ ghost use Rattle.wl_server.specs.Seen as server_seen;
 ghost use Rattle.wl_world.specs.Pair.{Does, ClientSend, ClientBind, ServerSend, ServerDrop, PostError, AddGlobal, Withdraw, Announce, ClientNext, ServerNext};
 
 use crate::pair::Pair;
-use wl_client::Incoming;
+use wl_client::OwnedIncoming;
 use wl_objects::{Arg, NextError, Object, SendError, Table};
-use wl_server::{GlobalError, Request};
+use wl_server::{GlobalError, OwnedRequest};
 use wl_wire::Iface;
 
 impl<'t, T: Table> Pair<'t, T> {
@@ -54,7 +54,7 @@ impl<'t, T: Table> Pair<'t, T> {
         self.server.drop_object(object)
     }
 
-    /// The first error that is accepted sets the mark.
+    /// The first error that is accepted sets `ended_at`.
     pub(crate) fn post_error(
         &mut self,
         object: Object,
@@ -88,15 +88,15 @@ impl<'t, T: Table> Pair<'t, T> {
         self.server.announce()
     }
 
-    pub(crate) fn client_next(&mut self) -> Result<Option<Incoming<T::Alloc>>, NextError>
+    pub(crate) fn client_next(&mut self) -> Result<Option<OwnedIncoming<T::Alloc>>, NextError>
         ensures { Does self.old ClientNext (ClientNext (client_seen.report_in result)) self.new }
     {
-        self.client.next()
+        self.client.next_owned()
     }
 
-    pub(crate) fn server_next(&mut self) -> Result<Option<Request<T::Alloc>>, NextError>
+    pub(crate) fn server_next(&mut self) -> Result<Option<OwnedRequest<T::Alloc>>, NextError>
         ensures { Does self.old ServerNext (ServerNext (server_seen.report_in result)) self.new }
     {
-        self.server.next()
+        self.server.next_owned()
     }
 }

@@ -2,8 +2,6 @@
 ghost use Rattle.std.specs.Prelude.{◌≡◌, ◌≤◌, ◌<◌, ◌++◌, length, replicate, OnOk, OnErr};
 ghost use Rattle.wl_message.specs.Outgoing.{goes};
 ghost use Rattle.wl_end.specs.Core.{feeds, with_gone, with_arrived};
-ghost use Rattle.wl_client.specs.State as client_state;
-ghost use Rattle.wl_server.specs.State as server_state;
 ghost use Rattle.wl_recording.specs.Piece.{passed, last_len};
 ghost use Rattle.wl_session.specs.Room.{filled};
 ghost use Rattle.wl_world.specs.Pair.{Does, CarryToServer, CarryToClient, carried_bytes, carried_tokens, all_of};
@@ -12,13 +10,12 @@ ghost use Rattle.wl_session.specs.Meaning.{carried_of};
 use crate::moves::Carried;
 use crate::pair::Pair;
 use std::alloc::{AllocError, Allocator};
-use wl_client::Client;
+use wl_end::End;
 use wl_message::{Fed, Taken};
 use wl_objects::Table;
 use wl_recording::{Direction, Recording};
-use wl_server::Server;
 
-/// Makes the room to record what goes, with zeros in place of its bytes. Nothing is asked for where
+/// Makes the room to record what goes, with zeros in place of its bytes. It allocates nothing where
 /// nothing goes.
 fn prepare<A: Allocator + Clone>(
     recording: &mut Recording<A>,
@@ -48,140 +45,75 @@ fn fill<A: Allocator + Clone>(recording: &mut Recording<A>, bytes: &[u8])
     }
 }
 
-/// Hands to the server what the client hands out into these places, and writes it into the
+/// Moves what waits at one end to the other, as much as these slices hold, and writes it into the
 /// recording.
-fn hand_to_server<'t, T: Table>(
-    client: &mut Client<'t, T>,
-    server: &mut Server<'t, T>,
-    recording: &mut Recording<T::Alloc>,
+fn hand_over<W: End, R: End, A: Allocator + Clone>(
+    from: &mut W,
+    to: &mut R,
+    recording: &mut Recording<A>,
     bytes: &mut [u8],
     tokens: &mut [u32],
 )
-    requires fits { let taken = goes client.old.core.outbox (length bytes.old)
+    requires fits { let taken = goes (W.core from.old).outbox (length bytes.old)
         (length tokens.old) in
-        feeds server.old.core (carried_bytes client.old.core taken)
-        (carried_tokens client.old.core taken) ≡ all_of taken }
-    requires room { let taken = goes client.old.core.outbox (length bytes.old)
+        feeds (R.core to.old) (carried_bytes (W.core from.old) taken)
+        (carried_tokens (W.core from.old) taken) ≡ all_of taken }
+    requires room { let taken = goes (W.core from.old).outbox (length bytes.old)
         (length tokens.old) in
         0 < taken.bytes → taken.bytes ≡ last_len recording.old }
-    ensures client { let taken = goes client.old.core.outbox (length bytes.old)
+    ensures from { let taken = goes (W.core from.old).outbox (length bytes.old)
         (length tokens.old) in
-        client.new ≡ client_state.with_core client.old (with_gone client.old.core taken.bytes) }
-    ensures server { let taken = goes client.old.core.outbox (length bytes.old)
+        from.new ≡ W.with_core from.old (with_gone (W.core from.old) taken.bytes) }
+    ensures to { let taken = goes (W.core from.old).outbox (length bytes.old)
         (length tokens.old) in
-        server.new ≡ server_state.with_core server.old
-        (with_arrived server.old.core (carried_bytes client.old.core taken)
-        (carried_tokens client.old.core taken)) }
-    ensures recording { let taken = goes client.old.core.outbox (length bytes.old)
+        to.new ≡ R.with_core to.old
+        (with_arrived (R.core to.old) (carried_bytes (W.core from.old) taken)
+        (carried_tokens (W.core from.old) taken)) }
+    ensures recording { let taken = goes (W.core from.old).outbox (length bytes.old)
         (length tokens.old) in
-        recording.new ≡ filled recording.old (carried_bytes client.old.core taken) }
+        recording.new ≡ filled recording.old (carried_bytes (W.core from.old) taken) }
 {
-    let taken = client.take(bytes, tokens);
+    let taken = from.take(bytes, tokens);
     let bytes = &bytes[..taken.bytes];
     fill(recording, bytes);
-    server.feed(bytes, &tokens[..taken.tokens]);
+    to.feed(bytes, &tokens[..taken.tokens]);
 }
 
-/// The same by way of these places, within this limit.
-fn pass_to_server<'t, T: Table>(
-    client: &mut Client<'t, T>,
-    server: &mut Server<'t, T>,
-    recording: &mut Recording<T::Alloc>,
-    bytes: &mut Vec<u8, T::Alloc>,
-    tokens: &mut Vec<u32, T::Alloc>,
+/// Does so by way of these buffers, within this limit.
+fn pass<W: End, R: End, A: Allocator + Clone>(
+    from: &mut W,
+    to: &mut R,
+    recording: &mut Recording<A>,
+    bytes: &mut Vec<u8, A>,
+    tokens: &mut Vec<u32, A>,
     limit: Fed,
 )
     requires places { (limit.bytes ≤ length bytes.old.items)
         × (limit.tokens ≤ length tokens.old.items) }
-    requires fits { let taken = goes client.old.core.outbox limit.bytes limit.tokens in
-        feeds server.old.core (carried_bytes client.old.core taken)
-        (carried_tokens client.old.core taken) ≡ all_of taken }
-    requires room { let taken = goes client.old.core.outbox limit.bytes limit.tokens in
+    requires fits { let taken = goes (W.core from.old).outbox limit.bytes limit.tokens in
+        feeds (R.core to.old) (carried_bytes (W.core from.old) taken)
+        (carried_tokens (W.core from.old) taken) ≡ all_of taken }
+    requires room { let taken = goes (W.core from.old).outbox limit.bytes limit.tokens in
         0 < taken.bytes → taken.bytes ≡ last_len recording.old }
-    ensures client { let taken = goes client.old.core.outbox limit.bytes limit.tokens in
-        client.new ≡ client_state.with_core client.old (with_gone client.old.core taken.bytes) }
-    ensures server { let taken = goes client.old.core.outbox limit.bytes limit.tokens in
-        server.new ≡ server_state.with_core server.old
-        (with_arrived server.old.core (carried_bytes client.old.core taken)
-        (carried_tokens client.old.core taken)) }
-    ensures recording { let taken = goes client.old.core.outbox limit.bytes limit.tokens in
-        recording.new ≡ filled recording.old (carried_bytes client.old.core taken) }
+    ensures from { let taken = goes (W.core from.old).outbox limit.bytes limit.tokens in
+        from.new ≡ W.with_core from.old (with_gone (W.core from.old) taken.bytes) }
+    ensures to { let taken = goes (W.core from.old).outbox limit.bytes limit.tokens in
+        to.new ≡ R.with_core to.old
+        (with_arrived (R.core to.old) (carried_bytes (W.core from.old) taken)
+        (carried_tokens (W.core from.old) taken)) }
+    ensures recording { let taken = goes (W.core from.old).outbox limit.bytes limit.tokens in
+        recording.new ≡ filled recording.old (carried_bytes (W.core from.old) taken) }
     ensures as_many { length bytes.new.items ≡ length bytes.old.items }
     ensures as_many_tokens { length tokens.new.items ≡ length tokens.old.items }
 {
     let bytes = &mut bytes[..limit.bytes];
     let tokens = &mut tokens[..limit.tokens];
-    hand_to_server(client, server, recording, bytes, tokens);
-}
-
-/// Hands to the client what the server hands out into these places, and writes it into the
-/// recording.
-fn hand_to_client<'t, T: Table>(
-    server: &mut Server<'t, T>,
-    client: &mut Client<'t, T>,
-    recording: &mut Recording<T::Alloc>,
-    bytes: &mut [u8],
-    tokens: &mut [u32],
-)
-    requires fits { let taken = goes server.old.core.outbox (length bytes.old)
-        (length tokens.old) in
-        feeds client.old.core (carried_bytes server.old.core taken)
-        (carried_tokens server.old.core taken) ≡ all_of taken }
-    requires room { let taken = goes server.old.core.outbox (length bytes.old)
-        (length tokens.old) in
-        0 < taken.bytes → taken.bytes ≡ last_len recording.old }
-    ensures server { let taken = goes server.old.core.outbox (length bytes.old)
-        (length tokens.old) in
-        server.new ≡ server_state.with_core server.old (with_gone server.old.core taken.bytes) }
-    ensures client { let taken = goes server.old.core.outbox (length bytes.old)
-        (length tokens.old) in
-        client.new ≡ client_state.with_core client.old
-        (with_arrived client.old.core (carried_bytes server.old.core taken)
-        (carried_tokens server.old.core taken)) }
-    ensures recording { let taken = goes server.old.core.outbox (length bytes.old)
-        (length tokens.old) in
-        recording.new ≡ filled recording.old (carried_bytes server.old.core taken) }
-{
-    let taken = server.take(bytes, tokens);
-    let bytes = &bytes[..taken.bytes];
-    fill(recording, bytes);
-    client.feed(bytes, &tokens[..taken.tokens]);
-}
-
-/// The same by way of these places, within this limit.
-fn pass_to_client<'t, T: Table>(
-    server: &mut Server<'t, T>,
-    client: &mut Client<'t, T>,
-    recording: &mut Recording<T::Alloc>,
-    bytes: &mut Vec<u8, T::Alloc>,
-    tokens: &mut Vec<u32, T::Alloc>,
-    limit: Fed,
-)
-    requires places { (limit.bytes ≤ length bytes.old.items)
-        × (limit.tokens ≤ length tokens.old.items) }
-    requires fits { let taken = goes server.old.core.outbox limit.bytes limit.tokens in
-        feeds client.old.core (carried_bytes server.old.core taken)
-        (carried_tokens server.old.core taken) ≡ all_of taken }
-    requires room { let taken = goes server.old.core.outbox limit.bytes limit.tokens in
-        0 < taken.bytes → taken.bytes ≡ last_len recording.old }
-    ensures server { let taken = goes server.old.core.outbox limit.bytes limit.tokens in
-        server.new ≡ server_state.with_core server.old (with_gone server.old.core taken.bytes) }
-    ensures client { let taken = goes server.old.core.outbox limit.bytes limit.tokens in
-        client.new ≡ client_state.with_core client.old
-        (with_arrived client.old.core (carried_bytes server.old.core taken)
-        (carried_tokens server.old.core taken)) }
-    ensures recording { let taken = goes server.old.core.outbox limit.bytes limit.tokens in
-        recording.new ≡ filled recording.old (carried_bytes server.old.core taken) }
-    ensures as_many { length bytes.new.items ≡ length bytes.old.items }
-    ensures as_many_tokens { length tokens.new.items ≡ length tokens.old.items }
-{
-    let bytes = &mut bytes[..limit.bytes];
-    let tokens = &mut tokens[..limit.tokens];
-    hand_to_client(server, client, recording, bytes, tokens);
+    hand_over(from, to, recording, bytes, tokens);
 }
 
 impl<'t, T: Table> Pair<'t, T> {
-    /// The room to record it is made before anything moves.
+    /// Carries what waits at the client to the server, at most `most` bytes, and records it. The
+    /// room to record it is made before anything moves.
     pub(crate) fn carry_to_server(&mut self, most: usize) -> Carried
         ensures { Does self.old (CarryToServer most) (CarryToServer (carried_of result)) self.new }
     {
@@ -194,7 +126,7 @@ impl<'t, T: Table> Pair<'t, T> {
         if prepare(&mut self.recording, Direction::ToServer, going).is_err() {
             return Carried::Memory;
         }
-        pass_to_server(
+        pass(
             &mut self.client,
             &mut self.server,
             &mut self.recording,
@@ -208,7 +140,8 @@ impl<'t, T: Table> Pair<'t, T> {
         })
     }
 
-    /// The room to record it is made before anything moves.
+    /// Carries what waits at the server to the client, at most `most` bytes, and records it. The
+    /// room to record it is made before anything moves.
     pub(crate) fn carry_to_client(&mut self, most: usize) -> Carried
         ensures { Does self.old (CarryToClient most) (CarryToClient (carried_of result)) self.new }
     {
@@ -221,7 +154,7 @@ impl<'t, T: Table> Pair<'t, T> {
         if prepare(&mut self.recording, Direction::ToClient, going).is_err() {
             return Carried::Memory;
         }
-        pass_to_client(
+        pass(
             &mut self.server,
             &mut self.client,
             &mut self.recording,

@@ -10,7 +10,7 @@ use std::alloc::Allocator;
 use wl_objects::Arg;
 use wl_wire::Fixed;
 
-/// Puts the arguments, lent, in the place of all that stands in the list.
+/// Replaces what is in the list by these arguments, lent.
 pub fn lend<'m, A: Allocator, B: Allocator>(args: &'m [SendArg<A>], list: &mut Vec<Arg<'m>, B>)
     requires { length args.now ≤ vec_capacity list.old }
     ensures same { given list.new.items ≡ args_of args.now }

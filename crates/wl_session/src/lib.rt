@@ -1,5 +1,5 @@
-//! Both ends of a Wayland connection together, with nothing between: what they are told to do, and
-//! what they answer.
+//! Both ends of a Wayland connection together, with nothing between: the moves that they are given,
+//! and their replies.
 #![tactic(auto)]
 
 mod agreeing;
@@ -9,8 +9,11 @@ mod lending;
 mod moves;
 mod pair;
 mod running;
+mod tee;
 
+pub use agreeing::same_rows;
 pub use moves::{Carried, Move, Reply, SendArg};
 pub use pair::Pair;
+pub use tee::Tee;
 pub use wl_check::{Verdict, check, trace};
 pub use wl_recording::{Direction, Passed, Recording, RecordingError};

@@ -1,10 +1,10 @@
-//! What can be done with a pair, and what it answers.
+//! What can be done with a pair, and the replies.
 
 use std::alloc::{Allocator, Global};
-use wl_client::Incoming;
+use wl_client::OwnedIncoming;
 use wl_message::Fed;
 use wl_objects::{NextError, Object, SendError};
-use wl_server::{GlobalError, Request};
+use wl_server::{GlobalError, OwnedRequest};
 use wl_wire::{Fixed, Iface};
 
 /// One argument of a message that is to be written, in memory of its own.
@@ -56,7 +56,7 @@ pub enum Move<A: Allocator = Global> {
         code: u32,
         text: Vec<u8, A>,
     },
-    /// The server gives a global.
+    /// The server adds a global.
     AddGlobal {
         iface: Iface,
         version: u32,
@@ -65,11 +65,13 @@ pub enum Move<A: Allocator = Global> {
     Withdraw {
         name: u32,
     },
-    /// The server tells its registries of globals.
+    /// The server announces its globals to the open registries.
     Announce,
-    /// At most so many bytes go from the client to the server, and at most what its inbox has room for.
+    /// At most this many bytes go from the client to the server, and at most what its inbox has room
+    /// for.
     CarryToServer(usize),
-    /// At most so many bytes go from the server to the client, and at most what its inbox has room for.
+    /// At most this many bytes go from the server to the client, and at most what its inbox has room
+    /// for.
     CarryToClient(usize),
     /// The client reads a message.
     ClientNext,
@@ -80,13 +82,13 @@ pub enum Move<A: Allocator = Global> {
 /// What a carry did.
 #[derive(Clone, Copy, Debug, PartialEq, Eq)]
 pub enum Carried {
-    /// So much went.
+    /// What went.
     Moved(Fed),
-    /// There is no memory to record what would go, and nothing went.
+    /// Out of memory for the recording of what would go, and nothing went.
     Memory,
 }
 
-/// What a move is answered: what its call answered, under the move's name.
+/// The reply to a move: what its call returned, under the move's name.
 #[derive(Debug, Drop)]
 pub enum Reply<A: Allocator = Global> {
     ClientSend(Result<Option<Object>, SendError>),
@@ -96,10 +98,10 @@ pub enum Reply<A: Allocator = Global> {
     PostError(Result<(), SendError>),
     AddGlobal(Result<u32, GlobalError>),
     Withdraw(Result<(), GlobalError>),
-    /// How many events were written.
+    /// The number of events that were written.
     Announce(Result<usize, SendError>),
     CarryToServer(Carried),
     CarryToClient(Carried),
-    ClientNext(Result<Option<Incoming<A>>, NextError>),
-    ServerNext(Result<Option<Request<A>>, NextError>),
+    ClientNext(Result<Option<OwnedIncoming<A>>, NextError>),
+    ServerNext(Result<Option<OwnedRequest<A>>, NextError>),
 }

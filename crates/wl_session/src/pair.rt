@@ -31,7 +31,7 @@ pub struct Pair<'t, T: Table> {
     // What is on its way in a carry.
     pub(crate) bytes: Vec<u8, T::Alloc>,
     pub(crate) tokens: Vec<u32, T::Alloc>,
-    // What gives lists of replies their memory.
+    // The allocator of the lists of replies.
     pub(crate) alloc: T::Alloc,
 }
 
@@ -93,7 +93,8 @@ impl<'t, T: Table> Pair<'t, T> {
         self.client.is_drained() && self.server.is_drained()
     }
 
-    /// How many objects the client has, those among them that it has destroyed.
+    /// The number of objects that the client has, counting those that it has destroyed and whose
+    /// delete_id has not come.
     pub fn len(&self) -> usize
         ensures { result ≡ row_count self.now.client.core.view.rows }
     {
@@ -107,7 +108,7 @@ impl<'t, T: Table> Pair<'t, T> {
         &self.recording
     }
 
-    /// How many pieces were recorded when the first error was posted.
+    /// The number of pieces that were recorded when the first error was posted.
     pub fn ended_at(&self) -> Option<usize>
         ensures { result ≡ self.now.ended_at }
     {
@@ -115,7 +116,7 @@ impl<'t, T: Table> Pair<'t, T> {
     }
 }
 
-/// Room for so many bytes that a carry moves, and for as many tokens as an inbox can hold.
+/// Buffers for this many bytes that a carry moves, and for as many tokens as an inbox can hold.
 fn buffers<A: Allocator + Clone + Drop>(
     alloc: &A,
     most_bytes: usize,

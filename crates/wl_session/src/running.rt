@@ -14,16 +14,16 @@ use std::alloc::{AllocError, Allocator};
 use wl_objects::{Arg, Table};
 
 impl<'t, T: Table> Pair<'t, T> {
-    /// Does these moves in their order, and answers one reply for each.
+    /// Does these moves in their order, and returns one reply for each.
     ///
-    /// Room for all replies is made first. The error comes only there, and then nothing was done. A
-    /// move that finds no memory later has the reply of its call for that, and the next moves are
-    /// done all the same.
+    /// The list of replies is allocated first. The error comes only there, and then nothing was done.
+    /// A move that runs out of memory later has the reply of its call for that, and the next moves
+    /// are done all the same.
     pub fn run(
         &mut self,
         moves: &[Move<T::Alloc>],
     ) -> Result<Vec<Reply<T::Alloc>, T::Alloc>, AllocError>
-        // each move does what its call does, and is answered what that answers
+        // each move does what its call does, and its reply is what that returns
         ensures does { IfOk result
             (λ replies. DoesAll self.old (moves_of moves.now) (replies_of replies.items) self.new) }
 
@@ -93,7 +93,7 @@ impl<'t, T: Table> Pair<'t, T> {
     }
 }
 
-/// The most arguments that one of these moves hands to a call.
+/// The greatest number of arguments that one of these moves passes to a call.
 fn most_arguments<A: Allocator>(moves: &[Move<A>]) -> usize
     ensures { All (λ action. arguments action ≤ result) moves.now }
 {
@@ -104,7 +104,7 @@ fn most_arguments<A: Allocator>(moves: &[Move<A>]) -> usize
     most
 }
 
-/// How many arguments a move hands to a call.
+/// The number of arguments that a move passes to a call.
 fn arguments<A: Allocator>(action: &Move<A>) -> usize
     ensures { result ≡ arguments action.now }
 {

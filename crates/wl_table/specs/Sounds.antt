@@ -1,5 +1,5 @@
 -- Each function on views keeps a sound view sound, with the freed ids and the count of ids used after each.
-use Rattle.std.proofs.Common.{◌≡◌, ◌≢◌, ℕ, ◌+◌, ◌<◌, ◌≤◌, max, List, [], ◌∷◌, refl, sym, ◌∙◌, ap, cond, Bool, true, false, length, drop, arith, lit≤, eqb, is_some, ⊎_elim}
+use Rattle.std.proofs.Common.{◌≡◌, ◌≢◌, ℕ, ◌+◌, ◌<◌, ◌≤◌, max, List, [], ◌∷◌, refl, sym, ◌∙◌, ap, cond, Bool, true, false, length, drop, arith, lit≤, eqb, is_some, ⊎_elim, inl, inr}
 use Rattle.std.proofs.lemmas.Bool.{cases_eq}
 use Rattle.std.proofs.lemmas.Grind.{common_steps}
 use Rattle.std.proofs.lemmas.Bool.Decides.{nat_tests}
@@ -11,7 +11,7 @@ use Rattle.std.specs.declared.option.Option.TheVariants.{None, Some}
 use Rattle.wl_wire.specs.declared.kind.Iface.{Iface}
 use Rattle.wl_table.specs.declared.object.Entry.{Entry}
 use Rattle.wl_table.specs.declared.object.State.TheVariants.{Live}
-use Rattle.wl_table.specs.View.{View, Sound, look, is_held, is_live, lives_in, times, without, first_or, next_id, free_or_next, has_room, can_open, opening, opened_at, opened, closed, zombie, with_zombie, zombied}
+use Rattle.wl_table.specs.View.{View, Sound, IdsOfBirths, look, is_held, is_live, lives_in, times, without, first_or, next_id, free_or_next, has_room, can_open, opening, opened_at, opened, closed, zombie, with_zombie, zombied}
 use Rattle.wl_table.specs.Views
 use Rattle.wl_table.specs.Views.{in_row, in_list, at_null, unused}
 
@@ -60,6 +60,42 @@ first_used used (x ∷ xs) h = let b = h x in grind (arith, common_steps, nat_te
 pub used-opened : (view : View) (iface : Iface) (version : ℕ) → Sound view → (opened view iface version).used ≡ cond (eqb (length view.freed) 0) (view.used + 1) view.used
 used-opened view iface version s = first_used view.used view.freed (λ x. used_of_freed view x s)
 
+-- the ids of births, with one more birth
+abbrev id_with : (ℕ → ℕ) → ℕ → ℕ → ℕ → ℕ
+id_with id_of births id birth = cond (eqb birth births) id (id_of birth)
+
+id_with-new : (id_of : ℕ → ℕ) (births id birth : ℕ) → birth ≡ births → id_with id_of births id birth ≡ id
+id_with-new id_of births id birth h = grind (arith, common_steps, nat_tests, h)
+
+id_with-old : (id_of : ℕ → ℕ) (births id birth : ℕ) → birth < births → id_with id_of births id birth ≡ id_of birth
+id_with-old id_of births id birth h = grind (arith, common_steps, nat_tests, h)
+
+ids-opened_at : (view : View) (id : ℕ) (iface : Iface) (version : ℕ) → Sound view → free_or_next view id ≡ true → IdsOfBirths (opened_at view id iface version)
+ids-opened_at view id iface version s free =
+    let f = Views.free_is view id s free in
+    let top = f.at_most_next in
+    let null = f.above_null in
+    let ids = s.ids in
+    let new = id_with-new ids.id_of view.births id in
+    let old = id_with-old ids.id_of view.births id in
+    record {
+      id_of = id_with ids.id_of view.births id;
+      used = λ b h. elim (cases_eq b view.births) [
+        | inl p ↦ (let n = new b p in (omega (arith, n, null), grind (arith, common_steps, nat_tests, n)))
+        | inr p ↦ (let l : b < view.births = omega (arith, p, h) in let u = ids.used b l in let o = old b l in
+            let a = u.0 in let c = u.1 in (omega (arith, o, a), grind (arith, common_steps, nat_tests, o, c)))
+      ];
+      given = λ q a b. elim (cases_eq q id) [
+        | inl p ↦ (view.births, (omega arith, new view.births refl ∙ sym p))
+        | inr p ↦ (let l : q ≤ view.used = grind (arith, common_steps, nat_tests, b, top, p) in let g = ids.given q a l in let m = g.1.0 in
+            (g.0, (omega (arith, m), old g.0 g.1.0 ∙ g.1.1)))
+      ];
+      rows = λ q e at. ⊎_elim
+          (λ n. new e.birth (ap birth_of n.1) ∙ sym n.0)
+          (λ o. old e.birth (s.born q e o.1) ∙ ids.rows q e o.1)
+          (Views.row-opened_at view id iface version q e at);
+    }
+
 pub Sound-opened_at : (view : View) (id : ℕ) (iface : Iface) (version : ℕ) → Sound view → free_or_next view id ≡ true → has_room view id ≡ true → Sound (opened_at view id iface version)
 Sound-opened_at view id iface version s free room =
     let f = Views.free_is view id s free in
@@ -91,6 +127,7 @@ Sound-opened_at view id iface version s free room =
           (λ new. let n = ap birth_of new.1 in omega arith)
           (λ old. let b = s.born q e old.1 in omega arith)
           (Views.row-opened_at view id iface version q e at);
+      ids = ids-opened_at view id iface version s free;
       display = (s.display.0, row 1 ∙ grind (common_steps, arith, nat_tests, s.display.1, Views.free_not_display view id s free));
       ids_end = let e = s.ids_end in grind (arith, common_steps, nat_tests, room, e);
       births_end = grind (arith, common_steps, nat_tests, room);
@@ -125,6 +162,12 @@ Sound-opening display =
       count = ap (λ n. n + 0) (len-opening display);
       one_birth = λ p q e d at_p at_q same. (row-opening display p e at_p).0 ∙ sym (row-opening display q d at_q).0;
       born = λ q e at. let b = ap birth_of (row-opening display q e at).1 in omega arith;
+      ids = record {
+        id_of = λ birth. 1;
+        used = λ b h. (lit≤ tt, lit≤ tt);
+        given = λ q a b. (0, (lit≤ tt, omega (arith, a, b)));
+        rows = λ q e at. sym (row-opening display q e at).0;
+      };
       display = (display, row 1);
       ids_end = lit≤ tt;
       births_end = lit≤ tt;
@@ -152,6 +195,7 @@ Sound-closed view id s held other =
       count = let c = s.count in let k = len-remove nat_cmp_total view.rows id in let some = held_len view.rows id held in grind (arith, common_steps, c, k, some, held);
       one_birth = λ p q e d at_p at_q same. s.one_birth p q e d (Views.row-closed view id p e at_p).1 (Views.row-closed view id q d at_q).1 same;
       born = λ q e at. s.born q e (Views.row-closed view id q e at).1;
+      ids = let i = s.ids in record { id_of = i.id_of; used = i.used; given = i.given; rows = λ q e at. i.rows q e (Views.row-closed view id q e at).1 };
       display = (s.display.0, Views.look-closed view id 1 ∙ grind (common_steps, arith, nat_tests, s.display.1, other));
       ids_end = s.ids_end;
       births_end = s.births_end;
@@ -195,6 +239,14 @@ Sound-zombied view id s other =
           let b = s.born q z.0 z.1.0 in
           let n : birth_of e ≡ birth_of z.0 = ap birth_of z.1.1 ∙ same_birth (eqb q id) z.0 in
           omega arith;
+      ids = let i = s.ids in record {
+        id_of = i.id_of;
+        used = i.used;
+        given = i.given;
+        rows = λ q e at.
+            let z = Views.row-zombied view id q e at in
+            ap i.id_of (ap birth_of z.1.1 ∙ same_birth (eqb q id) z.0) ∙ i.rows q z.0 z.1.0;
+      };
       display = (s.display.0, Views.look-zombied view id 1 ∙ grind (common_steps, arith, nat_tests, s.display.1, other));
       ids_end = s.ids_end;
       births_end = s.births_end;

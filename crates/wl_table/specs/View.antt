@@ -53,6 +53,14 @@ times id (x ∷ xs) = cond (eqb x id) 1 0 + times id xs
 abbrev pub places : View → ℕ → ℕ
 places view id = cond (is_held view id) 1 0 + times id view.freed
 
+-- The ids used are those that births were given: each birth that was counted got one of them, each of them was given to such a birth, and
+-- a row has the id of its birth.
+pub record IdsOfBirths (view : View) : Type 0 where
+  pub id_of : ℕ → ℕ
+  pub used : (birth : ℕ) → birth < view.births → (0 < id_of birth) × (id_of birth ≤ view.used)
+  pub given : (id : ℕ) → 0 < id → id ≤ view.used → (birth : ℕ) × ((birth < view.births) × (id_of birth ≡ id))
+  pub rows : (id : ℕ) (e : Entry) → look view id ≡ Some e → id_of e.birth ≡ id
+
 -- What always holds of a table.
 pub record Sound (view : View) : Type 0 where
   -- every id from 1 to the number used is in a row or once among the freed ids
@@ -65,6 +73,8 @@ pub record Sound (view : View) : Type 0 where
   -- no birth stands twice, and each is below the number of births
   pub one_birth : (id other : ℕ) (e d : Entry) → look view id ≡ Some e → look view other ≡ Some d → e.birth ≡ d.birth → id ≡ other
   pub born : (id : ℕ) (e : Entry) → look view id ≡ Some e → e.birth < view.births
+  -- the ids used are those that these births were given
+  pub ids : IdsOfBirths view
   -- id 1 is wl_display, the first object, for good
   pub display : (iface : Iface) × (look view 1 ≡ Some (record { birth = 0; iface = iface; version = 1; state = Live }))
   -- the limits

@@ -1,4 +1,4 @@
-//! What follows of the definitions of a table, each law as the contract of a function that does
+//! What follows from the definitions of a table. Each law is the contract of a function that does
 //! nothing.
 ghost use Rattle.std.specs.Prelude.{◌≡◌, ◌≢◌, ℕ, ◌+◌, true, not, ◌&&◌, ltb, leb, eqb, length, drop, if◌then◌else◌};
 ghost use Rattle.wl_wire.specs.declared.kind.Iface.{Iface};

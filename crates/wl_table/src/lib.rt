@@ -14,4 +14,4 @@ mod table;
 pub use map_table::MapTable;
 pub use object::{Entry, Object, State, TableError};
 pub use slot_table::SlotTable;
-pub use table::Table;
+pub use table::{DISPLAY_ID, MAX_IDS, Table};

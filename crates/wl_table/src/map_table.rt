@@ -4,7 +4,7 @@ ghost use Rattle.std.specs.Ordering.{nat_cmp};
 ghost use Rattle.std.specs.FinMap.{from_entries, insert as with_row};
 ghost use Rattle.wl_table.specs.View.{View, free_or_next, has_room, next_id, opened_at, times, without};
 
-use super::table::MAX_IDS;
+use super::table::{DISPLAY_ID, MAX_IDS};
 use super::{Entry, Object, State, Table, TableError};
 use std::alloc::{AllocError, Allocator, Global};
 use std::collections::BTreeMap;
@@ -61,7 +61,7 @@ fn insert_row<A: Allocator + Clone>(
     }
 }
 
-/// Takes an id out of the freed ids, wherever it stands.
+/// Removes an id from the freed ids, wherever it stands.
 fn take_out<A: Allocator>(freed: &mut Vec<u32, A>, id: u32)
     requires { times id freed.old.items ≤ 1 }
     ensures items { freed.new.items ≡ without id freed.old.items }
@@ -124,7 +124,7 @@ impl<A: Allocator + Clone + Drop> Table for MapTable<A> {
         let freed = Vec::with_capacity(alloc.clone()?, 1)?;
         let mut rows = BTreeMap::new(alloc);
         rows.insert(
-            1,
+            DISPLAY_ID,
             Entry {
                 birth: 0,
                 iface: display,
@@ -135,7 +135,7 @@ impl<A: Allocator + Clone + Drop> Table for MapTable<A> {
         Ok(MapTable {
             rows,
             freed,
-            used: 1,
+            used: DISPLAY_ID,
             births: 1,
         })
     }

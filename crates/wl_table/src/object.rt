@@ -27,8 +27,8 @@ pub struct Entry {
     pub state: State,
 }
 
-/// An object of one end: its id, and the birth that tells it from the earlier and later objects
-/// with that id.
+/// An object of one end: its id, and its birth, by which it differs from the earlier and later
+/// objects with that id.
 #[derive(Clone, Copy, Debug, PartialEq, Eq)]
 pub struct Object {
     /// The object's id on the wire.
@@ -46,7 +46,7 @@ pub enum TableError {
     NotNext,
     /// O3: the id has an entry.
     InUse,
-    /// O4: there is no memory for the entry or for its later closing.
+    /// O4: out of memory, for the entry or for its later closing.
     Memory,
 }
 

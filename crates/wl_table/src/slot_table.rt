@@ -49,7 +49,7 @@ impl Slot {
 ///
 /// Id `n` has the slot `n - 1`, of 24 bytes. A slot holds the row of its id, or, where the id is
 /// freed, its neighbours in the chain of freed ids, so that an id is taken out of the middle
-/// without a walk. Only an opening at a new id takes memory, and only where the vector is full:
+/// without a walk. Only an opening at a new id allocates, and only where the vector is full:
 /// it doubles then, up to 1,048,576 slots.
 #[derive(Drop)]
 pub struct SlotTable<A: Allocator = Global> {
@@ -149,7 +149,7 @@ impl<A: Allocator> SlotTable<A> {
         }
     }
 
-    /// Opens an object at a freed id. Takes no memory.
+    /// Opens an object at a freed id. It allocates nothing.
     fn open_freed(&mut self, id: u32, iface: Iface, version: u32) -> Object
         requires freed { 0 < times id self.old.freed }
         requires room { IsTrue (has_room self.old id) }

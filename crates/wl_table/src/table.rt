@@ -8,14 +8,17 @@ use std::alloc::{AllocError, Allocator};
 use wl_wire::Iface;
 
 /// The most ids that a connection has, id 1 counted.
-pub(crate) const MAX_IDS: u32 = 1_048_576;
+pub const MAX_IDS: u32 = 1_048_576;
+
+/// The id of wl_display.
+pub const DISPLAY_ID: u32 = 1;
 
 /// The objects of one end: a row for each id in use, the list of freed ids, latest first, the
 /// number of ids ever used, and the number of births.
 ///
 /// Id 1 is wl_display for good. Every call that is refused leaves the table as it was.
 pub trait Table {
-    /// What gives the table its memory.
+    /// The allocator of the table's memory.
     type Alloc: Allocator + Clone + Drop;
 
     ghost view: { Self → View };
@@ -29,7 +32,7 @@ pub trait Table {
         ensures entry { result ≡ look (view self.now) id }
         ensures sound { Sound (view self.now) };
 
-    /// Whether an id is freed or the next new one, so that `open_at` answers neither O2 nor O3.
+    /// Whether an id is freed or the next new one, so that `open_at` returns neither O2 nor O3.
     fn is_free(&self, id: u32) -> bool
         ensures { result ≡ free_or_next (view self.now) id };
 
@@ -37,7 +40,7 @@ pub trait Table {
     fn has_room(&self, id: u32) -> bool
         ensures { result ≡ has_room (view self.now) id };
 
-    /// Whether `open_next` would not answer O1.
+    /// Whether the limits leave room for one more object, so that `open_next` does not return O1.
     fn can_open(&self) -> bool
         ensures { result ≡ can_open (view self.now) };
 
@@ -80,14 +83,14 @@ pub trait Table {
         ensures no_ids { (result ≡ Err TableError.NoIds)
             ↔ IsTrue (free_or_next (view self.old) id && not (has_room (view self.old) id)) };
 
-    /// Makes a live object a zombie: its id stays in use. Takes no memory.
+    /// Makes a live object a zombie: its id stays in use. It allocates nothing.
     fn make_zombie(&mut self, id: u32)
         requires live { IsTrue (is_live (view self.old) id) }
         requires not_display { id ≢ 1 }
         ensures { view self.new ≡ zombied (view self.old) id };
 
-    /// Takes an object's entry away and frees its id, which is then the first to be used again.
-    /// Takes no memory.
+    /// Removes an object's entry and frees its id, which is then the first to be used again. It
+    /// allocates nothing.
     fn close(&mut self, id: u32)
         requires held { IsTrue (is_held (view self.old) id) }
         requires not_display { id ≢ 1 }

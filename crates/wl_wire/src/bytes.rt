@@ -9,7 +9,7 @@ use std::marker::Model;
 
 /// Bytes of a string or an array, in memory of their own.
 ///
-/// It is made from a `Vec` and gives it back without taking memory.
+/// It is made from a `Vec` and turns back into one without an allocation.
 #[derive(Debug, Drop)]
 pub struct Bytes<A: Allocator = Global> {
     items: Vec<u8, A>,

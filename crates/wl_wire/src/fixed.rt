@@ -9,7 +9,7 @@ use std::fmt;
 /// (Section "Wire Format", fixed.)
 #[derive(Clone, Copy, Debug, Default, PartialEq, Eq, PartialOrd, Ord, Hash)]
 pub struct Fixed {
-    /// How many 256ths.
+    /// The number of 256ths.
     parts: i32,
 }
 
@@ -21,7 +21,7 @@ impl Fixed {
         Fixed { parts: raw }
     }
 
-    /// How many 256ths the number is.
+    /// The number in 256ths.
     pub fn raw(self) -> i32
         ensures { result ≡ units self }
     {

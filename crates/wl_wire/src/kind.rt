@@ -49,7 +49,7 @@ pub enum ArgFault {
 pub enum ReadError {
     /// The bytes begin with no spelling of the kind.
     Arg(ArgFault),
-    /// There is no memory for the value's bytes.
+    /// Out of memory, for the value's bytes.
     Memory,
 }
 

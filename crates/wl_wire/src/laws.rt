@@ -10,7 +10,8 @@ ghost use Rattle.wl_wire.specs.Reading.{reading};
 ghost use Rattle.wl_wire.specs.Spelling.{Spells, Suits, canonical, spelled_len};
 ghost use Rattle.wl_wire.specs.Word.{IsHeader, header_at, header_bytes, int_word, word};
 
-/// No spelling of a kind begins another: the bytes fix the value, and how many of them spell it.
+/// No spelling of a kind begins another: the bytes fix the value, and the number of bytes that
+/// spell it.
 pub fn one_spelling()
     ensures { (kind : SpecKind) (v w : Argument) (a b x y : List ℕ) → Spells kind v a
         → Spells kind w b

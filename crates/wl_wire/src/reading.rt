@@ -11,8 +11,8 @@ use crate::kind::{ArgFault, Kind};
 use crate::value::ValueRef;
 use crate::word::{int_at, padded_len, word_at};
 
-/// The argument of this kind at the front of the bytes, with how many bytes spell it. What stands
-/// behind it is not looked at, and padding may be any bytes.
+/// The argument of this kind at the front of the bytes, with the number of bytes that spell it.
+/// What stands behind it is not looked at, and padding may be any bytes.
 pub fn read_ref<'a>(kind: Kind, bytes: &'a [u8]) -> Result<(ValueRef<'a>, usize), ArgFault>
     // What is read is spelled so.
     ensures found { IfOk result
@@ -37,7 +37,7 @@ fn front_of<'a>(kind: Kind, bytes: &'a [u8]) -> Result<(ValueRef<'a>, usize), Ar
     }
 }
 
-/// How many bytes the argument at the front takes, if they are all there.
+/// The number of bytes of the argument at the front, if they are all there.
 fn len_at(kind: Kind, bytes: &[u8]) -> Result<usize, ArgFault>
     ensures { result ≡ (if nat_lt (length bytes.now) (asked kind bytes.now) then Err Short else Ok
         (asked kind bytes.now)) }

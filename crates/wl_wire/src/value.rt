@@ -86,7 +86,7 @@ impl<'a> ValueRef<'a> {
         }
     }
 
-    /// How many bytes spell the value. Asks `fits`.
+    /// The number of bytes that spell the value, which must pass `fits`.
     pub fn spelled_len(self) -> usize
         requires { Fits (lent self) }
         ensures { result ≡ spelled_len (lent self.entry) }

@@ -9,7 +9,7 @@ use crate::word::padded_len;
 use byteorder::{ByteOrder, LittleEndian};
 use std::alloc::{AllocError, Allocator};
 
-/// Appends the bytes of a value, padded with zeros. Asks `fits`. No memory is taken where the
+/// Appends the bytes of a value that `fits`, padded with zeros. It allocates nothing where the
 /// vector has spare room for them.
 pub fn encode_value<A: Allocator>(
     value: ValueRef<'_>,

@@ -201,6 +201,10 @@ client_aged v x n Target g a = λ id e h.
     let q = ap (λ (d : Entry). d.version) z.1.1 ∙ kept_version (eqb id x) z.0 in
     omega (arith, k, q)
 
+pub server_aged : (v : View) (x : ℕ) (n : Option Known) (what : Destroys) → IfThere (λ y. 1 ≤ y.born.version) n → Aged v → Aged (after Server v (option_map made_of n) what x)
+server_aged v x n Nothing g a = opens_aged v n g a
+server_aged v x n Target g a = λ id e h. opens_aged v n g a id e (row-closed (opens v (option_map made_of n)) x id e h).1
+
 pub closed_aged : (v : View) (x : ℕ) → Aged v → Aged (closed v x)
 closed_aged v x a = λ id e h. a id e (row-closed v x id e h).1
 

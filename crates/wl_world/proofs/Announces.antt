@@ -1,5 +1,5 @@
 -- The server announces globals.
-use Rattle.std.proofs.Common.{◌≡◌, ℕ, zero, suc, ◌+◌, ◌≤◌, Bool, true, false, cond, List, [], ◌∷◌, ◌++◌, map, take, length, refl, sym, ap, subst, ◌∙◌, arith}
+use Rattle.std.proofs.Common.{◌≡◌, ℕ, zero, suc, ◌+◌, ◌≤◌, Bool, true, false, cond, List, [], ◌∷◌, ◌++◌, map, take, length, refl, sym, ap, subst, ◌∙◌, inl, inr, arith}
 use Rattle.std.specs.Prelude.{option_map, nat_eq, ◌&&◌, slice_get, codes}
 use Rattle.std.specs.declared.option.Option.{Option}
 use Rattle.std.specs.declared.option.Option.TheVariants.{None, Some}
@@ -18,6 +18,7 @@ use Rattle.wl_sigs.specs.Fixed as fixed
 use Rattle.wl_sigs.specs.Valid.{Valid}
 use Rattle.wl_message.specs.Outgoing.{message}
 use Rattle.wl_objects.specs.declared.error.SendError.{SendError}
+use Rattle.wl_table.specs.declared.object.Object.{Object}
 use Rattle.wl_table.specs.View.{View, max_ids}
 use Rattle.wl_objects.specs.Messages.{Server as server_end, after}
 use Rattle.wl_objects.specs.Writing.{message_bytes}
@@ -27,16 +28,17 @@ use Rattle.wl_server.specs.State as server
 use Rattle.wl_server.specs.State.{Global, Registry, global_of, max_globals}
 use Rattle.wl_server.specs.Calls.{can_be_global, version_in}
 use Rattle.wl_server.specs.Announcing.{Owing, Removal, Telling, owes_removal, owes_telling, owings, owed_to, Due, due_to, owed_in, owed, name_at, opcode_of, values_of, with_dues, marked, marked_in, all_marked}
+use Rattle.wl_server.specs.Registries.{IsAmong, IsRegistry}
 use Rattle.wl_server.proofs.Registries.{has_marked}
-use Rattle.wl_world.specs.Meant.{Born, Known, Message, Coming, Event, Arg, renamed, rearg, born_of, birth_of, wire, tokens, made_in, objects}
+use Rattle.wl_world.specs.Meant.{Born, Known, Message, Coming, Event, Arg, renamed, rearg, born_of, birth_of, wire, tokens, made_in, objects, plain}
 use Rattle.wl_world.specs.World.{World, Each, event_written}
 use Rattle.wl_world.specs.Pair.{PairState, Announce, with_server, with_server_core, Announces, announced, refused}
-use Rattle.wl_world.specs.Answers.{NotEnded, Owed, owed_by, mark, mark_in, told_args, WritesThat, AnnouncesThose, none, more, before}
+use Rattle.wl_world.specs.Answers.{NotEnded, Owed, owed_by, mark_in, marks_of, registry_of, told_args, WritesThat, AnnouncesThose, none, more, before}
 use Rattle.wl_world.specs.Flight.{Rows, server_rows}
-use Rattle.wl_world.specs.Stands.{stands, StandsBy, TellsFitly, IsRegistry, IsGlobal, marks_of}
+use Rattle.wl_world.specs.Stands.{stands, StandsBy, TellsFitly, IsGlobal}
 use Rattle.wl_world.specs.Runs.{Keeps}
 use Rattle.wl_world.proofs.Wholes.{ThereRow}
-use Rattle.wl_world.proofs.Afters.{there_row, made_map}
+use Rattle.wl_world.proofs.Afters.{there_row, made_map, Aged}
 use Rattle.wl_world.proofs.Calls.{row_low}
 use Rattle.wl_world.proofs.ServerTells.{CanTell, told_core, tell_stands}
 use Rattle.wl_world.proofs.ServerSend.{tells_world}
@@ -84,15 +86,25 @@ pub record IsDue (tables : List Interface) (given : List Global) (s : Rows Born)
   pub there : s.rows d.object.id ≡ Some (record { birth = d.object.birth; iface = registry; version = version })
   pub owing : IsOwing tables given d.owing
 
-dues_of : (tables : List Interface) (given : List Global) (s : Rows Born) (r : Registry) (os : List Owing) → IsRegistry s r → Each (IsOwing tables given) os
-    → Each (IsDue tables given s) (map (λ o. record { object = r.object; owing = o }) os)
-dues_of tables given s r [] i h = tt
-dues_of tables given s r (o ∷ os) i h = (record { version = i.version; some = i.some; there = i.there; owing = h.0 }, dues_of tables given s r os i h.1)
+dues_of : (tables : List Interface) (given : List Global) (v : View) (o : Object) (os : List Owing) → Aged v → IsRegistry v o → Each (IsOwing tables given) os
+    → Each (IsDue tables given (server_rows v)) (map (λ x. record { object = o; owing = x }) os)
+dues_of tables given v o [] a i h = tt
+dues_of tables given v o (x ∷ os) a i h = (
+  record {
+    version = i.entry.version;
+    some = a o.id i.entry i.row;
+    there = ap (option_map plain) i.row ∙ (λ j. Some (record { birth = i.birth j; iface = i.iface j; version = i.entry.version }));
+    owing = h.0;
+  },
+  dues_of tables given v o os a i h.1,
+)
 
-all_due : (tables : List Interface) (given : List Global) (s : Rows Born) (rs : List Registry) → length given ≤ max_globals → Each (IsGlobal tables) given → Each (IsRegistry s) rs → Each (IsDue tables given s) (owed_in given rs)
-all_due tables given s [] l g i = tt
-all_due tables given s (r ∷ rs) l g i =
-    each_join (IsDue tables given s) (due_to given r) (owed_in given rs) (dues_of tables given s r (owed_to given r) i.0 (owing_all tables given r l g)) (all_due tables given s rs l g i.1)
+all_due : (tables : List Interface) (given : List Global) (v : View) (rs : List Registry) → length given ≤ max_globals → Each (IsGlobal tables) given → Aged v → ((o : Object) → IsAmong o rs → IsRegistry v o)
+    → Each (IsDue tables given (server_rows v)) (owed_in given rs)
+all_due tables given v [] l g a i = tt
+all_due tables given v (r ∷ rs) l g a i =
+    each_join (IsDue tables given (server_rows v)) (due_to given r) (owed_in given rs) (dues_of tables given v r.object (owed_to given r) a (i r.object (inl refl)) (owing_all tables given r l g))
+    (all_due tables given v rs l g a (λ o h. i o (inr h)))
 
 each_take : {X : Type 0} (P : X → Type 0) (n : ℕ) (xs : List X) → Each P xs → Each P (take n xs)
 each_take P zero xs h = tt
@@ -122,26 +134,15 @@ take_map f zero xs = refl
 take_map f (suc n) [] = refl
 take_map f (suc n) (x ∷ xs) = ap (λ (l : List _). f x ∷ l) (take_map f n xs)
 
-mark_one : (o : Owing) (r : Registry) → marks_of (marked o r) ≡ mark o (marks_of r)
-mark_one (Removal name) r = refl
-mark_one (Telling name g) r = refl
-
-pick : (b : Bool) (o : Owing) (r : Registry) → marks_of (cond b (marked o r) r) ≡ cond b (mark o (marks_of r)) (marks_of r)
-pick true o r = mark_one o r
+-- a registry is marked alike under any id
+pick : (b : Bool) (o : Owing) (r : Registry) → let s = registry_of (marks_of r) in marks_of (cond b (marked o r) r) ≡ marks_of (cond b (marked o s) s)
+pick true (Removal name) r = refl
+pick true (Telling name g) r = refl
 pick false o r = refl
 
 pub marks_marked : (d : Due) (rs : List Registry) → map marks_of (marked_in d rs) ≡ mark_in (owed_of d) (map marks_of rs)
 marks_marked d [] = refl
 marks_marked d (r ∷ rs) = λ i. pick (nat_eq r.object.birth d.object.birth) d.owing r i ∷ marks_marked d rs i
-
-registry_pick : (s : Rows Born) (b : Bool) (o : Owing) (r : Registry) → IsRegistry s r → IsRegistry s (cond b (marked o r) r)
-registry_pick s true (Removal name) r h = record { version = h.version; some = h.some; there = h.there }
-registry_pick s true (Telling name g) r h = record { version = h.version; some = h.some; there = h.there }
-registry_pick s false o r h = h
-
-registries_marked : (s : Rows Born) (d : Due) (rs : List Registry) → Each (IsRegistry s) rs → Each (IsRegistry s) (marked_in d rs)
-registries_marked s d [] h = tt
-registries_marked s d (r ∷ rs) h = (registry_pick s (nat_eq r.object.birth d.object.birth) d.owing r h.0, registries_marked s d rs h.1)
 
 -- ---- the event
 
@@ -308,6 +309,7 @@ marked_stands p w asked told s d = record {
   server_sound = s.server_sound;
   client_display = s.client_display;
   server_display = s.server_display;
+  server_versions = s.server_versions;
   server_live = s.server_live;
   requests = s.requests;
   events = s.events;
@@ -324,8 +326,7 @@ marked_stands p w asked told s d = record {
   remembers = s.remembers;
   globals = s.globals;
   few_globals = s.few_globals;
-  open_registries = registries_marked (server_rows p.server.core.view) d p.server.registries s.open_registries;
-  all_registries = has_marked p.server.core.view d p.server.registries s.all_registries;
+  open_registries = has_marked p.server.core.view d p.server.registries s.open_registries;
 }
 
 pub record Told (p : PairState) (w : World) (asked : List (Message Known)) (ds : List Due) (after_all : PairState) : Type 0 where
@@ -375,7 +376,7 @@ pub announce_keeps : (p : PairState) (w : World) (asked : List (Message Known)) 
 announce_keeps p w asked told s z reply p' (announced {count = count} l f) =
     let ds = take count (owed p.server) in
     let due = each_take (IsDue p.server.core.tables p.server.globals (server_rows p.server.core.view)) count (owed p.server)
-    (all_due p.server.core.tables p.server.globals (server_rows p.server.core.view) p.server.registries s.few_globals s.globals s.open_registries) in
+    (all_due p.server.core.tables p.server.globals p.server.core.view p.server.registries s.few_globals s.globals s.server_versions s.open_registries.only) in
     let r = tell_all p w asked told s z ds due in
     let owes : take count (owed_by w.given w.registries) ≡ map owed_of ds =
     ap (take count) ((λ i. owed_by (s.given i) (s.registries i)) ∙ owed_same p.server.globals p.server.registries) ∙ take_map owed_of count (owed p.server) in

@@ -37,6 +37,7 @@ to_server_stands p w asked told most s = record {
   server_sound = s.server_sound;
   client_display = s.client_display;
   server_display = s.server_display;
+  server_versions = s.server_versions;
   server_live = s.server_live;
   requests = s.requests;
   events = s.events;
@@ -54,7 +55,6 @@ to_server_stands p w asked told most s = record {
   globals = s.globals;
   few_globals = s.few_globals;
   open_registries = s.open_registries;
-  all_registries = s.all_registries;
 }
 
 to_client_stands : (p : PairState) (w : World) (asked : List (Message Known)) (told : List (Coming Known)) (most : ℕ) → StandsBy p w asked told
@@ -71,6 +71,7 @@ to_client_stands p w asked told most s = record {
   server_sound = s.server_sound;
   client_display = s.client_display;
   server_display = s.server_display;
+  server_versions = s.server_versions;
   server_live = s.server_live;
   requests = s.requests;
   events = s.events;
@@ -88,7 +89,6 @@ to_client_stands p w asked told most s = record {
   globals = s.globals;
   few_globals = s.few_globals;
   open_registries = s.open_registries;
-  all_registries = s.all_registries;
 }
 
 pub carry_to_server_keeps : (p : PairState) (w : World) (asked : List (Message Known)) (told : List (Coming Known)) → StandsBy p w asked told → NotEnded p w → (most : ℕ) (reply : Carried) (p' : PairState)

@@ -13,6 +13,7 @@ use Rattle.wl_sigs.specs.Tables.{Interface, destroys_target, signature_at, messa
 use Rattle.wl_sigs.specs.Tables as sigs
 use Rattle.wl_sigs.specs.Fixed.{display, registry, wl_display}
 use Rattle.wl_sigs.specs.Fixed as fixed
+use Rattle.wl_message.specs.Arrived.{without_first}
 use Rattle.wl_message.specs.Cut.{usual_limit, front, Whole}
 use Rattle.wl_message.specs.Outgoing as boxes
 use Rattle.wl_table.specs.declared.object.Entry.{Entry}
@@ -74,7 +75,7 @@ pub record InEvent (p : PairState) (w : World) (m : Message Known) (cs : List (C
   pub met : AllMet p.client.core.view w.client m.args
   pub finds_it : found p.client.core event_side ≡ Ok (Some (the_found n m target.entry s.told_fit.0.fits.signature))
   pub tells_it : TellsAt (test_of p) (all_tells cs) (client_rows p.client.core.view) s.meet.middle m.target (objects m.args) m.destroys
-  pub down : InFlight p.server.core.outbox (record p.client.core.inbox { bytes = drop n p.client.core.inbox.bytes; tokens = drop (length (tokens m.args)) p.client.core.inbox.tokens }) (map spelled_coming cs)
+  pub down : InFlight p.server.core.outbox (without_first p.client.core.inbox n (length (tokens m.args))) (map spelled_coming cs)
   pub more : List ℕ
   pub tokens_are : p.client.core.inbox.tokens ≡ tokens m.args ++ more
 
@@ -102,8 +103,8 @@ in_event p w m cs asked s n e =
       met = met;
       finds_it = ap (λ (c : Core). found c event_side) (sym same_core) ∙ finds core' event_side m n w.client r.entry f e bytes r.there r.same met enough;
       tells_it = t;
-      down = subst (λ (l : List boxes.Message). InFlight p.server.core.outbox (record p.client.core.inbox { bytes = drop n p.client.core.inbox.bytes; tokens = drop (length (tokens m.args)) p.client.core.inbox.tokens }) l) rest
-          (subst (λ (l : List ℕ). InFlight p.server.core.outbox (record p.client.core.inbox { bytes = drop n p.client.core.inbox.bytes; tokens = drop (length l) p.client.core.inbox.tokens }) q.rest) own q.stay);
+      down = subst (λ (l : List boxes.Message). InFlight p.server.core.outbox (without_first p.client.core.inbox n (length (tokens m.args))) l) rest
+          (subst (λ (l : List ℕ). InFlight p.server.core.outbox (without_first p.client.core.inbox n (length l)) q.rest) own q.stay);
       more = q.more;
       tokens_are = q.tokens ∙ ap (λ (l : List ℕ). l ++ q.more) own;
     }
@@ -113,7 +114,7 @@ abbrev pub after_event : client.State → Message Known → ℕ → Destroys →
 after_event st m n what teaches = record {
   core = record st.core {
     view = after client_end st.core.view None what m.target.id;
-    inbox = record st.core.inbox { bytes = drop n st.core.inbox.bytes; tokens = drop (length (tokens m.args)) st.core.inbox.tokens };
+    inbox = without_first st.core.inbox n (length (tokens m.args));
     read = min (st.core.read + n) 18446744073709551615;
     failed = false;
   };
@@ -142,7 +143,7 @@ event_answer p m n entry tables f d s =
       leaves = λ i. record {
         core = record p.client.core {
           view = cond (error i) v (cond (delete i) (after_delete_id v (reports.deleted_id (the_found n m entry f.signature))) a);
-          inbox = record p.client.core.inbox { bytes = drop n p.client.core.inbox.bytes; tokens = drop (count i) p.client.core.inbox.tokens };
+          inbox = without_first p.client.core.inbox n (count i);
           read = min (p.client.core.read + n) 18446744073709551615;
           failed = error i;
         };
@@ -210,6 +211,7 @@ event_stands p w m cs asked s n i y =
       server_sound = s.server_sound;
       client_display = display_kept v m.target.id what s.client_display (λ e. y (sym d ∙ e));
       server_display = s.server_display;
+      server_versions = s.server_versions;
       server_live = s.server_live;
       requests = s.requests;
       events = refl;
@@ -231,7 +233,6 @@ event_stands p w m cs asked s n i y =
       globals = s.globals;
       few_globals = s.few_globals;
       open_registries = s.open_registries;
-      all_registries = s.all_registries;
     }
 
 -- ---- a delete
@@ -275,7 +276,7 @@ pub record InDelete (p : PairState) (x : Known) (cs : List (Coming Known)) (midd
   pub keeps_target : signature.destroys ≡ Nothing
   pub count : descriptors signature.kinds ≡ 0
   pub deletes_it : DeletesAt (test_of p) (all_tells cs) (client_rows p.client.core.view) middle x
-  pub down : InFlight p.server.core.outbox (record p.client.core.inbox { bytes = drop n p.client.core.inbox.bytes }) (map spelled_coming cs)
+  pub down : InFlight p.server.core.outbox (without_first p.client.core.inbox n 0) (map spelled_coming cs)
 
 pub in_delete : (p : PairState) (w : World) (x : Known) (cs : List (Coming Known)) (asked : List (Message Known)) (s : StandsBy p w asked (Delete x ∷ cs)) (n : ℕ)
     → front usual_limit p.client.core.inbox.bytes ≡ Whole n → InDelete p x cs s.meet.middle n
@@ -302,8 +303,8 @@ in_delete p w x cs asked s n e =
       keeps_target = refl;
       count = refl;
       deletes_it = t;
-      down = subst (λ (l : List boxes.Message). InFlight p.server.core.outbox (record p.client.core.inbox { bytes = drop n p.client.core.inbox.bytes }) l) rest
-          (subst (λ (l : List ℕ). InFlight p.server.core.outbox (record p.client.core.inbox { bytes = drop n p.client.core.inbox.bytes; tokens = drop (length l) p.client.core.inbox.tokens }) q.rest) own q.stay);
+      down = subst (λ (l : List boxes.Message). InFlight p.server.core.outbox (without_first p.client.core.inbox n 0) l) rest
+          (subst (λ (l : List ℕ). InFlight p.server.core.outbox (without_first p.client.core.inbox n (length l)) q.rest) own q.stay);
     }
 
 -- the client as a delete leaves it
@@ -311,7 +312,7 @@ abbrev pub after_delete : client.State → Known → ℕ → client.State
 after_delete st x n = record st {
   core = record st.core {
     view = closed st.core.view x.id;
-    inbox = record st.core.inbox { bytes = drop n st.core.inbox.bytes };
+    inbox = without_first st.core.inbox n 0;
     read = min (st.core.read + n) 18446744073709551615;
     failed = false;
   };
@@ -331,7 +332,7 @@ delete_answer p x n entry signature y l c =
       leaves = λ i. record p.client {
         core = record p.client.core {
           view = gone i;
-          inbox = record p.client.core.inbox { bytes = drop n p.client.core.inbox.bytes; tokens = drop (c i) p.client.core.inbox.tokens };
+          inbox = without_first p.client.core.inbox n (c i);
           read = min (p.client.core.read + n) 18446744073709551615;
           failed = false;
         };
@@ -358,6 +359,7 @@ delete_stands p w x cs asked s n i =
       server_sound = s.server_sound;
       client_display = look-closed v x.id 1 ∙ rw b s.client_display;
       server_display = s.server_display;
+      server_versions = s.server_versions;
       server_live = s.server_live;
       requests = s.requests;
       events = refl;
@@ -379,5 +381,4 @@ delete_stands p w x cs asked s n i =
       globals = s.globals;
       few_globals = s.few_globals;
       open_registries = s.open_registries;
-      all_registries = s.all_registries;
     }

@@ -102,6 +102,7 @@ ask_stands p w asked told s m c =
       versions = client_aged v m.target.id new what f.new_version s.versions;
       client_display = display_after v new m.target.id what (live_entry display_born) c.new s.client_display (λ h. c.mortal (sym d ∙ h));
       server_display = s.server_display;
+      server_versions = s.server_versions;
       server_live = s.server_live;
       requests = ap (λ (l : List (Message Born)). l ++ renamed born_of m ∷ []) s.requests ∙ sym (map-append (renamed born_of) asked (m ∷ []));
       events = s.events;
@@ -121,5 +122,4 @@ ask_stands p w asked told s m c =
       globals = s.globals;
       few_globals = s.few_globals;
       open_registries = s.open_registries;
-      all_registries = s.all_registries;
     }

@@ -80,6 +80,7 @@ given_stands p w asked told s more g e l = record {
   server_sound = s.server_sound;
   client_display = s.client_display;
   server_display = s.server_display;
+  server_versions = s.server_versions;
   server_live = s.server_live;
   requests = s.requests;
   events = s.events;
@@ -98,7 +99,6 @@ given_stands p w asked told s more g e l = record {
   globals = e;
   few_globals = l;
   open_registries = s.open_registries;
-  all_registries = s.all_registries;
 }
 
 -- ---- one more

@@ -73,6 +73,7 @@ new_stands tables client_sizes server_sizes v = stands [] [] (refl, refl) (recor
   client_display = look-opening display 1;
   server_display = look-opening display 1;
   versions = λ id e h. opening_aged (nat_eq id 1) e (sym (look-opening display id) ∙ h);
+  server_versions = λ id e h. opening_aged (nat_eq id 1) e (sym (look-opening display id) ∙ h);
   server_live = λ id e h. opening_live (nat_eq id 1) e (sym (look-opening display id) ∙ h);
   requests = refl;
   events = refl;
@@ -89,8 +90,7 @@ new_stands tables client_sizes server_sizes v = stands [] [] (refl, refl) (recor
   remembers = tt;
   globals = tt;
   few_globals = lit≤ tt;
-  open_registries = tt;
-  all_registries = has_none;
+  open_registries = has_none;
 })
   where
     live_row : (e : Entry) (s : State) → s ≡ states.Live → as_row s (plain e) ≡ Open (plain e)

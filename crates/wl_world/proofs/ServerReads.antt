@@ -10,6 +10,7 @@ use Rattle.wl_sigs.specs.declared.signature.Side.TheVariants.{Request as request
 use Rattle.wl_sigs.specs.declared.signature.Destroys.{Destroys}
 use Rattle.wl_sigs.specs.declared.signature.Destroys.TheVariants.{Nothing, Target}
 use Rattle.wl_sigs.specs.Tables.{destroys_target}
+use Rattle.wl_message.specs.Arrived.{without_first}
 use Rattle.wl_message.specs.Cut.{usual_limit, front, Whole, IsMessage}
 use Rattle.wl_message.specs.Outgoing.{Outgoing, room_of, message}
 use Rattle.wl_message.specs.Outgoing as boxes
@@ -31,13 +32,13 @@ use Rattle.wl_world.specs.World.{World, display_born, Open, Each, IfThere, delet
 use Rattle.wl_world.specs.Pair.{PairState, with_server}
 use Rattle.wl_world.specs.Answers.{rows_of_server}
 use Rattle.wl_world.specs.Flight.{Rows, Fresh, Tied, all_asks, server_rows, as_row}
-use Rattle.wl_world.specs.Stands.{DeletesFollow, BeginsWithDelete, StandsBy, Fits, ComesFitly, InFlight, IsRegistry, by_event, Shows}
+use Rattle.wl_world.specs.Stands.{DeletesFollow, BeginsWithDelete, StandsBy, Fits, ComesFitly, InFlight, by_event, Shows}
 use Rattle.wl_world.proofs.Deeds.{reads_more}
 use Rattle.wl_world.proofs.Wholes.{ThereRow, server_makes, server_ends, asks_at, AsksAt, all_tells_more, each_more}
 use Rattle.wl_world.proofs.Sets.{server_made, server_ended, there_kept}
 use Rattle.wl_world.proofs.Channels.{pops, pushed}
-use Rattle.wl_world.proofs.Afters.{there_row, server_after, server_sound, server_live, made_map}
-use Rattle.wl_world.proofs.Registries.{marks_with, marks_without, registries_made, registries_ended, has_read}
+use Rattle.wl_world.proofs.Afters.{there_row, server_after, server_sound, server_live, server_aged, made_map}
+use Rattle.wl_world.proofs.Registries.{marks_with, marks_without, fresh_row, has_read}
 use Rattle.wl_world.proofs.Readings.{HeldAt, AllMet, made_of, made_read, tokens_taken, bytes_whole}
 use Rattle.wl_world.proofs.Findings.{the_found, the_message, finds, all_met, news_free}
 
@@ -110,7 +111,7 @@ delete_fits p true x h = (h, tt)
 abbrev pub left_core : Core → Message Known → ℕ → Destroys → Core
 left_core c m n what = record c {
   view = after server_end c.view (option_map made_of (made_in m.args)) what m.target.id;
-  inbox = record c.inbox { bytes = drop n c.inbox.bytes; tokens = drop (length (tokens m.args)) c.inbox.tokens };
+  inbox = without_first c.inbox n (length (tokens m.args));
   outbox = record c.outbox { messages = c.outbox.messages ++ map spelled_coming (delete m.destroys m.target) };
   read = min (c.read + n) 18446744073709551615;
 }
@@ -178,7 +179,7 @@ rows_there p w m n what b e g =
 
 pub server_read_stands : (p : PairState) (w : World) (m : Message Known) (ms : List (Message Known)) (told : List (Coming Known)) (s : StandsBy p w (m ∷ ms) told) (n : ℕ)
     → AsksAt (test_of p) (all_asks ms) (server_rows p.server.core.view) s.meet.middle m.target (objects m.args) (made_in m.args) m.destroys
-    → InFlight p.client.core.outbox (record p.server.core.inbox { bytes = drop n p.server.core.inbox.bytes; tokens = drop (length (tokens m.args)) p.server.core.inbox.tokens }) (map spelled ms)
+    → InFlight p.client.core.outbox (without_first p.server.core.inbox n (length (tokens m.args))) (map spelled ms)
     → StandsBy (with_server p (left_state p.server m n s.asked_fit.0.fits.signature.destroys)) (request_read w (renamed born_of m) (map (renamed born_of) ms)) ms (told ++ delete m.destroys m.target)
 server_read_stands p w m ms told s n a up =
     let f = s.asked_fit.0.fits in
@@ -202,6 +203,7 @@ server_read_stands p w m ms told s n a up =
       server_sound = server_sound v m.target new what s.server_sound a.new a.target (λ e. a.mortal (sym d ∙ e));
       client_display = s.client_display;
       server_display = display_after v new m.target.id what (live_entry display_born) a.new s.server_display (λ e. a.mortal (sym d ∙ e));
+      server_versions = server_aged v m.target.id new what f.new_version s.server_versions;
       server_live = server_live v m.target.id new what s.server_live;
       requests = refl;
       events = ap (λ (l : List (Coming Born)). l ++ delete m.destroys m.target.born) s.events ∙ ap (λ (l : List (Coming Born)). map (recoming born_of) told ++ l) (sym (map_delete m.destroys m.target))
@@ -226,10 +228,7 @@ server_read_stands p w m ms told s n a up =
       remembers = s.remembers;
       globals = s.globals;
       few_globals = s.few_globals;
-      open_registries = subst (λ (r : Rows Born). Each (IsRegistry r) (left_state p.server m n what).registries) (sym rows)
-          (registries_ended (server_makes (server_rows v) new) m.destroys m.target (registries_after p.server.core p.server.registries (option_map made_of new)) (there_kept (server_rows v) new m.target a.new a.target)
-          (registries_made p.server.core p.server.registries new a.new f.new_version s.open_registries));
-      all_registries = has_read p.server.core p.server.registries new m.target what m.destroys d s.server_sound (there_row v m.target a.target) s.all_registries;
+      open_registries = has_read p.server.core p.server.registries new m.target what m.destroys d s.server_sound (fresh_row v new a.new) (there_row v m.target a.target) s.open_registries;
     }
 
 -- ---- what is answered
@@ -240,7 +239,7 @@ pub record InRequest (p : PairState) (w : World) (m : Message Known) (ms : List 
   pub met : AllMet p.server.core.view (rows_of_server w) m.args
   pub finds_it : request p.server ≡ Ok (Some (the_found n m entry s.asked_fit.0.fits.signature))
   pub asks_it : AsksAt (test_of p) (all_asks ms) (server_rows p.server.core.view) s.meet.middle m.target (objects m.args) (made_in m.args) m.destroys
-  pub up : InFlight p.client.core.outbox (record p.server.core.inbox { bytes = drop n p.server.core.inbox.bytes; tokens = drop (length (tokens m.args)) p.server.core.inbox.tokens }) (map spelled ms)
+  pub up : InFlight p.client.core.outbox (without_first p.server.core.inbox n (length (tokens m.args))) (map spelled ms)
   pub more : List ℕ
   pub tokens_are : p.server.core.inbox.tokens ≡ tokens m.args ++ more
 
@@ -269,8 +268,8 @@ in_request p w m ms told s n e =
       met = i.met;
       finds_it = judge p.server (the_found n m i.entry f.signature) (no_bad_bind (is_bind request_side i.entry.iface m.opcode) (is_good_bind p.server (map wire m.args)) binds) there;
       asks_it = a;
-      up = subst (λ (l : List boxes.Message). InFlight p.client.core.outbox (record p.server.core.inbox { bytes = drop n p.server.core.inbox.bytes; tokens = drop (length (tokens m.args)) p.server.core.inbox.tokens }) l) rest
-          (subst (λ (l : List ℕ). InFlight p.client.core.outbox (record p.server.core.inbox { bytes = drop n p.server.core.inbox.bytes; tokens = drop (length l) p.server.core.inbox.tokens }) q.rest) own q.stay);
+      up = subst (λ (l : List boxes.Message). InFlight p.client.core.outbox (without_first p.server.core.inbox n (length (tokens m.args))) l) rest
+          (subst (λ (l : List ℕ). InFlight p.client.core.outbox (without_first p.server.core.inbox n (length l)) q.rest) own q.stay);
       more = q.more;
       tokens_are = q.tokens ∙ ap (λ (l : List ℕ). l ++ q.more) own;
     }

@@ -17,13 +17,13 @@ use Rattle.wl_world.specs.Meant.{Born, Known, Message, Coming, Event, Delete, re
 use Rattle.wl_world.specs.World.{World, display_born, Each, delete, event_written, dropped, gone, put}
 use Rattle.wl_world.specs.Pair.{PairState, with_server_core}
 use Rattle.wl_world.specs.Flight.{Rows, Meets, tells, all_asks, all_tells, client_rows, server_rows}
-use Rattle.wl_world.specs.Stands.{StandsBy, TellsFitly, ComesFitly, InFlight, IsRegistry, Shows}
+use Rattle.wl_world.specs.Stands.{StandsBy, TellsFitly, ComesFitly, InFlight, Shows}
 use Rattle.wl_world.proofs.Wholes.{ThereRow, server_ends, tell_meets, drop_meets, all_tells_more, each_more}
 use Rattle.wl_world.proofs.Sets.{server_ended}
 use Rattle.wl_world.proofs.Channels.{pushed}
 use Rattle.wl_world.proofs.Bridges.{server_closed}
-use Rattle.wl_world.proofs.Afters.{there_row, server_after, server_sound, server_live, closed_live}
-use Rattle.wl_world.proofs.Registries.{registries_not, has_told_one}
+use Rattle.wl_world.proofs.Afters.{there_row, server_after, server_sound, server_live, server_aged, closed_live, closed_aged}
+use Rattle.wl_world.proofs.Registries.{no_registry, has_told_one}
 use Rattle.wl_world.proofs.Readings.{bytes_whole}
 use Rattle.wl_world.proofs.Rules.{display_plain}
 use Rattle.wl_world.proofs.ServerReads.{follow_more, follow_delete, begins_delete, test_of, delete_whole, map_delete, delete_fits, display_after}
@@ -75,6 +75,7 @@ tell_stands p w asked told s m c =
       server_sound = server_sound v m.target None what s.server_sound tt c.target (λ e. mortal (sym d ∙ e));
       client_display = s.client_display;
       server_display = display_after v None m.target.id what (live_entry display_born) tt s.server_display (λ e. mortal (sym d ∙ e));
+      server_versions = server_aged v m.target.id None what tt s.server_versions;
       server_live = server_live v m.target.id None what s.server_live;
       requests = s.requests;
       events = ap (λ (l : List (Coming Born)). l ++ (Event (renamed born_of m) ∷ delete m.destroys m.target.born)) s.events
@@ -97,9 +98,7 @@ tell_stands p w asked told s m c =
       remembers = s.remembers;
       globals = s.globals;
       few_globals = s.few_globals;
-      open_registries = subst (λ (r : Rows Born). Each (IsRegistry r) p.server.registries) (sym rows)
-          (registries_not p.server.core.tables s.valid (server_rows v) m.destroys m.target p.server.registries c.target c.ends s.open_registries);
-      all_registries = has_told_one v p.server.registries what m.target.id s.all_registries;
+      open_registries = has_told_one v p.server.registries what m.target.id m.destroys d (λ h. no_registry p.server.core.tables s.valid v m.target c.target (c.ends h)) s.open_registries;
     }
 
 -- ---- an object is dropped
@@ -130,6 +129,7 @@ drop_stands p w asked told s x h e low =
       server_sound = server_sound v x None Target s.server_sound tt h (λ k. mortal);
       client_display = s.client_display;
       server_display = look-closed v x.id 1 ∙ rw one s.server_display;
+      server_versions = closed_aged v x.id s.server_versions;
       server_live = closed_live v x.id s.server_live;
       requests = s.requests;
       events = ap (λ (l : List (Coming Born)). l ++ Delete x.born ∷ []) s.events ∙ sym (map-append (recoming born_of) told (Delete x ∷ []));
@@ -148,7 +148,5 @@ drop_stands p w asked told s x h e low =
       remembers = s.remembers;
       globals = s.globals;
       few_globals = s.few_globals;
-      open_registries = subst (λ (r : Rows Born). Each (IsRegistry r) p.server.registries) (sym rows)
-          (registries_not p.server.core.tables s.valid (server_rows v) true x p.server.registries h (λ k. e) s.open_registries);
-      all_registries = has_fewer v p.server.registries x.id s.all_registries;
+      open_registries = has_fewer v p.server.registries x.id (no_registry p.server.core.tables s.valid v x h e) s.open_registries;
     }

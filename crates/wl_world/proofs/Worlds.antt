@@ -12,8 +12,9 @@ use Rattle.wl_world.specs.Meant.{Born, Known, Message, Coming, Event, Delete as 
 use Rattle.wl_world.specs.World.{World, Row, Open, Ending, IsThere, Each, marks_birth}
 use Rattle.wl_world.specs.Flight.{Rows, most, Ask, Use, Make, Destroy, Tell, Name, Delete, Held, Reads, done, name, end, delete, Tied, drained, use_, make, destroy, client_rows, server_rows, asks, tells, all_asks, all_tells, makes, destroys, ends}
 use Rattle.wl_world.specs.Pair.{PairState}
-use Rattle.wl_world.specs.Stands.{Stands, stands, ended, StandsBy, marks_of, by_event}
-use Rattle.wl_world.specs.Plain.{In, IsHeld, DeleteComes, MakeComes, DestroyComes, IsSomewhere, Names, StandsIn, listed, news, tell_id}
+use Rattle.wl_world.specs.Answers.{marks_of}
+use Rattle.wl_world.specs.Stands.{Stands, stands, ended, StandsBy, by_event}
+use Rattle.wl_world.specs.Plain.{In, IsHeld, DeleteComes, MakeComes, DestroyComes, IsSomewhere, Names, StandsIn, IsUnnamed, listed, news, tell_id}
 use Rattle.wl_world.proofs.Deeds.{counts_after}
 use Rattle.wl_world.proofs.Wholes.{all_tells_more}
 use Rattle.wl_world.proofs.Afters.{map_some, made_map, objects_map, there_row}
@@ -398,6 +399,11 @@ module _ (p : PairState) (w : World) (asked : List (Message Known)) (told : List
       let k = there_known x i in
       plain.not_made_counted j.0 s.meet j.1.0 (let l = s.server_sets.below k.0.id k.0.born k.1.0 in let b = ap birth_of (j.1.1 ∙ sym k.1.1) in omega (arith, l, b))
 
+  pub made_not_counted : (x : Born) → MakeComes w x → x.birth < p.server.core.view.births → ⊥
+  made_not_counted x h l =
+      let k = make_known x h in
+      plain.not_made_counted k.0 s.meet k.1.0 (subst (λ (b : Born). b.birth < p.server.core.view.births) (sym k.1.1) l)
+
   pub where_ending : (x : Born) → w.client x.birth ≡ Some (Ending x) → DeleteComes w x ⊎ DestroyComes w x
   where_ending x h =
       let r = (s.client_sets.only x.birth (Ending x) h).1 in
@@ -427,6 +433,11 @@ module _ (p : PairState) (w : World) (asked : List (Message Known)) (told : List
       let k = delete_known x i in
       subst (λ (b : Born). by_event p.server.core.tables b ≡ true) k.1.1 (plain.open_deleted k.0 s.meet.reads (open_row x h k.0 (deleted_is_held k.0 k.1.0) k.1.1) k.1.0)
 
+  pub last_of_id : (k : Known) (front rest : List (Coming Known)) → told ≡ front ++ delete_of k ∷ rest → IsUnnamed k.id rest
+  last_of_id k front rest e =
+      let all : all_tells told ≡ all_tells front ++ (Delete k ∷ all_tells rest) = ap all_tells e ∙ all_tells_more front (delete_of k ∷ rest) in
+      plain.deleted_last (all_tells front) (all_tells rest) k (subst (λ (l : List Tell). Reads (by_event p.server.core.tables) l v s.meet.middle) all s.meet.reads)
+
   pub last_deleted : (before after : List (Coming Born)) (x : Born) → w.events ≡ before ++ delete_of x ∷ after → (c : Coming Born) → In c after → Names x c → ⊥
   last_deleted before after x h c i n =
       let t = parted (recoming born_of) told before (delete_of x) after (sym s.events ∙ h) in
@@ -436,7 +447,6 @@ module _ (p : PairState) (w : World) (asked : List (Message Known)) (told : List
       at_name : (front rest : List (Coming Known)) (k : Known) → told ≡ front ++ delete_of k ∷ rest → k.born ≡ x → (t : Tell) (j : Known) → (t ≡ Name j) ⊎ (t ≡ Delete j) → In t (all_tells rest) → j.born ≡ x → ⊥
       at_name front rest k e b t j is i same =
           let all : all_tells told ≡ all_tells front ++ (Delete k ∷ all_tells rest) = ap all_tells e ∙ all_tells_more front (delete_of k ∷ rest) in
-          let reads = subst (λ (l : List Tell). Reads (by_event p.server.core.tables) l v s.meet.middle) all s.meet.reads in
           let later : In t (all_tells told) = subst (In t) (sym all) (in_right t (all_tells front) (Delete k ∷ all_tells rest) (inr i)) in
           let first : In (Delete k) (all_tells told) = subst (In (Delete k)) (sym all) (in_right (Delete k) (all_tells front) (Delete k ∷ all_tells rest) (inl refl)) in
           let held : Held v j = elim is [
@@ -445,7 +455,7 @@ module _ (p : PairState) (w : World) (asked : List (Message Known)) (told : List
           ] in
           let one : j ≡ k = one_id j k held (deleted_is_held k first) (same ∙ sym b) in
           let id : tell_id t ≡ j.id = elim is [ inl a ↦ ap tell_id a | inr a ↦ ap tell_id a ] in
-          each_in (λ u. tell_id u ≢ k.id) t (all_tells rest) (plain.deleted_last (all_tells front) (all_tells rest) k reads) i (id ∙ ap (λ (n : Known). n.id) one)
+          each_in (λ u. tell_id u ≢ k.id) t (all_tells rest) (last_of_id k front rest e) i (id ∙ ap (λ (n : Known). n.id) one)
 
       at_coming : (front rest : List (Coming Known)) (k : Known) → told ≡ front ++ delete_of k ∷ rest → k.born ≡ x → (d : Coming Known) → In d rest → Names x (recoming born_of d) → ⊥
       at_coming front rest k e b (Event m) i n = elim n [
@@ -503,7 +513,7 @@ module _ (p : PairState) (w : World) (asked : List (Message Known)) (told : List
       let k = there_known x h in
       let r = there_row p.server.core.view k.0 k.1.0 in
       let same : plain_of r.entry ≡ x = r.same ∙ k.1.1 in
-      let at = s.all_registries.all k.0.id r.entry r.there (ap (λ (b : Born). b.iface) same ∙ i) in
+      let at = s.open_registries.all k.0.id r.entry r.there (ap (λ (b : Born). b.iface) same ∙ i) in
       subst (λ (l : List _). In x.birth (map marks_birth l)) (sym s.registries)
       (subst (λ (n : ℕ). In n (map marks_birth (map marks_of p.server.registries))) (ap birth_of same) (among_marks (record { id = k.0.id; birth = r.entry.birth }) p.server.registries at))
 

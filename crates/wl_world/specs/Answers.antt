@@ -22,7 +22,7 @@ use Rattle.wl_client.specs.Reports as events
 use Rattle.wl_server.specs.State as server
 use Rattle.wl_server.specs.Requests as requests
 use Rattle.wl_server.specs.Calls.{without_at}
-use Rattle.wl_server.specs.Announcing.{Owing, Removal, Telling, owed_to, opcode_of, values_of}
+use Rattle.wl_server.specs.Announcing.{Owing, Due, owed_to, marked_in, opcode_of, values_of}
 use Rattle.wl_recording.specs.Piece.{Piece}
 use Rattle.wl_world.specs.Meant.{Born, Message, Coming, Event, Delete, Arg, rearg, birth_of, made_in, tokens}
 use Rattle.wl_world.specs.World.{World, Row, Open, Ending, Marks, Deed, WriteRequest, ReadRequest, WriteEvent, Drop, ReadEvent, Steps}
@@ -71,6 +71,9 @@ IfAccepted (Err why) w w' P = w' ≡ w
 abbrev pub registry_of : Marks → server.Registry
 registry_of r = record { object = record { id = 0; birth = r.birth }; told = r.told; removed = r.removed }
 
+abbrev pub marks_of : server.Registry → Marks
+marks_of r = record { birth = r.object.birth; told = r.told; removed = r.removed }
+
 -- an event that is owed, and the birth of the registry that it is for
 pub record Owed : Type 0 where
   pub birth : ℕ
@@ -80,13 +83,12 @@ abbrev pub owed_by : List server.Global → List Marks → List Owed
 owed_by given [] = []
 owed_by given (r ∷ registries) = map (λ owing. record { birth = r.birth; owing = owing }) (owed_to given (registry_of r)) ++ owed_by given registries
 
-abbrev pub mark : Owing → Marks → Marks
-mark (Removal name) r = record r { removed = server.with_mark r.removed name }
-mark (Telling name global) r = record r { told = server.with_mark r.told name }
+abbrev pub due_of : Owed → Due
+due_of o = record { object = record { id = 0; birth = o.birth }; owing = o.owing }
 
+-- The open registries after an owed event was written: marked as the server marks its own.
 abbrev pub mark_in : Owed → List Marks → List Marks
-mark_in o [] = []
-mark_in o (r ∷ registries) = (if nat_eq r.birth o.birth then mark o.owing r else r) ∷ mark_in o registries
+mark_in o registries = map marks_of (marked_in (due_of o) (map registry_of registries))
 
 -- the arguments of an owed event, which names no object
 abbrev pub told_args : List Interface → Owing → List (Arg ℕ)

@@ -88,9 +88,13 @@ OfEach P = (pair : PairState) (world : World) (object : Born) → StandsIn pair 
 abbrev pub OnTheWay : (PairState → List (Message Known) → List (Coming Known) → Type 0) → Type 0
 OnTheWay P = (pair : PairState) (world : World) (asked : List (Message Known)) (told : List (Coming Known)) → StandsBy pair world asked told → P pair asked told
 
+-- nothing that comes is about the id
+abbrev pub IsUnnamed : ℕ → List (Coming Known) → Type 0
+IsUnnamed id told = Each (λ t. tell_id t ≢ id) (all_tells told)
+
 -- no request and nothing that comes is about the id
 abbrev pub IsNowhere : ℕ → List (Message Known) → List (Coming Known) → Type 0
-IsNowhere id asked told = Each (λ t. tell_id t ≢ id) (all_tells told) × Each (λ a. ask_id a ≢ id) (all_asks asked)
+IsNowhere id asked told = IsUnnamed id told × Each (λ a. ask_id a ≢ id) (all_asks asked)
 
 -- The ids used at the client are those used at the server and those of the objects that these requests make.
 abbrev pub IdsAreOf : PairState → List (Message Known) → Type 0

@@ -27,10 +27,10 @@ use Rattle.wl_server.specs.Requests.{bind_fits}
 use Rattle.wl_server.specs.Calls.{ends_by_event, can_be_global}
 use Rattle.wl_server.specs.Announcing.{name_at}
 use Rattle.wl_world.specs.Meant.{Born, Known, Message, Coming, Event, Delete, Arg, renamed, recoming, born_of, birth_of, made_in, new_in, wire, spelled, spelled_coming, live_entry}
-use Rattle.wl_world.specs.World.{World, display_born, Row, Open, Ending, Marks, Each, IfThere}
+use Rattle.wl_world.specs.World.{World, display_born, Row, Open, Ending, Each, IfThere}
 use Rattle.wl_world.specs.Pair.{PairState}
-use Rattle.wl_world.specs.Answers.{NotEnded}
-use Rattle.wl_world.specs.Flight.{Rows, client_rows, server_rows, all_asks, all_tells, Meets}
+use Rattle.wl_world.specs.Answers.{NotEnded, marks_of}
+use Rattle.wl_world.specs.Flight.{client_rows, server_rows, all_asks, all_tells, Meets}
 
 -- ---- objects by id and by birth
 
@@ -146,15 +146,6 @@ pub record IsGlobal (tables : List Interface) (global : server.Global) : Type 0 
   pub can_be : can_be_global tables global.iface global.version ≡ true
   pub word : global.version < 2 ^ 32
 
--- an open registry is an object of the server
-pub record IsRegistry (s : Rows Born) (r : server.Registry) : Type 0 where
-  pub version : ℕ
-  pub some : 1 ≤ version
-  pub there : s.rows r.object.id ≡ Some (record { birth = r.object.birth; iface = registry; version = version })
-
-abbrev pub marks_of : server.Registry → Marks
-marks_of r = record { birth = r.object.birth; told = r.told; removed = r.removed }
-
 -- ---- standing
 
 -- whether an object's interface has a destroying event
@@ -175,6 +166,7 @@ pub record StandsBy (p : PairState) (w : World) (asked : List (Message Known)) (
   pub client_display : look p.client.core.view 1 ≡ Some (live_entry display_born)
   pub server_display : look p.server.core.view 1 ≡ Some (live_entry display_born)
   pub versions : (id : ℕ) (e : Entry) → look p.client.core.view id ≡ Some e → 1 ≤ e.version
+  pub server_versions : (id : ℕ) (e : Entry) → look p.server.core.view id ≡ Some e → 1 ≤ e.version
   pub server_live : (id : ℕ) (e : Entry) → look p.server.core.view id ≡ Some e → e.state ≡ states.Live
   -- what the world has in flight are their births, what the boxes have in flight are their canonical spellings with ids
   pub requests : w.requests ≡ map (renamed born_of) asked
@@ -198,8 +190,7 @@ pub record StandsBy (p : PairState) (w : World) (asked : List (Message Known)) (
   pub globals : Each (IsGlobal p.server.core.tables) p.server.globals
   pub few_globals : length p.server.globals ≤ max_globals
   -- the open registries are the server's objects of interface wl_registry, by rising birth
-  pub open_registries : Each (IsRegistry (server_rows p.server.core.view)) p.server.registries
-  pub all_registries : HasRegistries p.server.core.view p.server.registries
+  pub open_registries : HasRegistries p.server.core.view p.server.registries
 
 -- The pair stands for the world: an ended world stands with every pair.
 pub data Stands (p : PairState) (w : World) : Type 0 where

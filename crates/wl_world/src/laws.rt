@@ -1,23 +1,22 @@
 //! What the two ends keep, whatever is done with them.
-ghost use Rattle.std.specs.Prelude.{◌≡◌, ◌⊎◌, ◌<◌, ℕ, Bool, List, ◌++◌, ◌∷◌, [], true, false, None, Some, Err};
+ghost use Rattle.std.specs.Prelude.{◌≡◌, ◌⊎◌, ◌<◌, ℕ, List, ◌++◌, ◌∷◌, [], true, false, None, Some, Err};
 ghost use Rattle.wl_sigs.specs.Tables.{Interface};
 ghost use Rattle.wl_sigs.specs.Fixed.{registry};
 ghost use Rattle.wl_sigs.specs.Valid.{Valid};
-ghost use Rattle.wl_table.specs.View.{look};
+ghost use Rattle.wl_table.specs.View.{look, IdsOfBirths};
 ghost use Rattle.wl_message.specs.declared.amounts.Sizes.{Sizes};
 ghost use Rattle.wl_objects.specs.declared.error.Fault.{Fault};
 ghost use Rattle.wl_objects.specs.declared.error.NextError.TheVariants as errors;
 ghost use Rattle.wl_client.specs.Reports as client_reads;
 ghost use Rattle.wl_server.specs.Requests as server_reads;
 ghost use Rattle.wl_end.specs.Core.{Core, feeds};
-ghost use Rattle.wl_world.specs.Meant.{Born, Known};
-ghost use Rattle.wl_world.specs.World.{World, opening, Each, Row, Ending, IsOpen, IsThere};
-ghost use Rattle.wl_world.specs.Flight.{Rows, Tell, Ask, Make, Delete, Meets};
+ghost use Rattle.wl_world.specs.Meant.{Known, Coming, Delete};
+ghost use Rattle.wl_world.specs.World.{World, opening, Each, Ending, IsOpen, IsThere};
 ghost use Rattle.wl_world.specs.Pair.{PairState, Move, Reply, Does, new_pair, drained, carries, carried_bytes, carried_tokens, all_of};
 ghost use Rattle.wl_world.specs.Stands.{Stands, by_event};
 ghost use Rattle.wl_world.specs.Runs.{Runs, DoesAll, IsMove, Agree, Keeps};
 ghost use Rattle.wl_world.specs.Samples.{CallbackLives, DeadArgument};
-ghost use Rattle.wl_world.specs.Plain.{tell_id, In, StandsIn, OfEach, OnTheWay, IsNowhere, IsHeld, IsSomewhere, DeleteComes, MakeComes, DestroyComes, IsLast, IsTold, IdsAreOf, BirthsAreOf};
+ghost use Rattle.wl_world.specs.Plain.{StandsIn, OfEach, OnTheWay, IsUnnamed, IsNowhere, IsHeld, IsSomewhere, DeleteComes, MakeComes, DestroyComes, IsLast, IsTold, IdsAreOf, BirthsAreOf};
 
 /// A new pair stands for the opening world.
 pub fn new_stands()
@@ -127,18 +126,14 @@ pub fn deleted_last()
 
 /// Nothing behind a delete on the way names the id of its object, not even for a later object.
 pub fn ids_are_deleted_last()
-    ensures { (test : Born → Bool) (before after : List Tell) (requests : List Ask)
-        (client : Rows Row) (server : Rows Born) (object : Known)
-        → Meets test (before ++ Delete object ∷ after) requests client server
-        → Each (λ t. (tell_id t ≡ object.id) → ⊥) after }
+    ensures { (object : Known) (before after : List (Coming Known)) → OnTheWay (λ pair asked told.
+        told ≡ before ++ Delete object ∷ after → IsUnnamed object.id after) }
 {}
 
 /// What is made on the way has a birth that the server has not counted.
 pub fn made_is_not_counted()
-    ensures { (test : Born → Bool) (events : List Tell) (requests : List Ask)
-        (client : Rows Row) (server : Rows Born) (object : Known)
-        → Meets test events requests client server → In (Make object) requests
-        → object.born.birth < server.births → ⊥ }
+    ensures { OfEach (λ pair world object. MakeComes world object
+        → object.birth < pair.server.core.view.births → ⊥) }
 {}
 
 /// The ids used at the client are those used at the server and those of the objects that are made
@@ -149,7 +144,16 @@ pub fn counted_where()
         → StandsIn pair world → BirthsAreOf pair world }
 {}
 
-/// Each registry that is open at the server is one of those that are told of globals.
+/// The ids used at each end are those that its births were given: each birth that was counted there
+/// got one of them, and each of them was given to such a birth.
+pub fn ids_are_of_births()
+    ensures client { (pair : PairState) (world : World)
+        → StandsIn pair world → IdsOfBirths pair.client.core.view }
+    ensures server { (pair : PairState) (world : World)
+        → StandsIn pair world → IdsOfBirths pair.server.core.view }
+{}
+
+/// Each registry that is open at the server is one of those that hear of globals.
 pub fn registries_are_told()
     ensures { OfEach (λ pair world object.
         IsThere world.server object → object.iface ≡ registry → IsTold world object) }

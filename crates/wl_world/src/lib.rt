@@ -1,7 +1,7 @@
 //! The two ends of a Wayland connection together, as definitions alone: the world of births that
-//! they stand for, what each of their calls may answer in it, and the laws that they keep it.
+//! they stand for, what each of their calls may return in it, and the laws that they keep it.
 //!
-//! The laws are functions that do nothing. Each one's contract is the law.
+//! Each law is the contract of a function that does nothing.
 #![tactic(auto)]
 
 pub mod laws;

@@ -2,7 +2,7 @@ use Rattle.std.proofs.Common.{◌≡◌, sym, ◌∙◌, ap, subst}
 use Rattle.wl_check.specs.Session.{Session, session_of, Answers, AreWithin}
 use Rattle.wl_check.specs.Seen.{session_in}
 use Rattle.wl_check.proofs.Within.{all_within}
-use Rattle.wl_check.proofs.Examined.{if_ok_to, exact_from}
+use Rattle.wl_check.proofs.Examined.{exact_from}
 use Rattle.wl_check.proofs.checking.check.Goals as goal
 
 pub scan-requires : goal.scan-requires
@@ -13,9 +13,9 @@ scan-requires g c =
 pub returns-clause-answers : goal.returns-clause-answers
 returns-clause-answers g c =
     let is : session_in c.in_ok-merged.merged ≡ session_of c.args.recording.now = c.in_ok-merged.ensures ∙ ap session_of c.pieces.ensures.all in
-    if_ok_to c.scan.result (Answers c.args.tables.now (session_in c.in_ok-merged.merged)) (Answers c.args.tables.now (session_of c.args.recording.now)) (λ v h. subst (λ (s : Session). Answers c.args.tables.now s v) is h) c.scan.ensures
+    subst (λ (s : Session). Answers c.args.tables.now s c.in_ok-_text.verdict) is c.in_ok-_text.ensures.verdict
 
 pub returns-clause-exact : goal.returns-clause-exact
 returns-clause-exact g c =
     let is : session_in c.in_ok-merged.merged ≡ session_of c.args.recording.now = c.in_ok-merged.ensures ∙ ap session_of c.pieces.ensures.all in
-    if_ok_to c.scan.result (Answers c.args.tables.now (session_in c.in_ok-merged.merged)) _ (λ v h. exact_from c.args.tables.now (session_of c.args.recording.now) v (subst (λ (s : Session). Answers c.args.tables.now s v) is h)) c.scan.ensures
+    exact_from c.args.tables.now (session_of c.args.recording.now) c.in_ok-_text.verdict (subst (λ (s : Session). Answers c.args.tables.now s c.in_ok-_text.verdict) is c.in_ok-_text.ensures.verdict)

@@ -1,7 +1,7 @@
 use Rattle.std.proofs.Common.{◌≡◌, refl, true}
 use Rattle.wl_message.specs.Cut.{usual_limit, is_size}
 use Rattle.wl_check.specs.Seen.{known_in}
-use Rattle.wl_check.proofs.Verdicts.{parts_are}
+use Rattle.wl_check.proofs.JudgedMessages.{parts_are}
 use Rattle.wl_check.proofs.judging.judge.Goals as goal
 
 pub returns-clause-judged : goal.returns-clause-judged

@@ -1,6 +1,6 @@
 use Rattle.std.proofs.Common.{refl, sym, ◌∙◌}
 use Rattle.wl_check.specs.Seen.{known_in, read_of}
-use Rattle.wl_check.proofs.Verdicts.{judged_is, from_side, called_bad, called_good}
+use Rattle.wl_check.proofs.JudgedMessages.{judged_is, from_side, called_bad, called_good}
 use Rattle.wl_check.proofs.judging.judge_as.Goals as goal
 
 pub returns-in-Err : goal.returns-in-Err

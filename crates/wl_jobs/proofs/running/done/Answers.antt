@@ -1,5 +1,5 @@
 use Rattle.std.proofs.Common.{rules, refl, sym, subst, inl, inr}
-use Rattle.wl_jobs.specs.declared.job.Job.{Job}
+use Rattle.wl_command.specs.declared.job.Job.{Job}
 use Rattle.wl_jobs.specs.Output.{NamesFile, ReadsFile}
 use Rattle.wl_jobs.specs.Running.{over, not_opened, alone}
 use Rattle.wl_jobs.proofs.running.done.Goals as goal
@@ -24,4 +24,4 @@ returns-in-Err g c =
       | inl e ↦ subst (λ (job : Job). NamesFile job c.as_str.result.now) (sym e) value
       | inr e ↦ subst (λ (job : Job). NamesFile job c.as_str.result.now) (sym e) value
     ] in
-    not_opened c.as_str.result.now c.in-Err.field-0 names (search rules) c.tell.ensures refl
+    not_opened c.as_str.result.now c.in-Err.error c.open_failure.result names (search rules) (search rules) c.tell.ensures.status refl c.tell.ensures.said

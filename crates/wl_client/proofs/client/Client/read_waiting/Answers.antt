@@ -16,35 +16,35 @@ messages-init g c = record {
 
 pub returns-in-Err-clause-reads : goal.returns-in-Err-clause-reads
 returns-in-Err-clause-reads g c = (
-  reads_stop c.args.self.now c.messages.self c.next.new.self c.args.reports.now.items c.messages.reports.items c.reserve.new.self.items c.in-Err.why c.messages.invariant.some c.messages.invariant.sound
+  reads_stop c.args.self.now c.messages.self c.next_owned.new.self c.args.reports.now.items c.messages.reports.items c.reserve.new.self.items c.in-Err.why c.messages.invariant.some c.messages.invariant.sound
       c.in-Err.ensures.answer c.in-Err.ensures.state c.reserve.ensures.items,
   λ e. absurd (cc e),
 )
 
 pub returns-then-last-clause-reads : goal.returns-then-last-clause-reads
 returns-then-last-clause-reads g c =
-    let e = told_read c.messages.self c.next.new.self _ c.in-Ok-Some.field-0 c.in-Ok-Some.report c.in-Ok-Some.field-0-is c.in-Ok-Some.ensures.answer in
-    let l = told_left c.messages.self c.next.new.self c.in-Ok-Some.field-0 c.in-Ok-Some.report c.in-Ok-Some.field-0-is c.in-Ok-Some.ensures.state in
+    let e = told_read c.messages.self c.next_owned.new.self _ c.in-Ok-Some.field-0 c.in-Ok-Some.report c.in-Ok-Some.field-0-is c.in-Ok-Some.ensures.answer in
+    let l = told_left c.messages.self c.next_owned.new.self c.in-Ok-Some.field-0 c.in-Ok-Some.report c.in-Ok-Some.field-0-is c.in-Ok-Some.ensures.state in
     let last = sym c.is_last-last.ensures ∙ c.if-last.true in (
-      reads_last c.args.self.now c.messages.self c.next.new.self c.args.reports.now.items c.messages.reports.items c.reserve.new.self.items c.push_reserved.new.self.items c.in-Ok-Some.report c.messages.invariant.some e l last
+      reads_last c.args.self.now c.messages.self c.next_owned.new.self c.args.reports.now.items c.messages.reports.items c.reserve.new.self.items c.push_reserved.new.self.items c.in-Ok-Some.report c.messages.invariant.some e l last
           c.messages.invariant.kept c.reserve.ensures.items c.push_reserved.ensures.items,
       λ h. ap (λ (s : State). s.core.failed) l ∙ failed_after c.messages.self (report_of c.in-Ok-Some.report) e ∙ last,
     )
 
 pub messages-smaller : goal.messages-smaller
 messages-smaller g c =
-    let e = told_read c.messages.self c.next.new.self _ c.in-Ok-Some.field-0 c.in-Ok-Some.report c.in-Ok-Some.field-0-is c.in-Ok-Some.ensures.answer in
-    let l = told_left c.messages.self c.next.new.self c.in-Ok-Some.field-0 c.in-Ok-Some.report c.in-Ok-Some.field-0-is c.in-Ok-Some.ensures.state in
+    let e = told_read c.messages.self c.next_owned.new.self _ c.in-Ok-Some.field-0 c.in-Ok-Some.report c.in-Ok-Some.field-0-is c.in-Ok-Some.ensures.answer in
+    let l = told_left c.messages.self c.next_owned.new.self c.in-Ok-Some.field-0 c.in-Ok-Some.report c.in-Ok-Some.field-0-is c.in-Ok-Some.ensures.state in
     subst (λ (s : State). length s.core.inbox.bytes < length c.messages.self.core.inbox.bytes) (sym l) (fewer_wait c.messages.self (report_of c.in-Ok-Some.report) e)
 
 pub messages-preserved : goal.messages-preserved
 messages-preserved g c =
-    let e = told_read c.messages.self c.next.new.self _ c.in-Ok-Some.field-0 c.in-Ok-Some.report c.in-Ok-Some.field-0-is c.in-Ok-Some.ensures.answer in
-    let l = told_left c.messages.self c.next.new.self c.in-Ok-Some.field-0 c.in-Ok-Some.report c.in-Ok-Some.field-0-is c.in-Ok-Some.ensures.state in
+    let e = told_read c.messages.self c.next_owned.new.self _ c.in-Ok-Some.field-0 c.in-Ok-Some.report c.in-Ok-Some.field-0-is c.in-Ok-Some.ensures.answer in
+    let l = told_left c.messages.self c.next_owned.new.self c.in-Ok-Some.field-0 c.in-Ok-Some.report c.in-Ok-Some.field-0-is c.in-Ok-Some.ensures.state in
     let last = sym c.is_last-last.ensures ∙ c.if-last.false in
     record {
       kept = pushed_kept c.args.reports.now.items c.messages.reports.items c.reserve.new.self.items c.push_reserved.new.self.items c.in-Ok-Some.report c.messages.invariant.kept c.reserve.ensures.items c.push_reserved.ensures.items;
-      some = reads_more c.args.self.now c.messages.self c.next.new.self c.args.reports.now.items c.messages.reports.items c.reserve.new.self.items c.push_reserved.new.self.items c.in-Ok-Some.report c.messages.invariant.some e l last
+      some = reads_more c.args.self.now c.messages.self c.next_owned.new.self c.args.reports.now.items c.messages.reports.items c.reserve.new.self.items c.push_reserved.new.self.items c.in-Ok-Some.report c.messages.invariant.some e l last
           c.messages.invariant.kept c.reserve.ensures.items c.push_reserved.ensures.items;
       sound = ap (λ (s : State). s.core.failed) l ∙ failed_after c.messages.self (report_of c.in-Ok-Some.report) e ∙ last;
     }

@@ -20,7 +20,7 @@ returns g c =
     let same = c.has_report.ensures.same in
     let sound = ap (λ (s : State). s.core.failed) same ∙ c.requires in
     let none_there : HasReport c.has_report.new.self → ⊥ = λ h. c.has_report.ensures.no c.if-has_report.false (subst HasReport same h) in
-    subst (λ (s : State). WaitingIsRead s [] c.match-next.result c.next.new.self) same (elim c.match-next.branch [
-      | in-Err w ↦ subst (λ r. WaitingIsRead c.has_report.new.self [] r c.next.new.self) (sym w.result-is) (told_error c.has_report.new.self c.next.new.self w.in-Err.why sound w.in-Err.ensures.answer w.in-Err.ensures.state, λ e. absurd (cc e))
-      | in-Ok w ↦ subst (λ r. WaitingIsRead c.has_report.new.self [] r c.next.new.self) (sym w.result-is) (nothing_read c.has_report.new.self c.next.new.self w.in-Ok.field-0 none_there w.in-Ok.ensures.answer w.in-Ok.ensures.state)
+    subst (λ (s : State). WaitingIsRead s [] c.match-next_owned.result c.next_owned.new.self) same (elim c.match-next_owned.branch [
+      | in-Err w ↦ subst (λ r. WaitingIsRead c.has_report.new.self [] r c.next_owned.new.self) (sym w.result-is) (told_error c.has_report.new.self c.next_owned.new.self w.in-Err.why sound w.in-Err.ensures.answer w.in-Err.ensures.state, λ e. absurd (cc e))
+      | in-Ok w ↦ subst (λ r. WaitingIsRead c.has_report.new.self [] r c.next_owned.new.self) (sym w.result-is) (nothing_read c.has_report.new.self c.next_owned.new.self w.in-Ok.field-0 none_there w.in-Ok.ensures.answer w.in-Ok.ensures.state)
     ])

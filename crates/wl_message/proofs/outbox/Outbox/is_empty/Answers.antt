@@ -16,3 +16,10 @@ returns-clause-messages g c =
       (λ t. nothing_left _ c.self.invariant.kept (let e : c.is_empty.result ≡ true = t in grind (arith, nat_tests, c.is_empty.ensures, e))),
       (λ w. let z = no_messages_bytes _ c.self.invariant.kept w.0 w.1 in grind (arith, nat_tests, c.is_empty.ensures, z)),
     )
+
+pub returns-clause-bytes : goal.returns-clause-bytes
+returns-clause-bytes g c =
+    rw (← c.self.view_is) (
+      (λ t. (nothing_waits _ c.self.invariant.kept (let e : c.is_empty.result ≡ true = t in grind (arith, nat_tests, c.is_empty.ensures, e))).0),
+      (λ w. let z = no_bytes _ c.self.invariant.kept w in grind (arith, nat_tests, c.is_empty.ensures, z)),
+    )

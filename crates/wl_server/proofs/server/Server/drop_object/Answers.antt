@@ -1,26 +1,31 @@
-use Rattle.std.proofs.Common.{◌≡◌, sym, subst}
-use Rattle.std.specs.Prelude.{Result, OnOk, OnErr}
+use Rattle.std.proofs.Common.{◌≡◌, List, sym, subst}
+use Rattle.std.specs.Prelude.{Result, IfOk, OnOk, OnErr}
 use Rattle.std.specs.declared.result.Result.TheVariants.{Ok, Err}
+use Rattle.wl_sigs.specs.Valid.{Valid}
+use Rattle.wl_objects.specs.declared.error.SendError.{SendError}
+use Rattle.wl_table.specs.declared.object.Object.{Object}
 use Rattle.wl_end.specs.Core.{Core}
-use Rattle.wl_server.specs.Calls.{after_drop}
+use Rattle.wl_end.specs.Outcomes.{refusal_in}
+use Rattle.wl_server.specs.Calls.{after_drop, drop_refusal}
+use Rattle.wl_server.specs.State.{Registry}
 use Rattle.wl_server.specs.Registries.{HasRegistries, BirthsAreOnce}
-use Rattle.wl_server.proofs.Registries.{has_fewer, births_closed}
+use Rattle.wl_server.proofs.Registries.{has_dropped, births_closed}
 use Rattle.wl_server.proofs.server.Server.drop_object.Goals as goal
 
-by_result : {X E : Type 0} (P : Core → Type 0) (r : Result X E) (before now dropped : Core) → OnOk r (now ≡ dropped) → OnErr r (now ≡ before) → P dropped → P before → P now
-by_result P (Ok x) before now dropped ok err d h = subst P (sym ok) d
-by_result P (Err why) before now dropped ok err d h = subst P (sym err) h
+has_by : {X : Type 0} (rs : List Registry) (object : Object) (r : Result X SendError) (before now : Core) → refusal_in r ≡ drop_refusal before object → OnOk r (now ≡ after_drop before object) → OnErr r (now ≡ before) → IfOk r (λ _. Valid before.tables)
+    → HasRegistries before.view rs → HasRegistries now.view rs
+has_by rs object (Ok x) before now a ok err v h = subst (λ (k : Core). HasRegistries k.view rs) (sym ok) (has_dropped before rs object v a h)
+has_by rs object (Err why) before now a ok err v h = subst (λ (k : Core). HasRegistries k.view rs) (sym err) h
+
+births_by : {X E : Type 0} (object : Object) (r : Result X E) (before now : Core) → OnOk r (now ≡ after_drop before object) → OnErr r (now ≡ before) → BirthsAreOnce before.view → BirthsAreOnce now.view
+births_by object (Ok x) before now ok err b = subst (λ (k : Core). BirthsAreOnce k.view) (sym ok) (births_closed before.view object.id b)
+births_by object (Err why) before now ok err b = subst (λ (k : Core). BirthsAreOnce k.view) (sym err) b
 
 pub invariant_of-self : goal.invariant_of-self
 invariant_of-self g c =
-    let core = c.self.inside.core in
-    let now = c.drop_at.new.core in
-    let dropped = after_drop core c.args.object in
-    let e = c.drop_at.ensures in
+    let e = c.close_dropped.ensures in
     record {
       few = c.self.invariant.few;
-      registries = by_result (λ (k : Core). HasRegistries k.view c.self.inside.registries.items) c.drop_at.result core now dropped e.ok e.err
-          (has_fewer core.view c.self.inside.registries.items c.args.object.id c.self.invariant.registries) c.self.invariant.registries;
-      births = by_result (λ (k : Core). BirthsAreOnce k.view) c.drop_at.result core now dropped e.ok e.err
-          (births_closed core.view c.args.object.id c.self.invariant.births) c.self.invariant.births;
+      registries = has_by c.self.inside.registries.items c.args.object c.close_dropped.result c.self.inside.core c.close_dropped.new.core e.answer e.ok e.err e.valid c.self.invariant.registries;
+      births = births_by c.args.object c.close_dropped.result c.self.inside.core c.close_dropped.new.core e.ok e.err c.self.invariant.births;
     }

@@ -15,29 +15,29 @@ messages-init g c = record {
 
 pub returns-in-Err-clause-reads : goal.returns-in-Err-clause-reads
 returns-in-Err-clause-reads g c =
-    reads_stop c.args.self.now c.messages.self c.next.new.self c.args.reports.now.items c.messages.reports.items c.reserve.new.self.items c.in-Err.why c.messages.invariant.some c.messages.invariant.sound
+    reads_stop c.args.self.now c.messages.self c.next_owned.new.self c.args.reports.now.items c.messages.reports.items c.reserve.new.self.items c.in-Err.why c.messages.invariant.some c.messages.invariant.sound
     c.in-Err.ensures.answer c.in-Err.ensures.state c.reserve.ensures.items
 
 pub messages-smaller : goal.messages-smaller
 messages-smaller g c =
-    let e = told_read c.messages.self c.next.new.self _ c.in-Ok-Some.field-0 c.in-Ok-Some.report c.in-Ok-Some.field-0-is c.in-Ok-Some.ensures.answer in
-    let l = told_left c.messages.self c.next.new.self c.in-Ok-Some.field-0 c.in-Ok-Some.report c.in-Ok-Some.field-0-is c.in-Ok-Some.ensures.state in
+    let e = told_read c.messages.self c.next_owned.new.self _ c.in-Ok-Some.field-0 c.in-Ok-Some.report c.in-Ok-Some.field-0-is c.in-Ok-Some.ensures.answer in
+    let l = told_left c.messages.self c.next_owned.new.self c.in-Ok-Some.field-0 c.in-Ok-Some.report c.in-Ok-Some.field-0-is c.in-Ok-Some.ensures.state in
     subst (λ (s : State). length s.core.inbox.bytes < length c.messages.self.core.inbox.bytes) (sym l) (fewer_wait c.messages.self (report_of c.in-Ok-Some.report) e)
 
 pub messages-preserved : goal.messages-preserved
 messages-preserved g c =
-    let e = told_read c.messages.self c.next.new.self _ c.in-Ok-Some.field-0 c.in-Ok-Some.report c.in-Ok-Some.field-0-is c.in-Ok-Some.ensures.answer in
-    let l = told_left c.messages.self c.next.new.self c.in-Ok-Some.field-0 c.in-Ok-Some.report c.in-Ok-Some.field-0-is c.in-Ok-Some.ensures.state in
+    let e = told_read c.messages.self c.next_owned.new.self _ c.in-Ok-Some.field-0 c.in-Ok-Some.report c.in-Ok-Some.field-0-is c.in-Ok-Some.ensures.answer in
+    let l = told_left c.messages.self c.next_owned.new.self c.in-Ok-Some.field-0 c.in-Ok-Some.report c.in-Ok-Some.field-0-is c.in-Ok-Some.ensures.state in
     record {
       kept = pushed_kept c.args.reports.now.items c.messages.reports.items c.reserve.new.self.items c.push_reserved.new.self.items c.in-Ok-Some.report c.messages.invariant.kept c.reserve.ensures.items c.push_reserved.ensures.items;
-      some = reads_more c.args.self.now c.messages.self c.next.new.self c.args.reports.now.items c.messages.reports.items c.reserve.new.self.items c.push_reserved.new.self.items c.in-Ok-Some.report c.messages.invariant.some e l
+      some = reads_more c.args.self.now c.messages.self c.next_owned.new.self c.args.reports.now.items c.messages.reports.items c.reserve.new.self.items c.push_reserved.new.self.items c.in-Ok-Some.report c.messages.invariant.some e l
           c.messages.invariant.kept c.reserve.ensures.items c.push_reserved.ensures.items;
       sound = ap (λ (s : State). s.core.failed) l ∙ sound_after c.messages.self (report_of c.in-Ok-Some.report) e;
     }
 
 pub returns-in-Ok-None-clause-reads : goal.returns-in-Ok-None-clause-reads
 returns-in-Ok-None-clause-reads g c =
-    reads_end c.args.self.now c.messages.self c.next.new.self c.args.reports.now.items c.messages.reports.items c.reserve.new.self.items _ c.in-Ok-None.field-0 c.messages.invariant.some c.in-Ok-None.field-0-is
+    reads_end c.args.self.now c.messages.self c.next_owned.new.self c.args.reports.now.items c.messages.reports.items c.reserve.new.self.items _ c.in-Ok-None.field-0 c.messages.invariant.some c.in-Ok-None.field-0-is
     c.in-Ok-None.ensures.answer c.in-Ok-None.ensures.state c.reserve.ensures.items
 
 pub returns-then-is_err-clause-reads : goal.returns-then-is_err-clause-reads

@@ -18,11 +18,11 @@ returns-then-is_err g c =
     rw (← c.self.view_is)
     (refused_memory _ _ (record { client = c.self.inside.client; server = c.self.inside.server; recording = c.self.inside.recording; ended_at = c.self.inside.ended_at }) _ _ _ (c.goes-going.ensures ∙ t) c.if-is_err.ensures.negation c.prepare.ensures.err c.prepare.ensures.some)
 
-pub pass_to_server-requires-clause-fits : goal.pass_to_server-requires-clause-fits
-pass_to_server-requires-clause-fits g c = fed_whole c.self.inside.client.core c.self.inside.server.core c.args.most _ (goes_is c.self.inside.client.core c.self.inside.server.core c.args.most _ _ _ _ c.in_room-room.ensures c.min.ensures refl refl)
+pub pass-requires-clause-fits : goal.pass-requires-clause-fits
+pass-requires-clause-fits g c = fed_whole c.self.inside.client.core c.self.inside.server.core c.args.most _ (goes_is c.self.inside.client.core c.self.inside.server.core c.args.most _ _ _ _ c.in_room-room.ensures c.min.ensures refl refl)
 
-pub pass_to_server-requires-clause-room : goal.pass_to_server-requires-clause-room
-pass_to_server-requires-clause-room g c =
+pub pass-requires-clause-room : goal.pass-requires-clause-room
+pass-requires-clause-room g c =
     let t = goes_is c.self.inside.client.core c.self.inside.server.core c.args.most _ _ _ _ c.in_room-room.ensures c.min.ensures refl refl in
     last_is c.self.inside.client.core c.self.inside.server.core c.args.most c.self.inside.recording _ _ _ _ t (c.goes-going.ensures ∙ t) (on_ok _ c.if-is_err.ensures.negation c.prepare.ensures.ok)
 
@@ -30,6 +30,6 @@ pub returns : goal.returns
 returns g c =
     let t = goes_is c.self.inside.client.core c.self.inside.server.core c.args.most _ _ _ _ c.in_room-room.ensures c.min.ensures refl refl in
     let going = c.goes-going.ensures ∙ t in
-    let kept = recorded c.self.inside.client.core c.self.inside.server.core c.args.most c.self.inside.recording _ _ _ _ _ t going (on_ok _ c.if-is_err.ensures.negation c.prepare.ensures.ok) c.pass_to_server.ensures.recording in
+    let kept = recorded c.self.inside.client.core c.self.inside.server.core c.args.most c.self.inside.recording _ _ _ _ _ t going (on_ok _ c.if-is_err.ensures.negation c.prepare.ensures.ok) c.pass.ensures.recording in
     rw (← c.self.view_is)
-    (moved_to_server (record { client = c.self.inside.client; server = c.self.inside.server; recording = c.self.inside.recording; ended_at = c.self.inside.ended_at }) c.args.most _ _ _ _ _ t going c.pass_to_server.ensures.client c.pass_to_server.ensures.server kept)
+    (moved_to_server (record { client = c.self.inside.client; server = c.self.inside.server; recording = c.self.inside.recording; ended_at = c.self.inside.ended_at }) c.args.most _ _ _ _ _ t going c.pass.ensures.from c.pass.ensures.to kept)

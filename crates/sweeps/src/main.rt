@@ -1,0 +1,97 @@
+//! Plays recorded sessions cut, changed and without memory, and prints for each how often, and how often
+//! it went otherwise than it must. The recordings are those that the command line names.
+//! (docs/SCENES.md)
+#![tactic(auto)]
+
+mod births;
+mod changes;
+mod cuts;
+mod fault;
+mod refusals;
+mod replay;
+mod sample;
+mod script;
+mod tally;
+
+use births::{born_at_client, born_at_server};
+use changes::judge_changed;
+use cuts::judge_cut;
+use refusals::{Call, refuse};
+use refusing::RefusingAllocator;
+use replay::{Props, sweep_client, sweep_server};
+use sample::Sample;
+use std::process::ExitCode;
+use std::{env, fs, io};
+use tally::Tally;
+use wl_scenes::Trouble;
+use wl_sigs::Tables;
+
+/// Prints how a sweep went. Whether all went well.
+fn tell(rt: &HostRuntime, name: &str, tally: Result<Tally, Trouble>) -> io::Result<bool> {
+    match tally {
+        Ok(tally) => {
+            println!(rt; "  {name}: {tally}")?;
+            Ok(tally.wrong == 0)
+        }
+        Err(_) => {
+            println!(rt; "  {name}: NOT PLAYED")?;
+            Ok(false)
+        }
+    }
+}
+
+/// Sweeps over one recording.
+fn sweep(rt: &HostRuntime, props: Props<'_>, sample: &Sample<'_>) -> io::Result<bool> {
+    let mut all = tell(rt, "cut", judge_cut(props, sample))?;
+    all = tell(rt, "changed, judged", judge_changed(props, sample))? && all;
+    all = tell(rt, "changed, at a server", sweep_server(props, sample))? && all;
+    all = tell(rt, "changed, at a client", sweep_client(props, sample))? && all;
+    for call in Call::ALL {
+        all = tell(rt, call.name(), refuse(props, sample, call))? && all;
+    }
+    Ok(all)
+}
+
+/// Sweeps over the recording of a text.
+fn sweep_text(rt: &HostRuntime, props: Props<'_>, text: &str) -> io::Result<bool> {
+    match Sample::of(props.memory, text) {
+        Ok(sample) => sweep(rt, props, &sample),
+        Err(_) => {
+            println!(rt; "  no recording")?;
+            Ok(false)
+        }
+    }
+}
+
+/// Sweeps over the files that the command line names. Whether all went well.
+fn sweep_files(rt: &HostRuntime, props: Props<'_>) -> io::Result<bool> {
+    let mut all = true;
+    for name in env::args(rt)?.skip(1) {
+        let text = fs::read_to_string(rt, name.as_str())?;
+        println!(rt; "{name}")?;
+        all = sweep_text(rt, props, text.as_str())? && all;
+    }
+    Ok(all)
+}
+
+/// Runs all sweeps. Whether all went well.
+fn sweep_all(rt: &HostRuntime) -> io::Result<bool> {
+    let alloc = rt.alloc();
+    let tables = Tables::core(alloc)?;
+    let memory = RefusingAllocator::new(alloc)?;
+    let props = Props {
+        alloc,
+        tables: &tables,
+        memory: &memory,
+    };
+    let mut all = sweep_files(rt, props)?;
+    println!(rt; "births")?;
+    all = tell(rt, "at a client", born_at_client(props))? && all;
+    all = tell(rt, "at a server", born_at_server(props))? && all;
+    Ok(all)
+}
+
+fn main(rt: HostRuntime) -> io::Result<ExitCode> {
+    let all = sweep_all(&rt)?;
+    Ok(ExitCode::from(if all { 0 } else { 1 }))
+}

@@ -1,0 +1,12 @@
+use Rattle.std.proofs.Common.{ap, ◌∙◌}
+use Rattle.wl_client.specs.Reports.{after_next}
+use Rattle.wl_client.proofs.Nexts.{after_owned_none, after_owned}
+use Rattle.wl_client.proofs.client.Client.next_owned.Goals as goal
+
+pub returns-in-None-clause-state : goal.returns-in-None-clause-state
+returns-in-None-clause-state g c =
+    after_owned_none c.in_ok-read_owned.field-0 c.self.inside.core c.read_owned.new.core c.self.inside.globals c.in-None.is c.in_ok-read_owned.ensures.state ∙ ap after_next c.self.view_is
+
+pub returns-in-Some-clause-state : goal.returns-in-Some-clause-state
+returns-in-Some-clause-state g c =
+    after_owned c.in_ok-read_owned.field-0 c.in-Some.owned c.self.inside.core c.read_owned.new.core c.self.inside.globals c.learn.new.self c.in-Some.is c.learn.ensures c.in_ok-read_owned.ensures.state ∙ ap after_next c.self.view_is

@@ -1,0 +1,50 @@
+-- What a report lends.
+use Rattle.std.specs.Prelude.{ℕ, List, [], take, Option, Some, None}
+use Rattle.std.specs.Borrow.{RattleType}
+use mir.Syntax.{named}
+use Rattle.std.specs.declared.result.Result.{Result}
+use Rattle.std.specs.declared.result.Result.TheVariants.{Ok, Err}
+use Rattle.std.specs.declared.alloc.Allocator as allocator
+use Rattle.std.specs.declared.clone.Clone as clone
+use Rattle.wl_message.specs.Arrived.{Arrived}
+use Rattle.wl_table.specs.declared.table.Table as table
+use Rattle.wl_objects.specs.declared.error.NextError.{NextError}
+use Rattle.wl_objects.specs.Parsed.{reported_in, spelled_in, seen_args}
+use Rattle.wl_client.specs.declared.incoming.Incoming.{Incoming}
+use Rattle.wl_client.specs.declared.incoming.Incoming.TheVariants as incoming
+use Rattle.wl_client.specs.declared.incoming.Outline.{Outline}
+use Rattle.wl_client.specs.declared.incoming.Outline.TheVariants as outlines
+use Rattle.wl_client.specs.Reports.{Report, Event, Discarded, Deleted, Stray, Error, argument, text_in}
+use Rattle.wl_client.specs.contracts.client.Client.{the_row}
+
+-- what a lent report is
+abbrev pub lent_report : Incoming → Report
+lent_report (incoming.Event target opcode args) = Event target opcode (seen_args args)
+lent_report (incoming.Discarded target opcode tokens) = Discarded target opcode tokens.now
+lent_report (incoming.Deleted object) = Deleted object
+lent_report (incoming.Stray id) = Stray id
+lent_report (incoming.Error id object code text) = Error id object code text.now
+
+-- what `next` returned
+abbrev pub lent_in : Result (Option Incoming) NextError → Result (Option Report) NextError
+lent_in (Err why) = Err why
+lent_in (Ok None) = Ok None
+lent_in (Ok (Some read)) = Ok (Some (lent_report read))
+
+-- what an outline is with a message's body and tokens
+abbrev pub outlined : List ℕ → List ℕ → Outline → Report
+outlined body tokens (outlines.Event target opcode args birth) = Event target opcode (reported_in body birth tokens args)
+outlined body tokens (outlines.Discarded target opcode count) = Discarded target opcode (take count tokens)
+outlined body tokens (outlines.Deleted object) = Deleted object
+outlined body tokens (outlines.Stray id) = Stray id
+outlined body tokens (outlines.Error id object code args) = Error id object code (text_in (argument (spelled_in body args) 2))
+
+-- what an outline is with the message that was taken out of an inbox last
+abbrev pub outline_in : Arrived → Result (Option Outline) NextError → Result (Option Report) NextError
+outline_in inbox (Err why) = Err why
+outline_in inbox (Ok None) = Ok None
+outline_in inbox (Ok (Some outline)) = Ok (Some (outlined inbox.last inbox.last_tokens outline))
+
+-- The client's type as the logic holds it: `named 0` is the place of its lifetime in a signature.
+abbrev pub client_row : (T : RattleType) (A : RattleType) → table.Ghosts T.Denot A.Denot → allocator.Ghosts A.Denot → clone.Ghosts A.Denot → RattleType
+client_row T A t a c = the_row (record { mir = named 0; lft = [] }) T A t a c

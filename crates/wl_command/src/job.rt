@@ -1,0 +1,195 @@
+//! What the words of a command line ask for.
+ghost use Rattle.std.specs.Prelude.{◌≡◌, List, [], IfOk, IfErr, codes, false, option_map, string_bytes};
+ghost use Rattle.clap.specs.Words.{HasKind, app_of, fault_of, first_of, found_of, kind_of, rows_of, rule_of, subcommand_of, subcommand_rows_of};
+ghost use Rattle.wl_command.specs.Asking.{Asks, Gives, IsPiece, IsStop, Names, Stops, StopsFor, check_command, command_line, demo_command, file_argument, piece_argument, texts_of, trace_command};
+
+use clap::error::ErrorKind;
+use clap::{Arg, ArgMatches, Command, Error};
+use std::alloc::{AllocError, Global};
+
+/// The most bytes that the demonstration carries at once, unless it is told otherwise.
+const MOST_PIECE: &str = "4096";
+
+/// What is said of a command line where the parser has no words for it.
+const USAGE: &str = "error: no command of this program\n\nUsage: waywire <COMMAND>\n";
+
+/// One run of the program.
+#[derive(Debug, Drop)]
+pub enum Job {
+    /// Print each message of the recording in the file of this name, and where a rule is broken
+    /// which.
+    Trace { file: String },
+    /// Print whether the recording in the file of this name is lawful.
+    Check { file: String },
+    /// Print a session of both ends, in which at most so many bytes are carried at once: 1 to 4096.
+    Demo { piece: u32 },
+}
+
+/// Why there is no job.
+#[derive(Debug, Drop)]
+pub struct Stop {
+    /// The exit status: 0 where help was asked for, 2 for a command line that is none of this
+    /// program's, 4 for lack of memory.
+    pub status: u8,
+    /// What to print: help to standard output, a fault to standard error. It is empty for lack of
+    /// memory alone.
+    pub text: String,
+}
+
+fn command<'a>(alloc: Global) -> Result<Command<'a>, AllocError>
+    ensures { IfOk result (λ c. app_of c ≡ command_line) }
+{
+    Command::new(alloc, "waywire")
+        .bin_name("waywire")?
+        .about("Recorded sessions of Wayland clients, as text")
+        .subcommand_required(true)
+        .subcommand(trace(alloc)?)?
+        .subcommand(check(alloc)?)?
+        .subcommand(demo(alloc)?)
+}
+
+fn trace<'a>(alloc: Global) -> Result<Command<'a>, AllocError>
+    ensures { IfOk result (λ c. app_of c ≡ trace_command) }
+{
+    Command::new(alloc, "trace")
+        .about("Prints each message of a recording, one a line")
+        .arg(file(alloc))
+}
+
+fn check<'a>(alloc: Global) -> Result<Command<'a>, AllocError>
+    ensures { IfOk result (λ c. app_of c ≡ check_command) }
+{
+    Command::new(alloc, "check")
+        .about("Prints whether a recording is a lawful session")
+        .arg(file(alloc))
+}
+
+fn demo<'a>(alloc: Global) -> Result<Command<'a>, AllocError>
+    ensures { IfOk result (λ c. app_of c ≡ demo_command) }
+{
+    Command::new(alloc, "demo")
+        .about("Runs a client against a server and prints their session")
+        .arg(piece(alloc))
+}
+
+/// The argument that names a recording.
+fn file<'a>(alloc: Global) -> Arg<'a>
+    ensures rule { rule_of result ≡ file_argument }
+    ensures local { result.global ≡ false }
+{
+    Arg::new(alloc, "FILE")
+        .required(true)
+        .help("The recording: one piece a line, `> HEX` or `< HEX`")
+}
+
+/// The argument that says how much is carried at once.
+fn piece<'a>(alloc: Global) -> Arg<'a>
+    ensures rule { rule_of result ≡ piece_argument }
+    ensures local { result.global ≡ false }
+{
+    Arg::new(alloc, "piece")
+        .long("piece")
+        .value_name("N")
+        .value_parser(clap::value_parser!(u32).range(1..=4096))
+        .default_value(MOST_PIECE)
+        .help("The most bytes carried at once, 1 to 4096")
+}
+
+/// The file that a command was given, or none.
+fn file_of(alloc: Global, matches: &ArgMatches<'_>) -> Result<Option<String>, AllocError>
+    ensures { IfOk result (λ r. option_map string_bytes r
+        ≡ first_of (codes "FILE") (rows_of (found_of matches.now))) }
+{
+    match matches.get_str("FILE") {
+        Some(file) => Ok(Some(String::from_str(alloc, file)?)),
+        None => Ok(None),
+    }
+}
+
+/// The number of bytes that the demonstration is to carry at once, or none.
+fn piece_of(matches: &ArgMatches<'_>) -> Option<u32>
+    ensures { IsPiece (rows_of (found_of matches.now)) result }
+{
+    matches.get_one("piece")
+}
+
+/// The job that a command of this name asks for with what it was given, or none.
+fn named(alloc: Global, name: &str, given: &ArgMatches<'_>) -> Result<Option<Job>, AllocError>
+    ensures { IfOk result (Gives name.now (rows_of (found_of given.now))) }
+{
+    match name {
+        "trace" => Ok(file_of(alloc, given)?.map(|file| Job::Trace { file })),
+        "check" => Ok(file_of(alloc, given)?.map(|file| Job::Check { file })),
+        "demo" => Ok(piece_of(given).map(|piece| Job::Demo { piece })),
+        _ => Ok(None),
+    }
+}
+
+/// The job that a parsed command line asks for, or none.
+fn chosen(alloc: Global, matches: &ArgMatches<'_>) -> Result<Option<Job>, AllocError>
+    ensures { IfOk result (Names (subcommand_rows_of matches.now)) }
+{
+    match matches.subcommand() {
+        Some((name, given)) => named(alloc, name, given),
+        None => Ok(None),
+    }
+}
+
+/// The job that the words ask for, or none where they were parsed and name no job.
+fn parsed(alloc: Global, words: &[String]) -> Result<Option<Job>, Error>
+    ensures asked { IfOk result (λ r. (fault_of command_line (texts_of words.now) ≡ [])
+        × Names (subcommand_of command_line (texts_of words.now)) r) }
+    ensures fault { IfErr result (HasKind (fault_of command_line (texts_of words.now))) }
+{
+    let matches = command(alloc)?.try_get_matches_from(words)?;
+    Ok(chosen(alloc, &matches)?)
+}
+
+fn no_memory(alloc: Global) -> Stop
+    ensures { (result.status ≡ 4) × (string_bytes result.text ≡ []) }
+{
+    Stop {
+        status: 4,
+        text: String::new(alloc),
+    }
+}
+
+/// A stop with what is to be said of it, or with what is always said where that is nothing.
+fn stopped(alloc: Global, status: u8, text: String) -> Stop
+    ensures { IsStop status result }
+{
+    if !text.is_empty() {
+        return Stop { status, text };
+    }
+    match String::from_str(alloc, USAGE) {
+        Ok(text) => Stop { status, text },
+        Err(_) => no_memory(alloc),
+    }
+}
+
+fn stop_of(alloc: Global, error: &Error) -> Stop
+    ensures { StopsFor (kind_of error.now) result }
+{
+    if matches!(error.kind(), ErrorKind::OutOfMemory) {
+        return no_memory(alloc);
+    }
+    let status = if error.use_stderr() { 2 } else { 0 };
+    match error.to_string(alloc) {
+        Ok(text) => stopped(alloc, status, text),
+        Err(_) => no_memory(alloc),
+    }
+}
+
+/// The job that a command line asks for. The first word is the program's name.
+///
+/// A command that is not known, a word too many and a word too few are faults of usage.
+pub fn job_of(alloc: Global, words: &[String]) -> Result<Job, Stop>
+    ensures asked { IfOk result (Asks (texts_of words.now)) }
+    ensures stopped { IfErr result (Stops (texts_of words.now)) }
+{
+    match parsed(alloc, words) {
+        Ok(Some(job)) => Ok(job),
+        Ok(None) => Err(stopped(alloc, 2, String::new(alloc))),
+        Err(error) => Err(stop_of(alloc, &error)),
+    }
+}

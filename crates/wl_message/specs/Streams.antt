@@ -1,0 +1,73 @@
+-- What passes between the boxes and a stream.
+use Rattle.std.specs.Prelude.{◌≡◌, ℕ, ◌<◌, ◌≤◌, ◌↔◌, List, [], ◌∷◌, ◌++◌, length, take, Option, Result, Ok, Err, IsOk, codes}
+use Rattle.std.specs.Fmt.{decimal}
+use Rattle.std.specs.Io.KnownBytes.{Appends, Consumes, IsAtEnd, Keeps}
+use Rattle.wl_message.specs.declared.streams.FlushError.{FlushError}
+use Rattle.wl_message.specs.declared.streams.FlushError.TheVariants as flush_error
+use Rattle.wl_message.specs.declared.streams.FillError.{FillError}
+use Rattle.wl_message.specs.declared.streams.FillError.TheVariants as fill_error
+use Rattle.wl_message.specs.Arrived.{Arrived, free_bytes, with_more}
+use Rattle.wl_message.specs.Outgoing.{Message, Outgoing, waiting_bytes, all_tokens, newly_begun, after_taking}
+
+-- the first of these messages has tokens
+abbrev pub FirstHasTokens : List Message → Type 0
+FirstHasTokens [] = ⊥
+FirstHasTokens (m ∷ ms) = 0 < length m.tokens
+
+-- the next message is not begun, and has tokens
+abbrev pub NextHasTokens : Outgoing → Type 0
+NextHasTokens o = (o.left ≡ []) × FirstHasTokens o.messages
+
+-- how many bytes a flush wrote
+abbrev pub written_of : Result ℕ FlushError → ℕ
+written_of (Ok n) = n
+written_of (Err (flush_error.Io n)) = n
+written_of (Err (flush_error.NeedsTokens n)) = n
+
+-- it stopped before a message for its tokens
+abbrev pub IsNeedsTokens : Result ℕ FlushError → Type 0
+IsNeedsTokens (Err (flush_error.NeedsTokens n)) = Unit {0}
+IsNeedsTokens _ = ⊥
+
+-- A flush of an outbox to a writer, which holds bytes that are known or not: what it returns, and what both are then.
+pub record Flushes (o : Outgoing) (held : Option (List ℕ)) (result : Result ℕ FlushError) (o' : Outgoing) (holds : Option (List ℕ)) : Type 0 where
+  -- the bytes written are the first of those that waited, and these alone are gone
+  pub there : written_of result ≤ length (waiting_bytes o)
+  pub written : Appends held holds (take (written_of result) (waiting_bytes o))
+  pub gone : o' ≡ after_taking o (written_of result)
+  -- no token went with them
+  pub without_tokens : all_tokens (newly_begun o (written_of result)) ≡ []
+  -- it is Ok exactly where no byte is left
+  pub all : IsOk result ↔ (waiting_bytes o' ≡ [])
+  -- it needs tokens exactly where the next message is not begun and has tokens
+  pub needs_tokens : IsNeedsTokens result ↔ NextHasTokens o'
+
+-- the most bytes that one fill reads
+abbrev pub most_filled : ℕ
+most_filled = 4096
+
+-- A read gave the reader's next n bytes, for which there was room. It gave none only at the end of the input.
+pub record Gives (a : Arrived) (had : Option (List ℕ)) (n : ℕ) (a' : Arrived) (has : Option (List ℕ)) : Type 0 where
+  pub bytes : List ℕ
+  pub count : length bytes ≡ n
+  pub most : n ≤ most_filled
+  pub room : n ≤ free_bytes a
+  pub taken : Consumes had has bytes
+  pub added : a' ≡ with_more a bytes []
+  pub end : n ≡ 0 → IsAtEnd has
+
+-- A fill of an inbox from a reader, which has bytes left that are known or not: what it returns, and what both are then.
+-- There is no room exactly where no byte is free.
+abbrev pub Fills : Arrived → Option (List ℕ) → Result ℕ FillError → Arrived → Option (List ℕ) → Type 0
+Fills a had (Ok n) a' has = (0 < free_bytes a) × Gives a had n a' has
+Fills a had (Err fill_error.Io) a' has = (0 < free_bytes a) × (a' ≡ a) × Keeps had has
+Fills a had (Err fill_error.NoRoom) a' has = (free_bytes a ≡ 0) × (a' ≡ a) × Keeps had has
+
+-- how the errors print
+abbrev pub flush_error_text : FlushError → List ℕ
+flush_error_text (flush_error.Io n) = codes "writing failed after " ++ decimal n ++ codes " bytes"
+flush_error_text (flush_error.NeedsTokens n) = codes "the next message needs its tokens, after " ++ decimal n ++ codes " bytes"
+
+abbrev pub fill_error_text : FillError → List ℕ
+fill_error_text fill_error.Io = codes "reading failed"
+fill_error_text fill_error.NoRoom = codes "inbox is full"

@@ -1,0 +1,167 @@
+-- The arguments of a message as they were parsed, once: records that lend nothing, over the body that they lie in.
+use Rattle.std.specs.Prelude.{◌≡◌, ℕ, ◌+◌, ◌<◌, ◌^◌, Bool, true, false, if◌then◌else◌, List, [], ◌∷◌, ◌++◌, length, map, take, drop, slice_index_or, Option, Some, None}
+use Rattle.std.specs.Borrow.{Bor}
+use Rattle.std.specs.declared.result.Result.{Result}
+use Rattle.std.specs.declared.result.Result.TheVariants.{Ok, Err}
+use Rattle.wl_wire.specs.Argument.{Argument, units, reshaped, Int, Uint, Fixed, Str, Obj, New, NewNamed, Array, Fd}
+use Rattle.wl_objects.specs.declared.error.Fault.{Fault}
+use Rattle.wl_objects.specs.declared.argument.Named.TheVariants as named_as
+use Rattle.wl_objects.specs.declared.argument.GotRef.{GotRef}
+use Rattle.wl_objects.specs.declared.argument.GotRef.TheVariants as refs
+use Rattle.wl_objects.specs.declared.parsed.ParsedArg.{ParsedArg}
+use Rattle.wl_objects.specs.declared.parsed.ParsedArg.TheVariants as parsed_as
+use Rattle.wl_objects.specs.declared.args.Args.{Args}
+use Rattle.wl_objects.specs.Reading.{Reader, Reported, in_state, is_descriptor, report_of, reports_of}
+
+-- so many bytes from a place on, as far as there are such
+abbrev pub part : List ℕ → ℕ → ℕ → List ℕ
+part bytes start len = take len (drop start bytes)
+
+-- an argument as it is spelled
+abbrev pub argument_of : List ℕ → ParsedArg → Argument
+argument_of body parsed_as.Null = Str None
+argument_of body (parsed_as.Int z) = Int z
+argument_of body (parsed_as.Uint n) = Uint n
+argument_of body (parsed_as.Fixed z) = Fixed (units z)
+argument_of body (parsed_as.Str start len) = Str (Some (part body start len))
+argument_of body (parsed_as.NoObject id) = Obj id
+argument_of body (parsed_as.Object id birth state) = Obj id
+argument_of body (parsed_as.New id) = New id
+argument_of body (parsed_as.Bound start len version id) = NewNamed (part body start len) version id
+argument_of body (parsed_as.Array start len) = Array (part body start len)
+argument_of body (parsed_as.Fd place) = Fd tt
+
+-- An argument as it is reported, where a new object gets this birth; of a descriptor the place of its token among the message's.
+abbrev pub placed_of : List ℕ → ℕ → ParsedArg → Reported
+placed_of body birth parsed_as.Null = Str None
+placed_of body birth (parsed_as.Int z) = Int z
+placed_of body birth (parsed_as.Uint n) = Uint n
+placed_of body birth (parsed_as.Fixed z) = Fixed (units z)
+placed_of body birth (parsed_as.Str start len) = Str (Some (part body start len))
+placed_of body birth (parsed_as.NoObject id) = Obj named_as.Null
+placed_of body birth (parsed_as.Object id held state) = Obj (in_state state (record { id = id; birth = held }))
+placed_of body birth (parsed_as.New id) = New (record { id = id; birth = birth })
+placed_of body birth (parsed_as.Bound start len version id) = NewNamed (part body start len) version (record { id = id; birth = birth })
+placed_of body birth (parsed_as.Array start len) = Array (part body start len)
+placed_of body birth (parsed_as.Fd place) = Fd place
+
+-- the token at a place; 0 where there is none
+abbrev pub token_at : List ℕ → ℕ → ℕ
+token_at tokens place = slice_index_or tokens place 0
+
+-- a descriptor by its token instead of by its place
+abbrev pub with_token : List ℕ → Reported → Reported
+with_token tokens x = reshaped (λ object. object) (λ new. new) (token_at tokens) x
+
+abbrev pub reported_of : List ℕ → ℕ → List ℕ → ParsedArg → Reported
+reported_of body birth tokens parsed = with_token tokens (placed_of body birth parsed)
+
+-- the arguments of a message as they are spelled
+abbrev pub spelled_in : List ℕ → List ParsedArg → List Argument
+spelled_in body parsed = map (argument_of body) parsed
+
+-- the arguments of a message as they are reported, where these are its tokens
+abbrev pub reported_in : List ℕ → ℕ → List ℕ → List ParsedArg → List Reported
+reported_in body birth tokens parsed = map (reported_of body birth tokens) parsed
+
+-- What was parsed is these values: they are spelled so, and reported so, whatever tokens the message has.
+pub record AreParsed (r : Reader) (body : List ℕ) (parsed : List ParsedArg) (values : List Argument) : Type 0 where
+  pub spelled : spelled_in body parsed ≡ values
+  pub reported : (tokens : List ℕ) → reported_in body r.birth tokens parsed ≡ reports_of r tokens values
+
+-- ---- what parsing comes to
+
+-- an argument as it is spelled, and as it is reported
+abbrev pub Both : Type 0
+Both = Argument × Reported
+
+abbrev pub both_of : List ℕ → ℕ → ParsedArg → Both
+both_of body birth parsed = (argument_of body parsed, placed_of body birth parsed)
+
+abbrev pub all_parsed : List ℕ → ℕ → List ParsedArg → List Both
+all_parsed body birth parsed = map (both_of body birth) parsed
+
+-- what the reader makes of an argument, before which so many descriptors stand
+abbrev pub both : Reader → ℕ → Argument → Both
+both r place value = (value, report_of r place value)
+
+-- how many descriptors stand before what follows an argument
+abbrev pub place_after : Argument → ℕ → ℕ
+place_after value place = if is_descriptor value then place + 1 else place
+
+abbrev pub all_of : Reader → ℕ → List Argument → List Both
+all_of r place [] = []
+all_of r place (value ∷ values) = both r place value ∷ all_of r (place_after value place) values
+
+-- what the reader makes of arguments that were read, and the bytes behind them
+abbrev pub made_of : Reader → ℕ → Result (List Argument × List ℕ) Fault → Result (List Both × List ℕ) Fault
+made_of r place (Err fault) = Err fault
+made_of r place (Ok found) = Ok (all_of r place found.0, found.1)
+
+abbrev pub made_of_one : Reader → ℕ → Result (Argument × ℕ) Fault → Result (Both × ℕ) Fault
+made_of_one r place (Err fault) = Err fault
+made_of_one r place (Ok found) = Ok (both r place found.0, found.1)
+
+abbrev pub made_unless : Reader → ℕ → Argument → Option Fault → Result Both Fault
+made_unless r place value None = Ok (both r place value)
+made_unless r place value (Some fault) = Err fault
+
+-- what was parsed, seen over its body, and the bytes behind it
+abbrev pub parsed_in : List ℕ → ℕ → Result (List ParsedArg × ℕ) Fault → Result (List Both × List ℕ) Fault
+parsed_in body birth (Err fault) = Err fault
+parsed_in body birth (Ok found) = Ok (all_parsed body birth found.0, drop found.1 body)
+
+-- these values, and the bytes that were found behind them
+abbrev pub with_end : List Argument → Result (List ParsedArg × Bor (List ℕ)) Fault → Result (List Argument × List ℕ) Fault
+with_end values (Err fault) = Err fault
+with_end values (Ok found) = Ok (values, found.1.now)
+
+abbrev pub one_in : List ℕ → ℕ → Result (ParsedArg × ℕ) Fault → Result (Both × ℕ) Fault
+one_in body birth (Err fault) = Err fault
+one_in body birth (Ok found) = Ok (both_of body birth found.0, found.1)
+
+abbrev pub parsed_one : List ℕ → ℕ → Result ParsedArg Fault → Result Both Fault
+parsed_one body birth (Err fault) = Err fault
+parsed_one body birth (Ok parsed) = Ok (both_of body birth parsed)
+
+-- the arguments behind others
+abbrev pub behind_those : List Both → Result (List Both × List ℕ) Fault → Result (List Both × List ℕ) Fault
+behind_those front (Err fault) = Err fault
+behind_those front (Ok found) = Ok (front ++ found.0, found.1)
+
+abbrev pub is_fd : ParsedArg → Bool
+is_fd (parsed_as.Fd place) = true
+is_fd _ = false
+
+abbrev pub place_behind : ParsedArg → ℕ → ℕ
+place_behind parsed place = if is_fd parsed then place + 1 else place
+
+-- the bytes of a text lie behind the first word
+pub record LiesBehind (bytes text : List ℕ) : Type 0 where
+  pub same : text ≡ take (length text) (drop 4 bytes)
+  pub fits : length text < 2 ^ 32
+
+abbrev pub Lies : List ℕ → Argument → Type 0
+Lies bytes (Str (Some text)) = LiesBehind bytes text
+Lies bytes (NewNamed iface version id) = LiesBehind bytes iface
+Lies bytes (Array array) = LiesBehind bytes array
+Lies bytes _ = Unit {0}
+
+-- ---- what is lent
+
+-- what a lent argument of a report is
+abbrev pub lent_got : GotRef → Reported
+lent_got (refs.Int z) = Int z
+lent_got (refs.Uint n) = Uint n
+lent_got (refs.Fixed z) = Fixed (units z)
+lent_got (refs.Str None) = Str None
+lent_got (refs.Str (Some text)) = Str (Some text.now)
+lent_got (refs.Obj object) = Obj object
+lent_got (refs.New object) = New object
+lent_got (refs.Bound iface version object) = NewNamed iface.now version object
+lent_got (refs.Array bytes) = Array bytes.now
+lent_got (refs.Fd token) = Fd token
+
+-- the arguments that are left to go through
+abbrev pub seen_args : Args → List Reported
+seen_args a = reported_in a.body.now a.birth a.tokens.now (take a.left (drop a.from a.items))

@@ -1,0 +1,170 @@
+//! The arguments of a report, lent.
+ghost use Rattle.std.specs.Prelude.{◌≡◌, ◌≢◌, ◌↔◌, IsTrue, [], ◌∷◌, ◌++◌, IfOk, OnErr, MatchOption, length, take, drop};
+ghost use Rattle.wl_objects.specs.Reading.{in_state};
+ghost use Rattle.wl_objects.specs.Seen.{got, gots};
+ghost use Rattle.wl_objects.specs.Parsed.{lent_got, reported_in, reported_of, seen_args, token_at};
+
+use crate::argument::{Got, GotRef, Named};
+use crate::parsed::{MAX_ARGS, ParsedArg, ParsedArgs, part};
+use crate::reporting::Gots;
+use std::alloc::{AllocError, Allocator};
+use wl_table::{Object, State};
+use wl_wire::Bytes;
+
+/// The arguments of a message that are left to go through, in order. Strings and arrays are lent
+/// from the end that read the message, until it reads the next one.
+///
+/// The fields are for contracts, which speak of the arguments that are left.
+#[derive(Clone, Copy)]
+pub struct Args<'a> {
+    /// The message's body.
+    pub body: &'a [u8],
+    /// The message's tokens.
+    pub tokens: &'a [u32],
+    /// The birth of an object that the message made.
+    pub birth: u64,
+    pub items: [ParsedArg; MAX_ARGS],
+    /// Where those that are left begin among the items, and how many they are.
+    pub from: usize,
+    pub left: usize,
+}
+
+impl<'a> Args<'a> {
+    /// The arguments of a message with this body and these tokens, where an object that it makes
+    /// has this birth.
+    pub fn of(args: &ParsedArgs, body: &'a [u8], tokens: &'a [u32], birth: u64) -> Args<'a>
+        ensures { seen_args result ≡ reported_in body.now birth tokens.now args.now }
+    {
+        Args {
+            body,
+            tokens,
+            birth,
+            items: args.items,
+            from: 0,
+            left: args.count,
+        }
+    }
+
+    /// How many arguments are left.
+    pub fn len(&self) -> usize
+        ensures { result ≡ length (seen_args self.now) }
+    {
+        self.left.min(MAX_ARGS.saturating_sub(self.from))
+    }
+
+    /// Whether no argument is left.
+    pub fn is_empty(&self) -> bool
+        ensures { IsTrue result ↔ (seen_args self.now ≡ []) }
+    {
+        let mut left = *self;
+        left.next().is_none()
+    }
+
+    /// Takes out the first argument that is left.
+    pub fn next(&mut self) -> Option<GotRef<'a>>
+        ensures { MatchOption result ((seen_args self.old ≡ []) × (seen_args self.new ≡ []))
+            (λ got. seen_args self.old ≡ lent_got got ∷ seen_args self.new) }
+    {
+        if self.left == 0 {
+            return None;
+        }
+        let parsed = *self.items.get(self.from)?;
+        self.from += 1;
+        self.left -= 1;
+        Some(got_of(self.body, self.birth, self.tokens, parsed))
+    }
+}
+
+impl<'a> Args<'a> {
+    /// The arguments that are left, in memory of their own. Of none it takes no memory.
+    pub fn to_owned<A: Allocator + Clone + Drop>(&self, alloc: &A) -> Result<Gots<A>, AllocError>
+        ensures ok { IfOk result (λ owned. owned ≡ seen_args self.now) }
+        ensures err { OnErr result (seen_args self.now ≢ []) }
+    {
+        if self.is_empty() {
+            return Ok(Gots::none());
+        }
+        let mut items = Vec::new(alloc.clone()?);
+        let mut left = *self;
+        'left: while let Some(argument) = left.next() {
+            items.push(owned(alloc, argument)?)?;
+        }
+        Ok(Gots::from_vec(items))
+    }
+}
+
+/// An argument in memory of its own.
+fn owned<A: Allocator + Clone + Drop>(alloc: &A, argument: GotRef<'_>) -> Result<Got<A>, AllocError>
+    ensures { IfOk result (λ owned. got owned ≡ lent_got argument.entry) }
+{
+    match argument {
+        GotRef::Int(number) => Ok(Got::Int(number)),
+        GotRef::Uint(number) => Ok(Got::Uint(number)),
+        GotRef::Fixed(number) => Ok(Got::Fixed(number)),
+        GotRef::Str(None) => Ok(Got::Str(None)),
+        GotRef::Str(Some(text)) => Ok(Got::Str(Some(Bytes::copy_of(alloc.clone()?, text)?))),
+        GotRef::Obj(object) => Ok(Got::Obj(object)),
+        GotRef::New(object) => Ok(Got::New(object)),
+        GotRef::Bound {
+            iface,
+            version,
+            object,
+        } => Ok(Got::Bound {
+            iface: Bytes::copy_of(alloc.clone()?, iface)?,
+            version,
+            object,
+        }),
+        GotRef::Array(bytes) => Ok(Got::Array(Bytes::copy_of(alloc.clone()?, bytes)?)),
+        GotRef::Fd(token) => Ok(Got::Fd(token)),
+    }
+}
+
+/// One argument as it is reported.
+fn got_of<'a>(body: &'a [u8], birth: u64, tokens: &[u32], parsed: ParsedArg) -> GotRef<'a>
+    ensures { lent_got result ≡ reported_of body.now birth tokens.now parsed }
+{
+    match parsed {
+        ParsedArg::Null => GotRef::Str(None),
+        ParsedArg::Int(number) => GotRef::Int(number),
+        ParsedArg::Uint(number) => GotRef::Uint(number),
+        ParsedArg::Fixed(number) => GotRef::Fixed(number),
+        ParsedArg::Str { start, len } => GotRef::Str(Some(part(body, start, len as usize))),
+        ParsedArg::NoObject { .. } => GotRef::Obj(Named::Null),
+        ParsedArg::Object { id, birth, state } => GotRef::Obj(in_state(
+            state,
+            Object { id, birth },
+        )),
+        ParsedArg::New { id } => GotRef::New(Object { id, birth }),
+        ParsedArg::Bound {
+            start,
+            len,
+            version,
+            id,
+        } => GotRef::Bound {
+            iface: part(body, start, len as usize),
+            version,
+            object: Object { id, birth },
+        },
+        ParsedArg::Array { start, len } => GotRef::Array(part(body, start, len as usize)),
+        ParsedArg::Fd { place } => GotRef::Fd(token_at(tokens, place)),
+    }
+}
+
+fn in_state(state: State, object: Object) -> Named
+    ensures { result ≡ in_state state object }
+{
+    match state {
+        State::Live => Named::Live(object),
+        State::Zombie => Named::Dead(object),
+    }
+}
+
+/// The token at a place; 0 where there is none.
+fn token_at(tokens: &[u32], place: usize) -> u32
+    ensures { result ≡ token_at tokens.now place }
+{
+    match tokens.get(place) {
+        Some(token) => *token,
+        None => 0,
+    }
+}

@@ -1,0 +1,330 @@
+//! The arguments of a message, parsed once.
+ghost use Rattle.std.specs.Prelude.{◌≡◌, ◌≤◌, ◌+◌, ℕ, List, IfOk, drop, length, option_map, slice_get};
+ghost use Rattle.wl_wire.specs.Argument.{Obj, lent};
+ghost use Rattle.wl_wire.specs.Reading.{reading};
+ghost use Rattle.wl_objects.specs.Reading.{arguments_at, forgiving, judged, kind_at, named, object_fault, value_fault, values_at};
+ghost use Rattle.wl_objects.specs.Parsed.{AreParsed, Lies, argument_of, made_of, made_of_one, made_unless, one_in, parsed_in, parsed_one, part, place_behind, placed_of, spelled_in, with_end};
+
+use crate::error::Fault;
+use crate::lookup::Lookup;
+use crate::reading::{iface_of, new_fault, object_fault};
+use crate::values::kind_at;
+use std::fmt::{self, Debug, Formatter};
+use std::marker::Model;
+use wl_table::{Entry, State};
+use wl_wire::{Fixed, Kind, ValueRef, read_ref};
+
+/// The most arguments that a message has.
+pub const MAX_ARGS: usize = 20;
+
+/// One argument of a message that was read. A string or an array is given by where it lies in the
+/// message's body, an object by its entry when the message was read.
+#[derive(Clone, Copy, Debug)]
+pub enum ParsedArg {
+    /// The null string.
+    Null,
+    Int(i32),
+    Uint(u32),
+    Fixed(Fixed),
+    Str {
+        start: usize,
+        len: u32,
+    },
+    /// An object argument that is null, or names no object of the reader.
+    NoObject {
+        id: u32,
+    },
+    Object {
+        id: u32,
+        birth: u64,
+        state: State,
+    },
+    New {
+        id: u32,
+    },
+    /// A new object whose interface, a string, and version the message gives.
+    Bound {
+        start: usize,
+        len: u32,
+        version: u32,
+        id: u32,
+    },
+    Array {
+        start: usize,
+        len: u32,
+    },
+    /// A descriptor, by how many stand before it in the message.
+    Fd {
+        place: usize,
+    },
+}
+
+/// The arguments of one message, at most `MAX_ARGS`. They take no memory and lend nothing.
+#[derive(Drop)]
+pub struct ParsedArgs {
+    pub(crate) items: [ParsedArg; MAX_ARGS],
+    pub(crate) count: usize,
+}
+
+impl Model for ParsedArgs {
+    ghost use Rattle.std.specs.Prelude.{List, ◌≤◌, take};
+    ghost use Rattle.wl_objects.specs.declared.parsed.ParsedArg.{ParsedArg};
+
+    ghost Value = { List ParsedArg };
+
+    ghost view = { λ p. take p.count p.items };
+
+    ghost invariant = { λ p. p.count ≤ 20 };
+}
+
+impl ParsedArgs {
+    /// How many arguments there are.
+    pub fn len(&self) -> usize
+        ensures { result ≡ length self.now }
+    {
+        self.as_slice().len()
+    }
+
+    /// The arguments as a slice.
+    pub fn as_slice(&self) -> &[ParsedArg]
+        ensures { result.now ≡ self.now }
+    {
+        &self.items[..self.count]
+    }
+
+    /// The argument at a place, counted from 0, of a message with this body.
+    pub fn value<'a>(&self, body: &'a [u8], place: usize) -> Option<ValueRef<'a>>
+        ensures { option_map lent result ≡ slice_get (spelled_in body.now self.now) place }
+    {
+        let parsed = self.as_slice().get(place)?;
+        Some(value_of(body, *parsed))
+    }
+}
+
+impl Debug for ParsedArgs {
+    fn fmt<W: fmt::Write>(&self, f: &mut Formatter<W>) -> fmt::Result {
+        self.as_slice().fmt(f)
+    }
+}
+
+/// An argument as it is spelled.
+fn value_of(body: &[u8], parsed: ParsedArg) -> ValueRef<'_>
+    ensures { lent result ≡ argument_of body.now parsed }
+{
+    match parsed {
+        ParsedArg::Null => ValueRef::Str(None),
+        ParsedArg::Int(number) => ValueRef::Int(number),
+        ParsedArg::Uint(number) => ValueRef::Uint(number),
+        ParsedArg::Fixed(number) => ValueRef::Fixed(number),
+        ParsedArg::Str { start, len } => ValueRef::Str(Some(part(body, start, len as usize))),
+        ParsedArg::NoObject { id } | ParsedArg::Object { id, .. } => ValueRef::Obj(id),
+        ParsedArg::New { id } => ValueRef::New(id),
+        ParsedArg::Bound {
+            start,
+            len,
+            version,
+            id,
+        } => ValueRef::NewNamed {
+            iface: part(body, start, len as usize),
+            version,
+            id,
+        },
+        ParsedArg::Array { start, len } => ValueRef::Array(part(body, start, len as usize)),
+        ParsedArg::Fd { .. } => ValueRef::Fd,
+    }
+}
+
+/// `len` bytes from a place on, as far as there are such.
+pub(crate) fn part(bytes: &[u8], start: usize, len: usize) -> &[u8]
+    ensures { result.now ≡ part bytes.now start len }
+{
+    let rest = &bytes[start.min(bytes.len())..];
+    &rest[..len.min(rest.len())]
+}
+
+/// Parses the arguments at the front of a message's body, and returns with them the bytes behind
+/// them; or the first fault. Each object is looked up once.
+pub(crate) fn parse_body<'a, L: Lookup>(
+    lookup: &L,
+    forgives: bool,
+    kinds: &[Kind],
+    body: &'a [u8],
+) -> Result<(ParsedArgs, &'a [u8]), Fault>
+    requires few { length kinds.now ≤ 20 }
+    ensures answer { with_end (values_at forgives kinds.now body.now) result
+        ≡ arguments_at (forgiving forgives (L.reader lookup.now)) 0 kinds.now body.now }
+    ensures args { IfOk result (λ x. AreParsed (L.reader lookup.now) body.now x.0
+        (values_at forgives kinds.now body.now)) }
+{
+    match parse(lookup, forgives, kinds, body) {
+        Ok((args, end)) => Ok((args, bytes_from(body, end))),
+        Err(fault) => Err(fault),
+    }
+}
+
+/// Parses the arguments at the front of a message's body, and returns with them where they end.
+fn parse<L: Lookup>(
+    lookup: &L,
+    forgives: bool,
+    kinds: &[Kind],
+    body: &[u8],
+) -> Result<(ParsedArgs, usize), Fault>
+    requires few { length kinds.now ≤ 20 }
+    ensures end { IfOk result (λ x. x.1 ≤ length body.now) }
+    ensures parsed { parsed_in body.now (L.reader lookup.now).birth result
+        ≡ made_of (L.reader lookup.now) 0
+        (arguments_at (forgiving forgives (L.reader lookup.now)) 0 kinds.now body.now) }
+{
+    let mut items = [ParsedArg::Null; MAX_ARGS];
+    let mut end = 0;
+    let mut descriptors = 0;
+    'kinds: for (place, kind) in kinds.iter().enumerate() {
+        match parse_at(lookup, forgives, place, *kind, body, end, descriptors) {
+            Ok((parsed, len)) => {
+                descriptors = place_behind(parsed, descriptors);
+                items[place] = parsed;
+                end += len;
+            }
+            Err(fault) => return Err(fault),
+        }
+    }
+    let count = kinds.len();
+    Ok((ParsedArgs { items, count }, end))
+}
+
+/// How many descriptors stand before what follows an argument.
+fn place_behind(parsed: ParsedArg, place: usize) -> usize
+    requires { place ≤ 20 }
+    ensures { result ≡ place_behind parsed place }
+{
+    match parsed {
+        ParsedArg::Fd { .. } => place + 1,
+        _ => place,
+    }
+}
+
+/// The bytes from a place on.
+fn bytes_from(bytes: &[u8], start: usize) -> &[u8]
+    requires { start ≤ length bytes.now }
+    ensures { result.now ≡ drop start bytes.now }
+{
+    &bytes[start..]
+}
+
+/// The argument that starts there, with its length, where `descriptors` stand before it.
+fn parse_at<L: Lookup>(
+    lookup: &L,
+    forgives: bool,
+    place: usize,
+    kind: Kind,
+    body: &[u8],
+    start: usize,
+    descriptors: usize,
+) -> Result<(ParsedArg, usize), Fault>
+    requires start { start ≤ length body.now }
+    ensures one { one_in body.now (L.reader lookup.now).birth result
+        ≡ made_of_one (L.reader lookup.now) descriptors
+        (judged (forgiving forgives (L.reader lookup.now)) place kind
+        (reading (kind_at forgives kind) (drop start body.now))) }
+    ensures end { IfOk result (λ found. start + found.1 ≤ length body.now) }
+{
+    match read_ref(kind_at(forgives, kind), bytes_from(body, start)) {
+        Ok((value, len)) => {
+            match resolve(
+                lookup,
+                forgives,
+                place,
+                kind,
+                body,
+                start,
+                descriptors,
+                value,
+            ) {
+                Ok(parsed) => Ok((parsed, len)),
+                Err(fault) => Err(fault),
+            }
+        }
+        Err(fault) => Err(Fault::BadArgument(place, fault)),
+    }
+}
+
+/// Judges a value whose spelling starts there, and keeps where it lies.
+fn resolve<L: Lookup>(
+    lookup: &L,
+    forgives: bool,
+    place: usize,
+    kind: Kind,
+    body: &[u8],
+    start: usize,
+    descriptors: usize,
+    value: ValueRef<'_>,
+) -> Result<ParsedArg, Fault>
+    requires start { start ≤ length body.now }
+    requires lies { Lies (drop start body.now) (lent value) }
+    ensures { parsed_one body.now (L.reader lookup.now).birth result
+        ≡ made_unless (L.reader lookup.now) descriptors (lent value.entry)
+        (value_fault (forgiving forgives (L.reader lookup.now)) place kind (lent value.entry)) }
+{
+    match value {
+        ValueRef::Int(number) => Ok(ParsedArg::Int(number)),
+        ValueRef::Uint(number) => Ok(ParsedArg::Uint(number)),
+        ValueRef::Fixed(number) => Ok(ParsedArg::Fixed(number)),
+        ValueRef::Str(string) => match string {
+            None => Ok(ParsedArg::Null),
+            Some(text) => Ok(ParsedArg::Str {
+                start: start + 4,
+                len: text.len() as u32,
+            }),
+        },
+        ValueRef::Obj(id) => {
+            if id == 0 {
+                return Ok(ParsedArg::NoObject { id });
+            }
+            let entry = lookup.object(id);
+            if !forgives {
+                if let Some(fault) = object_fault(place, iface_of(kind), entry) {
+                    return Err(fault);
+                }
+            }
+            Ok(object_of(id, entry))
+        }
+        ValueRef::New(id) => {
+            if let Some(fault) = new_fault(place, lookup.new_id(id)) {
+                return Err(fault);
+            }
+            Ok(ParsedArg::New { id })
+        }
+        ValueRef::NewNamed { iface, version, id } => {
+            if let Some(fault) = new_fault(place, lookup.new_id(id)) {
+                return Err(fault);
+            }
+            Ok(ParsedArg::Bound {
+                start: start + 4,
+                len: iface.len() as u32,
+                version,
+                id,
+            })
+        }
+        ValueRef::Array(bytes) => Ok(ParsedArg::Array {
+            start: start + 4,
+            len: bytes.len() as u32,
+        }),
+        ValueRef::Fd => Ok(ParsedArg::Fd { place: descriptors }),
+    }
+}
+
+/// An object argument by its entry.
+fn object_of(id: u32, entry: Option<Entry>) -> ParsedArg
+    ensures spelled { (body : List ℕ) → argument_of body result ≡ Obj id }
+    ensures reported { (body : List ℕ) (birth : ℕ)
+        → placed_of body birth result ≡ Obj (named id entry) }
+{
+    match entry {
+        None => ParsedArg::NoObject { id },
+        Some(entry) => ParsedArg::Object {
+            id,
+            birth: entry.birth,
+            state: entry.state,
+        },
+    }
+}

@@ -1,0 +1,43 @@
+//! Texts of which equal ones follow one another.
+
+use std::alloc::{AllocError, Global};
+use std::fmt::Write;
+
+/// A text, and how often it came in a row.
+#[derive(Drop)]
+pub struct Repeated {
+    text: String,
+    times: u32,
+}
+
+impl Repeated {
+    /// No text yet.
+    pub fn nothing(alloc: Global) -> Repeated {
+        Repeated {
+            text: String::new(alloc),
+            times: 0,
+        }
+    }
+
+    /// Counts a text; one that is another than the last ends the line of that.
+    pub fn put(&mut self, out: &mut String, text: String) -> Result<(), AllocError> {
+        if text.as_str() == self.text.as_str() {
+            self.times = self.times.saturating_add(1);
+            return Ok(());
+        }
+        self.end(out)?;
+        self.text = text;
+        self.times = 1;
+        Ok(())
+    }
+
+    /// Appends the line of the last text, and how often it came where that is more than once.
+    pub fn end(&self, out: &mut String) -> Result<(), AllocError> {
+        let text = self.text.as_str();
+        match self.times {
+            0 => Ok(()),
+            1 => write!(out, "\n{text}"),
+            times => write!(out, "\n{times} times {text}"),
+        }
+    }
+}

@@ -1,9 +1,0 @@
-use Rattle.std.proofs.Common.{drop}
-use Rattle.wl_server.specs.Announcing.{owed_in}
-use Rattle.wl_server.specs.Tellings.{Progress}
-use Rattle.wl_server.proofs.announcing.tell_all.Given as goal
-
--- what is left is owed to the registries that are left
-abbrev pub invariant-registries : goal.invariant-registries
-invariant-registries g l =
-    Progress l.fn.core l.fn.registries (owed_in l.globals l.fn.registries) l.count l.core l.registries (owed_in l.globals (drop l.registry-index l.registries))

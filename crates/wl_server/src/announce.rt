@@ -1,0 +1,185 @@
+//! What a server writes to its client's registries: wl_registry.global and global_remove.
+ghost use Rattle.std.specs.Prelude.{◌≡◌, ◌≤◌, ◌<◌, ◌∷◌, [], false, true, IfErr, IfOk, length};
+ghost use Rattle.wl_wire.specs.Spelling.{IsText};
+ghost use Rattle.wl_objects.specs.declared.error.SendError.TheVariants as refusals;
+ghost use Rattle.wl_end.specs.Core.{IsOrdinary};
+ghost use Rattle.wl_server.specs.State.{RiseFrom, mark_of, with_mark};
+ghost use Rattle.wl_server.specs.Registries.{HasRegistries};
+ghost use Rattle.wl_server.specs.Announcing.{Fitting, Removal, Telling, after_announce, due_to, name_at, owed_in, owes_removal, owes_telling};
+ghost use Rattle.wl_server.specs.Tellings.{IsTold, IsWritten};
+
+use crate::advertised::{Advertised, OpenRegistry};
+use crate::server::Server;
+use std::alloc::Allocator;
+use wl_end::Core;
+use wl_objects::{SendError, Table, encode_global, encode_number};
+use wl_sigs::Tables;
+use wl_wire::Iface;
+
+/// The opcode of wl_registry.global_remove.
+const GLOBAL_REMOVE: u16 = 1;
+
+/// How many events were written, and whether these were all that were owed. Where they were not,
+/// the next does not fit.
+#[derive(Clone, Copy)]
+pub(crate) struct Announced {
+    pub(crate) count: usize,
+    pub(crate) all: bool,
+}
+
+/// The mark of a name.
+fn mark_of(marks: &[bool], name: u32) -> bool
+    requires { 0 < name }
+    ensures { result ≡ mark_of marks.now name }
+{
+    marks.get(name as usize - 1).copied().unwrap_or(false)
+}
+
+impl<A: Allocator> OpenRegistry<A> {
+    /// Whether the registry is owed global_remove of a name.
+    fn owes_removal(&self, name: u32, global: Advertised) -> bool
+        requires { 0 < name }
+        ensures { result ≡ owes_removal self.now name global }
+    {
+        mark_of(&self.told, name) && !global.present && !mark_of(&self.removed, name)
+    }
+
+    /// Whether the registry is owed global of a name.
+    fn owes_telling(&self, name: u32, global: Advertised) -> bool
+        requires { 0 < name }
+        ensures { result ≡ owes_telling self.now name global }
+    {
+        global.present && !mark_of(&self.told, name)
+    }
+
+    /// Marks a name as told to be removed.
+    fn mark_removed(&mut self, name: u32)
+        requires { (0 < name) × (name ≤ 1024) }
+        ensures { self.new ≡ record self.old { removed = with_mark self.old.removed name } }
+    {
+        self.removed[name as usize - 1] = true;
+    }
+
+    /// Marks a name as told.
+    fn mark_told(&mut self, name: u32)
+        requires { (0 < name) × (name ≤ 1024) }
+        ensures { self.new ≡ record self.old { told = with_mark self.old.told name } }
+    {
+        self.told[name as usize - 1] = true;
+    }
+}
+
+/// The name of an interface; none past the tables, where no global is.
+fn name_at(tables: &Tables, iface: Iface) -> &[u8]
+    ensures name { result.now ≡ name_at tables.now iface }
+    ensures text { IsText result.now }
+    ensures short { length result.now ≤ 256 }
+{
+    match tables.name(iface) {
+        Some(name) => name,
+        None => b"",
+    }
+}
+
+/// Writes global_remove of a name to a registry; nothing where it does not fit.
+fn write_global_remove<T: Table>(core: &mut Core<'_, T>, registry: u32, name: u32) -> bool
+    ensures { IsWritten core.old registry (Removal name) result core.new }
+{
+    encode_number(&mut core.store, registry, GLOBAL_REMOVE, name);
+    core.outbox.push(&core.store, &[]).is_ok()
+}
+
+/// Writes global of a name to a registry; nothing where it does not fit.
+fn write_global<T: Table>(
+    core: &mut Core<'_, T>,
+    registry: u32,
+    name: u32,
+    global: Advertised,
+) -> bool
+    ensures { IsWritten core.old registry (Telling name global) result core.new }
+{
+    let iface = name_at(core.tables, global.iface);
+    encode_global(&mut core.store, registry, name, iface, global.version);
+    core.outbox.push(&core.store, &[]).is_ok()
+}
+
+/// Writes to one registry what it is owed, as far as it fits.
+fn announce_to<T: Table>(
+    core: &mut Core<'_, T>,
+    globals: &[Advertised],
+    registry: &mut OpenRegistry<T::Alloc>,
+) -> Announced
+    requires few { length globals.now ≤ 1024 }
+    requires ordinary { IsOrdinary core.old.outbox }
+    ensures { IsTold core.old (registry.old ∷ []) (due_to globals.now registry.old) result core.new
+        (registry.new ∷ []) }
+{
+    let mut count = 0;
+    'removals: for (place, global) in globals.iter().enumerate() {
+        let name = place as u32 + 1;
+        if registry.owes_removal(name, *global) {
+            if !write_global_remove(core, registry.object.id, name) {
+                return Announced { count, all: false };
+            }
+            registry.mark_removed(name);
+            count += 1;
+        }
+    }
+    'tellings: for (place, global) in globals.iter().enumerate() {
+        let name = place as u32 + 1;
+        if registry.owes_telling(name, *global) {
+            if !write_global(core, registry.object.id, name, *global) {
+                return Announced { count, all: false };
+            }
+            registry.mark_told(name);
+            count += 1;
+        }
+    }
+    Announced { count, all: true }
+}
+
+/// Writes to registries, whose births rise, what they are owed, as far as it fits.
+fn announce_to_all<T: Table>(
+    core: &mut Core<'_, T>,
+    globals: &[Advertised],
+    registries: &mut [OpenRegistry<T::Alloc>],
+) -> Announced
+    requires few { length globals.now ≤ 1024 }
+    requires ordinary { IsOrdinary core.old.outbox }
+    requires rising { RiseFrom 0 core.old.view.births registries.old }
+    ensures { IsTold core.old registries.old
+        (owed_in globals.now registries.old) result core.new registries.new }
+{
+    let mut count = 0;
+    'registries: for registry in registries.iter_mut() {
+        let told = announce_to(core, globals, registry);
+        count += told.count;
+        if !told.all {
+            return Announced { count, all: false };
+        }
+    }
+    Announced { count, all: true }
+}
+
+impl<'t, T: Table> Server<'t, T> {
+    /// Writes to the open registries what they are owed: by rising birth, to each first global_remove
+    /// for the globals that were withdrawn, then global for those that are new to it, by rising name.
+    /// Stops at the first event that does not fit. Returns how many events were written, and refuses
+    /// only with S1. Never runs out of memory.
+    pub fn announce(&mut self) -> Result<usize, SendError>
+        // These are the open registries: all of them and no other object, by rising births.
+        ensures registries { HasRegistries self.old.core.view self.old.registries }
+        ensures ok { IfOk result
+            (λ count. (self.old.core.failed ≡ false) × Fitting self.old count
+            × (self.new ≡ after_announce self.old count)) }
+        ensures err { IfErr result
+            (λ why. (why ≡ refusals.Failed) × (self.old.core.failed ≡ true)
+            × (self.new ≡ self.old)) }
+    {
+        if self.core.failed {
+            return Err(SendError::Failed);
+        }
+        let told = announce_to_all(&mut self.core, &self.globals, &mut self.registries);
+        Ok(told.count)
+    }
+}

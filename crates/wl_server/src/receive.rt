@@ -1,0 +1,396 @@
+//! What a server reads.
+ghost use Rattle.std.specs.Prelude.{◌≡◌, ◌≢◌, Some, None, [], IsTrue, OnOk, true, false, not, ◌&&◌, nat_lt, IfOk, IfSome, OnErr};
+ghost use Rattle.std.specs.Borrow.{sem};
+ghost use Rattle.std.specs.Io.BufRead.{Rests};
+ghost use Rattle.wl_sigs.specs.declared.signature.Side.TheVariants.{Request as request_side};
+ghost use Rattle.wl_sigs.specs.Tables.{destroys_target};
+ghost use Rattle.wl_objects.specs.Messages.{is_bind, opens};
+ghost use Rattle.wl_table.specs.View.{is_held};
+ghost use Rattle.wl_end.specs.Core.{with_view};
+ghost use Rattle.wl_end.specs.Outcomes.{left};
+ghost use Rattle.wl_end.specs.Sending.{delete_id_len, fits};
+ghost use Rattle.wl_server.specs.State.{with_core};
+ghost use Rattle.wl_server.specs.Requests.{is_good_bind_of, after_next, registries_after, IsLentNext, IsNext};
+ghost use Rattle.wl_server.specs.Registries.{IsFresh, without_registry, registry_birth};
+ghost use Rattle.wl_server.specs.Seen.{lent_in, lent_report, report_in, report_of};
+ghost use Rattle.wl_server.specs.Steps.{CanTake, after_step, checked_front, core_by, core_told, core_unless, core_without, front_step, pending_in, pending_of, pendings_in, received_now, registries_by, report_over, state_of, taken_in, taken_report};
+ghost use Rattle.wl_server.specs.Lent.{server_row};
+
+use crate::advertised::{Advertised, OpenRegistry};
+use crate::faults::{fault_code, fault_message};
+use crate::globals::is_good_bind;
+use crate::pending::PendingRequest;
+use crate::request::{OwnedRequest, Request};
+use crate::server::Server;
+use std::alloc::{AllocError, Allocator};
+use wl_end::{Core, MAX_TOKENS};
+use wl_objects::{
+    Args, Fault, Made, NextError, Object, REGISTRY, Received, Table, descriptors, is_bind,
+    made_by_message, receive,
+};
+use wl_sigs::{Destroys, Side, Tables};
+use wl_wire::Header;
+
+/// The id of wl_display.
+const DISPLAY_ID: u32 = 1;
+
+/// How many bytes wl_display.delete_id has.
+const DELETE_ID_LEN: usize = 12;
+
+impl<'t, T: Table> Server<'t, T> {
+    /// Reads the next request once it is whole, and lends its report: strings, arrays and tokens
+    /// are slices of the server's own until its next call. Returns `None` if no whole request
+    /// waits.
+    ///
+    /// A request that destroys an object closes it and writes its delete_id at once. After a fault
+    /// the server has failed for good, and the error event is the last that it writes. If there is
+    /// no room for the delete_id, or no memory for the object that the request opens, the request
+    /// stays and can be read again. A request that opens no object never returns out of memory.
+    pub fn next(&mut self) -> Result<Option<Request<'_>>, NextError>
+        ensures* after { sem 𝓛 (Rests
+            (server_row T.row T.Alloc.row T.Table T.Alloc.Allocator T.Alloc.Clone) self.entry
+            (λ server. server ≡ left self.old (after_next self.old) (lent_in result))) }
+        ensures answer { IsLentNext self.old (lent_in result) }
+    {
+        match self.read_request()? {
+            Some(request) => Ok(Some(self.lend(request))),
+            None => Ok(None),
+        }
+    }
+
+    /// Reads the next request as `next` does, and returns its report in memory of its own. If there
+    /// is no memory for the report, the request stays and can be read again. A request without
+    /// arguments never returns out of memory.
+    pub fn next_owned(&mut self) -> Result<Option<OwnedRequest<T::Alloc>>, NextError>
+        ensures answer { IsNext self.old (report_in result) }
+        ensures state { self.new ≡ left self.old (after_next self.old) (report_in result) }
+    {
+        let request = match self.request_unless_fault() {
+            Ok(Some(request)) => request,
+            Ok(None) => return Ok(None),
+            Err(why) => return Err(why),
+        };
+        let report = match self.copy_report(&request) {
+            Ok(report) => report,
+            Err(_) => return Err(NextError::Memory),
+        };
+        match self.take_request(&request) {
+            Ok(()) => Ok(Some(report)),
+            Err(_) => Err(NextError::Memory),
+        }
+    }
+
+    /// Reads the next request and takes it. Its report lies in the message that was taken last.
+    fn read_request(&mut self) -> Result<Option<PendingRequest>, NextError>
+        ensures answer { IsLentNext self.old (taken_in self.new.core result) }
+        ensures state { self.new
+            ≡ left self.old (after_next self.old) (taken_in self.new.core result) }
+    {
+        let request = match self.request_unless_fault() {
+            Ok(Some(request)) => request,
+            Ok(None) => return Ok(None),
+            Err(why) => return Err(why),
+        };
+        match self.take_request(&request) {
+            Ok(()) => Ok(Some(request)),
+            Err(_) => Err(NextError::Memory),
+        }
+    }
+
+    /// The request in front, once it is whole. The client is told of a fault; else nothing changes.
+    fn request_unless_fault(&mut self) -> Result<Option<PendingRequest>, NextError>
+        ensures answer { pendings_in self.old.core result ≡ checked_front self.old }
+        ensures state { self.new ≡ with_core self.old (core_unless self.old.core result) }
+        ensures can { IfOk result
+            (λ found. IfSome found (λ request. CanTake self.old.core (pending_in self.old.core request))) }
+    {
+        if self.core.failed {
+            return Err(NextError::Failed);
+        }
+        match find_request(&mut self.core, &self.globals) {
+            Ok(request) => Ok(request),
+            Err(why) => {
+                report_fault(&mut self.core, why);
+                Err(why)
+            }
+        }
+    }
+
+    /// Takes a request that stands in front. If there is no memory for the object that it opens,
+    /// nothing changes.
+    fn take_request(&mut self, request: &PendingRequest) -> Result<(), AllocError>
+        requires { CanTake self.old.core (pending_in self.old.core request.now) }
+        ensures ok { OnOk result
+            (self.new ≡ after_step self.old (pending_in self.old.core request.now)) }
+        ensures err { OnErr result (self.new ≡ self.old) }
+        ensures wants { OnErr result (request.now.made ≢ None) }
+    {
+        apply_request(&mut self.core, &mut self.registries, &self.alloc, request)
+    }
+
+    /// Copies the report of a request that stands in front. Nothing changes.
+    fn copy_report(
+        &mut self,
+        request: &PendingRequest,
+    ) -> Result<OwnedRequest<T::Alloc>, AllocError>
+        requires { CanTake self.old.core (pending_in self.old.core request.now) }
+        ensures same { self.new ≡ self.old }
+        ensures ok { IfOk result
+            (λ report. report_of report ≡ (pending_in self.old.core request.now).report) }
+        ensures err { OnErr result (request.now.args ≢ []) }
+    {
+        let tokens = self.core.first_tokens();
+        match self.core.inbox.frame() {
+            Ok(Some(frame)) => copy_of(request, &self.alloc, frame.body, &tokens[..request.tokens]),
+            _ => Err(AllocError),
+        }
+    }
+
+    /// The report of the request that was taken last.
+    fn lend(&self, request: PendingRequest) -> Request<'_>
+        ensures { lent_report result ≡ taken_report self.now.core request }
+    {
+        Request {
+            target: request.target,
+            opcode: request.opcode,
+            args: Args::of(
+                &request.args,
+                self.core.inbox.last(),
+                self.core.inbox.last_tokens(),
+                request.birth,
+            ),
+        }
+    }
+}
+
+/// Writes the error event of a fault, which is the end of the connection.
+fn report_fault<T: Table>(core: &mut Core<'_, T>, why: NextError)
+    requires { core.old.failed ≡ false }
+    ensures { core.new ≡ core_told core.old why }
+{
+    if let NextError::Fault { fault, .. } = why {
+        core.write_error(DISPLAY_ID, fault_code(fault), fault_message(fault));
+    }
+}
+
+/// Takes the request in front out, opens the object that it opens and closes the one that it
+/// destroys. If there is no memory nothing changes.
+fn apply_request<T: Table>(
+    core: &mut Core<'_, T>,
+    registries: &mut Vec<OpenRegistry<T::Alloc>, T::Alloc>,
+    alloc: &T::Alloc,
+    request: &PendingRequest,
+) -> Result<(), AllocError>
+    requires { CanTake core.old (pending_in core.old request.now) }
+    ensures core { OnOk result (core.new ≡ core_by core.old (pending_in core.old request.now)) }
+    ensures registries { OnOk result (registries.new.items
+        ≡ registries_by core.old registries.old.items (pending_in core.old request.now)) }
+    ensures err { OnErr result
+        ((core.new ≡ core.old) × (registries.new.items ≡ registries.old.items)) }
+    ensures wants { OnErr result (request.now.made ≢ None) }
+    ensures fresh { OnOk result (IsFresh core.old.view request.now.made) }
+{
+    open_new_object(core, registries, alloc, request.made)?;
+    // Nothing is allocated from here on.
+    let mut tokens = [0; MAX_TOKENS];
+    core.pass(request.size, &mut tokens[..request.tokens]);
+    close_destroyed(core, registries, request.destroys, request.target);
+    Ok(())
+}
+
+/// Opens the object that a request makes, if it makes one.
+fn open_new_object<T: Table>(
+    core: &mut Core<'_, T>,
+    registries: &mut Vec<OpenRegistry<T::Alloc>, T::Alloc>,
+    alloc: &T::Alloc,
+    made: Option<Made>,
+) -> Result<(), AllocError>
+    ensures core { OnOk result (core.new ≡ with_view core.old (opens core.old.view made)) }
+    ensures registries { OnOk result
+        (registries.new.items ≡ registries_after core.old registries.old.items made) }
+    ensures err { OnErr result
+        ((core.new ≡ core.old) × (registries.new.items ≡ registries.old.items)) }
+    ensures wants { OnErr result (made ≢ None) }
+    ensures fresh { OnOk result (IsFresh core.old.view made) }
+{
+    match made {
+        Some(made) => open_object(core, registries, alloc, made),
+        None => Ok(()),
+    }
+}
+
+/// Opens an object, and where it is a registry makes room for its marks. Where there is no memory
+/// nothing changes.
+fn open_object<T: Table>(
+    core: &mut Core<'_, T>,
+    registries: &mut Vec<OpenRegistry<T::Alloc>, T::Alloc>,
+    alloc: &T::Alloc,
+    made: Made,
+) -> Result<(), AllocError>
+    ensures core { OnOk result (core.new ≡ with_view core.old (opens core.old.view (Some made))) }
+    ensures registries { OnOk result
+        (registries.new.items ≡ registries_after core.old registries.old.items (Some made)) }
+    ensures err { OnErr result
+        ((core.new ≡ core.old) × (registries.new.items ≡ registries.old.items)) }
+    ensures fresh { OnOk result (IsFresh core.old.view (Some made)) }
+{
+    if made.iface == REGISTRY {
+        let object = Object {
+            id: made.id,
+            birth: core.table.births(),
+        };
+        let registry = OpenRegistry::new(alloc, object)?;
+        registries.reserve(1)?;
+        match core.open(made) {
+            Ok(_) => registries.push_reserved(registry),
+            Err(_) => return Err(AllocError),
+        }
+    } else if core.open(made).is_err() {
+        return Err(AllocError);
+    }
+    Ok(())
+}
+
+/// Ends the target of a request that destroys it.
+fn close_destroyed<T: Table>(
+    core: &mut Core<'_, T>,
+    registries: &mut Vec<OpenRegistry<T::Alloc>, T::Alloc>,
+    destroys: Destroys,
+    target: Object,
+)
+    requires held { IsTrue (is_held core.old.view target.id) }
+    requires not_display { destroys ≡ Destroys.Target → target.id ≢ 1 }
+    requires room { destroys ≡ Destroys.Target → IsTrue (fits core.old.outbox delete_id_len 0) }
+    ensures core { core.new ≡ core_without destroys target.id core.old }
+    ensures registries { registries.new.items
+        ≡ without_registry registry_birth
+        (destroys_target destroys) target.birth registries.old.items }
+{
+    match destroys {
+        Destroys::Nothing => {}
+        Destroys::Target => {
+            core.close(target.id);
+            core.write_delete_id(target.id);
+            remove_registry(registries, target.birth);
+        }
+    }
+}
+
+/// Takes out the registry of this birth, if it is one.
+fn remove_registry<A: Allocator + Drop>(registries: &mut Vec<OpenRegistry<A>, A>, birth: u64)
+    ensures { registries.new.items
+        ≡ without_registry registry_birth true birth registries.old.items }
+{
+    registries.retain(|registry| registry.object.birth != birth);
+}
+
+/// The request in front, once it is whole, judged: it can be taken. Nothing changes.
+pub(crate) fn find_request<T: Table>(
+    core: &mut Core<'_, T>,
+    globals: &[Advertised],
+) -> Result<Option<PendingRequest>, NextError>
+    ensures answer { pendings_in core.old result ≡ front_step (state_of core.old globals.now) }
+    ensures can { IfOk result
+        (λ found. IfSome found (λ request. CanTake core.old (pending_in core.old request))) }
+    ensures same { core.new ≡ core.old }
+{
+    let offset = core.read;
+    let birth = core.table.births();
+    let room = core.outbox.room();
+    let frame = match core.inbox.frame() {
+        Ok(Some(frame)) => frame,
+        Ok(None) => return Ok(None),
+        Err(_) => return Err(NextError::Fault {
+            fault: Fault::BadSize,
+            offset,
+        }),
+    };
+    let header = frame.header;
+    let received = match receive(
+        core.tables,
+        Side::Request,
+        &core.table,
+        header,
+        frame.body,
+        frame.tokens,
+    ) {
+        Ok(received) => received,
+        Err(fault) => return Err(NextError::Fault { fault, offset }),
+    };
+    if is_bad_bind(core.tables, globals, header.opcode, &received) {
+        return Err(NextError::Fault {
+            fault: Fault::BadBind,
+            offset,
+        });
+    }
+    if lacks_room(room, &received) {
+        return Err(NextError::OutFull);
+    }
+    Ok(Some(pending_of(core.tables, birth, header, received)))
+}
+
+/// Whether a message is a bind that names no global that was ever advertised so.
+fn is_bad_bind(
+    tables: &Tables,
+    globals: &[Advertised],
+    opcode: u16,
+    message: &Received<'_, '_>,
+) -> bool
+    ensures { result ≡ (is_bind request_side message.now.entry.iface opcode && not
+        (is_good_bind_of tables.now globals.now message.now.values)) }
+{
+    is_bind(Side::Request, message.entry.iface, opcode)
+        && !is_good_bind(tables, globals, &message.values)
+}
+
+/// Whether a message needs more room for its delete_id than there is.
+fn lacks_room(room: usize, message: &Received<'_, '_>) -> bool
+    ensures { result
+        ≡ (destroys_target message.now.signature.now.destroys && nat_lt room delete_id_len) }
+{
+    message.signature.destroys() == Destroys::Target && room < DELETE_ID_LEN
+}
+
+/// A copy of a request's report, where these are its body and its tokens.
+fn copy_of<A: Allocator + Clone + Drop>(
+    request: &PendingRequest,
+    alloc: &A,
+    body: &[u8],
+    tokens: &[u32],
+) -> Result<OwnedRequest<A>, AllocError>
+    ensures ok { IfOk result
+        (λ report. report_of report ≡ report_over body.now tokens.now request.now) }
+    ensures err { OnErr result (request.now.args ≢ []) }
+{
+    match Args::of(&request.args, body, tokens, request.birth).to_owned(alloc) {
+        Ok(args) => Ok(OwnedRequest {
+            target: request.target,
+            opcode: request.opcode,
+            args,
+        }),
+        Err(error) => Err(error),
+    }
+}
+
+/// What a message is and does, where a new object gets this birth.
+fn pending_of(
+    tables: &Tables,
+    birth: u64,
+    header: Header,
+    message: Received<'_, '_>,
+) -> PendingRequest
+    ensures { result ≡ pending_of tables.now birth header (received_now message.entry)
+        message.entry.args }
+{
+    let kinds = message.signature.kinds();
+    PendingRequest {
+        target: message.target,
+        opcode: header.opcode,
+        birth,
+        size: header.size,
+        tokens: descriptors(kinds),
+        made: made_by_message(tables, message.entry.version, kinds, &message.values),
+        destroys: message.signature.destroys(),
+        args: message.args,
+    }
+}

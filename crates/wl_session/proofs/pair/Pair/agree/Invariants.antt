@@ -1,7 +1,0 @@
-use Rattle.std.proofs.Common.{ℕ, ◌<◌}
-use Rattle.wl_table.specs.View.{look}
-use Rattle.wl_session.specs.Room.{AreSame}
-use Rattle.wl_session.proofs.pair.Pair.agree.Given as goal
-
-abbrev pub invariant-loop-id : goal.invariant-loop-id
-invariant-loop-id g l = (q : ℕ) → 0 < q → q < l.id → AreSame (look l.self.client.core.view q) (look l.self.server.core.view q)
