@@ -51,7 +51,7 @@ impl<'a, 't, T: Table + Drop> AtPair<'a, 't, T> {
         self.tell(verb, &mut words, reply)
     }
 
-    /// Makes a move so many times in one run: their number and the call.
+    /// Makes a move again and again in one run: how often, and the call.
     fn play_many(&mut self, words: &str, reply: &mut String) -> Result<(), Trouble> {
         let mut words = Words::of(words);
         let count = words.size()?;

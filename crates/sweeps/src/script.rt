@@ -8,7 +8,7 @@ use wl_recording::Direction;
 pub enum Step<'a> {
     /// It makes this call.
     Call(&'a str),
-    /// It reads so many bytes.
+    /// It reads this number of bytes.
     Read(usize),
 }
 
@@ -53,7 +53,7 @@ pub fn steps_of(
     Ok(steps)
 }
 
-/// Appends that so many bytes are read.
+/// Appends that this number of bytes is read.
 fn put_read(steps: &mut Vec<Step<'_>>, len: usize) -> Result<(), AllocError> {
     if let Some(Step::Read(before)) = steps.last().copied() {
         steps.pop();

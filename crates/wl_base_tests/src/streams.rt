@@ -60,7 +60,7 @@ fn flushes(
     flush(outbox, &mut writer) == want && writer.written() == bytes
 }
 
-/// Whether so many bytes wait, and no token.
+/// Whether this number of bytes waits, and no token.
 fn waits(outbox: &Outbox<Global>, bytes: usize) -> bool {
     outbox.goes(100, 9) == Taken { bytes, tokens: 0 }
 }

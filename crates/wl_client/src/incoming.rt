@@ -193,7 +193,7 @@ impl Outline {
     }
 }
 
-/// The first tokens, `count` of them if there are so many.
+/// The first `count` tokens, or all where there are fewer.
 fn first(tokens: &[u32], count: usize) -> &[u32]
     ensures { result.now ≡ take count tokens.now }
 {

@@ -78,7 +78,7 @@ pub record Asks (words : List Text) (job : Job) : Type 0 where
 abbrev pub AsksHelp : List Text → Type 0
 AsksHelp words = IsAmong DisplayHelp (fault_of command_line words) ⊎ IsAmong DisplayVersion (fault_of command_line words)
 
--- a stop of this status with a text, or want of memory, which has none
+-- a stop of this status with a text, or out of memory, which has none
 abbrev pub IsStop : ℕ → Stop → Type 0
 IsStop status stop = ((stop.status ≡ status) × (string_bytes stop.text ≢ [])) ⊎ ((stop.status ≡ 4) × (string_bytes stop.text ≡ []))
 

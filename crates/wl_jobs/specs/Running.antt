@@ -25,7 +25,7 @@ IsOpenFailure name kind (BadLine line) = ⊥
 IsOpenFailure name kind CannotWrite = ⊥
 
 -- A job that names a file is done over the very reader that opening this file gave. Where it cannot be opened nothing is printed, and standard
--- error is given the failure's line: the status is 4 for want of memory, and else 3. A job that reads none is done over an empty one.
+-- error is given the failure's line: the status is 4 where it is out of memory, and else 3. A job that reads none is done over an empty one.
 pub data Opened {R O E : Type 0} (remaining : R → Option (List ℕ)) (contents : O → Option (List ℕ)) (said : E → Option (List ℕ))
     (opens : List ℕ → Result R Error → Type 0) (job : Job) (out out' : O) (err err' : E) (status : ℕ) : Type 0 where
   over : (name : List ℕ) (file : R) → NamesFile job name → opens name (Ok file) → Acted contents said job (remaining file) out out' err err' status
@@ -37,7 +37,7 @@ pub data Opened {R O E : Type 0} (remaining : R → Option (List ℕ)) (contents
       → Opened remaining contents said opens job out out' err err' status
 
 -- Help is printed and nothing is said, or the output did not take it, or not all of it; for anything else nothing is printed, the status is that of
--- the stop, and standard error is given its text, or the line for want of memory, as far as it takes that.
+-- the stop, and standard error is given its text, or the line that says out of memory, as far as it takes that.
 pub data Told {O E : Type 0} (contents : O → Option (List ℕ)) (said : E → Option (List ℕ)) (stop : Stop) (out out' : O) (err err' : E) (status : ℕ) : Type 0 where
   helped : stop.status ≡ 0 → status ≡ 0 → Appends (contents out) (contents out') (string_bytes stop.text) → err' ≡ err → Told contents said stop out out' err err' status
   not_taken : stop.status ≡ 0 → status ≡ 3 → AppendsFront (contents out) (contents out') (string_bytes stop.text)
@@ -50,7 +50,7 @@ pub data Told {O E : Type 0} (contents : O → Option (List ℕ)) (said : E → 
 abbrev pub no_text_line : List ℕ
 no_text_line = codes "error: a word of the command line is not UTF-8\n"
 
--- Why words could not be read: for want of memory, with the status 4, or they are no text, with the status 2.
+-- Why words could not be read: out of memory, with the status 4, or they are no text, with the status 2.
 pub data Unread {E : Type 0} (said : E → Option (List ℕ)) (kind : ErrorKind) (err err' : E) (status : ℕ) : Type 0 where
   no_memory : kind ≡ OutOfMemory → status ≡ 4 → AppendsFront (said err) (said err') (failure_line Memory) → Unread said kind err err' status
   no_text : kind ≢ OutOfMemory → status ≡ 2 → AppendsFront (said err) (said err') no_text_line → Unread said kind err err' status

@@ -78,7 +78,7 @@ pub(crate) fn copy_front<A: Allocator>(
     store(to, &second[..n - count]);
 }
 
-/// Some of the first items, at most so many; none only where there are none.
+/// Some of the first items, at most `most`; none only where there are none.
 pub(crate) fn first_part<T: Copy + Drop, A: Allocator>(
     ring: &HeapCircularBuffer<T, A>,
     most: usize,

@@ -237,7 +237,7 @@ impl<A: Allocator> Outbox<A> {
         self.goes(self.bytes.len(), 0).bytes
     }
 
-    /// Some of the first bytes, at most so many; none only where none wait.
+    /// Some of the first bytes, at most `most`; none only where none wait.
     pub(crate) fn part(&self, most: usize) -> &[u8]
         ensures front { result.now ≡ take (length result.now) (waiting_bytes self.now) }
         ensures most { length result.now ≤ most }
