@@ -3,9 +3,10 @@ use Rattle.std.specs.declared.option.Option.TheVariants.{Some}
 use Rattle.std.specs.declared.result.Result.TheVariants.{Ok as ok}
 use Rattle.wl_server.specs.State.{State}
 use Rattle.wl_server.specs.Steps.{pending_in}
-use Rattle.wl_server.specs.Streams.{HasReport}
+use Rattle.wl_end.specs.Reads.{HasReport}
+use Rattle.wl_server.specs.Streams.{reading}
 use Rattle.wl_server.proofs.Taking.{seen-by, answer-is}
-use Rattle.wl_server.proofs.server.Server.has_report.Goals as goal
+use Rattle.wl_server.proofs.end.ServerReceiver.has_report.Goals as goal
 
 pub returns-in-Ok-Some-clause-yes : goal.returns-in-Ok-Some-clause-yes
 returns-in-Ok-Some-clause-yes g c t =
@@ -13,4 +14,4 @@ returns-in-Ok-Some-clause-yes g c t =
     let lives : state.core.failed ≡ false = ap (λ (s : State). s.core.failed) c.self.view_is ∙ c.requires in
     let step = pending_in state.core c.in-Ok-Some.field-0-0 in
     let answer = seen-by state c.deref.result.now (ok (Some step)) lives c.deref.ensures.value (rw c.in-Ok-Some.field-0-is at c.in-Ok-Some.ensures.answer) in
-    subst HasReport c.self.view_is (step.report, sym (answer-is state (ok (Some step)) answer))
+    subst (HasReport reading) c.self.view_is (step.report, sym (answer-is state (ok (Some step)) answer))
