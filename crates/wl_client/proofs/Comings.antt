@@ -1,5 +1,5 @@
 -- What a client reads of what waits stays the same when more comes behind it.
-use Rattle.std.proofs.Common.{◌≡◌, ◌≢◌, ℕ, inl, inr, Bool, true, false, cond, List, [], ◌∷◌, ◌++◌, refl, sym, ap, subst, ◌∙◌, arith}
+use Rattle.std.proofs.Common.{◌≡◌, ◌≢◌, ℕ, Bool, true, false, cond, List, refl, sym, ap, ◌∙◌}
 use Rattle.std.specs.declared.option.Option.{Option}
 use Rattle.std.specs.declared.option.Option.TheVariants.{None, Some}
 use Rattle.std.specs.declared.result.Result.{Result}
@@ -8,14 +8,13 @@ use Rattle.wl_sigs.specs.declared.signature.Side.TheVariants.{Event as event_sid
 use Rattle.wl_table.specs.declared.object.State.{State as ObjectState}
 use Rattle.wl_table.specs.declared.object.State.TheVariants.{Live, Zombie}
 use Rattle.wl_objects.specs.declared.error.Fault.{Fault}
-use Rattle.wl_objects.specs.declared.error.NextError.{NextError}
 use Rattle.wl_objects.specs.declared.error.NextError.TheVariants as errors
 use Rattle.wl_end.specs.Core.{Core, with_arrived, with_view}
 use Rattle.wl_end.specs.Receiving.{Found, found}
 use Rattle.wl_end.specs.Streams.{waiting}
 use Rattle.wl_end.proofs.AnyCut.{IsOfMessage, IsFaultAgain, IsFault, comes, IsReading}
 use Rattle.wl_end.proofs.Coming.{IsFound, is_found, reported_stays, own_stay, past_stays}
-use Rattle.wl_client.specs.State.{State, with_core}
+use Rattle.wl_client.specs.State.{State}
 use Rattle.wl_client.specs.Reports.{Report, Event, Discarded, report, plain_report, error_report, delete_report, deleted_id, is_error_event, is_delete_event, view_after, globals_after, state_past, answer_found, next_answer, state_found, after_next}
 use Rattle.wl_end.specs.Reads.{arrived}
 use Rattle.wl_client.specs.Streams.{reading}

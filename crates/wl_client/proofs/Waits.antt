@@ -1,11 +1,9 @@
 -- What a client does as it goes on reading.
-use Rattle.std.proofs.Common.{◌≡◌, ◌≢◌, ℕ, ◌+◌, ◌<◌, ◌≤◌, ◌⊎◌, inl, inr, Bool, true, false, cond, List, [], ◌∷◌, ◌++◌, length, map, take, drop, refl, sym, ap, subst, ◌∙◌, arith}
-use Rattle.std.specs.Prelude.{IsOk}
+use Rattle.std.proofs.Common.{◌≡◌, ◌≢◌, ℕ, ◌<◌, inl, inr, Bool, true, false, cond, [], length, refl, sym, ap, subst, ◌∙◌}
 use Rattle.std.specs.declared.option.Option.{Option}
 use Rattle.std.specs.declared.option.Option.TheVariants.{None, Some}
 use Rattle.std.specs.declared.result.Result.{Result}
 use Rattle.std.specs.declared.result.Result.TheVariants.{Ok, Err}
-use Rattle.std.proofs.lemmas.List.{append-nil}
 use Rattle.wl_sigs.specs.declared.signature.Side.TheVariants.{Event as event_side}
 use Rattle.wl_table.specs.declared.object.Entry.{Entry}
 use Rattle.wl_table.specs.declared.object.State.{State as ObjectState}
@@ -22,10 +20,10 @@ use Rattle.wl_end.proofs.Receivings.{some_report}
 use Rattle.wl_client.specs.declared.incoming.OwnedIncoming.{OwnedIncoming}
 use Rattle.wl_client.specs.Seen.{report_of, report_in}
 use Rattle.wl_client.specs.State.{State}
-use Rattle.wl_client.specs.Reports.{Report, IsNext, needs_memory, Event, Discarded, Deleted, Stray, Error, report, plain_report, error_report, delete_report, deleted, deleted_id, is_error_event, is_delete_event, answer_found, next_answer, state_found, after_next}
+use Rattle.wl_client.specs.Reports.{Report, IsNext, needs_memory, Stray, plain_report, error_report, delete_report, deleted, deleted_id, is_error_event, is_delete_event, answer_found, next_answer, state_found, after_next}
 use Rattle.wl_end.specs.Reads.{arrived, Reads, fault, nothing, ReadsUntil, ReadsReport, ReadsNothing, ReadsNext}
 use Rattle.wl_client.specs.Streams.{is_last, reading}
-use Rattle.wl_client.proofs.Comings.{Read, read, answers, leaves, failed_answer, not_failed, answer_stays, after_stays}
+use Rattle.wl_client.proofs.Comings.{read, answers, leaves, not_failed, answer_stays, after_stays}
 
 -- ---- which report is the last
 

@@ -1,5 +1,5 @@
 -- What an end reads goes on as more comes in.
-use Rattle.std.proofs.Common.{◌≡◌, ℕ, suc, ◌+◌, ◌-◌, ◌<◌, ◌≤◌, inl, inr, Bool, true, false, cond, List, [], ◌∷◌, ◌++◌, length, map, take, drop, refl, sym, ap, subst, ◌∙◌, arith}
+use Rattle.std.proofs.Common.{◌≡◌, ℕ, suc, ◌+◌, ◌-◌, ◌<◌, ◌≤◌, inr, Bool, true, false, cond, List, [], ◌∷◌, ◌++◌, length, take, drop, refl, sym, ap, subst, ◌∙◌, arith}
 use Rattle.std.specs.Prelude.{min, nat_le}
 use Rattle.std.specs.declared.option.Option.{Option}
 use Rattle.std.specs.declared.option.Option.TheVariants.{None, Some}
@@ -11,12 +11,11 @@ use Rattle.std.proofs.Math.Seq.{take-add}
 use Rattle.wl_message.specs.declared.amounts.Fed.{Fed}
 use Rattle.wl_message.specs.Arrived.{Arrived, free_bytes, free_tokens, fed}
 use Rattle.wl_message.specs.InStep.{Part, part_bytes, part_tokens}
-use Rattle.wl_objects.specs.declared.error.Fault.{Fault}
 use Rattle.wl_objects.specs.declared.error.NextError.{NextError}
 use Rattle.wl_objects.specs.declared.error.NextError.TheVariants as errors
 use Rattle.wl_end.specs.declared.streams.ReadAll.{ReadAll}
 use Rattle.wl_end.specs.Core.{Core, feeds, no_room, in_room, with_arrived}
-use Rattle.wl_end.specs.Streams.{IsTaken, taken_bytes, taken_tokens, NoneFits}
+use Rattle.wl_end.specs.Streams.{taken_bytes, taken_tokens, NoneFits}
 use Rattle.wl_end.specs.Reads.{Reading, IsCoreOf, arrived, Reads, none, last, next, ReadsSome, nothing, more, ReadsUntil, ReadsAll, appended, ReadsReport, ReadsNothing, ReadsNext, HasReport, ReadsOn, WaitingIsRead}
 use Rattle.wl_end.proofs.Appended.{kept_again, kept_more, behind_again, more_behind, none_behind}
 use Rattle.wl_end.proofs.Coming.{arrived_none, arrived_twice}

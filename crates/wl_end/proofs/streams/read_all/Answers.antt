@@ -1,4 +1,4 @@
-use Rattle.std.proofs.Common.{◌≡◌, ◌+◌, ◌≤◌, ◌<◌, [], length, map, take, drop, suc, sym, ap, subst, ◌∙◌, refl, arith, add-one}
+use Rattle.std.proofs.Common.{◌≡◌, ◌+◌, length, map, take, sym, ap, subst, ◌∙◌, arith, add-one}
 use Rattle.std.specs.Prelude.{List, ℕ}
 use Rattle.std.specs.declared.option.Option.TheVariants.{None}
 use Rattle.wl_message.specs.InStep.{part, part_bytes, part_tokens}

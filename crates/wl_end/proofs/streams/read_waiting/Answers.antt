@@ -1,5 +1,5 @@
-use Rattle.std.proofs.Common.{◌≡◌, sym, ap, subst, ◌∙◌}
-use Rattle.std.specs.declared.option.Option.TheVariants.{None, Some}
+use Rattle.std.proofs.Common.{sym, ◌∙◌}
+use Rattle.std.specs.declared.option.Option.TheVariants.{Some}
 use Rattle.wl_end.specs.Reads.{reading_of}
 use Rattle.wl_end.proofs.Appended.{kept_same}
 use Rattle.wl_end.proofs.Readings.{on_first, on_pushed, reads_pushed, pushed_kept, until_stop, waiting_then, report_read}

@@ -1,8 +1,5 @@
-use Rattle.std.proofs.Common.{◌≡◌, [], sym, ap, subst, ◌∙◌}
-use Rattle.std.specs.declared.option.Option.{Option}
-use Rattle.std.specs.declared.option.Option.TheVariants.{None, Some}
-use Rattle.std.specs.declared.result.Result.TheVariants.{Ok}
-use Rattle.wl_end.specs.Reads.{Reading, reading_of, ReadsSome, nothing, HasReport, ReadsNext, WaitingIsRead}
+use Rattle.std.proofs.Common.{[], sym, subst}
+use Rattle.wl_end.specs.Reads.{reading_of, ReadsSome, nothing, HasReport, WaitingIsRead}
 use Rattle.wl_end.proofs.Readings.{nothing_read}
 use Rattle.wl_end.proofs.streams.read_without_room.Goals.{in-Err, in-Ok}
 use Rattle.wl_end.proofs.streams.read_without_room.Goals as goal
