@@ -1,5 +1,5 @@
 //! Values as C has them: objects, arguments, numbers of bytes and tokens.
-ghost use Rattle.std.specs.Prelude.{◌≡◌, ◌≤◌, ◌×◌, length, IfSome};
+ghost use Rattle.std.specs.Prelude.{◌≡◌, ◌≤◌, length, IfSome};
 ghost use Rattle.wl_message.specs.Arrived.{AreSizes};
 
 use std::ptr;
