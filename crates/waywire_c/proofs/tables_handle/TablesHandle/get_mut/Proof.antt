@@ -4,7 +4,7 @@ use Prim.Native.Nat.{ℕ}
 use mathlib.Core.List.{List, [], ◌∷◌}
 use seplogic.Ra.Ura.{Ura}
 use base.Fraction.{full_share}
-use mir.Syntax.{Fn, named}
+use mir.Syntax.{named}
 use mir.Val.{Val, vptr}
 use mir.Raw.{raw as bare}
 use base.Logic.{SProp, ent, sep, emp, via, fst∗}
@@ -34,7 +34,7 @@ use denote.Triple.Table.{entered}
 use denote.Triple.Walked.{says, Stays, stay_dropped, walk_of, ends_at, walked, walk_Meets, Goes-spent_ref}
 use Rattle.core.proofs.alloc.Calls.{token}
 use Rattle.std_alloc.proofs.VecSteps.Shapes.{after}
-use Rattle.std_alloc.proofs.BoxSteps.Form.{D, R, P, τ, word, handle}
+use Rattle.std_alloc.proofs.BoxSteps.Form.{D, R, τ, word, handle}
 use Rattle.std_alloc.proofs.BoxSteps.Steps.{box_out, box_in}
 use Rattle.waywire_c.specs.Lending.{with_tables}
 use Rattle.waywire_c.proofs.AsBox.Tables.{E}
