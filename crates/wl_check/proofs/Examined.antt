@@ -87,7 +87,7 @@ unexamined tables s j h = rw (le-ltb j (examined (messages tables s)) h) refl
 passed_fine : (tables : List Interface) (s : Session) (k : ℕ) → ArePassed (messages tables s) k → (j : ℕ) → j < k → breaks tables s j ≡ None
 passed_fine tables s k a j h = let p = a j h in fine_at tables s j p.call p.is
 
-lawful_all : (tables : List Interface) (s : Session) → ArePassed (messages tables s) (length (messages tables s)) → IsLawful tables s
+pub lawful_all : (tables : List Interface) (s : Session) → ArePassed (messages tables s) (length (messages tables s)) → IsLawful tables s
 lawful_all tables s a j = elim (cases_lt j (length (messages tables s))) [
   | inl h ↦ passed_fine tables s (length (messages tables s)) a j h
   | inr h ↦ past tables s j h

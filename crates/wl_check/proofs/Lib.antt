@@ -11,3 +11,4 @@ pub mod Fresh
 pub mod Bringing
 pub mod Once
 pub mod Ordering
+pub mod Growing

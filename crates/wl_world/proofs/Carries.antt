@@ -23,7 +23,7 @@ flies o i ms b t f =
     subst (λ (n : ℕ). InFlight (after_taking o (goes o b t).bytes) (with_more i (take (goes o b t).bytes (waiting_bytes o)) (take n (waiting_tokens o))) ms) (sym (goes_tokens o b t))
     (carried o i ms (goes o b t).bytes f (goes_there o b t))
 
-to_server_stands : (p : PairState) (w : World) (asked : List (Message Known)) (told : List (Coming Known)) (most : ℕ) → StandsBy p w asked told
+pub to_server_stands : (p : PairState) (w : World) (asked : List (Message Known)) (told : List (Coming Known)) (most : ℕ) → StandsBy p w asked told
     → StandsBy (after_carry_to_server p (carries p.client.core p.server.core most)) w asked told
 to_server_stands p w asked told most s = record {
   same_tables = s.same_tables;
@@ -57,7 +57,7 @@ to_server_stands p w asked told most s = record {
   open_registries = s.open_registries;
 }
 
-to_client_stands : (p : PairState) (w : World) (asked : List (Message Known)) (told : List (Coming Known)) (most : ℕ) → StandsBy p w asked told
+pub to_client_stands : (p : PairState) (w : World) (asked : List (Message Known)) (told : List (Coming Known)) (most : ℕ) → StandsBy p w asked told
     → StandsBy (after_carry_to_client p (carries p.server.core p.client.core most)) w asked told
 to_client_stands p w asked told most s = record {
   same_tables = s.same_tables;

@@ -1,0 +1,14 @@
+pub mod Leading
+pub mod Joining
+pub mod Uncounted
+pub mod Knowing
+pub mod Judging
+pub mod Reading
+pub mod Globals
+pub mod Placing
+pub mod Requests
+pub mod Events
+pub mod Pieces
+pub mod Walking
+pub mod Arriving
+pub mod Carries
