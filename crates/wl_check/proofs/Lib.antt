@@ -12,3 +12,4 @@ pub mod Bringing
 pub mod Once
 pub mod Ordering
 pub mod Growing
+pub mod Passing

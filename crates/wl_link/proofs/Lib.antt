@@ -5,10 +5,10 @@ pub mod Knowing
 pub mod Judging
 pub mod Reading
 pub mod Globals
-pub mod Placing
+pub mod Calls
+pub mod Counting
 pub mod Requests
 pub mod Events
-pub mod Pieces
 pub mod Walking
 pub mod Arriving
 pub mod Carries
