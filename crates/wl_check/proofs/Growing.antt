@@ -58,7 +58,7 @@ judged_if tables k xs ys f true e w =
     let l : 8 ≤ f.size = size_least f.size e in
     let long : 8 ≤ length (drop f.start xs) = (let n = length-drop f.start xs in let g = w.header in omega (arith, n, g)) in
     let head : header_at (drop f.start (xs ++ ys)) ≡ header_at (drop f.start xs) =
-        ap header_at (drop-append-le f.start xs ys (let g = w.header in omega (arith, g))) ∙ header_more (drop f.start xs) ys long in
+    ap header_at (drop-append-le f.start xs ys (let g = w.header in omega (arith, g))) ∙ header_more (drop f.start xs) ys long in
     let body = body_more (f.start + 8) (f.size - 8) xs ys (omega (arith, whole, l)) in
     rw e (λ i. judged_as tables k f (head i) (body i))
 

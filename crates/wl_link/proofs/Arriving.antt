@@ -1,5 +1,5 @@
 -- What a carry brings of the messages in flight, and what is recorded of them.
-use Rattle.std.proofs.Common.{◌≡◌, ℕ, ◌+◌, ◌<◌, ◌≤◌, Bool, true, false, List, [], ◌∷◌, ◌++◌, length, length-append, drop, map, refl, sym, ap, subst, ◌∙◌, arith}
+use Rattle.std.proofs.Common.{◌≡◌, ℕ, ◌+◌, ◌≤◌, false, List, [], ◌∷◌, ◌++◌, length, length-append, drop, map, refl, sym, ap, subst, ◌∙◌, arith}
 use Rattle.std.proofs.lemmas.List.{append_assoc, drop_at, drop-append-le}
 use Rattle.wl_sigs.specs.Tables.{Interface}
 use Rattle.wl_message.specs.Cut.{usual_limit, front, More, IsMessage}
@@ -7,19 +7,19 @@ use Rattle.wl_message.specs.Arrived.{Arrived}
 use Rattle.wl_message.specs.Outgoing as boxes
 use Rattle.wl_message.specs.Outgoing.{Outgoing, all_bytes, all_tokens}
 use Rattle.wl_recording.specs.declared.piece.Direction.{Direction}
-use Rattle.wl_recording.specs.Piece.{Piece, passed}
+use Rattle.wl_recording.specs.Piece.{Piece}
 use Rattle.wl_check.specs.Merged.{Cutting, cut, cutting, framed, same_direction, stream_of, tokens_of}
 use Rattle.wl_check.specs.Session.{Judged, judged_after}
 use Rattle.wl_check.proofs.Bringing.{why}
 use Rattle.wl_check.proofs.Cutting.{new_marks, fed_good, place_within}
-use Rattle.wl_check.proofs.Passing.{Brings, carry_brings}
+use Rattle.wl_check.proofs.Passing.{Brings}
 use Rattle.wl_world.specs.World.{Each}
 use Rattle.wl_world.specs.Stands.{InFlight}
 use Rattle.wl_world.proofs.Channels.{all_bytes_more, all_tokens_more}
 use Rattle.wl_link.specs.Recorded.{Recorded}
 use Rattle.wl_link.specs.Follows.{knowledge}
 use Rattle.wl_link.specs.Linked.{judgements}
-use Rattle.wl_link.proofs.Walking.{KeepsOne, Walked, walk}
+use Rattle.wl_link.proofs.Walking.{KeepsOne, walk}
 
 -- what stands behind the recorded messages is a part of one
 pub part_more : (d : Direction) (ps : List Piece) (inbox : Arrived) (taken : ℕ) (seen : List boxes.Message) (r : Recorded d ps inbox taken seen) → front usual_limit r.part ≡ More
@@ -67,21 +67,21 @@ begun_behind (s ∷ seen) later (m ∷ begun) others x left e b w =
 
 map-append : {A B : Type 0} (f : A → B) (xs ys : List A) → map f (xs ++ ys) ≡ map f xs ++ map f ys
 map-append f [] ys = refl
-map-append f (x ∷ xs) ys = ap (λ (l : List B). f x ∷ l) (map-append f xs ys)
+map-append {B = B} f (x ∷ xs) ys = ap (λ (l : List B). f x ∷ l) (map-append f xs ys)
 
 -- ---- the other direction
 
 pub recorded_other : (tables : List Interface) (d y : Direction) (ps qs : List Piece) (bytes : List ℕ) (n : ℕ) (inbox : Arrived) (seen : List boxes.Message) → Brings tables d ps qs bytes n
     → same_direction d y ≡ false → (knowledge tables (judgements tables qs)).taken y ≡ (knowledge tables (judgements tables ps)).taken y
     → Recorded y ps inbox ((knowledge tables (judgements tables ps)).taken y) seen → Recorded y qs inbox ((knowledge tables (judgements tables qs)).taken y) seen
-recorded_other tables d y ps qs bytes n inbox seen b no taken r =
-    let stream = b.other y no in
+recorded_other tables d y ps qs bytes n inbox seen b apart taken r =
+    let stream = b.other y apart in
     record {
       part = r.part;
       sound = ap (λ (s : List ℕ). (cut s).is_bad) stream ∙ r.sound;
       rest = ap (λ (s : List ℕ). drop (cut s).place s) stream ∙ r.rest;
       waits = r.waits;
-      tokens = (let a = r.tokens in let c = b.other_count y no in omega (arith, a, c, taken));
+      tokens = (let a = r.tokens in let c = b.other_count y apart in omega (arith, a, c, taken));
     }
 
 -- ---- a carry
@@ -141,6 +141,6 @@ module _ {M : Type 0} (sp : M → boxes.Message) (tables : List Interface) (d : 
               let count = brings.own_count in
               omega (arith, a, b, account, waiting, count);
         };
-        other = λ y no. ap (λ (j : List Judged). (knowledge tables j).taken y) judged_is ∙ w.other y no;
+        other = λ y apart. ap (λ (j : List Judged). (knowledge tables j).taken y) judged_is ∙ w.other y apart;
         next = subst (λ (j : List Judged). F j (seen ++ w.fresh) w.still) (sym judged_is) w.next;
       }

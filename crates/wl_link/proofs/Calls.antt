@@ -1,5 +1,5 @@
 -- Behind a message that was read as it was meant.
-use Rattle.std.proofs.Common.{◌≡◌, ℕ, zero, suc, ◌+◌, ◌≤◌, Bool, true, false, cond, None, Some, List, [], ◌∷◌, ◌++◌, length, map, refl, sym, ap, subst, ◌∙◌, arith, slice_get}
+use Rattle.std.proofs.Common.{◌≡◌, ℕ, zero, suc, ◌+◌, Bool, true, false, cond, None, Some, List, [], ◌∷◌, ◌++◌, length, refl, sym, ap, subst, ◌∙◌, arith}
 use Rattle.std.specs.Prelude.{Option, option_map}
 use Rattle.std.specs.declared.result.Result.TheVariants.{Ok}
 use Rattle.wl_wire.specs.declared.kind.Iface.{Iface}
@@ -14,7 +14,7 @@ use Rattle.wl_check.specs.Merged.{mark, framed, same_direction}
 use Rattle.wl_check.specs.Effects.{Call, effect, destroyed, side_of}
 use Rattle.wl_check.specs.Places.{is_id, is_made, frees, entry_of, new_of, used_by, unless_deleted}
 use Rattle.wl_check.specs.Rules.{judged}
-use Rattle.wl_check.specs.Session.{Judged, ends_session}
+use Rattle.wl_check.specs.Session.{Judged}
 use Rattle.wl_check.proofs.Growing.{behind_one, advertised_more}
 use Rattle.wl_world.specs.Meant.{Known, Message, tokens}
 use Rattle.wl_world.specs.World.{Row, IfThere}
@@ -65,9 +65,9 @@ own_taken tables e d m entry f =
 
 pub other_taken : (tables : List Interface) (e : List Judged) (call : Call) (x : Direction) → same_direction call.direction x ≡ false
     → (knowledge tables (e ++ Ok call ∷ [])).taken x ≡ (knowledge tables e).taken x
-other_taken tables e call x no =
+other_taken tables e call x apart =
     let b = (behind_one tables e call).taken_is x in
-    b ∙ rw no (omega arith)
+    b ∙ rw apart (omega arith)
 
 pub call_grows : (tables : List Interface) (e : List Judged) (call : Call) → Grows (knowledge tables e) (knowledge tables (e ++ Ok call ∷ []))
 call_grows tables e call name iface =

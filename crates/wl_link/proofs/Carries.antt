@@ -1,5 +1,5 @@
 -- A carry keeps a pair linked.
-use Rattle.std.proofs.Common.{◌≡◌, ℕ, ◌+◌, ◌≤◌, false, List, [], ◌∷◌, ◌++◌, length, length-append, drop, map, refl, sym, ap, subst, ◌∙◌, arith}
+use Rattle.std.proofs.Common.{◌≡◌, ℕ, ◌+◌, List, [], ◌∷◌, ◌++◌, length-append, map, refl, sym, ap, subst, ◌∙◌, arith}
 use Rattle.std.specs.Prelude.{option_map}
 use Rattle.std.proofs.lemmas.List.{append_assoc}
 use Rattle.wl_sigs.specs.Tables.{Interface}
@@ -9,7 +9,6 @@ use Rattle.wl_client.specs.declared.globals.Global.{Global as Remembered}
 use Rattle.wl_server.specs.State.{Global}
 use Rattle.wl_recording.specs.declared.piece.Direction.{Direction}
 use Rattle.wl_recording.specs.declared.piece.Direction.TheVariants.{ToServer, ToClient}
-use Rattle.wl_recording.specs.Piece.{passed}
 use Rattle.wl_check.specs.Merged.{stream_of, tokens_of}
 use Rattle.wl_check.specs.Session.{Judged}
 use Rattle.wl_check.proofs.Passing.{carry_brings}
@@ -20,8 +19,8 @@ use Rattle.wl_world.specs.Flight.{Rows, client_rows, server_rows, all_tells, all
 use Rattle.wl_world.specs.Stands.{StandsBy, InFlight, AsksFitly, ComesFitly, IsGlobal, by_event}
 use Rattle.wl_world.proofs.Carries.{carry_fits}
 use Rattle.wl_world.specs.Flight as flight
-use Rattle.wl_link.specs.Follows.{Follows, knowledge}
-use Rattle.wl_link.specs.Linked.{LinkedBy, judged_in}
+use Rattle.wl_link.specs.Follows.{Follows}
+use Rattle.wl_link.specs.Linked.{LinkedBy}
 use Rattle.wl_link.proofs.Calls.{One}
 use Rattle.wl_link.proofs.Requests.{ask_one}
 use Rattle.wl_link.proofs.Events.{Whereabouts, tell_one}

@@ -1,10 +1,8 @@
 -- An event or a delete is recorded.
 use Rattle.std.proofs.Common.{◌≡◌, ◌≢◌, ℕ, ◌+◌, ◌<◌, ◌≤◌, Bool, true, false, cond, None, Some, List, [], ◌∷◌, ◌++◌, length, map, drop, inl, refl, sym, ap, subst, ◌∙◌, arith, append-nil}
-use Rattle.std.specs.Prelude.{Option, option_map, codes}
+use Rattle.std.specs.Prelude.{codes}
 use Rattle.std.specs.declared.result.Result.TheVariants.{Ok}
-use Rattle.std.proofs.lemmas.List.{append_assoc}
 use Rattle.wl_wire.specs.declared.kind.Iface.{Iface}
-use Rattle.wl_wire.specs.Argument.{Argument, Uint, Str}
 use Rattle.wl_sigs.specs.declared.signature.Side.TheVariants.{Event as event_side}
 use Rattle.wl_sigs.specs.declared.signature.Destroys.TheVariants.{Nothing}
 use Rattle.wl_sigs.specs.Tables as sigs
@@ -16,22 +14,21 @@ use Rattle.wl_objects.specs.Messages.{is_delete_id}
 use Rattle.wl_client.specs.declared.globals.Global.{Global as Remembered}
 use Rattle.wl_server.specs.State.{Global}
 use Rattle.wl_recording.specs.declared.piece.Direction.TheVariants.{ToClient}
-use Rattle.wl_check.specs.Effects.{Call, effect, destroyed, is_global, advertised, first_number}
+use Rattle.wl_check.specs.Effects.{effect, destroyed, is_global, first_number}
 use Rattle.wl_check.specs.Places.{is_id, unless_deleted, frees}
 use Rattle.wl_check.specs.Rules.{reader}
 use Rattle.wl_check.specs.Session.{Judged}
 use Rattle.wl_check.proofs.Growing.{behind_one, advertised_own}
 use Rattle.wl_world.specs.Meant.{Born, Known, Message, Coming, Event, Delete, objects, wire, tokens, spelled, spelled_coming}
 use Rattle.wl_world.specs.World.{Row, Open, Each, display_born}
-use Rattle.wl_world.specs.Flight.{Rows, at, Tell, Name, End, ends, tells, all_tells, all_asks, Held, Reads, Meets}
-use Rattle.wl_world.specs.Flight as flight
+use Rattle.wl_world.specs.Flight.{Rows, at, Tell, Name, ends, tells, all_tells, all_asks, Held, Reads, Meets}
 use Rattle.wl_world.specs.Stands.{ComesFitly, TellsFitly, by_event}
 use Rattle.wl_world.specs.Plain.{ask_id}
 use Rattle.wl_world.proofs.Deeds.{live_after, free_after, put_same}
 use Rattle.wl_world.proofs.Wholes.{client_ends, each_by, each_more, all_tells_more, deletes_at}
 use Rattle.wl_world.proofs.Plain.{free_asks}
 use Rattle.wl_world.proofs.ClientReads.{deleting, delete_signature}
-use Rattle.wl_link.specs.Leads.{IsCounted, Joins}
+use Rattle.wl_link.specs.Leads.{IsCounted}
 use Rattle.wl_link.specs.Follows.{Follows, knowledge, places, TellsAdvertised, KnownAs}
 use Rattle.wl_link.proofs.Leading.{held_here, reads_parted, reads_one_way}
 use Rattle.wl_link.proofs.Joining.{Meet, event_recorded, delete_recorded}
@@ -104,7 +101,7 @@ event_one tables given asked_seen asked_later told client server remembered stre
     let a = f.known_as in
     let ps = places tables e in
     let next = next_read tables asked_seen asked_later told seen later (Event m) client f.joins.common server w is f.joins.reads in
-    let first : server.births ≤ f.here.births = recorded_first f.joins.leads f.joins.reads w.meet in
+    let first : server.births ≤ f.here.births = recorded_first (all_asks asked_seen) (all_asks asked_later) f.joins.leads f.joins.reads w.meet in
     let counted = (each_parts (IsCounted server.births) (map Name (objects m.args)) (ends m.destroys m.target) next.counted.1).0 in
     let here : Meet (by_event tables) (all_asks asked_later) (all_tells seen) f.here client = record { common = f.joins.common; leads = f.joins.leads; reads = f.joins.reads } in
     let below = below_more server.births f.here.births first (objects m.args) (each_counted server.births (objects m.args) counted) in
@@ -122,7 +119,7 @@ event_one tables given asked_seen asked_later told client server remembered stre
       call = call;
       is = frame_called tables k ToClient m stream more p t o fit.fits bytes args enough refl;
       own = own_taken tables e ToClient m o.entry fit.fits;
-      other = λ x no. other_taken tables e call x no;
+      other = λ x apart. other_taken tables e call x apart;
       next = record {
         passed = go_on_more e (Ok call) f.passed (goes_on_as tables ToClient m o.entry fit.fits o.iface);
         here = client_ends m.destroys m.target f.here;
@@ -141,8 +138,8 @@ display_held : (tables : List Interface) (e : List Judged) (asked_later : List (
     → Valid tables → client.rows 1 ≡ Some (Open display_born) → Held f.here (record { id = 1; born = display_born })
 display_held tables e asked_later seen client remembered f valid there =
     let plain : by_event tables display_born ≡ false = rw valid.fixed_three.display refl in
-    let open = live_after 1 display_born f.joins.reads there plain in
-    held_here (record { id = 1; born = display_born }) f.joins.leads (inl open) (let s = some_place tables e in let b = f.known_as.births in omega (arith, s, b))
+    let there_still = live_after 1 display_born f.joins.reads there plain in
+    held_here (record { id = 1; born = display_born }) f.joins.leads (inl there_still) (let s = some_place tables e in let b = f.known_as.births in omega (arith, s, b))
 
 -- what is known behind a delete
 known_delete : (tables : List Interface) (e : List Judged) (here : Rows Row) (x : Known) (entry : Entry) (signature : sigs.Message) → KnownAs (knowledge tables e) (places tables e) here → x.id ≢ 1
@@ -168,7 +165,7 @@ delete_one tables asked_seen asked_later told client server remembered stream mo
     let a = f.known_as in
     let ps = places tables e in
     let next = next_read tables asked_seen asked_later told seen later (Delete x) client f.joins.common server w is f.joins.reads in
-    let first : server.births ≤ f.here.births = recorded_first f.joins.leads f.joins.reads w.meet in
+    let first : server.births ≤ f.here.births = recorded_first (all_asks asked_seen) (all_asks asked_later) f.joins.leads f.joins.reads w.meet in
     let here : Meet (by_event tables) (all_asks asked_later) (all_tells seen) f.here client = record { common = f.joins.common; leads = f.joins.leads; reads = f.joins.reads } in
     let now = deletes_at x next.reads in
     let free : w.meet.middle.rows x.id ≡ None = free_after x.id now.rest (put_same f.joins.common.rows x.id None) in
@@ -184,7 +181,7 @@ delete_one tables asked_seen asked_later told client server remembered stream mo
       call = call;
       is = frame_called tables k ToClient (deleting x) stream more p t o fits bytes (tt, tt) enough refl;
       own = own_taken tables e ToClient (deleting x) o.entry fits;
-      other = λ y no. other_taken tables e call y no;
+      other = λ y apart. other_taken tables e call y apart;
       next = record {
         passed = go_on_more e (Ok call) f.passed (goes_on_as tables ToClient (deleting x) o.entry fits o.iface);
         here = at f.here x.id None;

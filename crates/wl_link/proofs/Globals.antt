@@ -1,6 +1,6 @@
 -- What was advertised stays advertised, and a bind of it is no bad bind.
 use Rattle.std.proofs.Common.{◌≡◌, ℕ, zero, suc, ◌≤◌, Bool, true, false, List, [], ◌∷◌, map, refl, sym, ap, subst, ◌∙◌, arith, slice_get}
-use Rattle.std.specs.Prelude.{Option, option_map, not, ◌&&◌, nat_le, bytes_eq}
+use Rattle.std.specs.Prelude.{Option, option_map, not, ◌&&◌, ◌||◌, nat_le, bytes_eq}
 use Rattle.std.specs.declared.option.Option.TheVariants.{None, Some}
 use Rattle.std.proofs.lemmas.Bool.Decides.{nat_tests}
 use Rattle.wl_wire.specs.declared.kind.Kind.{Kind}
@@ -23,7 +23,7 @@ use Rattle.wl_check.specs.Places.{Known as Knows}
 use Rattle.wl_check.specs.Rules.{version_of, may_bind, is_bad_bind}
 use Rattle.wl_world.specs.Meant.{Known, Message, Coming, Event, Delete, Arg, made_in, wire}
 use Rattle.wl_world.specs.World.{Each, IfThere}
-use Rattle.wl_world.specs.Stands.{AreOf, Fits, AsksFitly, BindsGiven, IsGlobal}
+use Rattle.wl_world.specs.Stands.{AreOf, AsksFitly, IsGlobal}
 use Rattle.wl_world.proofs.Places.{place_there, bytes_same}
 use Rattle.wl_world.proofs.Readings.{made_of, made_read}
 use Rattle.wl_world.proofs.Wholes.{each_by}

@@ -1,9 +1,9 @@
 -- A message in its canonical spelling is read as it was meant, by whoever knows what it names.
-use Rattle.std.proofs.Common.{◌≡◌, ℕ, suc, ◌+◌, ◌-◌, ◌<◌, ◌≤◌, true, false, List, [], ◌∷◌, ◌++◌, length, take, drop, map, refl, sym, ap, ◌∙◌, arith}
+use Rattle.std.proofs.Common.{◌≡◌, ℕ, suc, ◌+◌, ◌-◌, ◌≤◌, Bool, true, false, cond, List, [], ◌∷◌, ◌++◌, length, take, drop, map, refl, sym, ap, ◌∙◌, arith}
 use Rattle.std.specs.Prelude.{nat_eq, nat_lt}
 use Rattle.std.specs.declared.option.Option.{Option}
 use Rattle.std.specs.declared.option.Option.TheVariants.{None, Some}
-use Rattle.std.specs.declared.result.Result.TheVariants.{Ok}
+use Rattle.std.specs.declared.result.Result.TheVariants.{Ok, Err}
 use Rattle.std.proofs.lemmas.Bool.{ne_eqb, le-ltb}
 use Rattle.std.proofs.lemmas.List.{append_assoc, drop_at, take_at, drop-drop}
 use Rattle.wl_wire.specs.declared.kind.Kind.{Kind}
@@ -21,14 +21,15 @@ use Rattle.wl_message.specs.Cut.{usual_limit, is_size}
 use Rattle.wl_message.proofs.Fronts.{is_size-true}
 use Rattle.wl_table.specs.declared.object.Entry.{Entry}
 use Rattle.wl_objects.specs.declared.lookup.NewId.TheVariants.{Free}
+use Rattle.wl_objects.specs.declared.error.Fault.TheVariants.{BadSize}
 use Rattle.wl_objects.specs.Reading.{Reader, value_fault, iface_of, is_of, arguments_at, judged as judged_value, descriptors}
-use Rattle.wl_objects.specs.Writing.{spelled as spelled_values, message_bytes, message_len}
+use Rattle.wl_objects.specs.Writing.{spelled as spelled_values, message_len}
 use Rattle.wl_objects.specs.Messages.{received, is_error}
 use Rattle.wl_recording.specs.declared.piece.Direction.{Direction}
 use Rattle.wl_check.specs.Merged.{mark, framed}
 use Rattle.wl_check.specs.Effects.{Call, side_of}
 use Rattle.wl_check.specs.Places.{Known as Knows}
-use Rattle.wl_check.specs.Rules.{reader, called, judged, is_bad_bind}
+use Rattle.wl_check.specs.Rules.{reader, called, judged, judged_as, is_bad_bind}
 use Rattle.wl_world.specs.Meant.{Known, Message, Arg, objects, new_in, wire, tokens, spelled, live_entry}
 use Rattle.wl_world.specs.World.{Each, IfThere}
 use Rattle.wl_world.specs.Stands.{Fits, AreOf, NamesRightly}
@@ -152,7 +153,9 @@ frame_called tables k d m stream more p t o f e args w good =
     let q = parted (drop p stream) more m.target.id m.opcode vs e (omega (arith, f.low)) f.opcode f.len in
     let enough : length (tokens m.args) ≤ t - k.taken d = omega (arith, w) in
     let read = received_by_any tables (side_of d) (reader k d) m header (t - k.taken d) o f q.object q.opcode_is args enough in
-    rw (size, body_is m stream more p e)
-    (ap (called tables k d header.opcode) read
+    let whole_one = judged_as tables k (framed d t (mark p n)) header (take (n - 8) (drop (p + 8) stream)) in
+    ap (λ (b : Bool). cond b whole_one (Err BadSize)) size
+    ∙ ap (judged_as tables k (framed d t (mark p n)) header) (body_is m stream more p e)
+    ∙ ap (called tables k d header.opcode) read
     ∙ ap (λ (opcode : ℕ). called tables k d opcode (Ok (call_as d m o.entry f.signature).received)) q.opcode_is
-    ∙ rw good refl)
+    ∙ rw good refl

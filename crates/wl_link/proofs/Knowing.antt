@@ -1,5 +1,5 @@
 -- What a checker knows behind one message, by what it knew before it.
-use Rattle.std.proofs.Common.{◌≡◌, ℕ, zero, suc, ◌+◌, ◌<◌, ◌≤◌, Bool, true, false, cond, None, Some, List, [], ◌∷◌, ◌++◌, ◌⊎◌, inl, inr, length, length-append, get_or, refl, sym, ap, ◌∙◌, arith, ltb, ◌≢◌, append-nil}
+use Rattle.std.proofs.Common.{◌≡◌, ℕ, zero, suc, ◌<◌, Bool, true, false, cond, None, Some, List, [], ◌∷◌, ◌++◌, ◌⊎◌, inl, inr, length, length-append, get_or, refl, sym, ap, ◌∙◌, arith, ◌≢◌, append-nil}
 use Rattle.std.proofs.lemmas.List.{get_or_append_left}
 use Rattle.std.proofs.lemmas.Bool.{cases_lt, lt-ltb, le-ltb}
 use Rattle.std.proofs.Math.Seq.{get_or-append_seam}
@@ -132,7 +132,7 @@ AllBelow v = (id : ℕ) (r : Row) → v.rows id ≡ Some r → birth_in r < v.bi
 
 below_made : (here : Rows Row) (n : Option Known) → IfThere (Fresh here) n → AllBelow here → AllBelow (client_makes here n)
 below_made here None f below = below
-below_made here (Some y) f below id r e = elim (put_tells here.rows y.id (Some (Open y.born)) id) [
+below_made here (Some y) f below = λ id r e. elim (put_tells here.rows y.id (Some (Open y.born)) id) [
   | inl p ↦ (let q : Open y.born ≡ r = cc (p.1, e) in let l = ap birth_in q in let b = f.birth in omega (arith, l, b))
   | inr p ↦ (let l = below id r (sym p.1 ∙ e) in omega (arith, l))
 ]
@@ -143,7 +143,7 @@ held_below v x below (inr h) = below x.id (Ending x.born) h
 
 below_ended : (v : Rows Row) (b : Bool) (x : Known) → Held v x → AllBelow v → AllBelow (client_ends b x v)
 below_ended v false x h below = below
-below_ended v true x h below id r e = elim (put_tells v.rows x.id (Some (Ending x.born)) id) [
+below_ended v true x h below = λ id r e. elim (put_tells v.rows x.id (Some (Ending x.born)) id) [
   | inl p ↦ (let q : Ending x.born ≡ r = cc (p.1, e) in let l = ap birth_in q in let b = held_below v x below h in omega (arith, l, b))
   | inr p ↦ below id r (sym p.1 ∙ e)
 ]
@@ -180,7 +180,7 @@ frees_some i id true e h = let ne : nat_eq id 1 ≡ false = grind (arith, nat_te
 frees_some i id false e h = rw e (and_false (not (nat_eq id 1)))
 
 below_deleted : (v : Rows Row) (i : ℕ) → AllBelow v → AllBelow (at v i None)
-below_deleted v i below id r e = elim (put_tells v.rows i None id) [
+below_deleted v i below = λ id r e. elim (put_tells v.rows i None id) [
   | inl p ↦ absurd (cc (p.1, e))
   | inr p ↦ below id r (sym p.1 ∙ e)
 ]

@@ -1,6 +1,5 @@
 pub mod Leading
 pub mod Joining
-pub mod Uncounted
 pub mod Knowing
 pub mod Judging
 pub mod Reading

@@ -1,5 +1,5 @@
 -- A checker that knows these rows has what may be recorded next.
-use Rattle.std.proofs.Common.{◌≡◌, ℕ, ◌+◌, ◌<◌, ◌≤◌, true, false, List, inl, inr, refl, ap, ◌∙◌, arith, subst}
+use Rattle.std.proofs.Common.{◌≡◌, ℕ, ◌+◌, true, false, List, inl, inr, refl, ap, ◌∙◌, arith, subst}
 use Rattle.std.specs.Prelude.{option_map, nat_eq, nat_le}
 use Rattle.std.specs.declared.option.Option.{Option}
 use Rattle.std.specs.declared.option.Option.TheVariants.{None, Some}

@@ -1,6 +1,6 @@
 -- A request is recorded.
-use Rattle.std.proofs.Common.{◌≡◌, ℕ, ◌+◌, ◌≤◌, true, false, List, [], ◌∷◌, ◌++◌, length, map, drop, inl, refl, ap, ◌∙◌}
-use Rattle.std.specs.Prelude.{Option, option_map}
+use Rattle.std.proofs.Common.{◌≡◌, ℕ, ◌+◌, ◌≤◌, List, [], ◌∷◌, ◌++◌, length, map, drop, inl, refl, ap, ◌∙◌}
+use Rattle.std.specs.Prelude.{option_map}
 use Rattle.std.specs.declared.result.Result.TheVariants.{Ok}
 use Rattle.wl_sigs.specs.Tables.{Interface}
 use Rattle.wl_sigs.specs.Valid.{Valid}
@@ -46,7 +46,7 @@ ask_one tables given told_seen client remembered stream more t p e m ms valid gl
       call = call;
       is = frame_called tables k ToServer m stream more p t o fit.fits bytes args enough good;
       own = own_taken tables e ToServer m o.entry fit.fits;
-      other = λ x no. other_taken tables e call x no;
+      other = λ x apart. other_taken tables e call x apart;
       next = record {
         passed = go_on_more e (Ok call) f.passed (goes_on_as tables ToServer m o.entry fit.fits o.iface);
         here = client_ends m.destroys m.target (client_makes f.here (made_in m.args));

@@ -1,8 +1,8 @@
 -- The messages that more bytes complete, one after another.
-use Rattle.std.proofs.Common.{◌≡◌, ℕ, zero, suc, ◌+◌, ◌-◌, ◌<◌, ◌≤◌, Bool, true, false, List, [], ◌∷◌, ◌++◌, ◌⊎◌, inl, inr, length, length-append, take, drop, map, refl, sym, ap, subst, ◌∙◌, arith, append-nil}
+use Rattle.std.proofs.Common.{◌≡◌, ℕ, ◌+◌, ◌<◌, ◌≤◌, false, List, [], ◌∷◌, ◌++◌, inl, inr, length, length-append, take, drop, map, refl, sym, ap, subst, ◌∙◌, arith, append-nil}
 use Rattle.std.specs.declared.result.Result.TheVariants.{Ok}
 use Rattle.std.proofs.lemmas.Bool.{cases_lt}
-use Rattle.std.proofs.lemmas.List.{append_assoc, take-append-drop, take-append-le, drop-append-le, take_all, drop_all, drop-drop, length-drop, length-take}
+use Rattle.std.proofs.lemmas.List.{append_assoc, take-append-drop, take-append-le, drop-append-le, take_all, drop_all, drop-drop, length-drop}
 use Rattle.wl_sigs.specs.Tables.{Interface}
 use Rattle.wl_message.specs.Cut.{usual_limit, front, Front, More, Bad, Whole, IsMessage}
 use Rattle.wl_message.specs.Outgoing as boxes
@@ -10,8 +10,7 @@ use Rattle.wl_message.specs.Outgoing.{all_bytes, all_tokens}
 use Rattle.wl_message.proofs.Cuts.{front_message, whole_stays, bad_stays, front_none}
 use Rattle.wl_message.proofs.Fronts.{front_stands}
 use Rattle.wl_recording.specs.declared.piece.Direction.{Direction}
-use Rattle.wl_check.specs.Merged.{Mark, mark, Cutting, cutting, cut_at, same_direction, framed}
-use Rattle.wl_check.specs.Rules.{judged}
+use Rattle.wl_check.specs.Merged.{mark, Cutting, cutting, cut_at, same_direction, framed}
 use Rattle.wl_check.specs.Session.{Judged, judged_after}
 use Rattle.wl_check.proofs.Cutting.{step}
 use Rattle.wl_world.specs.World.{Each}
@@ -92,7 +91,7 @@ module _ {M : Type 0} (sp : M → boxes.Message) (tables : List Interface) (d : 
         rest = at;
         bytes = refl;
         own = omega arith;
-        other = λ y no. refl;
+        other = λ y apart. refl;
         next = subst (λ (s : List M). F e s later) (sym (append-nil seen)) f;
       })
 
@@ -121,7 +120,7 @@ module _ {M : Type 0} (sp : M → boxes.Message) (tables : List Interface) (d : 
         bytes = append_assoc (sp m).bytes (all_bytes (map sp w.fresh)) w.part ∙ ap (λ (l : List ℕ). (sp m).bytes ++ l) w.bytes ∙ sym is;
         own = ap (λ (j : List Judged). (knowledge tables j).taken d) after ∙ w.own
             ∙ (let a = o.own in omega (arith, a, length-append (sp m).tokens (all_tokens (map sp w.fresh))));
-        other = λ y no. ap (λ (j : List Judged). (knowledge tables j).taken y) after ∙ w.other y no ∙ o.other y no;
+        other = λ y other. ap (λ (j : List Judged). (knowledge tables j).taken y) after ∙ w.other y other ∙ o.other y other;
         next = subst (λ (s : List M). F (judged_after tables streams e (map (framed d t) (mark p size ∷ c.marks))) s w.still) (append_assoc seen (m ∷ []) w.fresh)
             (subst (λ (j : List Judged). F j ((seen ++ m ∷ []) ++ w.fresh) w.still) (sym after) w.next);
       })
