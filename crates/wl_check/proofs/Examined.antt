@@ -179,7 +179,7 @@ first_taken : (d : Direction) → taken_after beginning d 0 ≡ 0
 first_taken ToServer = refl
 first_taken ToClient = refl
 
-known_first : (tables : List Interface) (s : Session) (k : Known) → IsFirst k → k ≡ known (effects tables (messages tables s)) 1
+pub known_first : (tables : List Interface) (s : Session) (k : Known) → IsFirst k → k ≡ known (effects tables (messages tables s)) 1
 unfolding holder is_ending used advertised_version taken
 known_first tables s k h =
     let o = fun_ext (λ id. h.objects id ∙ sym (named_next (effects tables (messages tables s)) 0 id ∙ first_object id)) in

@@ -11,3 +11,9 @@ pub mod Events
 pub mod Walking
 pub mod Arriving
 pub mod Carries
+pub mod Seen
+pub mod Moving
+pub mod Ended
+pub mod Lawful
+pub mod Beginning
+pub mod Linking

@@ -67,3 +67,9 @@ RunsLinked pair world [] [] last = pair ≡ last
 RunsLinked pair world (move ∷ moves) (reply ∷ replies) last =
     (next : PairState) × (world' : World) × Answers pair world move reply next world' × Linked next world' × RunsLinked next world' moves replies last
 RunsLinked pair world _ _ last = ⊥
+
+-- a step of a linked pair: the world allows the reply, and the pair is linked again
+pub record LinksOn (p : PairState) (w : World) (move : Move) (reply : Reply) (p' : PairState) : Type 0 where
+  pub world : World
+  pub answers : Answers p w move reply p' world
+  pub links : Linked p' world
