@@ -11,7 +11,7 @@ use Rattle.wl_world.specs.World.{Each}
 use Rattle.wl_world.specs.Stands.{InFlight}
 use Rattle.wl_world.proofs.Wholes.{each_more}
 
-all_bytes_more : (xs ys : List Message) → all_bytes (xs ++ ys) ≡ all_bytes xs ++ all_bytes ys
+pub all_bytes_more : (xs ys : List Message) → all_bytes (xs ++ ys) ≡ all_bytes xs ++ all_bytes ys
 all_bytes_more [] ys = refl
 all_bytes_more (x ∷ xs) ys = rw (all_bytes_more xs ys) (sym (append_assoc x.bytes (all_bytes xs) (all_bytes ys)))
 
