@@ -13,6 +13,7 @@
 #define COLOUR 0xff336699u
 #define FORMAT_XRGB8888 1
 
+static waywire_tables *tables; /* never freed */
 static struct link link_to;
 static waywire_object display, registry, compositor, shm, callback;
 static bool done;
@@ -132,7 +133,6 @@ static void open_surface(void)
 
 int main(void)
 {
-	waywire_tables *tables;
 	waywire_sizes sizes = { 65536, 64, 65536, 64 };
 	if (waywire_tables_core(&tables) || waywire_client_new(tables, &sizes, &link_to.client))
 		fail("the library", "out of memory");

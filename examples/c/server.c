@@ -25,6 +25,7 @@ struct buffer {
 	int32_t offset, width, height, stride;
 };
 
+static waywire_tables *tables; /* never freed */
 static struct link link_to;
 static struct pool pools[MOST];
 static struct buffer buffers[MOST];
@@ -96,7 +97,7 @@ static void on_surface(const waywire_report *report)
 }
 
 /* Does what a request asks. Which interface its target has, the end knows. */
-static void read_request(const waywire_tables *tables, const waywire_report *report)
+static void read_request(const waywire_report *report)
 {
 	waywire_arg number = waywire_uint(0);
 	uint16_t interface;
@@ -120,7 +121,7 @@ static void read_request(const waywire_tables *tables, const waywire_report *rep
 	}
 }
 
-static void add(const waywire_tables *tables, const char *name)
+static void add(const char *name)
 {
 	uint16_t interface;
 	if (waywire_tables_interface(tables, name, &interface)
@@ -129,7 +130,7 @@ static void add(const waywire_tables *tables, const char *name)
 }
 
 /* Reads all requests that came. False where the client broke a rule. */
-static bool serve(const waywire_tables *tables)
+static bool serve(void)
 {
 	for (;;) {
 		waywire_report report;
@@ -140,7 +141,7 @@ static bool serve(const waywire_tables *tables)
 		}
 		if (report.kind == WAYWIRE_NOTHING)
 			break;
-		read_request(tables, &report);
+		read_request(&report);
 	}
 	waywire_server_announce(link_to.server, NULL);
 	return true;
@@ -148,7 +149,6 @@ static bool serve(const waywire_tables *tables)
 
 int main(int argc, char **argv)
 {
-	waywire_tables *tables;
 	waywire_sizes sizes = { 65536, 64, 65536, 64 };
 	int listening = argc == 2 ? link_listen(argv[1]) : -1;
 	if (listening < 0)
@@ -158,9 +158,9 @@ int main(int argc, char **argv)
 	link_to.socket = accept(listening, NULL, NULL);
 	if (link_to.socket < 0)
 		fail("the client", "cannot accept it");
-	add(tables, "wl_compositor");
-	add(tables, "wl_shm");
-	while (link_wait(&link_to, -1) > 0 && serve(tables))
+	add("wl_compositor");
+	add("wl_shm");
+	while (link_wait(&link_to, -1) > 0 && serve())
 		;
 	link_flush(&link_to);
 	for (size_t each = 0; each < pool_count; each++)
