@@ -1,6 +1,6 @@
 -- What a carry brings of the messages in flight, and what is recorded of them.
 use Rattle.std.proofs.Common.{◌≡◌, ℕ, ◌+◌, ◌≤◌, false, List, [], ◌∷◌, ◌++◌, length, length-append, drop, map, refl, sym, ap, subst, ◌∙◌, arith}
-use Rattle.std.proofs.lemmas.List.{append_assoc, drop_at, drop-append-le}
+use Rattle.std.proofs.lemmas.List.{append_assoc, map-append, drop_at, drop-append-le}
 use Rattle.wl_sigs.specs.Tables.{Interface}
 use Rattle.wl_message.specs.Cut.{usual_limit, front, More, IsMessage}
 use Rattle.wl_message.specs.Arrived.{Arrived}
@@ -15,6 +15,7 @@ use Rattle.wl_check.proofs.Cutting.{new_marks, fed_good, place_within}
 use Rattle.wl_check.proofs.Passing.{Brings}
 use Rattle.wl_world.specs.World.{Each}
 use Rattle.wl_world.specs.Stands.{InFlight}
+use Rattle.wl_world.proofs.Wholes.{each_front}
 use Rattle.wl_world.proofs.Channels.{all_bytes_more, all_tokens_more}
 use Rattle.wl_link.specs.Recorded.{Recorded}
 use Rattle.wl_link.specs.Follows.{knowledge}
@@ -31,10 +32,6 @@ part_more d ps inbox taken seen r =
 
 same_rest : (xs ys zs : List ℕ) → xs ++ ys ≡ xs ++ zs → ys ≡ zs
 same_rest xs ys zs e = sym (drop_at xs ys (length xs) refl) ∙ ap (drop (length xs)) e ∙ drop_at xs zs (length xs) refl
-
-each_front : {X : Type 0} (P : X → Type 0) (xs ys : List X) → Each P (xs ++ ys) → Each P xs
-each_front P [] ys h = tt
-each_front P (x ∷ xs) ys h = (h.0, each_front P xs ys h.1)
 
 -- of the messages not yet recorded these are begun
 pub record Begun (seen later others : List boxes.Message) (begun : List boxes.Message) (x left : List ℕ) : Type 0 where
@@ -64,10 +61,6 @@ begun_behind (s ∷ seen) later (m ∷ begun) others x left e b w =
     sym (ap (λ (l : List ℕ). l ++ left) (append_assoc s.bytes (all_bytes seen) x) ∙ append_assoc s.bytes (all_bytes seen ++ x) left) ∙ b ∙ ap (λ (y : boxes.Message). y.bytes ++ all_bytes begun) first in
     let r = begun_behind seen later begun others x left rest (same_rest s.bytes ((all_bytes seen ++ x) ++ left) (all_bytes begun) parted) w.1 in
     record { rest = r.rest; begun_is = λ i. first i ∷ r.begun_is i; later_is = r.later_is; bytes = r.bytes; whole = r.whole }
-
-map-append : {A B : Type 0} (f : A → B) (xs ys : List A) → map f (xs ++ ys) ≡ map f xs ++ map f ys
-map-append f [] ys = refl
-map-append {B = B} f (x ∷ xs) ys = ap (λ (l : List B). f x ∷ l) (map-append f xs ys)
 
 -- ---- the other direction
 

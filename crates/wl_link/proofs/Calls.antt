@@ -1,5 +1,5 @@
 -- Behind a message that was read as it was meant.
-use Rattle.std.proofs.Common.{◌≡◌, ℕ, zero, suc, ◌+◌, Bool, true, false, cond, None, Some, List, [], ◌∷◌, ◌++◌, length, refl, sym, ap, subst, ◌∙◌, arith}
+use Rattle.std.proofs.Common.{◌≡◌, ℕ, zero, suc, ◌+◌, Bool, false, cond, None, Some, List, [], ◌∷◌, ◌++◌, length, refl, sym, ap, subst, ◌∙◌, arith}
 use Rattle.std.specs.Prelude.{Option, option_map}
 use Rattle.std.specs.declared.result.Result.TheVariants.{Ok}
 use Rattle.wl_wire.specs.declared.kind.Iface.{Iface}
@@ -9,12 +9,12 @@ use Rattle.wl_table.specs.declared.object.Entry.{Entry}
 use Rattle.wl_table.specs.declared.object.State.TheVariants.{Live}
 use Rattle.wl_objects.specs.Messages.{Made, is_error}
 use Rattle.wl_recording.specs.declared.piece.Direction.{Direction}
-use Rattle.wl_recording.specs.declared.piece.Direction.TheVariants.{ToServer, ToClient}
 use Rattle.wl_check.specs.Merged.{mark, framed, same_direction}
 use Rattle.wl_check.specs.Effects.{Call, effect, destroyed, side_of}
 use Rattle.wl_check.specs.Places.{is_id, is_made, frees, entry_of, new_of, used_by, unless_deleted}
 use Rattle.wl_check.specs.Rules.{judged}
 use Rattle.wl_check.specs.Session.{Judged}
+use Rattle.wl_check.proofs.Merging.{same_is}
 use Rattle.wl_check.proofs.Growing.{behind_one, advertised_more}
 use Rattle.wl_world.specs.Meant.{Known, Message, tokens}
 use Rattle.wl_world.specs.World.{Row, IfThere}
@@ -41,10 +41,6 @@ go_on_more [] j a g (suc k) one is = absurd (cc)
 go_on_more (x ∷ xs) j a g zero one is = a zero one is
 go_on_more (x ∷ xs) j a g (suc k) one is = go_on_more xs j (λ i. a (suc i)) g k one is
 
-same_itself : (d : Direction) → same_direction d d ≡ true
-same_itself ToServer = refl
-same_itself ToClient = refl
-
 -- the session goes on
 pub goes_on_as : (tables : List Interface) (d : Direction) (m : Message Known) (entry : Entry) (f : Fits tables (side_of d) m) → entry.iface ≡ m.target.born.iface → GoesOn (Ok (call_as d m entry f.signature))
 goes_on_as tables d m entry f iface = record {
@@ -61,7 +57,7 @@ own_taken tables e d m entry f =
     let call = call_as d m entry f.signature in
     let b = (behind_one tables e call).taken_is d in
     let count = tokens_taken tables m.target.born.version f.signature.kinds m.args f.args in
-    b ∙ rw (same_itself d) (ap (λ (n : ℕ). (knowledge tables e).taken d + n) count)
+    b ∙ rw (same_is d) (ap (λ (n : ℕ). (knowledge tables e).taken d + n) count)
 
 pub other_taken : (tables : List Interface) (e : List Judged) (call : Call) (x : Direction) → same_direction call.direction x ≡ false
     → (knowledge tables (e ++ Ok call ∷ [])).taken x ≡ (knowledge tables e).taken x

@@ -17,6 +17,7 @@ use Rattle.wl_world.specs.World.{World, Row, Each}
 use Rattle.wl_world.specs.Pair.{PairState, carries, carried_bytes, carried_tokens, after_carry_to_server, after_carry_to_client}
 use Rattle.wl_world.specs.Flight.{Rows, client_rows, server_rows, all_tells, all_asks, asks, Ask, Meets}
 use Rattle.wl_world.specs.Stands.{StandsBy, InFlight, AsksFitly, ComesFitly, IsGlobal, by_event}
+use Rattle.wl_world.proofs.Wholes.{all_asks_both, each_rest}
 use Rattle.wl_world.proofs.Carries.{carry_fits}
 use Rattle.wl_world.specs.Flight as flight
 use Rattle.wl_link.specs.Follows.{Follows}
@@ -30,10 +31,6 @@ use Rattle.wl_link.proofs.Arriving.{recorded_other, carry_recorded}
 one_with : {tables : List Interface} {d : Direction} {stream : List ℕ} {t p : ℕ} {sent : boxes.Message} {e : List Judged} (P Q : List Judged → Type 0) → ((e' : List Judged) → P e' → Q e')
     → One tables d stream t p sent e P → One tables d stream t p sent e Q
 one_with {e = e} P Q f o = record { call = o.call; is = o.is; own = o.own; other = o.other; next = f _ o.next }
-
-each_rest : {X : Type 0} (P : X → Type 0) (xs ys : List X) → Each P (xs ++ ys) → Each P ys
-each_rest P [] ys h = h
-each_rest P (x ∷ xs) ys h = each_rest P xs ys h.1
 
 -- ---- to the server
 
@@ -94,14 +91,10 @@ telling_one tables given asked_seen asked_later told client server remembered st
     (λ e' g. (g, f.1 ∙ sym (append_assoc seen (c ∷ []) later), f.2.1))
     (tell_one tables given asked_seen asked_later told client server remembered (streams ToClient) more t p e seen later c valid w f.1 f.0 f.2.0 at enough)
 
-all_asks_append : (xs ys : List (Message Known)) → all_asks (xs ++ ys) ≡ all_asks xs ++ all_asks ys
-all_asks_append [] ys = refl
-all_asks_append (x ∷ xs) ys = ap (λ (qs : List Ask). asks x ++ qs) (all_asks_append xs ys) ∙ sym (append_assoc (asks x) (all_asks xs) (all_asks ys))
-
 whereabouts : (p : PairState) (w : World) (asked : List (Message Known)) (told : List (Coming Known)) (l : LinkedBy p w asked told)
     → Whereabouts p.server.core.tables l.asked_seen l.asked_later told (client_rows p.client.core.view) (server_rows p.server.core.view)
 whereabouts p w asked told l =
-    let parts = ap all_asks l.asked_is ∙ all_asks_append l.asked_seen l.asked_later in
+    let parts = ap all_asks l.asked_is ∙ all_asks_both l.asked_seen l.asked_later in
     record {
       meet = subst (λ (qs : List Ask). Meets (by_event p.server.core.tables) (all_tells told) qs (client_rows p.client.core.view) (server_rows p.server.core.view)) parts l.stands.meet;
       counted = l.counted;

@@ -21,18 +21,18 @@ use Rattle.wl_check.specs.Session.{Judged}
 use Rattle.wl_check.proofs.Growing.{behind_one, advertised_own}
 use Rattle.wl_world.specs.Meant.{Born, Known, Message, Coming, Event, Delete, objects, wire, tokens, spelled, spelled_coming}
 use Rattle.wl_world.specs.World.{Row, Open, Each, display_born}
-use Rattle.wl_world.specs.Flight.{Rows, at, Tell, Name, ends, tells, all_tells, all_asks, Held, Reads, Meets}
+use Rattle.wl_world.specs.Flight.{IsBelow, Rows, at, Tell, Name, ends, tells, all_tells, all_asks, Held, Reads, Meets}
 use Rattle.wl_world.specs.Stands.{ComesFitly, TellsFitly, by_event}
 use Rattle.wl_world.specs.Plain.{ask_id}
 use Rattle.wl_world.proofs.Deeds.{live_after, free_after, put_same}
-use Rattle.wl_world.proofs.Wholes.{client_ends, each_by, each_more, all_tells_more, deletes_at}
+use Rattle.wl_world.proofs.Wholes.{client_ends, each_by, each_more, each_front, each_rest, all_tells_more, deletes_at}
 use Rattle.wl_world.proofs.Plain.{free_asks}
 use Rattle.wl_world.proofs.ClientReads.{deleting, delete_signature}
-use Rattle.wl_link.specs.Leads.{IsCounted}
+use Rattle.wl_world.proofs.Readings.{HasObject}
 use Rattle.wl_link.specs.Follows.{Follows, knowledge, places, TellsAdvertised, KnownAs}
 use Rattle.wl_link.proofs.Leading.{held_here, reads_parted, reads_one_way}
-use Rattle.wl_link.proofs.Joining.{Meet, event_recorded, delete_recorded}
-use Rattle.wl_link.proofs.Judging.{HasObject, all_found, call_as, frame_called}
+use Rattle.wl_link.proofs.Joining.{event_recorded, delete_recorded}
+use Rattle.wl_link.proofs.Judging.{all_found, call_as, frame_called}
 use Rattle.wl_link.proofs.Reading.{held_known, news_none}
 use Rattle.wl_link.proofs.Globals.{remembers_on, tells_on, binds_on}
 use Rattle.wl_link.proofs.Knowing.{known_deleted, places_behind, some_place}
@@ -44,14 +44,10 @@ use Rattle.wl_link.proofs.Calls.{One, go_on_more, goes_on_as, own_taken, other_t
 -- what is in flight, and what of it was recorded
 pub record Whereabouts (tables : List Interface) (asked_seen asked_later : List (Message Known)) (told : List (Coming Known)) (client : Rows Row) (server : Rows Born) : Type 0 where
   pub meet : Meets (by_event tables) (all_tells told) (all_asks asked_seen ++ all_asks asked_later) client server
-  pub counted : Each (IsCounted server.births) (all_tells told)
+  pub counted : Each (IsBelow server.births) (all_tells told)
   pub display : client.rows 1 ≡ Some (Open display_born)
 
-each_parts : {X : Type 0} (P : X → Type 0) (xs ys : List X) → Each P (xs ++ ys) → Each P xs × Each P ys
-each_parts P [] ys h = (tt, h)
-each_parts P (x ∷ xs) ys h = let r = each_parts P xs ys h.1 in ((h.0, r.0), r.1)
-
-each_counted : (births : ℕ) (xs : List Known) → Each (IsCounted births) (map Name xs) → Each (λ x. x.born.birth < births) xs
+each_counted : (births : ℕ) (xs : List Known) → Each (IsBelow births) (map Name xs) → Each (λ x. x.born.birth < births) xs
 each_counted births [] h = tt
 each_counted births (x ∷ xs) h = (h.0, each_counted births xs h.1)
 
@@ -61,7 +57,7 @@ below_more a b le xs h = each_by (λ (x : Known). x.born.birth < a) (λ (x : Kno
 -- what comes next, where the checker and the client meet
 pub record NextRead (tables : List Interface) (c : Coming Known) (later : List (Coming Known)) (common middle : Rows Row) (births : ℕ) : Type 0 where
   pub reads : Reads (by_event tables) (tells c ++ all_tells later) common middle
-  pub counted : Each (IsCounted births) (tells c)
+  pub counted : Each (IsBelow births) (tells c)
 
 next_read : (tables : List Interface) (asked_seen asked_later : List (Message Known)) (told seen later : List (Coming Known)) (c : Coming Known) (client common : Rows Row) (server : Rows Born)
     (w : Whereabouts tables asked_seen asked_later told client server) → told ≡ seen ++ c ∷ later → Reads (by_event tables) (all_tells seen) client common → NextRead tables c later common w.meet.middle server.births
@@ -69,10 +65,10 @@ next_read tables asked_seen asked_later told seen later c client common server w
     let parts : all_tells told ≡ all_tells seen ++ (tells c ++ all_tells later) = ap all_tells is ∙ all_tells_more seen (c ∷ later) in
     let p = reads_parted (all_tells seen) (subst (λ (es : List Tell). Reads (by_event tables) es client w.meet.middle) parts w.meet.reads) in
     let same : p.between ≡ common = reads_one_way p.first r in
-    let n = each_parts (IsCounted server.births) (all_tells seen) (tells c ++ all_tells later) (subst (Each (IsCounted server.births)) parts w.counted) in
+    let n = each_rest (IsBelow server.births) (all_tells seen) (tells c ++ all_tells later) (subst (Each (IsBelow server.births)) parts w.counted) in
     record {
       reads = subst (λ (v : Rows Row). Reads (by_event tables) (tells c ++ all_tells later) v w.meet.middle) same p.then;
-      counted = (each_parts (IsCounted server.births) (tells c) (all_tells later) n.1).0;
+      counted = each_front (IsBelow server.births) (tells c) (all_tells later) n;
     }
 
 seen_more : (seen : List (Coming Known)) (c : Coming Known) → all_tells (seen ++ c ∷ []) ≡ all_tells seen ++ tells c
@@ -102,10 +98,9 @@ event_one tables given asked_seen asked_later told client server remembered stre
     let ps = places tables e in
     let next = next_read tables asked_seen asked_later told seen later (Event m) client f.joins.common server w is f.joins.reads in
     let first : server.births ≤ f.here.births = recorded_first (all_asks asked_seen) (all_asks asked_later) f.joins.leads f.joins.reads w.meet in
-    let counted = (each_parts (IsCounted server.births) (map Name (objects m.args)) (ends m.destroys m.target) next.counted.1).0 in
-    let here : Meet (by_event tables) (all_asks asked_later) (all_tells seen) f.here client = record { common = f.joins.common; leads = f.joins.leads; reads = f.joins.reads } in
+    let counted = each_front (IsBelow server.births) (map Name (objects m.args)) (ends m.destroys m.target) next.counted.1 in
     let below = below_more server.births f.here.births first (objects m.args) (each_counted server.births (objects m.args) counted) in
-    let r = event_recorded m.target (objects m.args) m.destroys here next.reads (let l = next.counted.0 in omega (arith, l, first)) below in
+    let r = event_recorded m.target (objects m.args) m.destroys f.joins next.reads (let l = next.counted.0 in omega (arith, l, first)) below in
     let o = held_known k ps f.here m.target a r.target in
     let names = each_by (Held f.here) (HasObject (reader k ToClient)) (λ x h. held_known k ps f.here x a h) (objects m.args) r.args in
     let args = all_found (reader k ToClient) m.args names (news_none (reader k ToClient) m.args m.args fit.makes_none fit.fits.new_is) in
@@ -124,7 +119,7 @@ event_one tables given asked_seen asked_later told client server remembered stre
         passed = go_on_more e (Ok call) f.passed (goes_on_as tables ToClient m o.entry fit.fits o.iface);
         here = client_ends m.destroys m.target f.here;
         known_as = known_call tables e f.here ToClient m o.entry fit.fits None a tt r.target refl deleted_is;
-        joins = record { common = r.meet.common; leads = r.meet.leads; reads = subst (λ (es : List Tell). Reads (by_event tables) es client r.meet.common) (sym (seen_more seen (Event m))) r.meet.reads };
+        joins = record { common = r.joins.common; leads = r.joins.leads; reads = subst (λ (es : List Tell). Reads (by_event tables) es client r.joins.common) (sym (seen_more seen (Event m))) r.joins.reads };
         remembers = remembers_on k k' grows remembered f.remembers;
         tells = each_more (TellsAdvertised tables k') seen (Event m ∷ []) (tells_on tables k k' grows seen f.tells) (own_global tables e m o.entry fit.fits.signature o.iface, tt);
         binds = binds_on k k' grows asked_later f.binds;
@@ -166,11 +161,10 @@ delete_one tables asked_seen asked_later told client server remembered stream mo
     let ps = places tables e in
     let next = next_read tables asked_seen asked_later told seen later (Delete x) client f.joins.common server w is f.joins.reads in
     let first : server.births ≤ f.here.births = recorded_first (all_asks asked_seen) (all_asks asked_later) f.joins.leads f.joins.reads w.meet in
-    let here : Meet (by_event tables) (all_asks asked_later) (all_tells seen) f.here client = record { common = f.joins.common; leads = f.joins.leads; reads = f.joins.reads } in
     let now = deletes_at x next.reads in
     let free : w.meet.middle.rows x.id ≡ None = free_after x.id now.rest (put_same f.joins.common.rows x.id None) in
-    let unnamed = (each_parts (λ q. ask_id q ≢ x.id) (all_asks asked_seen) (all_asks asked_later) (free_asks x.id w.meet.tied free)).1 in
-    let r = delete_recorded x here next.reads (let l = next.counted.0 in omega (arith, l, first)) unnamed in
+    let unnamed = each_rest (λ q. ask_id q ≢ x.id) (all_asks asked_seen) (all_asks asked_later) (free_asks x.id w.meet.tied free) in
+    let r = delete_recorded x f.joins next.reads (let l = next.counted.0 in omega (arith, l, first)) unnamed in
     let display_there : signature_at tables 0 event_side 1 ≡ Some (fixed.message (codes "delete_id") 1 (fixed.uint ∷ []) Nothing) = rw valid.fixed_three.display refl in
     let fits = delete_signature tables display_there x low in
     let o = held_known k ps f.here (deleting x).target a (display_held tables e asked_later seen client remembered f valid w.display) in
@@ -186,7 +180,7 @@ delete_one tables asked_seen asked_later told client server remembered stream mo
         passed = go_on_more e (Ok call) f.passed (goes_on_as tables ToClient (deleting x) o.entry fits o.iface);
         here = at f.here x.id None;
         known_as = known_delete tables e f.here x o.entry fits.signature a now.mortal o.iface fits.destroys;
-        joins = record { common = r.meet.common; leads = r.meet.leads; reads = subst (λ (es : List Tell). Reads (by_event tables) es client r.meet.common) (sym (seen_more seen (Delete x))) r.meet.reads };
+        joins = record { common = r.joins.common; leads = r.joins.leads; reads = subst (λ (es : List Tell). Reads (by_event tables) es client r.joins.common) (sym (seen_more seen (Delete x))) r.joins.reads };
         remembers = remembers_on k k' grows remembered f.remembers;
         tells = each_more (TellsAdvertised tables k') seen (Delete x ∷ []) (tells_on tables k k' grows seen f.tells) (tt, tt);
         binds = binds_on k k' grows asked_later f.binds;

@@ -1,7 +1,8 @@
 -- What was advertised stays advertised, and a bind of it is no bad bind.
-use Rattle.std.proofs.Common.{◌≡◌, ℕ, zero, suc, ◌≤◌, Bool, true, false, List, [], ◌∷◌, map, refl, sym, ap, subst, ◌∙◌, arith, slice_get}
+use Rattle.std.proofs.Common.{◌≡◌, ℕ, zero, suc, ◌≤◌, Bool, true, false, List, [], ◌∷◌, map, refl, sym, ap, subst, ◌∙◌, arith}
 use Rattle.std.specs.Prelude.{Option, option_map, not, ◌&&◌, ◌||◌, nat_le, bytes_eq}
 use Rattle.std.specs.declared.option.Option.TheVariants.{None, Some}
+use Rattle.std.proofs.lemmas.Bool.{and_parts}
 use Rattle.std.proofs.lemmas.Bool.Decides.{nat_tests}
 use Rattle.wl_wire.specs.declared.kind.Kind.{Kind}
 use Rattle.wl_wire.specs.declared.kind.Kind.TheVariants as kinds
@@ -24,6 +25,7 @@ use Rattle.wl_check.specs.Rules.{version_of, may_bind, is_bad_bind}
 use Rattle.wl_world.specs.Meant.{Known, Message, Coming, Event, Delete, Arg, made_in, wire}
 use Rattle.wl_world.specs.World.{Each, IfThere}
 use Rattle.wl_world.specs.Stands.{AreOf, AsksFitly, IsGlobal}
+use Rattle.wl_world.proofs.Announces.{each_get}
 use Rattle.wl_world.proofs.Places.{place_there, bytes_same}
 use Rattle.wl_world.proofs.Readings.{made_of, made_read}
 use Rattle.wl_world.proofs.Wholes.{each_by}
@@ -55,18 +57,9 @@ binds_on k k' grows ms h = each_by (BindsAdvertised k) (BindsAdvertised k') (bin
 
 -- ---- a bind in flight
 
-both : (a b : Bool) → a && b ≡ true → (a ≡ true) × (b ≡ true)
-both true b h = (refl, h)
-both false b h = absurd (cc h)
-
-each_at : {X : Type 0} (P : X → Type 0) (xs : List X) (k : ℕ) (x : X) → Each P xs → slice_get xs k ≡ Some x → P x
-each_at P [] k x a e = absurd (cc)
-each_at P (y ∷ ys) zero x a e = let same : y ≡ x = cc in subst P same a.0
-each_at P (y ∷ ys) (suc k) x a e = each_at P ys k x a.1 e
-
 global_at : (tables : List Interface) (given : List Global) (name : ℕ) (g : Global) → Each (IsGlobal tables) given → global_of given name ≡ Some g → IsGlobal tables g
 global_at tables given zero g a e = absurd (cc)
-global_at tables given (suc place) g a e = each_at (IsGlobal tables) given place g a e
+global_at tables given (suc place) g a e = each_get (IsGlobal tables) given place g a e
 
 -- the interface that a bind names, and its version
 pub record IsNamed (tables : List Interface) (iface : List ℕ) (version : ℕ) (new : Known) : Type 0 where
@@ -103,15 +96,15 @@ bound_as : (tables : List Interface) (iface : List ℕ) (version : ℕ) (new : K
     → interface_at tables g.iface.0 ≡ o → name_fits iface o && (nat_le 1 version && nat_le version g.version) ≡ true → new.born.version ≤ version_of tables new.born.iface
 bound_as tables iface version new g None v c n there h = absurd (cc h)
 bound_as tables iface version new g (Some i) v c n there h =
-    let fits = both (bytes_eq i.name iface) (nat_le 1 version && nat_le version g.version) h in
+    let fits = and_parts (bytes_eq i.name iface) (nat_le 1 version && nat_le version g.version) h in
     let named : i.name ≡ iface = bytes_same i.name iface fits.0 in
     let place : place_of tables iface ≡ Some g.iface = ap (place_of tables) (sym named) ∙ place_there tables v g.iface i there in
     let same : new.born.iface ≡ g.iface = cc (n.place, place) in
-    let low : version ≤ g.version = (let l = (both (nat_le 1 version) (nat_le version g.version) fits.1).1 in grind (arith, nat_tests)) in
+    let low : version ≤ g.version = (let l = (and_parts (nat_le 1 version) (nat_le version g.version) fits.1).1 in grind (arith, nat_tests)) in
     let can : version_in g.version (interface_at tables g.iface.0) ≡ true =
-    (both (not (same_iface g.iface display || same_iface g.iface registry)) (version_in g.version (interface_at tables g.iface.0)) c.can_be).1 in
+    (and_parts (not (same_iface g.iface display || same_iface g.iface registry)) (version_in g.version (interface_at tables g.iface.0)) c.can_be).1 in
     let can_some : nat_le 1 g.version && nat_le g.version i.version ≡ true = ap (version_in g.version) (sym there) ∙ can in
-    let high : g.version ≤ i.version = (let l = (both (nat_le 1 g.version) (nat_le g.version i.version) can_some).1 in grind (arith, nat_tests)) in
+    let high : g.version ≤ i.version = (let l = (and_parts (nat_le 1 g.version) (nat_le g.version i.version) can_some).1 in grind (arith, nat_tests)) in
     let there_new : interface_at tables new.born.iface.0 ≡ Some i = ap (λ (x : Iface). interface_at tables x.0) same ∙ there in
     let is : version_of tables new.born.iface ≡ i.version = rw there_new refl in
     omega (arith, low, high, is, n.version_is)

@@ -1,10 +1,10 @@
 -- What a checker knows behind one message, by what it knew before it.
 use Rattle.std.proofs.Common.{◌≡◌, ℕ, zero, suc, ◌<◌, Bool, true, false, cond, None, Some, List, [], ◌∷◌, ◌++◌, ◌⊎◌, inl, inr, length, length-append, get_or, refl, sym, ap, ◌∙◌, arith, ◌≢◌, append-nil}
 use Rattle.std.proofs.lemmas.List.{get_or_append_left}
-use Rattle.std.proofs.lemmas.Bool.{cases_lt, lt-ltb, le-ltb}
+use Rattle.std.proofs.lemmas.Bool.{and_right, cases_lt, lt-ltb, le-ltb}
 use Rattle.std.proofs.Math.Seq.{get_or-append_seam}
 use Rattle.std.proofs.lemmas.Bool.Decides.{nat_tests}
-use Rattle.std.specs.Prelude.{Option, option_map, not, ◌&&◌, nat_eq, max}
+use Rattle.std.specs.Prelude.{Option, option_map, not, nat_eq, max}
 use Rattle.std.specs.declared.result.Result.TheVariants.{Ok}
 use Rattle.wl_sigs.specs.Tables.{Interface}
 use Rattle.wl_table.specs.declared.object.Entry.{Entry}
@@ -80,12 +80,8 @@ at_deleted places x here id false t = let there : put here.rows x.id None id ≡
 
 -- ---- a message that makes an object, or none, and destroys its target, or does not
 
-and_false : (b : Bool) → b && false ≡ false
-and_false true = refl
-and_false false = refl
-
 frees_none : (id : ℕ) → frees None id ≡ false
-frees_none id = and_false (not (nat_eq id 1))
+frees_none id = and_right (not (nat_eq id 1)) false refl
 
 most_is : (a b : ℕ) → max b a ≡ most a b
 most_is a b = elim (cases_lt a b) [
@@ -177,7 +173,7 @@ known_behind k k' places p here n b x a f h objects used =
 
 frees_some : (i id : ℕ) (b : Bool) → is_id (Some i) id ≡ b → i ≢ 1 → frees (Some i) id ≡ b
 frees_some i id true e h = let ne : nat_eq id 1 ≡ false = grind (arith, nat_tests) in rw (ne, e) refl
-frees_some i id false e h = rw e (and_false (not (nat_eq id 1)))
+frees_some i id false e h = rw e (and_right (not (nat_eq id 1)) false refl)
 
 below_deleted : (v : Rows Row) (i : ℕ) → AllBelow v → AllBelow (at v i None)
 below_deleted v i below = λ id r e. elim (put_tells v.rows i None id) [

@@ -28,9 +28,9 @@ use Rattle.wl_check.specs.Places.{Known as Knows}
 use Rattle.wl_world.specs.Meant.{Born, Known, Message, Coming, Event, Delete, Arg, made_in, objects, wire, tokens, spelled, spelled_coming}
 use Rattle.wl_world.specs.World.{World, Row, Each, delete, is_registry}
 use Rattle.wl_world.specs.Pair.{PairState, with_client, with_server}
-use Rattle.wl_world.specs.Flight.{Rows, Tell, Name, End, Delete as delete_told, tells, all_asks, all_tells, Reads, client_rows}
+use Rattle.wl_world.specs.Flight.{IsBelow, Rows, Tell, tells, all_asks, all_tells, Reads, client_rows}
 use Rattle.wl_world.specs.Stands.{StandsBy, TellsGiven, TellsFitly, by_event}
-use Rattle.wl_world.proofs.Wholes.{client_makes, client_ends, tells_at, deletes_at, all_asks_more, all_tells_more, each_more, each_by}
+use Rattle.wl_world.proofs.Wholes.{client_makes, client_ends, tells_at, deletes_at, all_asks_more, all_tells_more, each_more, each_rest, each_by}
 use Rattle.wl_world.proofs.Bridges.{client_closed}
 use Rattle.wl_world.proofs.Afters.{held_row, client_after}
 use Rattle.wl_world.proofs.Channels.{pops}
@@ -40,12 +40,12 @@ use Rattle.wl_world.proofs.ServerReads.{left_state}
 use Rattle.wl_world.proofs.ClientReads.{after_event, after_delete, teaches}
 use Rattle.wl_world.proofs.ClientSends.{CanAsk, asked_pair}
 use Rattle.wl_world.proofs.ClientBind.{find_at}
-use Rattle.wl_world.proofs.Happenings.{BindsRemembered, IsBelow, told_pair, delete_below}
-use Rattle.wl_link.specs.Leads.{Joins, IsCounted}
+use Rattle.wl_world.proofs.Happenings.{BindsRemembered, told_pair, delete_below}
+use Rattle.wl_link.specs.Leads.{Joins}
 use Rattle.wl_link.specs.Recorded.{Recorded}
 use Rattle.wl_link.specs.Follows.{IsAdvertised, TellsAdvertised, BindsAdvertised}
 use Rattle.wl_link.specs.Linked.{LinkedBy, knows}
-use Rattle.wl_link.proofs.Joining.{Meet, asks_more}
+use Rattle.wl_link.proofs.Joining.{asks_more}
 use Rattle.wl_link.proofs.Seen.{seen_first, read_on}
 
 -- ---- nothing in flight changes
@@ -101,8 +101,8 @@ bind_advertised k globals m h binds e name x named made =
     omega (arith, most, told, version)
 
 asked_joins : (p : PairState) (m : Message Known) (c : CanAsk p m) (asked_later : List (Message Known)) (told_seen : List (Coming Known)) (here : Rows Row)
-    → Joins (by_event p.server.core.tables) asked_later told_seen here (client_rows p.client.core.view)
-    → Joins (by_event p.server.core.tables) (asked_later ++ m ∷ []) told_seen here (client_rows (asked_pair p m c.fitly.fits.signature.destroys).client.core.view)
+    → Joins (by_event p.server.core.tables) (all_asks asked_later) (all_tells told_seen) here (client_rows p.client.core.view)
+    → Joins (by_event p.server.core.tables) (all_asks (asked_later ++ m ∷ [])) (all_tells told_seen) here (client_rows (asked_pair p m c.fitly.fits.signature.destroys).client.core.view)
 asked_joins p m c asked_later told_seen here j =
     let test = by_event p.server.core.tables in
     let v = p.client.core.view in
@@ -112,8 +112,7 @@ asked_joins p m c asked_later told_seen here j =
     let new = made_in m.args in
     let rows : client_rows (after client_end v (option_map made_of new) what m.target.id) ≡ client_ends m.destroys m.target (client_makes (client_rows v) new) =
     client_after v m.target new what c.new (held_row v m.target (inl c.target)) ∙ ap (λ (b : Bool). client_ends b m.target (client_makes (client_rows v) new)) d in
-    let old : Meet test (all_asks asked_later) (all_tells told_seen) here (client_rows v) = record { common = j.common; leads = j.leads; reads = j.reads } in
-    let more = asks_more m.target (objects m.args) new m.destroys old c.target c.target_plain c.args c.args_plain c.new c.mortal in
+    let more = asks_more m.target (objects m.args) new m.destroys j c.target c.target_plain c.args c.args_plain c.new c.mortal in
     record {
       common = more.common;
       leads = rw (all_asks_more asked_later m) more.leads;
@@ -149,14 +148,9 @@ asked_links p w w' asked told m c binds l s =
 
 -- ---- the server writes
 
-counted_one : (births : ℕ) (t : Tell) → IsBelow births t → IsCounted births t
-counted_one births (Name x) h = h
-counted_one births (End x) h = h
-counted_one births (delete_told x) h = h
-
-more_counted : (births : ℕ) (told news : List (Coming Known)) → Each (IsCounted births) (all_tells told) → Each (IsBelow births) (all_tells news) → Each (IsCounted births) (all_tells (told ++ news))
+more_counted : (births : ℕ) (told news : List (Coming Known)) → Each (IsBelow births) (all_tells told) → Each (IsBelow births) (all_tells news) → Each (IsBelow births) (all_tells (told ++ news))
 more_counted births told news h below =
-    rw (all_tells_more told news) (each_more (IsCounted births) (all_tells told) (all_tells news) h (each_by (IsBelow births) (IsCounted births) (counted_one births) (all_tells news) below))
+    rw (all_tells_more told news) (each_more (IsBelow births) (all_tells told) (all_tells news) h below)
 
 pub told_links : (p : PairState) (w w' : World) (asked : List (Message Known)) (told : List (Coming Known)) (view : View) (outbox : Outgoing) (registries : List Registry) (news : List (Coming Known))
     → view.births ≡ p.server.core.view.births → Each (IsBelow p.server.core.view.births) (all_tells news) → LinkedBy p w asked told
@@ -172,7 +166,7 @@ told_links p w w' asked told view outbox registries news births below l s = reco
   to_server = l.to_server;
   to_client = l.to_client;
   follows = l.follows;
-  counted = subst (λ (n : ℕ). Each (IsCounted n) (all_tells (told ++ news))) (sym births) (more_counted p.server.core.view.births told news l.counted below);
+  counted = subst (λ (n : ℕ). Each (IsBelow n) (all_tells (told ++ news))) (sym births) (more_counted p.server.core.view.births told news l.counted below);
 }
 
 -- ---- the server reads
@@ -183,10 +177,8 @@ births_kept v None Target x = omega arith
 births_kept v (Some y) Nothing x = omega arith
 births_kept v (Some y) Target x = omega arith
 
-below_more : (few many : ℕ) → few ≤ many → (t : Tell) → IsCounted few t → IsCounted many t
-below_more few many h (Name x) l = omega (arith, h, l)
-below_more few many h (End x) l = omega (arith, h, l)
-below_more few many h (delete_told x) l = omega (arith, h, l)
+below_more : (few many : ℕ) → few ≤ many → (t : Tell) → IsBelow few t → IsBelow many t
+below_more few many h t l = omega (arith, h, l)
 
 pub request_links : (p : PairState) (w w' : World) (m : Message Known) (ms : List (Message Known)) (told : List (Coming Known)) (n : ℕ) (what : Destroys)
     → front usual_limit p.server.core.inbox.bytes ≡ Whole n → m.target.born.birth < p.server.core.view.births → LinkedBy p w (m ∷ ms) told
@@ -215,14 +207,10 @@ request_links p w w' m ms told n what whole there l s =
       to_server = read_on ToServer p.recording p.server.core.inbox ((knows p).taken ToServer) n (length (tokens m.args)) (spelled m) (map spelled seen.rest) recorded size refl enough;
       to_client = l.to_client;
       follows = l.follows;
-      counted = each_by (IsCounted births) (IsCounted now) (below_more births now (births_kept p.server.core.view (made_in m.args) what m.target.id)) (all_tells (told ++ dead)) counted;
+      counted = each_by (IsBelow births) (IsBelow now) (below_more births now (births_kept p.server.core.view (made_in m.args) what m.target.id)) (all_tells (told ++ dead)) counted;
     }
 
 -- ---- the client reads
-
-each_rest : {X : Type 0} (P : X → Type 0) (xs ys : List X) → Each P (xs ++ ys) → Each P ys
-each_rest P [] ys h = h
-each_rest P (x ∷ xs) ys h = each_rest P xs ys h.1
 
 module _ (k : Knows) where
   abbrev Learned : Remembered → Type 0
@@ -259,7 +247,7 @@ both_true true b h = refl
 both_true false b h = h
 
 event_joins : (test : Born → Bool) (m : Message Known) (asked_later : List (Message Known)) (rest : List (Coming Known)) (here : Rows Row) (v : View) (what : Destroys) → destroys_target what ≡ m.destroys
-    → Joins test asked_later (Event m ∷ rest) here (client_rows v) → Joins test asked_later rest here (client_rows (after client_end v None what m.target.id))
+    → Joins test (all_asks asked_later) (all_tells (Event m ∷ rest)) here (client_rows v) → Joins test (all_asks asked_later) (all_tells rest) here (client_rows (after client_end v None what m.target.id))
 event_joins test m asked_later rest here v what d j =
     let t = tells_at m.target (objects m.args) m.destroys j.reads in
     let rows : client_rows (after client_end v None what m.target.id) ≡ client_ends m.destroys m.target (client_rows v) =
@@ -282,7 +270,7 @@ event_links p w w' asked m cs n what entry whole d l s =
     let recorded : Recorded ToClient p.recording inbox taken (spelled m ∷ map spelled_coming seen.rest) =
     subst (λ (x : List (Coming Known)). Recorded ToClient p.recording inbox taken (map spelled_coming x)) seen.seen_is l.to_client in
     let told = subst (λ (x : List (Coming Known)). Each (TellsAdvertised tables (knows p)) x) seen.seen_is f.tells in
-    let joins = subst (λ (x : List (Coming Known)). Joins (by_event tables) l.asked_later x f.here (client_rows p.client.core.view)) seen.seen_is f.joins in
+    let joins = subst (λ (x : List (Coming Known)). Joins (by_event tables) (all_asks l.asked_later) (all_tells x) f.here (client_rows p.client.core.view)) seen.seen_is f.joins in
     record {
       stands = s;
       asked_seen = l.asked_seen;
@@ -302,11 +290,11 @@ event_links p w w' asked m cs n what entry whole d l s =
         tells = told.1;
         binds = f.binds;
       };
-      counted = each_rest (IsCounted p.server.core.view.births) (tells (Event m)) (all_tells cs) l.counted;
+      counted = each_rest (IsBelow p.server.core.view.births) (tells (Event m)) (all_tells cs) l.counted;
     }
 
 delete_joins : (test : Born → Bool) (x : Known) (asked_later : List (Message Known)) (rest : List (Coming Known)) (here : Rows Row) (p : PairState) (n : ℕ)
-    → Joins test asked_later (Delete x ∷ rest) here (client_rows p.client.core.view) → Joins test asked_later rest here (client_rows (after_delete p.client x n).core.view)
+    → Joins test (all_asks asked_later) (all_tells (Delete x ∷ rest)) here (client_rows p.client.core.view) → Joins test (all_asks asked_later) (all_tells rest) here (client_rows (after_delete p.client x n).core.view)
 delete_joins test x asked_later rest here p n j =
     let t = deletes_at x j.reads in
     record { common = j.common; leads = j.leads; reads = subst (λ (y : Rows Row). Reads test (all_tells rest) y j.common) (sym (client_closed p.client.core.view x.id)) t.rest }
@@ -325,7 +313,7 @@ delete_links p w w' asked x cs n whole l s =
     let recorded : Recorded ToClient p.recording inbox taken (spelled_coming (Delete x) ∷ map spelled_coming seen.rest) =
     subst (λ (y : List (Coming Known)). Recorded ToClient p.recording inbox taken (map spelled_coming y)) seen.seen_is l.to_client in
     let told = subst (λ (y : List (Coming Known)). Each (TellsAdvertised tables (knows p)) y) seen.seen_is f.tells in
-    let joins = subst (λ (y : List (Coming Known)). Joins (by_event tables) l.asked_later y f.here (client_rows p.client.core.view)) seen.seen_is f.joins in
+    let joins = subst (λ (y : List (Coming Known)). Joins (by_event tables) (all_asks l.asked_later) (all_tells y) f.here (client_rows p.client.core.view)) seen.seen_is f.joins in
     record {
       stands = s;
       asked_seen = l.asked_seen;
@@ -345,5 +333,5 @@ delete_links p w w' asked x cs n whole l s =
         tells = told.1;
         binds = f.binds;
       };
-      counted = each_rest (IsCounted p.server.core.view.births) (tells (Delete x)) (all_tells cs) l.counted;
+      counted = each_rest (IsBelow p.server.core.view.births) (tells (Delete x)) (all_tells cs) l.counted;
     }

@@ -1,7 +1,6 @@
 -- A checker that knows these rows has what may be recorded next.
 use Rattle.std.proofs.Common.{◌≡◌, ℕ, ◌+◌, true, false, List, inl, inr, refl, ap, ◌∙◌, arith, subst}
 use Rattle.std.specs.Prelude.{option_map, nat_eq, nat_le}
-use Rattle.std.specs.declared.option.Option.{Option}
 use Rattle.std.specs.declared.option.Option.TheVariants.{None, Some}
 use Rattle.std.proofs.lemmas.Bool.Decides.{nat_tests}
 use Rattle.wl_objects.specs.declared.lookup.NewId.TheVariants.{Free}
@@ -12,9 +11,10 @@ use Rattle.wl_check.specs.Rules.{reader, if_open}
 use Rattle.wl_world.specs.Meant.{Known, Arg, new_in, made_in}
 use Rattle.wl_world.specs.World.{Row, Open, Ending, Each, IfThere}
 use Rattle.wl_world.specs.Flight.{Rows, Held, Fresh}
+use Rattle.wl_world.proofs.Findings.{if_by}
 use Rattle.wl_world.proofs.Wholes.{OpenRow, each_by}
+use Rattle.wl_world.proofs.Readings.{HasObject}
 use Rattle.wl_link.specs.Follows.{KnownAs, entry_at}
-use Rattle.wl_link.proofs.Judging.{HasObject}
 
 -- what a request names
 pub open_known : (k : Knows) (places : List ℕ) (here : Rows Row) (x : Known) → KnownAs k places here → OpenRow here x → HasObject (reader k ToServer) x
@@ -38,10 +38,6 @@ fresh_known k places here x a f =
     let next : nat_le x.id (k.used + 1) ≡ true = (let n = f.next in let u = a.used in grind (arith, nat_tests)) in
     let low : nat_le x.id 1048576 ≡ true = (let l = f.low in grind (arith, nat_tests)) in
     rw (zero, none, next, low) refl
-
-if_by : {X : Type 0} (P Q : X → Type 0) (o : Option X) → ((x : X) → P x → Q x) → IfThere P o → IfThere Q o
-if_by P Q None f h = tt
-if_by P Q (Some x) f h = f x h
 
 -- an id is free for what the arguments make
 abbrev IsFree : Reader → Arg Known → Type 0

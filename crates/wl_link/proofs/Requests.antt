@@ -16,10 +16,10 @@ use Rattle.wl_world.specs.World.{Row, Each}
 use Rattle.wl_world.specs.Flight.{Rows}
 use Rattle.wl_world.specs.Stands.{AsksFitly, IsGlobal}
 use Rattle.wl_world.proofs.Wholes.{OpenRow, each_by, client_makes, client_ends}
-use Rattle.wl_world.proofs.Readings.{made_of, made_read}
+use Rattle.wl_world.proofs.Readings.{HasObject, made_of, made_read}
 use Rattle.wl_link.specs.Follows.{Follows, knowledge, places}
 use Rattle.wl_link.proofs.Joining.{ask_recorded}
-use Rattle.wl_link.proofs.Judging.{HasObject, all_found, call_as, frame_called}
+use Rattle.wl_link.proofs.Judging.{all_found, call_as, frame_called}
 use Rattle.wl_link.proofs.Reading.{open_known, news_free}
 use Rattle.wl_link.proofs.Globals.{no_bad_bind, remembers_on, tells_on, binds_on}
 use Rattle.wl_link.proofs.Calls.{One, go_on_more, goes_on_as, own_taken, other_taken, call_grows, known_call}

@@ -14,7 +14,7 @@ use Rattle.wl_check.specs.Places.{Known as Knows, known}
 use Rattle.wl_check.specs.Session.{Judged, effects, ends_session}
 use Rattle.wl_world.specs.Meant.{Known, Message, Coming, Event, Delete, made_in, wire}
 use Rattle.wl_world.specs.World.{Row, Open, Ending, Each}
-use Rattle.wl_world.specs.Flight.{Rows}
+use Rattle.wl_world.specs.Flight.{Rows, all_asks, all_tells}
 use Rattle.wl_world.specs.Stands.{birth_in, by_event}
 use Rattle.wl_link.specs.Leads.{Joins}
 
@@ -84,7 +84,7 @@ pub record Follows (tables : List Interface) (judged : List Judged) (asked_later
   pub passed : AllGoOn judged
   pub here : Rows Row
   pub known_as : KnownAs (knowledge tables judged) (places tables judged) here
-  pub joins : Joins (by_event tables) asked_later told_seen here client
+  pub joins : Joins (by_event tables) (all_asks asked_later) (all_tells told_seen) here client
   pub remembers : Each (λ g. IsAdvertised (knowledge tables judged) g.name g.iface.0 g.version) remembered
   pub tells : Each (TellsAdvertised tables (knowledge tables judged)) told_seen
   pub binds : Each (BindsAdvertised (knowledge tables judged)) asked_later

@@ -8,10 +8,9 @@ use Rattle.wl_check.specs.Session.{Judged, IsLawful, messages, session_of}
 use Rattle.wl_world.specs.Meant.{Known, Message, Coming, spelled, spelled_coming}
 use Rattle.wl_world.specs.World.{World, Each}
 use Rattle.wl_world.specs.Pair.{PairState, Move, Reply}
-use Rattle.wl_world.specs.Flight.{client_rows, all_tells}
+use Rattle.wl_world.specs.Flight.{client_rows, all_tells, IsBelow}
 use Rattle.wl_world.specs.Answers.{NotEnded, Answers}
 use Rattle.wl_world.specs.Stands.{StandsBy}
-use Rattle.wl_link.specs.Leads.{IsCounted}
 use Rattle.wl_link.specs.Recorded.{Recorded}
 use Rattle.wl_link.specs.Follows.{Follows, knowledge}
 
@@ -42,7 +41,7 @@ pub record LinkedBy (p : PairState) (w : World) (asked : List (Message Known)) (
   -- what the checker knows, and how the ends differ from it
   pub follows : Follows p.server.core.tables (judged_in p) asked_later told_seen (client_rows p.client.core.view) p.client.globals
   -- what an event in flight is about was counted by the server
-  pub counted : Each (IsCounted p.server.core.view.births) (all_tells told)
+  pub counted : Each (IsBelow p.server.core.view.births) (all_tells told)
 
 -- the pieces up to the mark
 abbrev pub up_to : Option ℕ → List Piece → List Piece
