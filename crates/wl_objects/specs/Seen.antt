@@ -1,13 +1,12 @@
 -- What the code's own types stand for, without where they lie in memory.
 use Rattle.std.specs.Prelude.{List, map}
-use Rattle.std.specs.Borrow.{Bor}
 use Rattle.std.specs.declared.result.Result.{Result}
 use Rattle.std.specs.declared.result.Result.TheVariants.{Ok, Err}
 use Rattle.wl_wire.specs.Argument.{units, Int, Uint, Fixed, Str, Obj, New, NewNamed, Array, Fd}
 use Rattle.wl_sigs.specs.Tables.{Message}
 use Rattle.wl_objects.specs.declared.argument.Got.{Got}
 use Rattle.wl_objects.specs.declared.argument.Got.TheVariants as values
-use Rattle.wl_table.specs.declared.object.Entry.{Entry}
+use Rattle.wl_objects.specs.declared.calling.CheckedCall.{CheckedCall}
 use Rattle.wl_objects.specs.declared.error.Fault.{Fault}
 use Rattle.wl_objects.specs.declared.error.SendError.{SendError}
 use Rattle.wl_objects.specs.declared.reading.Received.{Received as Read}
@@ -39,6 +38,6 @@ received_in (Err fault) = Err fault
 received_in (Ok read) = Ok (message_of read)
 
 -- a signature that was found
-abbrev pub signature_in : Result (Entry × Bor Message) SendError → Result Message SendError
+abbrev pub signature_in : Result CheckedCall SendError → Result Message SendError
 signature_in (Err refusal) = Err refusal
-signature_in (Ok found) = Ok found.1.now
+signature_in (Ok call) = Ok call.signature.now

@@ -22,7 +22,7 @@ mod writing;
 
 pub use args::Args;
 pub use argument::{Arg, Got, GotRef, Named};
-pub use calling::check_call;
+pub use calling::{CheckedCall, check_call};
 pub use error::{Fault, NextError, SendError};
 pub use lookup::{Held, Lookup, NewId};
 pub use made::{Made, call_makes, made_by_message};
