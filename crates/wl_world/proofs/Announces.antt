@@ -34,7 +34,7 @@ use Rattle.wl_world.specs.Meant.{Born, Known, Message, Coming, Event, Arg, renam
 use Rattle.wl_world.specs.World.{World, Each, event_written}
 use Rattle.wl_world.specs.Pair.{PairState, Announce, with_server, with_server_core, Announces, announced, refused}
 use Rattle.wl_world.specs.Answers.{NotEnded, Owed, owed_by, mark_in, marks_of, registry_of, told_args, WritesThat, AnnouncesThose, none, more, before}
-use Rattle.wl_world.specs.Flight.{Rows, server_rows, tells, all_tells}
+use Rattle.wl_world.specs.Flight.{IsBelow, Rows, server_rows, tells, all_tells}
 use Rattle.wl_world.specs.Stands.{StandsBy, TellsFitly, IsGlobal}
 use Rattle.wl_world.proofs.Wholes.{ThereRow, each_more}
 use Rattle.wl_world.proofs.Afters.{there_row, made_map, Aged}
@@ -42,7 +42,7 @@ use Rattle.wl_world.proofs.Calls.{row_low}
 use Rattle.wl_world.proofs.ServerTells.{CanTell, told_core, tell_stands}
 use Rattle.wl_world.proofs.ServerSend.{tells_world}
 use Rattle.wl_world.proofs.Places.{place_there, name_text}
-use Rattle.wl_world.proofs.Happenings.{Happens, Moves, goes_on, telling, IsBelow, event_below}
+use Rattle.wl_world.proofs.Happenings.{Happens, Moves, goes_on, telling, event_below}
 
 -- ---- what can be owed
 

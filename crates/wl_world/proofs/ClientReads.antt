@@ -251,7 +251,7 @@ event_mortal p w m cs asked s n i d one =
 abbrev pub deleting : Known → Message Known
 deleting x = record { target = record { id = 1; born = display_born }; opcode = 1; args = Uint x.id ∷ []; destroys = false }
 
-delete_signature : (tables : List Interface) → signature_at tables 0 event_side 1 ≡ Some (fixed.message (codes "delete_id") 1 (fixed.uint ∷ []) Nothing) → (x : Known) → x.id ≤ 1048576 → Fits tables event_side (deleting x)
+pub delete_signature : (tables : List Interface) → signature_at tables 0 event_side 1 ≡ Some (fixed.message (codes "delete_id") 1 (fixed.uint ∷ []) Nothing) → (x : Known) → x.id ≤ 1048576 → Fits tables event_side (deleting x)
 delete_signature tables e x h = record {
   signature = fixed.message (codes "delete_id") 1 (fixed.uint ∷ []) Nothing;
   there = e;

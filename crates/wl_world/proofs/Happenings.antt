@@ -16,7 +16,7 @@ use Rattle.wl_server.specs.State.{Global, Registry}
 use Rattle.wl_world.specs.Meant.{Known, Message, Coming, Event, Delete, Arg, objects}
 use Rattle.wl_world.specs.World.{World, Each, delete}
 use Rattle.wl_world.specs.Pair.{PairState, Move, Reply, with_client, with_server, carries, after_carry_to_server, after_carry_to_client}
-use Rattle.wl_world.specs.Flight.{Rows, Tell, Name, End, Delete as delete_told, ends, tells, all_tells}
+use Rattle.wl_world.specs.Flight.{Rows, Name, ends, tells, all_tells, IsBelow}
 use Rattle.wl_world.specs.Answers.{NotEnded, Answers}
 use Rattle.wl_world.specs.Stands.{Stands, stands, ended, StandsBy}
 use Rattle.wl_world.specs.Runs.{Keeps}
@@ -39,16 +39,6 @@ pub record BindsRemembered (globals : List Remembered) (args : List (Arg Known))
   pub there : client.global_of globals name ≡ Some global
   pub iface_is : new.born.iface ≡ global.iface
   pub most : new.born.version ≤ global.version
-
--- the object that a deed is about
-abbrev pub about : Tell → Known
-about (Name x) = x
-about (End x) = x
-about (delete_told x) = x
-
--- what the deed is about has one of these births
-abbrev pub IsBelow : ℕ → Tell → Type 0
-IsBelow births t = (about t).born.birth < births
 
 abbrev Below : Rows Born → ℕ → Type 0
 Below s births = (id : ℕ) (x : Born) → s.rows id ≡ Some x → x.birth < births

@@ -26,7 +26,7 @@ use Rattle.wl_world.specs.Meant.{Known, Message, Coming, Event as event_of, Dele
 use Rattle.wl_world.specs.World.{World, Each, IsThere, delete, event_written, dropped, Steps, writes_event, drops, WriteEvent}
 use Rattle.wl_world.specs.Pair.{marked, after_post, PairState, ServerSend, ServerDrop, PostError, with_server_core, Writes, accepted, refused, no_memory, Calls, done}
 use Rattle.wl_world.specs.Answers.{NotEnded, birth_at, before}
-use Rattle.wl_world.specs.Flight.{server_rows, tells, all_tells}
+use Rattle.wl_world.specs.Flight.{IsBelow, server_rows, tells, all_tells}
 use Rattle.wl_world.specs.Stands.{StandsBy}
 use Rattle.wl_world.specs.Runs.{IsGiven}
 use Rattle.wl_world.proofs.Wholes.{ThereRow, each_by, each_more}
@@ -38,7 +38,7 @@ use Rattle.wl_world.proofs.Rules.{ends_so, no_event_new}
 use Rattle.wl_world.proofs.Written.{the_new, the_args, the_call, CallIs, call_is, accepted_call, opens, no_delete}
 use Rattle.wl_world.proofs.ClientSend.{made_same}
 use Rattle.wl_world.proofs.ServerTells.{CanTell, told_core, dropped_core, tell_stands, drop_stands}
-use Rattle.wl_world.proofs.Happenings.{Happens, Moves, Outcome, goes_on, ends_it, stays, telling, IsBelow, event_below, delete_below}
+use Rattle.wl_world.proofs.Happenings.{Happens, Moves, Outcome, goes_on, ends_it, stays, telling, event_below, delete_below}
 
 there_live : (v : View) (x : Known) → LiveAt v x → ThereRow (server_rows v) x
 there_live v x l = ap (option_map plain) l.there ∙ ap Some l.same
