@@ -139,8 +139,8 @@ any_cut e side i state end pieces count some reports stop t s h f =
     let waits : waiting (with_arrived (e.core state) bytes tokens) ≡ waiting (e.core (arrived e state bytes tokens)) = ap waiting (sym (i.laws.new state (with_arrived (e.core state) bytes tokens))) in
     subst (λ x. Reads e x reports stop (arrived e end (part_bytes later) (part_tokens later))) whole
     (reads_stay i later h f (λ needs g.
-      subst (λ (w : Part). InStep needs (w ∷ later)) waits
-      (taken_in_step needs (waiting (e.core state)) pieces count some t (s needs (subst (λ x. Begins e side x needs) whole g)))))
+    subst (λ (w : Part). InStep needs (w ∷ later)) waits
+    (taken_in_step needs (waiting (e.core state)) pieces count some t (s needs (subst (λ x. Begins e side x needs) whole g)))))
 
 -- ---- what waits is read in one way
 

@@ -143,9 +143,11 @@ until_stop e laws seen state middle end xs before reserved stop h g r =
 -- what is read where there is no room for a report
 pub waiting_then : {S R X Y : Type 0} (e : Reading S R) → IsCoreOf e.core e.with_core → (seen : X → R) (state middle end : S) (xs before reserved : List X) (r : Result Y (Option NextError)) → ReadsOn e state (appended seen xs before) middle
     → WaitingIsRead e middle [] r end → reserved ≡ before → WaitingIsRead e state (appended seen xs reserved) r end
-waiting_then e laws seen state middle end xs before reserved (Ok x) h g r =
-    (subst (λ ys. ReadsOn e state (appended seen xs ys) end) (sym r)
-    (subst (λ rs. ReadsOn e state rs end) (append-nil (appended seen xs before)) (on_then e state middle end (appended seen xs before) [] h g.0)), g.1)
+waiting_then e laws seen state middle end xs before reserved (Ok x) h g r = (
+  subst (λ ys. ReadsOn e state (appended seen xs ys) end) (sym r)
+      (subst (λ rs. ReadsOn e state rs end) (append-nil (appended seen xs before)) (on_then e state middle end (appended seen xs before) [] h g.0)),
+  g.1,
+)
 waiting_then e laws seen state middle end xs before reserved (Err stop) h g r = (until_stop e laws seen state middle end xs before reserved stop h g.0 r, g.1)
 
 -- ---- one reading

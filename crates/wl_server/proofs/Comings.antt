@@ -192,7 +192,7 @@ fault_of state what offset f (comes e) =
     found_first e (λ bytes tokens h. fault_again state what offset bytes tokens f (ap (judged (arrived reading state bytes tokens)) h))
 fault_of state what offset f (binds g e j) =
     stays (λ bytes tokens. fault_again state what offset bytes tokens f
-      (ap (judged (arrived reading state bytes tokens)) ((is_found state.core request_side g e).stays bytes tokens) ∙ j))
+    (ap (judged (arrived reading state bytes tokens)) ((is_found state.core request_side g e).stays bytes tokens) ∙ j))
 
 fault_by : (state : State) (what : Fault) (offset : ℕ) → Fails state what offset → IsFault reading request_side state what offset
 fault_by state what offset f = fault_of state what offset f f.how
