@@ -1,0 +1,14 @@
+-- What is left while a text is read.
+use Rattle.std.specs.Prelude.{ℕ, List, [], ◌∷◌, Option, Some, None}
+use Rattle.wl_text.specs.Lines.{words}
+use Rattle.wl_sigs.specs.declared.signature.Destroys.{Destroys}
+use Rattle.wl_sigs.specs.Text.{Tail}
+
+-- the words of what stands behind a word of a line
+abbrev pub words_behind : Option (List ℕ) → List (List ℕ)
+words_behind None = []
+words_behind (Some rest) = words rest
+
+-- the tail without arguments
+abbrev pub ended : Destroys × ℕ → Tail
+ended end = record { kinds = []; destroys = end.0; since = end.1 }
