@@ -5,7 +5,6 @@ use Rattle.std.specs.Str.Parse.{AllDigits, digits_value}
 use Rattle.std.proofs.lemmas.Bool.Decides.{nat_tests}
 use Rattle.std.proofs.lemmas.Int.Digits.{digits_more, digits_value_more, digits_value-lt}
 use Rattle.std.proofs.lemmas.List.{length-take}
-use Rattle.std.proofs.lemmas.Str.Parse.{digit_at}
 use Rattle.std.proofs.Common.{refl}
 use Rattle.std.proofs.lemmas.List.Folds.{list_all_more}
 use Rattle.wl_text.proofs.number.decimal_value.Goals as goal

@@ -1,7 +1,7 @@
 use Rattle.std.proofs.Common.{◌≡◌, ◌+◌, ◌≤◌, [], length}
 use Rattle.std.specs.Str.Lines.{lines}
-use Rattle.wl_sigs.specs.Text.{listed}
-use Rattle.wl_sigs.proofs.reading.read_interfaces.Given as goal
+use Rattle.wl_written.specs.Text.{listed}
+use Rattle.wl_written.proofs.reading.read_interfaces.Given as goal
 
 abbrev pub invariant-lines : goal.invariant-lines
 invariant-lines g l =

@@ -1,8 +1,7 @@
 -- What is left while a text is read.
-use Rattle.std.specs.Prelude.{ℕ, List, [], ◌∷◌, Option, Some, None}
+use Rattle.std.specs.Prelude.{ℕ, List, [], Bool, Option, Some, None}
 use Rattle.wl_text.specs.Lines.{words}
-use Rattle.wl_sigs.specs.declared.signature.Destroys.{Destroys}
-use Rattle.wl_sigs.specs.Text.{Tail}
+use Rattle.wl_written.specs.Text.{Tail}
 
 -- the words of what stands behind a word of a line
 abbrev pub words_behind : Option (List ℕ) → List (List ℕ)
@@ -10,5 +9,5 @@ words_behind None = []
 words_behind (Some rest) = words rest
 
 -- the tail without arguments
-abbrev pub ended : Destroys × ℕ → Tail
+abbrev pub ended : Bool × ℕ → Tail
 ended end = record { kinds = []; destroys = end.0; since = end.1 }

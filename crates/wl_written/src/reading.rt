@@ -2,17 +2,17 @@
 ghost use Rattle.std.specs.Prelude.{◌≡◌, ℕ, ◌⊎◌, ◌≤◌, [], Some, None, Ok, Err, IfOk, IfErr, if◌then◌else◌};
 ghost use Rattle.std.specs.Str.Lines.{lines};
 ghost use Rattle.wl_text.specs.Lines.{words};
-ghost use Rattle.wl_sigs.specs.declared.fault.TableFault.TheVariants.{BadLine, Memory};
-ghost use Rattle.wl_sigs.specs.Text.{with_message, message_added, words_added, listed};
+ghost use Rattle.wl_written.specs.declared.fault.TableFault.TheVariants.{BadLine, Memory};
+ghost use Rattle.wl_written.specs.Text.{with_message, message_added, words_added, listed};
 
 use crate::fault::TableFault;
-use crate::signature::Side;
-use crate::text::{WrittenInterface, WrittenMessage, interface_of, message_of, side_of};
+use crate::forms::{interface_of, message_of};
+use crate::written::{WrittenInterface, WrittenMessage};
 use std::alloc::{AllocError, Allocator};
 use wl_text::{first_line, first_word, is_skipped};
 
 /// The interfaces that a text lists, or its first bad line.
-pub(crate) fn read_interfaces<'t, A: Allocator + Clone + Drop>(
+pub fn read_interfaces<'t, A: Allocator + Clone + Drop>(
     alloc: &A,
     text: &'t [u8],
 ) -> Result<Vec<WrittenInterface<'t, A>, A>, TableFault>
@@ -52,29 +52,30 @@ fn add_line<'t, A: Allocator + Clone + Drop>(
         interfaces.push(interface)?;
         return Ok(true);
     }
-    let Some(side) = side_of(word) else {
+    let is_request = word == b"request".as_slice();
+    if !is_request && word != b"event".as_slice() {
         return Ok(false);
-    };
+    }
     let Some(message) = message_of(alloc, number, behind)? else {
         return Ok(false);
     };
-    add_message(interfaces, side, message)
+    add_message(interfaces, is_request, message)
 }
 
-// Adds a message to the last interface. False where there is none.
-#[tactic(auto, using(crate::proofs::Written::added_last))]
+// Adds a request or an event to the last interface. False where there is none.
+#[tactic(auto, using(crate::proofs::Words::added_last))]
 fn add_message<'t, A: Allocator + Clone>(
     interfaces: &mut Vec<WrittenInterface<'t, A>, A>,
-    side: Side,
+    is_request: bool,
     message: WrittenMessage<'t, A>,
 ) -> Result<bool, AllocError>
-    ensures { IfOk result (λ added. message_added side message.entry interfaces.old.items
+    ensures { IfOk result (λ added. message_added is_request message.entry interfaces.old.items
         ≡ (if added then Some interfaces.new.items else None)) }
 {
     let Some(last) = interfaces.pop() else {
         return Ok(false);
     };
-    let last = with_message(last, side, message)?;
+    let last = with_message(last, is_request, message)?;
     interfaces.push_reserved(last);
     Ok(true)
 }
@@ -82,20 +83,16 @@ fn add_message<'t, A: Allocator + Clone>(
 // The interface with this message behind the others of its side.
 fn with_message<'t, A: Allocator + Clone>(
     interface: WrittenInterface<'t, A>,
-    side: Side,
+    is_request: bool,
     message: WrittenMessage<'t, A>,
 ) -> Result<WrittenInterface<'t, A>, AllocError>
-    ensures { IfOk result (λ more. more ≡ with_message side message.entry interface.entry) }
+    ensures { IfOk result (λ more. more ≡ with_message is_request message.entry interface.entry) }
 {
     let mut interface = interface;
-    match side {
-        Side::Request => {
-            interface.requests.push(message)?;
-            Ok(interface)
-        }
-        Side::Event => {
-            interface.events.push(message)?;
-            Ok(interface)
-        }
+    if is_request {
+        interface.requests.push(message)?;
+    } else {
+        interface.events.push(message)?;
     }
+    Ok(interface)
 }

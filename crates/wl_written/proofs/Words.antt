@@ -1,10 +1,9 @@
 -- What the words of a line say.
-use Rattle.std.proofs.Common.{◌≡◌, ℕ, ◌==◌, true, false, cond, List, [], ◌∷◌, ◌++◌, refl, ap, Some, None}
+use Rattle.std.proofs.Common.{◌≡◌, ℕ, Bool, ◌==◌, true, false, cond, List, [], ◌∷◌, ◌++◌, refl, ap, Some, None}
 use Rattle.std.specs.Prelude.{option_map}
-use Rattle.std.specs.List.{slice_split, onto_first}
+use Rattle.std.specs.List.{onto_first}
 use Rattle.wl_text.specs.Lines.{words}
-use Rattle.wl_sigs.specs.declared.signature.Side.{Side}
-use Rattle.wl_sigs.specs.Text.{WrittenMessage, WrittenInterface, since_of, interface_of, with_message, message_added}
+use Rattle.wl_written.specs.Text.{WrittenMessage, WrittenInterface, since_of, interface_of, with_message, message_added}
 
 onto_first_some : (b : ℕ) (ps : List (List ℕ)) → (first : List ℕ) × (more : List (List ℕ)) × (onto_first b ps ≡ first ∷ more)
 onto_first_some b [] = (b ∷ [], [], refl)
@@ -27,7 +26,7 @@ pub version_alone : (n : ℕ) (name digits line : List ℕ) → interface_of n (
 version_alone n name digits line = let w = words_some line in rw w.2 refl
 
 -- a message goes to the last interface
-pub added_last : (side : Side) (m : WrittenMessage) (xs : List WrittenInterface) (i : WrittenInterface) → message_added side m (xs ++ i ∷ []) ≡ Some (xs ++ with_message side m i ∷ [])
+pub added_last : (is_request : Bool) (m : WrittenMessage) (xs : List WrittenInterface) (i : WrittenInterface) → message_added is_request m (xs ++ i ∷ []) ≡ Some (xs ++ with_message is_request m i ∷ [])
 added_last side m [] i = refl
 added_last side m (x ∷ []) i = refl
 added_last side m (x ∷ y ∷ xs) i = ap (option_map (λ all. x ∷ all)) (added_last side m (y ∷ xs) i)

@@ -1,6 +1,6 @@
 //! Why a text gives no tables.
 ghost use Rattle.std.specs.Prelude.{◌≡◌};
-ghost use Rattle.wl_sigs.specs.declared.fault.TableFault.TheVariants.{Memory};
+ghost use Rattle.wl_written.specs.declared.fault.TableFault.TheVariants.{Memory};
 
 use std::alloc::{AllocError, AllocFailed};
 use std::error::Error;
@@ -21,7 +21,7 @@ pub enum TableFault {
 
 impl Display for TableFault {
     ghost use Rattle.std.specs.Prelude.{Some};
-    ghost use Rattle.wl_sigs.specs.Errors.{table_fault_text};
+    ghost use Rattle.wl_written.specs.Errors.{table_fault_text};
 
     ghost output = { λ fault. Some (table_fault_text fault) };
 

@@ -1,79 +1,14 @@
-//! Reading the lines of tables as text.
-ghost use Rattle.std.specs.Prelude.{◌≡◌, ℕ, ◌-◌, ◌==◌, ◌++◌, ◌∷◌, [], List, length, IfOk, IfErr, OnErr, option_map, option_copied, unwrap_or, position, if◌then◌else◌, is_ok, is_some, Ok, Err};
-ghost use Rattle.std.specs.List.{list_all, list_any};
-ghost use Rattle.wl_sigs.specs.Tables.{destroys_target};
-ghost use Rattle.wl_text.specs.Lines.{words};
-ghost use Rattle.wl_sigs.specs.Text.{is_text_byte, is_text_name, kind_of, takes_interface, bracketed, argument_of, at_number, since_of, ending_of, tail_of, message_of, interface_of, side_of, message_added, words_added, line_added};
-ghost use Rattle.wl_sigs.specs.Reading.{words_behind, ended};
+//! The forms of the lines.
+ghost use Rattle.std.specs.Prelude.{◌≡◌, ◌==◌, ◌∷◌, IfOk, option_map, option_copied, position};
+ghost use Rattle.std.specs.List.{list_all};
+ghost use Rattle.wl_written.specs.Text.{is_text_byte, is_text_name, kind_of, takes_interface, bracketed, argument_of, at_number, since_of, ending_of, tail_of, message_of, interface_of};
+ghost use Rattle.wl_written.specs.Reading.{words_behind, ended};
 
-use crate::signature::{Destroys, Side};
+use crate::written::{WrittenInterface, WrittenKind, WrittenMessage};
 use std::alloc::{AllocError, Allocator};
 use std::marker::Model;
 use wl_text::{decimal_number, first_word};
 use wl_wire::Kind;
-
-/// The kind of an argument as a text writes it, with the name of its interface where it gives one.
-#[derive(Drop)]
-pub(crate) struct WrittenKind<'t> {
-    pub(crate) kind: Kind,
-    pub(crate) iface: Option<&'t [u8]>,
-}
-
-impl<'t> Model for WrittenKind<'t> {
-    ghost use Rattle.std.specs.Prelude.{option_copied};
-    ghost use Rattle.wl_sigs.specs.Text as text;
-
-    ghost Value = { text.WrittenKind };
-
-    ghost view = { λ k. record { kind = k.kind; iface = option_copied k.iface } };
-}
-
-/// A message as a text writes it, with the number of its line.
-#[derive(Drop)]
-pub(crate) struct WrittenMessage<'t, A: Allocator> {
-    pub(crate) line: usize,
-    pub(crate) name: &'t [u8],
-    pub(crate) since: u32,
-    pub(crate) kinds: Vec<WrittenKind<'t>, A>,
-    pub(crate) destroys: Destroys,
-}
-
-impl<'t, A: Allocator> Model for WrittenMessage<'t, A> {
-    ghost use Rattle.wl_sigs.specs.Text as text;
-
-    ghost Value = { text.WrittenMessage };
-
-    ghost view = { λ m. record { line = m.line; name = m.name.now; since = m.since; kinds = m.kinds.items; destroys = m.destroys } };
-}
-
-/// An interface as a text writes it, with the number of its line.
-#[derive(Drop)]
-pub(crate) struct WrittenInterface<'t, A: Allocator> {
-    pub(crate) line: usize,
-    pub(crate) name: &'t [u8],
-    pub(crate) version: u32,
-    pub(crate) requests: Vec<WrittenMessage<'t, A>, A>,
-    pub(crate) events: Vec<WrittenMessage<'t, A>, A>,
-}
-
-impl<'t, A: Allocator> Model for WrittenInterface<'t, A> {
-    ghost use Rattle.wl_sigs.specs.Text as text;
-
-    ghost Value = { text.WrittenInterface };
-
-    ghost view = { λ i. record { line = i.line; name = i.name.now; version = i.version; requests = i.requests.items; events = i.events.items } };
-}
-
-impl<'t, A: Allocator> WrittenInterface<'t, A> {
-    /// Whether an event destroys its target.
-    pub(crate) fn has_destroying_event(&self) -> bool
-        ensures { result ≡ list_any (λ m. destroys_target m.destroys) self.now.events }
-    {
-        self.events
-            .iter()
-            .any(|event| event.destroys == Destroys::Target)
-    }
-}
 
 // Whether a word is a name.
 fn is_text_name(name: &[u8]) -> bool
@@ -129,8 +64,8 @@ fn kind_of(letters: &[u8]) -> Option<Kind>
     }
 }
 
-// Whether an argument of the kind may name an interface.
-pub(crate) fn takes_interface(kind: Kind) -> bool
+/// Whether an argument of the kind may name an interface: an object, or a new one.
+pub fn takes_interface(kind: Kind) -> bool
     ensures { result ≡ takes_interface kind }
 {
     matches!(kind, Kind::Obj { .. } | Kind::New(_))
@@ -172,12 +107,12 @@ fn place_of_bracket(word: &[u8]) -> Option<usize>
 #[derive(Drop)]
 struct Tail<'t, A: Allocator> {
     kinds: Vec<WrittenKind<'t>, A>,
-    destroys: Destroys,
+    destroys: bool,
     since: u32,
 }
 
 impl<'t, A: Allocator> Model for Tail<'t, A> {
-    ghost use Rattle.wl_sigs.specs.Text as text;
+    ghost use Rattle.wl_written.specs.Text as text;
 
     ghost Value = { text.Tail };
 
@@ -195,7 +130,7 @@ fn at_number(word: &[u8]) -> Option<u32>
 }
 
 // The since number that a word spells which is the last.
-#[tactic(auto, using(crate::proofs::Written::since_alone))]
+#[tactic(auto, using(crate::proofs::Words::since_alone))]
 fn since_of(word: &[u8], behind: Option<&[u8]>) -> Option<u32>
     ensures { result ≡ since_of (word.now ∷ words_behind (option_copied behind.entry)) }
 {
@@ -207,17 +142,17 @@ fn since_of(word: &[u8], behind: Option<&[u8]>) -> Option<u32>
 
 // What a message destroys, and its since number, from a word that spells no argument and the words
 // behind it.
-fn ending_of(word: &[u8], behind: Option<&[u8]>) -> Option<(Destroys, u32)>
+fn ending_of(word: &[u8], behind: Option<&[u8]>) -> Option<(bool, u32)>
     ensures { option_map ended result ≡ ending_of word.now (words_behind (option_copied behind.entry)) }
 {
     if word != b"D".as_slice() {
-        return Some((Destroys::Nothing, since_of(word, behind)?));
+        return Some((false, since_of(word, behind)?));
     }
     let Some(rest) = behind else {
-        return Some((Destroys::Target, 1));
+        return Some((true, 1));
     };
     let (last, more) = first_word(rest);
-    Some((Destroys::Target, since_of(last, more)?))
+    Some((true, since_of(last, more)?))
 }
 
 // The tail that the words behind a message's name spell.
@@ -246,7 +181,7 @@ fn tail_of<'t, A: Allocator + Clone + Drop>(
     }
     Ok(Some(Tail {
         kinds,
-        destroys: Destroys::Nothing,
+        destroys: false,
         since: 1,
     }))
 }
@@ -280,7 +215,7 @@ pub(crate) fn message_of<'t, A: Allocator + Clone + Drop>(
 }
 
 // The interface of a line, from the words behind `interface`.
-#[tactic(auto, using(crate::proofs::Written::version_alone))]
+#[tactic(auto, using(crate::proofs::Words::version_alone))]
 pub(crate) fn interface_of<'t, A: Allocator + Clone + Drop>(
     alloc: &A,
     line: usize,
@@ -311,16 +246,4 @@ pub(crate) fn interface_of<'t, A: Allocator + Clone + Drop>(
         requests: Vec::new(alloc.clone()?),
         events: Vec::new(alloc.clone()?),
     }))
-}
-
-pub(crate) fn side_of(word: &[u8]) -> Option<Side>
-    ensures { result ≡ side_of word.now }
-{
-    if word == b"request".as_slice() {
-        Some(Side::Request)
-    } else if word == b"event".as_slice() {
-        Some(Side::Event)
-    } else {
-        None
-    }
 }

@@ -1,9 +1,9 @@
-use Rattle.std.proofs.Common.{◌≡◌, ℕ, ◌+◌, length}
+use Rattle.std.proofs.Common.{◌≡◌, ◌+◌, length}
 use Rattle.std.specs.Prelude.{option_map, option_copied}
 use Rattle.std.specs.Option.{option_map_or}
-use Rattle.wl_sigs.specs.Text.{with_kinds, tail_of}
-use Rattle.wl_sigs.specs.Reading.{words_behind}
-use Rattle.wl_sigs.proofs.text.tail_of.Given as goal
+use Rattle.wl_written.specs.Text.{with_kinds, tail_of}
+use Rattle.wl_written.specs.Reading.{words_behind}
+use Rattle.wl_written.proofs.forms.tail_of.Given as goal
 
 abbrev pub invariant-arguments : goal.invariant-arguments
 invariant-arguments g l =

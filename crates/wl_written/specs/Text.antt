@@ -4,18 +4,13 @@
 --   side " " name *( " " argument ) [ " D" ] [ " @" number ]
 --
 -- where a side is "request" or "event". A message belongs to the last interface line above it.
-use Rattle.std.specs.Prelude.{◌≡◌, ℕ, ◌+◌, ◌-◌, ◌==◌, ◌&&◌, not, nat_le, if◌then◌else◌, List, [], ◌∷◌, ◌++◌, length, take, drop, codes, position, Bool, true, false, slice_index, bytes_eq, unwrap_or, Option, Some, None, option_and_then, option_map, Result, Ok, Err}
+use Rattle.std.specs.Prelude.{ℕ, ◌+◌, ◌-◌, ◌==◌, ◌&&◌, ◌||◌, not, nat_le, if◌then◌else◌, List, [], ◌∷◌, ◌++◌, length, take, drop, codes, position, Bool, true, false, slice_index, bytes_eq, unwrap_or, Option, Some, None, option_and_then, option_map, Result, Ok, Err}
 use Rattle.std.specs.List.{list_all}
 use Rattle.std.specs.Option.{option_map_or}
-use Rattle.std.specs.Str.Lines.{lines}
 use Rattle.wl_wire.specs.declared.kind.Kind.{Kind}
 use Rattle.wl_wire.specs.declared.kind.Kind.TheVariants as kinds
 use Rattle.wl_text.specs.Lines.{says_nothing, words}
 use Rattle.wl_text.specs.Number.{number_of}
-use Rattle.wl_sigs.specs.declared.signature.Destroys.{Destroys}
-use Rattle.wl_sigs.specs.declared.signature.Destroys.TheVariants.{Nothing, Target}
-use Rattle.wl_sigs.specs.declared.signature.Side.{Side}
-use Rattle.wl_sigs.specs.declared.signature.Side.TheVariants.{Request, Event}
 
 -- The kind of an argument as a text writes it: the kind without an interface, and the interface's name where the text gives one.
 pub record WrittenKind : Type 0 where
@@ -28,7 +23,7 @@ pub record WrittenMessage : Type 0 where
   pub name : List ℕ
   pub since : ℕ
   pub kinds : List WrittenKind
-  pub destroys : Destroys
+  pub destroys : Bool
 
 -- an interface, with the number of its line and the messages of the lines below it
 pub record WrittenInterface : Type 0 where
@@ -85,7 +80,7 @@ argument_of word =
 -- what stands behind a message's name: its arguments, what it destroys, and its since number
 pub record Tail : Type 0 where
   pub kinds : List WrittenKind
-  pub destroys : Destroys
+  pub destroys : Bool
   pub since : ℕ
 
 -- the number of a word "@" number
@@ -102,8 +97,8 @@ since_of (word ∷ next ∷ more) = None
 abbrev pub ending_of : List ℕ → List (List ℕ) → Option Tail
 ending_of word more =
     if bytes_eq word (codes "D")
-    then option_map (λ since. let tail : Tail = record { kinds = []; destroys = Target; since = since } in tail) (since_of more)
-    else option_map (λ since. let tail : Tail = record { kinds = []; destroys = Nothing; since = since } in tail) (since_of (word ∷ more))
+    then option_map (λ since. let tail : Tail = record { kinds = []; destroys = true; since = since } in tail) (since_of more)
+    else option_map (λ since. let tail : Tail = record { kinds = []; destroys = false; since = since } in tail) (since_of (word ∷ more))
 
 -- the same with further arguments in front
 abbrev pub with_kinds : List WrittenKind → Tail → Tail
@@ -116,7 +111,7 @@ tail_from None more ending = ending
 
 -- the tail that words spell
 abbrev pub tail_of : List (List ℕ) → Option Tail
-tail_of [] = Some (record { kinds = []; destroys = Nothing; since = 1 })
+tail_of [] = Some (record { kinds = []; destroys = false; since = 1 })
 tail_of (word ∷ more) = tail_from (argument_of word) (tail_of more) (ending_of word more)
 
 -- the message of line n, from the words behind its side
@@ -135,18 +130,16 @@ interface_of n (name ∷ digits ∷ []) =
     else None
 interface_of n _ = None
 
-abbrev pub side_of : List ℕ → Option Side
-side_of word = if bytes_eq word (codes "request") then Some Request else (if bytes_eq word (codes "event") then Some Event else None)
+-- the interface with one message more: a request or an event
+abbrev pub with_message : Bool → WrittenMessage → WrittenInterface → WrittenInterface
+with_message true m i = record i { requests = i.requests ++ m ∷ [] }
+with_message false m i = record i { events = i.events ++ m ∷ [] }
 
-abbrev pub with_message : Side → WrittenMessage → WrittenInterface → WrittenInterface
-with_message Request m i = record i { requests = i.requests ++ m ∷ [] }
-with_message Event m i = record i { events = i.events ++ m ∷ [] }
-
--- the interfaces with a message more in the last, if there is one
-abbrev pub message_added : Side → WrittenMessage → List WrittenInterface → Option (List WrittenInterface)
-message_added side m [] = None
-message_added side m (i ∷ []) = Some (with_message side m i ∷ [])
-message_added side m (i ∷ j ∷ more) = option_map (λ all. i ∷ all) (message_added side m (j ∷ more))
+-- the interfaces with one message more in the last, if there is one
+abbrev pub message_added : Bool → WrittenMessage → List WrittenInterface → Option (List WrittenInterface)
+message_added is_request m [] = None
+message_added is_request m (i ∷ []) = Some (with_message is_request m i ∷ [])
+message_added is_request m (i ∷ j ∷ more) = option_map (λ all. i ∷ all) (message_added is_request m (j ∷ more))
 
 -- the interfaces with what these words of line n declare, if they have a form
 abbrev pub words_added : ℕ → List (List ℕ) → List WrittenInterface → Option (List WrittenInterface)
@@ -154,7 +147,9 @@ words_added n [] written = None
 words_added n (word ∷ more) written =
     if bytes_eq word (codes "interface")
     then option_map (λ i. written ++ i ∷ []) (interface_of n more)
-    else option_and_then (λ side. option_and_then (λ m. message_added side m written) (message_of n more)) (side_of word)
+    else (if bytes_eq word (codes "request") || bytes_eq word (codes "event")
+    then option_and_then (λ m. message_added (bytes_eq word (codes "request")) m written) (message_of n more)
+    else None)
 
 -- the interfaces with what line n declares
 abbrev pub line_added : ℕ → List ℕ → List WrittenInterface → Option (List WrittenInterface)
