@@ -1,9 +1,10 @@
 -- The first line that breaks a rule.
 use Rattle.std.proofs.Common.{◌≡◌, ℕ, zero, suc, ◌+◌, ◌<◌, ◌≤◌, true, false, cond, List, [], ◌∷◌, ◌++◌, length, get_or, take, refl, sym, ap, ◌∙◌, subst, Some, None, Option, Bool, slice_get, not, add-zero, arith}
 use Rattle.std.specs.Prelude.{option_map, nat_lt}
+use Rattle.std.proofs.lemmas.List.{take_more, length-take-le}
 use Rattle.std.proofs.lemmas.Bool.{cases_Bool}
 use Rattle.std.proofs.lemmas.Bool.Decides.{nat_tests}
-use Rattle.wl_sigs.specs.Text.{WrittenMessage, WrittenInterface}
+use Rattle.wl_written.specs.Text.{WrittenMessage, WrittenInterface}
 use Rattle.wl_sigs.specs.Broken.{Broken, earlier, broken_at, messages_broken, interface_broken, interfaces_broken}
 
 pub earlier_none : (a b : Option Broken) → earlier a b ≡ None → (a ≡ None) × (b ≡ None)
@@ -73,3 +74,19 @@ each_interface_keeps place ended n (x ∷ is) none (suc k) i at =
     let both = earlier_none (interface_broken place ended n x) (interfaces_broken place ended (n + 1) is) none in
     let next : n + 1 + k ≡ n + suc k = omega arith in
     rw next at (each_interface_keeps place ended (n + 1) is both.1 k i at)
+
+-- the step of a loop over messages
+pub messages_broken-next : (rule : ℕ → WrittenMessage → Option ℕ) (ms : List WrittenMessage) (k : ℕ) (m : WrittenMessage) → k < length ms → m ≡ get_or ms k m
+    → messages_broken rule 0 (take (k + 1) ms) ≡ earlier (messages_broken rule 0 (take k ms)) (broken_at m.line (rule k m))
+messages_broken-next rule ms k m within is =
+    let len : 0 + length (take k ms) ≡ k = omega (arith, length-take-le k ms (omega (arith, within))) in
+    let pushed = messages_broken-push rule 0 (take k ms) m in
+    rw (take_more ms k m within, ← is) (rw len at pushed)
+
+-- the step of a loop over interfaces
+pub interfaces_broken-next : (place : List ℕ → Option ℕ) (ended : List Bool) (n : ℕ) (is : List WrittenInterface) (k : ℕ) (i : WrittenInterface) → k < length is → i ≡ get_or is k i
+    → interfaces_broken place ended n (take (k + 1) is) ≡ earlier (interfaces_broken place ended n (take k is)) (interface_broken place ended (n + k) i)
+interfaces_broken-next place ended n is k i within same =
+    let len : n + length (take k is) ≡ n + k = omega (arith, length-take-le k is (omega (arith, within))) in
+    let pushed = interfaces_broken-push place ended n (take k is) i in
+    rw (take_more is k i within, ← same) (rw len at pushed)

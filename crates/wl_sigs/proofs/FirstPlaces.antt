@@ -1,12 +1,15 @@
 -- Maps from names to their first places.
-use Rattle.std.proofs.Common.{◌≡◌, ℕ, ◌+◌, ◌<◌, ◌≤◌, ◌==◌, true, false, cond, List, [], ◌∷◌, ◌++◌, length, get_or, take, refl, sym, ap, ◌∙◌, Some, None, Option, Bool, bytes_eq, arith}
+use Rattle.std.proofs.Common.{◌≡◌, ℕ, ◌+◌, ◌<◌, ◌≤◌, ◌==◌, true, false, cond, List, [], ◌∷◌, ◌++◌, length, get_or, take, refl, sym, ap, ◌∙◌, subst, Some, None, Option, Bool, bytes_eq, arith}
 use Rattle.std.specs.Prelude.{position, nat_lt, map}
 use Rattle.std.specs.List.{position_or_len}
 use Rattle.std.proofs.lemmas.List.{map_more, length-append}
 use Rattle.std.proofs.lemmas.List.Folds.{position_or_len_push}
 use Rattle.std.proofs.lemmas.List.Sums.{prefix_len-le-length}
 use Rattle.std.proofs.lemmas.Bool.Decides.{nat_tests}
-use Rattle.std.specs.Prelude.{not, slice_get}
+use Rattle.std.proofs.lemmas.Bool.{lt-ltb}
+use Rattle.std.proofs.lemmas.List.Quantifiers.{position-Some}
+use Rattle.std.proofs.lemmas.Option.{slice_get_within, slice_get-get_or}
+use Rattle.std.specs.Prelude.{not, slice_get, is_some}
 use Rattle.std.proofs.Common.{zero, suc}
 use Rattle.std.proofs.lemmas.Slice.Eq.{bytes_eq-Decides}
 use Rattle.wl_sigs.specs.Joined.{first_place}
@@ -25,6 +28,44 @@ pub first_place-push : (names : List (List ℕ)) (name q : List ℕ) → first_p
 first_place-push names name q =
     let p : List ℕ → Bool = λ other. bytes_eq other q in
     rw (position_or_len_push p names name, length-append) (after_one (position_or_len p names) (length names) (bytes_eq name q) (prefix_len-le-length (λ other. not (p other)) names))
+
+-- places of names, once one more name that had none has the next place
+pub inserted : (places : List ℕ → Option ℕ) (name q : List ℕ) (next : ℕ) → is_some (places name) ≡ false
+    → cond (bytes_eq name q) (Some next) (places q) ≡ with_name (places q) (bytes_eq name q) next
+inserted places name q next none = by_test (bytes_eq name q) refl
+  where
+  had_none : (o : Option ℕ) → is_some o ≡ false → Some next ≡ with_name o true next
+  had_none None e = refl
+  had_none (Some place) e = cc e
+
+  stays : (o : Option ℕ) → o ≡ with_name o false next
+  stays None = refl
+  stays (Some place) = refl
+
+  by_test : (t : Bool) → bytes_eq name q ≡ t → cond t (Some next) (places q) ≡ with_name (places q) t next
+  by_test true is =
+      let same : name ≡ q = (bytes_eq-Decides name q).0 is in
+      had_none (places q) (subst (λ n. is_some (places n) ≡ false) same none)
+  by_test false is = stays (places q)
+
+-- the same where the name had a place
+pub had_place : (places : List ℕ → Option ℕ) (name q : List ℕ) (next : ℕ) → is_some (places name) ≡ true
+    → places q ≡ with_name (places q) (bytes_eq name q) next
+had_place places name q next some = by_test (bytes_eq name q) refl
+  where
+  has_some : (o : Option ℕ) → is_some o ≡ true → o ≡ with_name o true next
+  has_some None e = cc e
+  has_some (Some place) e = refl
+
+  stays : (o : Option ℕ) → o ≡ with_name o false next
+  stays None = refl
+  stays (Some place) = refl
+
+  by_test : (t : Bool) → bytes_eq name q ≡ t → places q ≡ with_name (places q) t next
+  by_test true is =
+      let same : name ≡ q = (bytes_eq-Decides name q).0 is in
+      has_some (places q) (subst (λ n. is_some (places n) ≡ true) same some)
+  by_test false is = stays (places q)
 
 -- where a name has a first place, no earlier place has it
 stops_here : (passes : Bool) (n : ℕ) → passes ≡ true → cond (not passes) (1 + n) 0 ≤ 0
@@ -55,3 +96,16 @@ found_within a n b e = grind (arith, nat_tests)
 
 pub first_place-within : (names : List (List ℕ)) (name : List ℕ) (p : ℕ) → first_place names name ≡ Some p → p < length names
 first_place-within names name p first = found_within (position_or_len (λ other. bytes_eq other name) names) (length names) p first
+
+-- a name that is there has a first place, where it stands
+pub first_place-of : (names : List (List ℕ)) (name : List ℕ) (q : ℕ) → slice_get names q ≡ Some name → (p : ℕ) × (first_place names name ≡ Some p) × (slice_get names p ≡ Some name)
+first_place-of (first ∷ more) name q at =
+    let names : List (List ℕ) = first ∷ more in
+    let same : List ℕ → Bool = λ other. bytes_eq other name in
+    let le = first_before same names q name at ((bytes_eq-Decides name name).1 refl) in
+    let within = slice_get_within names q name at in
+    let found : first_place names name ≡ Some (position_or_len same names) = ap (λ b. cond b (Some (position_or_len same names)) None) (lt-ltb (position_or_len same names) (length names) (omega (arith, le, within))) in
+    let p = position-Some same names (position_or_len same names) first found in
+    let is : get_or names (position_or_len same names) first ≡ name = (bytes_eq-Decides (get_or names (position_or_len same names) first) name).0 p.1 in
+    (position_or_len same names, found, slice_get-get_or names (position_or_len same names) first p.0 ∙ ap Some is)
+first_place-of [] name q at = cc at

@@ -8,7 +8,8 @@ use Rattle.wl_wire.specs.declared.kind.Iface.{Iface}
 use Rattle.wl_sigs.proofs.FirstPlaces.{first_place-within, first_place-le}
 use Rattle.wl_sigs.proofs.Lookups.{found}
 use Rattle.std.specs.Option.{option_map_or}
-use Rattle.std.specs.Prelude.{option_map, ◌==◌, not, ◌||◌}
+use Rattle.std.specs.Prelude.{option_map, unwrap_or, ◌==◌, not, ◌||◌}
+use Rattle.std.proofs.Math.Path.{fun_ext}
 use Rattle.std.proofs.lemmas.Bool.Decides.{nat_tests}
 use Rattle.std.proofs.lemmas.List.{length-map, map-append}
 use Rattle.std.proofs.lemmas.Option.{slice_get_within, slice_get-get_or, slice_get-map, slice_get_past}
@@ -18,8 +19,8 @@ use Rattle.wl_sigs.specs.declared.signature.Side.TheVariants.{Request, Event}
 use Rattle.wl_sigs.specs.Rules.{is_name, is_empty}
 use Rattle.wl_sigs.specs.Tables.{Message, Interface, interface_at, messages_of, signature_at, new_objects, named_interface, has_destroying_event, destroys_target}
 use Rattle.wl_sigs.specs.Valid.{EachInterface, EachMessage, IsName, NamesAreDistinct, HasFixedThree, AreSmall, MakeFewObjects, IsBind, UnnamedNewInBindAlone, NoAnyInRequests, SincesAreInRange, DestroyingEventsAreRaceFree, NamedInterfacesAreThere, Valid}
-use Rattle.wl_sigs.specs.Text.{WrittenKind, WrittenMessage, WrittenInterface}
-use Rattle.wl_sigs.specs.Joined.{all_names, first_place, kind_placed, joined}
+use Rattle.wl_written.specs.Text.{WrittenKind, WrittenMessage, WrittenInterface}
+use Rattle.wl_sigs.specs.Joined.{all_names, first_place, kind_placed, destroys_of, interface_placed, joined}
 use Rattle.wl_sigs.specs.Broken.{is_first, ended_of, first_broken, makes_object, makes_unnamed, takes_any}
 use Rattle.wl_sigs.proofs.RulesDecide.{decides_name}
 use Rattle.wl_sigs.proofs.Earlier.{each_interface_keeps}
@@ -154,6 +155,10 @@ small_joined tables written none old = record {
         let within = slice_get_within (written_of side w) (length (written_of side w) - 1) last.0 last.1 in omega (arith, lt, within)
   ]
 
+-- an argument names no interface that is not there
+abbrev IsThereIn : List Interface → Kind → Type 0
+IsThereIn all k = (iface : Iface) → named_interface k ≡ Some iface → iface.0 < length all
+
 -- V9
 interfaces_joined : (tables : List Interface) (written : List WrittenInterface) → NoneBroken tables written → NamedInterfacesAreThere tables → NamedInterfacesAreThere (joined tables written)
 interfaces_joined tables written none old side =
@@ -165,9 +170,6 @@ interfaces_joined tables written none old side =
         let keeps = keeps_at tables written none side k w o m at of in
         all_placed _ (kind_placed (first_place names) (length names)) (IsThereIn (joined tables written))
         (λ x t iface e. let lt = there (first_place names) (length names) (first_place-within names) x.kind x.iface t iface e in omega (arith, lt, lens)) m.kinds keeps.none_missing)
-  where
-  abbrev IsThereIn : List Interface → Kind → Type 0
-  IsThereIn all k = (iface : Iface) → named_interface k ≡ Some iface → iface.0 < length all
 
 -- a name that stands first at a place is found there
 found_first : (place : List ℕ → Option ℕ) (name : List ℕ) (here : ℕ) → is_first place name here ≡ true → place name ≡ Some here
@@ -251,24 +253,29 @@ names_joined_apart tables written none old = record {
 -- some element passes
 any_at : {X : Type 0} (test : X → Bool) (xs : List X) → list_any test xs ≡ true → (o : ℕ) × (x : X) × (slice_get xs o ≡ Some x) × (test x ≡ true)
 any_at test [] any = cc any
-any_at {X} test (x ∷ xs) any = head_or_tail (test x) refl any
+any_at {X} test (x ∷ xs) any = head_or_tail (test x) refl any (λ behind. any_at test xs behind)
   where
-  head_or_tail : (t : Bool) → test x ≡ t → t || list_any test xs ≡ true → (o : ℕ) × (y : X) × (slice_get (x ∷ xs) o ≡ Some y) × (test y ≡ true)
-  head_or_tail true is any = (0, x, refl, is)
-  head_or_tail false is any = let rest = any_at test xs any in (suc rest.0, rest.1, rest.2, rest.3)
+  head_or_tail : (t : Bool) → test x ≡ t → t || list_any test xs ≡ true → (list_any test xs ≡ true → (o : ℕ) × (y : X) × (slice_get xs o ≡ Some y) × (test y ≡ true))
+      → (o : ℕ) × (y : X) × (slice_get (x ∷ xs) o ≡ Some y) × (test y ≡ true)
+  head_or_tail true is any behind = (0, x, refl, is)
+  head_or_tail false is any behind = let rest = behind any in (suc rest.0, rest.1, rest.2, rest.3)
 
 -- whether an event destroys its target, before and after the names are looked up
-destroying : (tables : List Interface) (written : List WrittenInterface) (ms : List WrittenMessage)
-    → list_any (λ m. destroys_target m.destroys) (map (placing_message tables written) ms) ≡ list_any (λ m. destroys_target m.destroys) ms
+pub destroying : (tables : List Interface) (written : List WrittenInterface) (ms : List WrittenMessage)
+    → list_any (λ m. destroys_target m.destroys) (map (placing_message tables written) ms) ≡ list_any (λ m. m.destroys) ms
 destroying tables written [] = refl
-destroying tables written (m ∷ ms) = ap (λ b. destroys_target m.destroys || b) (destroying tables written ms)
+destroying tables written (m ∷ ms) = rw (target_is m.destroys, destroying tables written ms) refl
+  where
+  target_is : (b : Bool) → destroys_target (destroys_of b) ≡ b
+  target_is true = refl
+  target_is false = refl
 
 ended_behind : (tables : List Interface) (all written : List WrittenInterface)
-    → map has_destroying_event (map (placing tables all) written) ≡ map (λ (w : WrittenInterface). list_any (λ m. destroys_target m.destroys) w.events) written
+    → map has_destroying_event (map (placing tables all) written) ≡ map (λ (w : WrittenInterface). list_any (λ m. m.destroys) w.events) written
 ended_behind tables all [] = refl
 ended_behind tables all (w ∷ written) = rw (destroying tables all w.events, ended_behind tables all written) refl
 
-ended_joined : (tables : List Interface) (written : List WrittenInterface) → map has_destroying_event (joined tables written) ≡ ended_of tables written
+pub ended_joined : (tables : List Interface) (written : List WrittenInterface) → map has_destroying_event (joined tables written) ≡ ended_of tables written
 ended_joined tables written =
     map-append has_destroying_event tables (map (placing tables written) written) ∙ ap (λ (b : List Bool). map has_destroying_event tables ++ b) (ended_behind tables written written)
 
@@ -288,9 +295,9 @@ race_free_joined : (tables : List Interface) (written : List WrittenInterface) �
 race_free_joined tables written none inside old = record {
   no_requests = each_interface (λ i. has_destroying_event i ≡ true → i.requests ≡ []) tables written old.no_requests
       (λ k w at destroys.
-          let event = any_at (λ m. destroys_target m.destroys) w.events (sym (destroying tables written w.events) ∙ destroys) in
+          let event = any_at (λ m. m.destroys) w.events (sym (destroying tables written w.events) ∙ destroys) in
           let free = (keeps_at tables written none Event k w event.0 event.1 at event.2).race_free in
-          ap (map (placing_message tables written)) (none_destroying (destroys_target event.1.destroys) w.requests free event.3));
+          ap (map (placing_message tables written)) (none_destroying event.1.destroys w.requests free event.3));
   no_arguments = each_message (λ m. All (NotEndedIn (joined tables written)) m.kinds) tables written Request
       (λ place opcode m h. λ t d lt. old_kinds (get_or m.kinds t d) (old.no_arguments place opcode m h t d lt) (inside Request place opcode m h t d lt))
       (λ k w o m at of.
@@ -323,3 +330,26 @@ joined_valid tables written valid none =
       sinces_in_range = sinces_joined tables written keeps valid.sinces_in_range;
       interfaces_there = interfaces_joined tables written keeps valid.interfaces_there;
     }
+
+-- the places of joined tables fit a number of 16 bits
+pub few_joined_interfaces : (tables : List Interface) (written : List WrittenInterface) → Valid tables → first_broken tables written ≡ None → length tables + length written ≤ 1024
+few_joined_interfaces tables written valid none =
+    let most = (joined_valid tables written valid none).small.interfaces in omega (arith, most, length_joined tables written)
+
+pub places_fit : (tables : List Interface) (written : List WrittenInterface) → Valid tables → first_broken tables written ≡ None → (place : List ℕ → Option ℕ)
+    → ((name : List ℕ) → place name ≡ first_place (all_names tables written) name) → (name : List ℕ) → unwrap_or (place name) (length tables + length written) < 65536
+places_fit tables written valid none place are name =
+    rw (are name) (below (first_place (all_names tables written) name) refl)
+  where
+  below : (o : Option ℕ) → first_place (all_names tables written) name ≡ o → unwrap_or o (length tables + length written) < 65536
+  below None is = let few = few_joined_interfaces tables written valid none in omega (arith, few)
+  below (Some p) is =
+      let few = few_joined_interfaces tables written valid none in
+      let within = first_place-within (all_names tables written) name p is in
+      omega (arith, few, within, length_names tables written)
+
+-- the joined tables by places that are looked up
+pub joined_by : (tables : List Interface) (written : List WrittenInterface) (place : List ℕ → Option ℕ)
+    → ((name : List ℕ) → place name ≡ first_place (all_names tables written) name)
+    → tables ++ map (interface_placed place (length tables + length written)) written ≡ joined tables written
+joined_by tables written place are = rw (fun_ext are, ← length_names tables written) refl

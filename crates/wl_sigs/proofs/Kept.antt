@@ -6,7 +6,7 @@ use Rattle.std.proofs.lemmas.Bool.Decides.{Decides-and}
 use Rattle.wl_sigs.specs.declared.signature.Side.{Side}
 use Rattle.wl_sigs.specs.declared.signature.Side.TheVariants.{Request, Event}
 use Rattle.wl_sigs.specs.Rules.{is_name}
-use Rattle.wl_sigs.specs.Text.{WrittenMessage, WrittenInterface}
+use Rattle.wl_written.specs.Text.{WrittenMessage, WrittenInterface}
 use Rattle.wl_sigs.specs.Joined.{first_place}
 use Rattle.wl_sigs.specs.Broken.{is_first, makes_object, makes_unnamed, names_missing, most_new, names_objects, is_race_free, interface_rule, message_rule, broken_at, side_broken, interface_broken}
 use Rattle.wl_sigs.proofs.Earlier.{earlier_none, each_message_keeps}

@@ -1,11 +1,12 @@
 pub mod Lookups
-pub mod Written
 pub mod FirstPlaces
 pub mod Earlier
 mod Kept
 mod JoinedLookup
 mod PlacedKinds
-mod JoinedValid
+pub mod JoinedValid
+mod KindsKept
+mod ValidKeeps
 mod Deciding
 mod Distinct
 mod ByPlace

@@ -6,9 +6,9 @@ use Rattle.wl_wire.specs.declared.kind.Kind.{Kind}
 use Rattle.wl_wire.specs.declared.kind.Kind.TheVariants as kinds
 use Rattle.wl_sigs.specs.declared.signature.Side.{Side}
 use Rattle.wl_sigs.specs.declared.signature.Side.TheVariants.{Request, Event}
-use Rattle.wl_sigs.specs.Tables.{Interface, destroys_target, has_destroying_event}
+use Rattle.wl_sigs.specs.Tables.{Interface, has_destroying_event}
 use Rattle.wl_sigs.specs.Rules.{is_name, is_empty}
-use Rattle.wl_sigs.specs.Text.{WrittenKind, WrittenMessage, WrittenInterface, takes_interface}
+use Rattle.wl_written.specs.Text.{WrittenKind, WrittenMessage, WrittenInterface, takes_interface}
 use Rattle.wl_sigs.specs.Joined.{all_names, first_place}
 
 -- a line that breaks a rule, and the least rule that it breaks
@@ -76,7 +76,7 @@ names_objects Event m = true
 -- V7 holds
 abbrev pub is_race_free : (List ℕ → Option ℕ) → List Bool → WrittenInterface → Side → WrittenMessage → Bool
 is_race_free place ended i Request m = list_all (λ k. not (takes_ended place ended k)) m.kinds
-is_race_free place ended i Event m = not (destroys_target m.destroys) || is_empty i.requests
+is_race_free place ended i Event m = not m.destroys || is_empty i.requests
 
 -- the least rule that a message of the interface breaks, where `first` gives the opcodes of the first messages of their names
 abbrev pub message_rule : (List ℕ → Option ℕ) → List Bool → WrittenInterface → Side → (List ℕ → Option ℕ) → ℕ → WrittenMessage → Option ℕ
@@ -123,7 +123,7 @@ interfaces_broken place ended here (i ∷ more) = earlier (interface_broken plac
 
 -- the interfaces that an event of theirs may end
 abbrev pub ended_of : List Interface → List WrittenInterface → List Bool
-ended_of tables written = map has_destroying_event tables ++ map (λ i. list_any (λ m. destroys_target m.destroys) i.events) written
+ended_of tables written = map has_destroying_event tables ++ map (λ i. list_any (λ m. m.destroys) i.events) written
 
 -- the first line of a text that breaks a rule, behind these tables, and the least rule there
 abbrev pub first_broken : List Interface → List WrittenInterface → Option Broken

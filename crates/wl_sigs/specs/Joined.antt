@@ -1,10 +1,12 @@
 -- The tables of a text behind others, with the names of their arguments' interfaces looked up.
-use Rattle.std.specs.Prelude.{ℕ, List, ◌++◌, length, map, bytes_eq, position, Option, Some, None, option_map, unwrap_or, Bool, if◌then◌else◌}
+use Rattle.std.specs.Prelude.{ℕ, List, ◌++◌, length, map, bytes_eq, position, Option, Some, None, option_map, unwrap_or, Bool, true, false}
 use Rattle.wl_wire.specs.declared.kind.Kind.{Kind}
 use Rattle.wl_wire.specs.declared.kind.Kind.TheVariants as kinds
 use Rattle.wl_wire.specs.declared.kind.Iface.{Iface}
+use Rattle.wl_sigs.specs.declared.signature.Destroys.{Destroys}
+use Rattle.wl_sigs.specs.declared.signature.Destroys.TheVariants.{Nothing, Target}
 use Rattle.wl_sigs.specs.Tables.{Message, Interface}
-use Rattle.wl_sigs.specs.Text.{WrittenKind, WrittenMessage, WrittenInterface}
+use Rattle.wl_written.specs.Text.{WrittenKind, WrittenMessage, WrittenInterface}
 
 -- the names of the interfaces of the tables, then those of the text
 abbrev pub all_names : List Interface → List WrittenInterface → List (List ℕ)
@@ -27,8 +29,13 @@ with_iface kind iface = kind
 abbrev pub kind_placed : (List ℕ → Option ℕ) → ℕ → WrittenKind → Kind
 kind_placed place past k = with_iface k.kind (option_map (iface_named place past) k.iface)
 
+-- what a message destroys: its target, or nothing
+abbrev pub destroys_of : Bool → Destroys
+destroys_of true = Target
+destroys_of false = Nothing
+
 abbrev pub message_placed : (List ℕ → Option ℕ) → ℕ → WrittenMessage → Message
-message_placed place past m = record { name = m.name; since = m.since; kinds = map (kind_placed place past) m.kinds; destroys = m.destroys }
+message_placed place past m = record { name = m.name; since = m.since; kinds = map (kind_placed place past) m.kinds; destroys = destroys_of m.destroys }
 
 abbrev pub interface_placed : (List ℕ → Option ℕ) → ℕ → WrittenInterface → Interface
 interface_placed place past i = record {

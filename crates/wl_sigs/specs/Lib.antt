@@ -5,9 +5,6 @@ pub mod Valid
 pub mod Rules
 pub mod Written
 pub mod Opcodes
-pub mod Text
-pub mod Reading
-pub mod Errors
 pub mod Joined
 pub mod Broken
 pub mod Places

@@ -8,9 +8,9 @@ ghost use Rattle.wl_sigs.specs.Written.{message_written, interface_written};
 use crate::core_interfaces::{CoreInterface, CoreMessage};
 use crate::signature::{Destroys, Side, Signature};
 use std::alloc::{AllocError, Allocator, Global};
-use crate::text::{WrittenInterface, WrittenMessage};
 use std::collections::BTreeMap;
 use std::marker::Model;
+use wl_written::{WrittenInterface, WrittenMessage};
 
 /// One interface of the tables.
 #[derive(Debug, Drop)]

@@ -7,18 +7,15 @@
 
 mod core_interfaces;
 pub mod event;
-mod fault;
 mod interface;
 mod laws;
 mod places;
-mod reading;
 pub mod request;
 mod rules;
 mod signature;
 mod tables;
-mod text;
 
-pub use fault::TableFault;
 pub use laws::{found_by_its_name, opcodes_are_of_their_names, valid_where_tests_pass};
 pub use signature::{Destroys, Side, Signature};
 pub use tables::Tables;
+pub use wl_written::TableFault;

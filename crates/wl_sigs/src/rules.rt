@@ -5,14 +5,13 @@ ghost use Rattle.wl_sigs.specs.Broken.{is_first, is_object, makes_object, makes_
 ghost use Rattle.wl_sigs.specs.Places.{place_in};
 ghost use Rattle.wl_sigs.specs.BrokenLines.{broken};
 ghost use Rattle.wl_sigs.specs.Rules.{is_name, is_name_byte, is_empty};
-ghost use Rattle.wl_sigs.specs.Tables.{destroys_target};
 
 use crate::places::{place_in, places_of};
-use crate::signature::{Destroys, Side};
-use crate::text::{WrittenInterface, WrittenKind, WrittenMessage, takes_interface};
+use crate::signature::Side;
 use std::alloc::{AllocError, Allocator};
 use std::collections::BTreeMap;
 use wl_wire::Kind;
+use wl_written::{WrittenInterface, WrittenKind, WrittenMessage, takes_interface};
 
 /// A line that breaks a rule, and the least rule that it breaks.
 #[derive(Clone, Copy)]
@@ -186,7 +185,7 @@ fn is_race_free<'t, A: Allocator>(
 {
     match side {
         Side::Request => none_ended(places, ended, message.kinds.as_slice()),
-        Side::Event => message.destroys == Destroys::Nothing || interface.requests.is_empty(),
+        Side::Event => !message.destroys || interface.requests.is_empty(),
     }
 }
 
@@ -248,9 +247,9 @@ fn side_broken<'n, A: Allocator + Clone + Drop>(
     alloc: &A,
     places: &BTreeMap<&'n [u8], usize, A>,
     ended: &[bool],
-    interface: &'n WrittenInterface<'n, A>,
+    interface: &WrittenInterface<'n, A>,
     side: Side,
-    messages: &'n [WrittenMessage<'n, A>],
+    messages: &[WrittenMessage<'n, A>],
 ) -> Result<Option<BrokenLine>, AllocError>
     ensures { IfOk result (λ found. option_map broken found
         ≡ side_broken (place_in places.now) ended.now interface.now side messages.now) }
@@ -267,7 +266,7 @@ fn side_broken<'n, A: Allocator + Clone + Drop>(
 
 fn message_names<'n, A: Allocator + Clone + Drop>(
     alloc: &A,
-    messages: &'n [WrittenMessage<'n, A>],
+    messages: &[WrittenMessage<'n, A>],
 ) -> Result<Vec<&'n [u8], A>, AllocError>
     ensures { IfOk result (λ names. map (λ n. n.now) names.items
         ≡ map (λ m. m.name) messages.now) }
@@ -285,7 +284,7 @@ fn interface_broken<'n, A: Allocator + Clone + Drop>(
     places: &BTreeMap<&'n [u8], usize, A>,
     ended: &[bool],
     here: usize,
-    interface: &'n WrittenInterface<'n, A>,
+    interface: &WrittenInterface<'n, A>,
 ) -> Result<Option<BrokenLine>, AllocError>
     ensures { IfOk result (λ found. option_map broken found
         ≡ interface_broken (place_in places.now) ended.now here interface.now) }
@@ -319,7 +318,7 @@ pub(crate) fn interfaces_broken<'n, A: Allocator + Clone + Drop>(
     places: &BTreeMap<&'n [u8], usize, A>,
     ended: &[bool],
     from: usize,
-    interfaces: &'n [WrittenInterface<'n, A>],
+    interfaces: &[WrittenInterface<'n, A>],
 ) -> Result<Option<BrokenLine>, AllocError>
     requires { from ≤ 1024 }
     ensures { IfOk result (λ found. option_map broken found

@@ -1,16 +1,16 @@
 //! What the tables say of one message.
 ghost use Rattle.std.specs.Prelude.{◌≡◌, ℕ, ◌<◌, List, IfOk, unwrap_or};
-ghost use Rattle.wl_sigs.specs.Joined.{kind_placed, message_placed};
+ghost use Rattle.wl_sigs.specs.Joined.{kind_placed, destroys_of, message_placed};
 ghost use Rattle.wl_sigs.specs.Places.{place_in};
 ghost use Rattle.wl_sigs.specs.Written.{message_written};
 
 use crate::core_interfaces::CoreMessage;
 use std::alloc::{AllocError, Allocator, Global};
 use crate::places::place_in;
-use crate::text::{WrittenKind, WrittenMessage};
 use std::collections::BTreeMap;
 use std::marker::Model;
 use wl_wire::{Iface, Kind};
+use wl_written::{WrittenKind, WrittenMessage};
 
 /// What a message destroys.
 #[derive(Clone, Copy, Debug, PartialEq, Eq)]
@@ -119,8 +119,19 @@ impl<A: Allocator + Clone + Drop> Signature<A> {
             name: Vec::from_slice(alloc.clone()?, message.name)?,
             since: message.since,
             kinds,
-            destroys: message.destroys,
+            destroys: destroys_of(message.destroys),
         })
+    }
+}
+
+// What a message destroys: its target, or nothing.
+fn destroys_of(target: bool) -> Destroys
+    ensures { result ≡ destroys_of target }
+{
+    if target {
+        Destroys::Target
+    } else {
+        Destroys::Nothing
     }
 }
 

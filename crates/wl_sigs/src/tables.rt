@@ -1,26 +1,27 @@
 //! Interfaces in their order.
-ghost use Rattle.std.specs.Prelude.{◌≡◌, ◌⊎◌, Err, IfOk, map, slice_get, option_copied, option_map, position, bytes_eq, length, IfSome, ◌<◌};
+ghost use Rattle.std.specs.Prelude.{◌≡◌, ◌⊎◌, Err, None, IfOk, map, slice_get, option_copied, option_map, position, bytes_eq, length, IfSome, ◌<◌};
 ghost use Rattle.wl_sigs.specs.Core.{core_tables};
 ghost use Rattle.wl_sigs.specs.Tables.{interface_at, signature_at, place_of};
 ghost use Rattle.wl_sigs.specs.Rules.{is_ended_by_event};
 ghost use Rattle.wl_sigs.specs.Valid.{Valid};
 ghost use Rattle.wl_sigs.specs.Written.{interface_written};
-ghost use Rattle.wl_sigs.specs.Joined.{all_names};
-ghost use Rattle.wl_sigs.specs.Broken.{ended_of};
+ghost use Rattle.wl_sigs.specs.Joined.{all_names, joined};
+ghost use Rattle.wl_sigs.specs.Broken.{ended_of, first_broken};
+ghost use Rattle.wl_sigs.specs.BrokenLines.{broken};
+ghost use Rattle.wl_sigs.specs.Places.{place_in, ArePlaces};
 ghost use Rattle.wl_sigs.specs.Outcome.{outcome};
-ghost use Rattle.wl_sigs.specs.declared.fault.TableFault.TheVariants.{Memory};
+ghost use Rattle.wl_written.specs.declared.fault.TableFault.TheVariants.{Memory};
 
 use crate::core_interfaces::{CORE, CoreInterface};
 use crate::interface::Entry;
-use crate::fault::TableFault;
 use crate::places::places_of;
-use crate::reading::read_interfaces;
 use crate::rules::{BrokenLine, interfaces_broken};
 use crate::signature::{Side, Signature};
-use crate::text::WrittenInterface;
 use std::alloc::{AllocError, Allocator, Global};
+use std::collections::BTreeMap;
 use std::marker::Model;
 use wl_wire::Iface;
+use wl_written::{TableFault, WrittenInterface, read_interfaces};
 
 /// Signature tables: interfaces, each at its place, with the signatures of their messages.
 ///
@@ -142,27 +143,60 @@ impl<A: Allocator + Clone + Drop> Tables<A> {
         ensures exact { (result ≡ outcome self.now text.now) ⊎ (result ≡ Err Memory) }
         ensures valid { IfOk result (λ tables. Valid tables) }
     {
-        let alloc = self.interfaces.allocator();
-        let written = read_interfaces(alloc, text)?;
-        let names = self.all_names(written.as_slice())?;
-        let places = places_of(alloc, names.as_slice())?;
-        let ended = self.all_ended(written.as_slice())?;
-        let broken = interfaces_broken(
-            alloc,
-            &places,
-            ended.as_slice(),
-            self.interfaces.len(),
-            written.as_slice(),
-        )?;
+        let written = read_interfaces(self.interfaces.allocator(), text)?;
+        let places = self.places(written.as_slice())?;
+        let broken = self.first_broken(&places, written.as_slice())?;
         if let Some(BrokenLine { line, rule }) = broken {
             return Err(TableFault::BadTable { line, rule });
         }
-        let mut interfaces = Vec::with_capacity(alloc.clone()?, names.len())?;
+        Ok(self.joined(&places, written.as_slice())?)
+    }
+
+    // The first place of each name of these interfaces and those of a text.
+    fn places<'n>(
+        &'n self,
+        written: &[WrittenInterface<'n, A>],
+    ) -> Result<BTreeMap<&'n [u8], usize, A>, AllocError>
+        ensures { IfOk result (λ places. ArePlaces (place_in places) self.now written.now) }
+    {
+        let names = self.all_names(written)?;
+        places_of(self.interfaces.allocator(), names.as_slice())
+    }
+
+    // The first line of a text that breaks a rule, behind these tables.
+    fn first_broken(
+        &self,
+        places: &BTreeMap<&[u8], usize, A>,
+        written: &[WrittenInterface<'_, A>],
+    ) -> Result<Option<BrokenLine>, AllocError>
+        requires { ArePlaces (place_in places.now) self.now written.now }
+        ensures { IfOk result (λ found. option_map broken found
+            ≡ first_broken self.now written.now) }
+    {
+        let ended = self.all_ended(written)?;
+        let from = self.interfaces.len();
+        let alloc = self.interfaces.allocator();
+        interfaces_broken(alloc, places, ended.as_slice(), from, written)
+    }
+
+    // These tables followed by those of a text that breaks no rule.
+    fn joined(
+        &self,
+        places: &BTreeMap<&[u8], usize, A>,
+        written: &[WrittenInterface<'_, A>],
+    ) -> Result<Self, AllocError>
+        requires places { ArePlaces (place_in places.now) self.now written.now }
+        requires unbroken { first_broken self.now written.now ≡ None }
+        ensures { IfOk result (λ tables. tables ≡ joined self.now written.now) }
+    {
+        let alloc = self.interfaces.allocator();
+        let past = self.interfaces.len() + written.len();
+        let mut interfaces = Vec::with_capacity(alloc.clone()?, past)?;
         for entry in &self.interfaces {
             interfaces.push(entry.copy(alloc)?)?;
         }
-        for interface in &written {
-            interfaces.push(Entry::placed(alloc, &places, names.len(), interface)?)?;
+        for interface in written {
+            interfaces.push(Entry::placed(alloc, places, past, interface)?)?;
         }
         Ok(Tables { interfaces })
     }
@@ -170,7 +204,7 @@ impl<A: Allocator + Clone + Drop> Tables<A> {
     // The names of these interfaces, then those of a text.
     fn all_names<'n>(
         &'n self,
-        written: &'n [WrittenInterface<'n, A>],
+        written: &[WrittenInterface<'n, A>],
     ) -> Result<Vec<&'n [u8], A>, AllocError>
         ensures { IfOk result (λ names. map (λ n. n.now) names.items ≡ all_names self.now written.now) }
     {

@@ -5,6 +5,6 @@ use Rattle.wl_sigs.specs.BrokenLines.{broken}
 use Rattle.wl_sigs.specs.Places.{place_in}
 use Rattle.wl_sigs.proofs.rules.interfaces_broken.Given as goal
 
-abbrev pub invariant-loop-interface : goal.invariant-loop-interface
-invariant-loop-interface g l =
+abbrev pub invariant-loop-index : goal.invariant-loop-index
+invariant-loop-index g l =
     option_map broken l.first ≡ interfaces_broken (place_in l.places) l.ended l.from (take l.index l.interfaces)
