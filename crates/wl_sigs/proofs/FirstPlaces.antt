@@ -2,7 +2,7 @@
 use Rattle.std.proofs.Common.{◌≡◌, ℕ, ◌+◌, ◌<◌, ◌≤◌, ◌==◌, true, false, cond, List, [], ◌∷◌, ◌++◌, length, get_or, take, refl, sym, ap, ◌∙◌, subst, Some, None, Option, Bool, bytes_eq, arith}
 use Rattle.std.specs.Prelude.{position, nat_lt, map}
 use Rattle.std.specs.List.{position_or_len}
-use Rattle.std.proofs.lemmas.List.{map_more, length-append}
+use Rattle.std.proofs.lemmas.List.{map_more, length-append, length-map, length-take-le}
 use Rattle.std.proofs.lemmas.List.Folds.{position_or_len_push}
 use Rattle.std.proofs.lemmas.List.Sums.{prefix_len-le-length}
 use Rattle.std.proofs.lemmas.Bool.Decides.{nat_tests}
@@ -12,6 +12,7 @@ use Rattle.std.proofs.lemmas.Option.{slice_get_within, slice_get-get_or}
 use Rattle.std.specs.Prelude.{not, slice_get, is_some}
 use Rattle.std.proofs.Common.{zero, suc}
 use Rattle.std.proofs.lemmas.Slice.Eq.{bytes_eq-Decides}
+use denote.Ref.{Bor}
 use Rattle.wl_sigs.specs.Joined.{first_place}
 
 -- the place of a name once one more stands behind the others
@@ -66,6 +67,16 @@ had_place places name q next some = by_test (bytes_eq name q) refl
       let same : name ≡ q = (bytes_eq-Decides name q).0 is in
       has_some (places q) (subst (λ n. is_some (places n) ≡ true) same some)
   by_test false is = stays (places q)
+
+-- the step of a loop over names
+pub places-next : (names : List (Bor (List ℕ))) (k : ℕ) (d : Bor (List ℕ)) (old new : List ℕ → Option ℕ) → k < length names
+    → ((q : List ℕ) → old q ≡ first_place (map (λ n. n.now) (take k names)) q)
+    → ((q : List ℕ) → new q ≡ with_name (old q) (bytes_eq (get_or names k d).now q) k)
+    → (q : List ℕ) → new q ≡ first_place (map (λ n. n.now) (take (k + 1) names)) q
+places-next names k d old new within before after q =
+    let len : length (map (λ (n : Bor (List ℕ)). n.now) (take k names)) ≡ k = omega (arith, length-map (take k names) (λ (n : Bor (List ℕ)). n.now), length-take-le k names (omega (arith, within))) in
+    let pushed = first_place-push (map (λ (n : Bor (List ℕ)). n.now) (take k names)) (get_or names k d).now q in
+    after q ∙ rw (before q, map_more (λ (n : Bor (List ℕ)). n.now) names k d within) (sym (pushed ∙ ap (with_name (first_place (map (λ (n : Bor (List ℕ)). n.now) (take k names)) q) (bytes_eq (get_or names k d).now q)) len))
 
 -- where a name has a first place, no earlier place has it
 stops_here : (passes : Bool) (n : ℕ) → passes ≡ true → cond (not passes) (1 + n) 0 ≤ 0

@@ -1,5 +1,5 @@
 -- Tables joined with those of a text are valid where no line of it breaks a rule.
-use Rattle.std.proofs.Common.{◌≡◌, ◌≢◌, ℕ, zero, suc, ◌+◌, ◌-◌, ◌<◌, ◌≤◌, ◌⊎◌, inl, inr, true, false, List, [], ◌∷◌, ◌++◌, length, map, refl, sym, ap, ◌∙◌, subst, Some, None, Option, Bool, slice_get, get_or, nat_lt, nat_le, arith}
+use Rattle.std.proofs.Common.{◌≡◌, ◌≢◌, ℕ, zero, suc, ◌+◌, ◌-◌, ◌<◌, ◌≤◌, ◌⊎◌, inl, inr, true, false, List, [], ◌∷◌, ◌++◌, length, map, refl, sym, ap, ◌∙◌, subst, Some, None, Option, Bool, slice_get, get_or, take, append_assoc, nat_lt, nat_le, arith}
 use Rattle.std.specs.List.{All, list_all, list_any}
 use Rattle.std.proofs.lemmas.Bool.{leb-true, ltb-true, eqb-true}
 use Rattle.std.proofs.lemmas.List.Elements.{All-weaker}
@@ -11,7 +11,7 @@ use Rattle.std.specs.Option.{option_map_or}
 use Rattle.std.specs.Prelude.{option_map, unwrap_or, ◌==◌, not, ◌||◌}
 use Rattle.std.proofs.Math.Path.{fun_ext}
 use Rattle.std.proofs.lemmas.Bool.Decides.{nat_tests}
-use Rattle.std.proofs.lemmas.List.{length-map, map-append}
+use Rattle.std.proofs.lemmas.List.{length-map, map-append, map_more}
 use Rattle.std.proofs.lemmas.Option.{slice_get_within, slice_get-get_or, slice_get-map, slice_get_past}
 use Rattle.wl_wire.specs.declared.kind.Kind.TheVariants as kinds
 use Rattle.wl_sigs.specs.declared.signature.Side.{Side}
@@ -353,3 +353,9 @@ pub joined_by : (tables : List Interface) (written : List WrittenInterface) (pla
     → ((name : List ℕ) → place name ≡ first_place (all_names tables written) name)
     → tables ++ map (interface_placed place (length tables + length written)) written ≡ joined tables written
 joined_by tables written place are = rw (fun_ext are, ← length_names tables written) refl
+
+-- the step of a loop that places interfaces behind others
+pub placed_more : (f : WrittenInterface → Interface) (tables : List Interface) (written : List WrittenInterface) (k : ℕ) (w : WrittenInterface) → k < length written → w ≡ get_or written k w
+    → (tables ++ map f (take k written)) ++ f w ∷ [] ≡ tables ++ map f (take (k + 1) written)
+placed_more f tables written k w within is =
+    rw (map_more f written k w within, ← is) (append_assoc tables (map f (take k written)) (f w ∷ []))

@@ -164,10 +164,10 @@ impl<A: Allocator + Clone + Drop> Tables<A> {
     }
 
     // The first line of a text that breaks a rule, behind these tables.
-    fn first_broken(
+    fn first_broken<'n>(
         &self,
-        places: &BTreeMap<&[u8], usize, A>,
-        written: &[WrittenInterface<'_, A>],
+        places: &BTreeMap<&'n [u8], usize, A>,
+        written: &[WrittenInterface<'n, A>],
     ) -> Result<Option<BrokenLine>, AllocError>
         requires { ArePlaces (place_in places.now) self.now written.now }
         ensures { IfOk result (λ found. option_map broken found
