@@ -6,7 +6,7 @@ mod JoinedLookup
 mod PlacedKinds
 pub mod JoinedValid
 mod KindsKept
-mod ValidKeeps
+pub mod ValidKeeps
 mod Deciding
 mod Distinct
 mod ByPlace

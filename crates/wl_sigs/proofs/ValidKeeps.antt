@@ -28,15 +28,16 @@ use Rattle.wl_sigs.proofs.PlacedKinds.{count_placed, NotEndedIn}
 use Rattle.wl_sigs.proofs.KindsKept.{all_tested, was_named, was_no_any, was_there, was_not_ended}
 
 -- what stands behind others
-behind : {X : Type 0} (xs ys : List X) (k : ℕ) (y : X) → slice_get ys k ≡ Some y → slice_get (xs ++ ys) (length xs + k) ≡ Some y
-behind [] ys k y at = at
-behind (x ∷ xs) ys k y at = behind xs ys k y at
+behind : {X : Type 0} (xs ys : List X) (k j : ℕ) (y : X) → j ≡ length xs + k → slice_get ys k ≡ Some y → slice_get (xs ++ ys) j ≡ Some y
+behind [] ys k j y e at = let same : j ≡ k = omega arith in rw same at
+behind (x ∷ xs) ys k zero y e at = absurd (omega arith)
+behind (x ∷ xs) ys k (suc j) y e at = behind xs ys k j y (omega arith) at
 
 -- the interface that one of the text becomes
 placed_at : (tables : List Interface) (written : List WrittenInterface) (k : ℕ) (w : WrittenInterface) → slice_get written k ≡ Some w
     → interface_at (joined tables written) (length tables + k) ≡ Some (placing tables written w)
 placed_at tables written k w at =
-    behind tables (map (placing tables written) written) k (placing tables written w) (slice_get-map (placing tables written) written k ∙ ap (option_map (placing tables written)) at)
+    behind tables (map (placing tables written) written) k (length tables + k) (placing tables written w) refl (slice_get-map (placing tables written) written k ∙ ap (option_map (placing tables written)) at)
 
 -- the message that one of the text becomes
 message_at : (tables : List Interface) (written : List WrittenInterface) (side : Side) (k : ℕ) (w : WrittenInterface) (o : ℕ) (m : WrittenMessage)
@@ -213,4 +214,6 @@ valid_unbroken tables written old valid =
   side_unbroken : (side : Side) (k : ℕ) (w : WrittenInterface) → slice_get written k ≡ Some w → side_broken place ended w side (written_of side w) ≡ None
   side_unbroken side k w at =
       messages_unbroken (message_rule place ended w side (first_place (map (λ n. n.name) (written_of side w)))) 0 (written_of side w)
-      (λ o m of. message_unbroken place ended w side (first_place (map (λ n. n.name) (written_of side w))) o m (message_keeps tables written two valid side k w o m at of))
+      (λ o m of.
+          let on : 0 + o ≡ o = omega arith in
+          rw on (message_unbroken place ended w side (first_place (map (λ n. n.name) (written_of side w))) o m (message_keeps tables written two valid side k w o m at of)))
