@@ -1,8 +1,7 @@
 -- The first line that breaks a rule.
-use Rattle.std.proofs.Common.{◌≡◌, ℕ, zero, suc, ◌+◌, ◌<◌, ◌≤◌, true, false, cond, List, [], ◌∷◌, ◌++◌, length, get_or, take, refl, sym, ap, ◌∙◌, subst, Some, None, Option, Bool, slice_get, not, add-zero, arith}
-use Rattle.std.specs.Prelude.{option_map, nat_lt}
+use Rattle.std.proofs.Common.{◌≡◌, ℕ, zero, suc, ◌+◌, ◌<◌, true, false, cond, List, [], ◌∷◌, ◌++◌, length, get_or, take, refl, sym, subst, Some, None, Option, Bool, slice_get, add-zero, arith}
+use Rattle.std.specs.Prelude.{nat_lt}
 use Rattle.std.proofs.lemmas.List.{take_more, length-take-le}
-use Rattle.std.proofs.lemmas.Bool.{cases_Bool}
 use Rattle.std.proofs.lemmas.Bool.Decides.{nat_tests}
 use Rattle.wl_written.specs.Text.{WrittenMessage, WrittenInterface}
 use Rattle.wl_sigs.specs.Broken.{Broken, earlier, broken_at, messages_broken, interface_broken, interfaces_broken}
@@ -54,9 +53,9 @@ each_message_keeps rule n (x ∷ ms) none zero m at =
     let here : rule n x ≡ None = unbroken x.line (rule n x) both.0 in
     rw add-zero (subst (λ y. rule n y ≡ None) same here)
   where
-  unbroken : (line : ℕ) (o : Option ℕ) → broken_at line o ≡ None → o ≡ None
-  unbroken line None e = refl
-  unbroken line (Some r) e = cc e
+    unbroken : (line : ℕ) (o : Option ℕ) → broken_at line o ≡ None → o ≡ None
+    unbroken line None e = refl
+    unbroken line (Some r) e = cc e
 each_message_keeps rule n (x ∷ ms) none (suc k) m at =
     let both = earlier_none (broken_at x.line (rule n x)) (messages_broken rule (n + 1) ms) none in
     let next : n + 1 + k ≡ n + suc k = omega arith in

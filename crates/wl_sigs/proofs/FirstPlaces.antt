@@ -1,6 +1,6 @@
 -- Maps from names to their first places.
 use Rattle.std.proofs.Common.{◌≡◌, ℕ, ◌+◌, ◌<◌, ◌≤◌, ◌==◌, true, false, cond, List, [], ◌∷◌, ◌++◌, length, get_or, take, refl, sym, ap, ◌∙◌, subst, Some, None, Option, Bool, bytes_eq, arith}
-use Rattle.std.specs.Prelude.{position, nat_lt, map}
+use Rattle.std.specs.Prelude.{nat_lt, map}
 use Rattle.std.specs.List.{position_or_len}
 use Rattle.std.proofs.lemmas.List.{map_more, length-append, length-map, length-take-le}
 use Rattle.std.proofs.lemmas.List.Folds.{position_or_len_push}
@@ -35,38 +35,38 @@ pub inserted : (places : List ℕ → Option ℕ) (name q : List ℕ) (next : �
     → cond (bytes_eq name q) (Some next) (places q) ≡ with_name (places q) (bytes_eq name q) next
 inserted places name q next none = by_test (bytes_eq name q) refl
   where
-  had_none : (o : Option ℕ) → is_some o ≡ false → Some next ≡ with_name o true next
-  had_none None e = refl
-  had_none (Some place) e = cc e
+    had_none : (o : Option ℕ) → is_some o ≡ false → Some next ≡ with_name o true next
+    had_none None e = refl
+    had_none (Some place) e = cc e
 
-  stays : (o : Option ℕ) → o ≡ with_name o false next
-  stays None = refl
-  stays (Some place) = refl
+    stays : (o : Option ℕ) → o ≡ with_name o false next
+    stays None = refl
+    stays (Some place) = refl
 
-  by_test : (t : Bool) → bytes_eq name q ≡ t → cond t (Some next) (places q) ≡ with_name (places q) t next
-  by_test true is =
-      let same : name ≡ q = (bytes_eq-Decides name q).0 is in
-      had_none (places q) (subst (λ n. is_some (places n) ≡ false) same none)
-  by_test false is = stays (places q)
+    by_test : (t : Bool) → bytes_eq name q ≡ t → cond t (Some next) (places q) ≡ with_name (places q) t next
+    by_test true is =
+        let same : name ≡ q = (bytes_eq-Decides name q).0 is in
+        had_none (places q) (subst (λ n. is_some (places n) ≡ false) same none)
+    by_test false is = stays (places q)
 
 -- the same where the name had a place
 pub had_place : (places : List ℕ → Option ℕ) (name q : List ℕ) (next : ℕ) → is_some (places name) ≡ true
     → places q ≡ with_name (places q) (bytes_eq name q) next
 had_place places name q next some = by_test (bytes_eq name q) refl
   where
-  has_some : (o : Option ℕ) → is_some o ≡ true → o ≡ with_name o true next
-  has_some None e = cc e
-  has_some (Some place) e = refl
+    has_some : (o : Option ℕ) → is_some o ≡ true → o ≡ with_name o true next
+    has_some None e = cc e
+    has_some (Some place) e = refl
 
-  stays : (o : Option ℕ) → o ≡ with_name o false next
-  stays None = refl
-  stays (Some place) = refl
+    stays : (o : Option ℕ) → o ≡ with_name o false next
+    stays None = refl
+    stays (Some place) = refl
 
-  by_test : (t : Bool) → bytes_eq name q ≡ t → places q ≡ with_name (places q) t next
-  by_test true is =
-      let same : name ≡ q = (bytes_eq-Decides name q).0 is in
-      has_some (places q) (subst (λ n. is_some (places n) ≡ true) same some)
-  by_test false is = stays (places q)
+    by_test : (t : Bool) → bytes_eq name q ≡ t → places q ≡ with_name (places q) t next
+    by_test true is =
+        let same : name ≡ q = (bytes_eq-Decides name q).0 is in
+        has_some (places q) (subst (λ n. is_some (places n) ≡ true) same some)
+    by_test false is = stays (places q)
 
 -- the step of a loop over names
 pub places-next : (names : List (Bor (List ℕ))) (k : ℕ) (d : Bor (List ℕ)) (old new : List ℕ → Option ℕ) → k < length names

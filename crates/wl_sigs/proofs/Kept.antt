@@ -1,8 +1,6 @@
 -- What a line keeps that breaks no rule.
 use Rattle.std.proofs.Common.{◌≡◌, ℕ, ◌+◌, true, false, List, map, refl, Some, None, Option, Bool, nat_le, nat_lt, length, slice_get, not, cond, ◌&&◌, arith}
 use Rattle.std.specs.List.{list_all, count_by}
-use Rattle.std.specs.Bool.{Decides}
-use Rattle.std.proofs.lemmas.Bool.Decides.{Decides-and}
 use Rattle.wl_sigs.specs.declared.signature.Side.{Side}
 use Rattle.wl_sigs.specs.declared.signature.Side.TheVariants.{Request, Event}
 use Rattle.wl_sigs.specs.Rules.{is_name}
@@ -108,7 +106,7 @@ kept place ended here i none =
       messages = λ side. by_side side sides.0 sides.1;
     }
   where
-  by_side : (side : Side) → side_broken place ended i Request i.requests ≡ None → side_broken place ended i Event i.events ≡ None
-      → (o : ℕ) (m : WrittenMessage) → slice_get (written_of side i) o ≡ Some m → MessageKeeps place ended i side (first_place (map (λ n. n.name) (written_of side i))) o m
-  by_side Request requests events = side_kept place ended i Request i.requests requests
-  by_side Event requests events = side_kept place ended i Event i.events events
+    by_side : (side : Side) → side_broken place ended i Request i.requests ≡ None → side_broken place ended i Event i.events ≡ None
+        → (o : ℕ) (m : WrittenMessage) → slice_get (written_of side i) o ≡ Some m → MessageKeeps place ended i side (first_place (map (λ n. n.name) (written_of side i))) o m
+    by_side Request requests events = side_kept place ended i Request i.requests requests
+    by_side Event requests events = side_kept place ended i Event i.events events

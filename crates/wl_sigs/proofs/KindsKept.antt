@@ -1,5 +1,5 @@
 -- What the kinds of a text must have been, where what they became keeps the rules.
-use Rattle.std.proofs.Common.{◌≡◌, ◌≢◌, ℕ, ◌<◌, true, false, List, [], ◌∷◌, map, refl, sym, ap, ◌∙◌, subst, Some, None, Option, Bool, slice_get, not, ◌&&◌, arith}
+use Rattle.std.proofs.Common.{◌≡◌, ◌≢◌, ℕ, ◌<◌, true, false, List, [], ◌∷◌, map, refl, sym, ◌∙◌, Some, None, Option, Bool, slice_get, not, ◌&&◌, arith}
 use Rattle.std.specs.Prelude.{option_map, unwrap_or, is_some}
 use Rattle.std.specs.List.{All, list_all}
 use Rattle.std.specs.Option.{option_map_or}
@@ -9,7 +9,7 @@ use Rattle.wl_wire.specs.declared.kind.Kind.TheVariants as kinds
 use Rattle.wl_wire.specs.declared.kind.Iface.{Iface}
 use Rattle.wl_sigs.specs.Tables.{Interface, interface_at, named_interface, has_destroying_event}
 use Rattle.wl_written.specs.Text.{WrittenKind, takes_interface}
-use Rattle.wl_sigs.specs.Joined.{iface_named, with_iface, kind_placed}
+use Rattle.wl_sigs.specs.Joined.{iface_named, with_iface}
 use Rattle.wl_sigs.specs.Broken.{is_new, is_object, is_ended}
 use Rattle.wl_sigs.proofs.PlacedKinds.{NotEndedIn}
 
@@ -82,13 +82,13 @@ was_not_ended tables place past ended ends (kinds.Obj n x) None free = refl
 was_not_ended tables place past ended ends (kinds.Obj n x) (Some name) free =
     object_free (place name) (λ i at. free n (as_iface (unwrap_or (place name) past)) i refl at)
   where
-  not_true : (o : Option Bool) → ((b : Bool) → o ≡ Some b → b ≡ false) → not (option_map_or (λ b. b) o false) ≡ true
-  not_true None all = refl
-  not_true (Some b) all = rw (all b refl) refl
+    not_true : (o : Option Bool) → ((b : Bool) → o ≡ Some b → b ≡ false) → not (option_map_or (λ b. b) o false) ≡ true
+    not_true None all = refl
+    not_true (Some b) all = rw (all b refl) refl
 
-  object_free : (o : Option ℕ) → ((i : Interface) → interface_at tables (unwrap_or o past) ≡ Some i → has_destroying_event i ≡ false) → not (is_ended ended o) ≡ true
-  object_free None all = refl
-  object_free (Some p) all = not_true (slice_get ended p) (λ b at. let it = ends p b at in sym it.2 ∙ all it.0 it.1)
+    object_free : (o : Option ℕ) → ((i : Interface) → interface_at tables (unwrap_or o past) ≡ Some i → has_destroying_event i ≡ false) → not (is_ended ended o) ≡ true
+    object_free None all = refl
+    object_free (Some p) all = not_true (slice_get ended p) (λ b at. let it = ends p b at in sym it.2 ∙ all it.0 it.1)
 was_not_ended tables place past ended ends (kinds.New x) iface free = refl
 was_not_ended tables place past ended ends kinds.Array iface free = refl
 was_not_ended tables place past ended ends kinds.Fd iface free = refl

@@ -1,10 +1,9 @@
 -- What the kinds of a text become.
-use Rattle.std.proofs.Common.{◌≡◌, ◌≢◌, ℕ, ◌+◌, ◌<◌, ◌≤◌, true, false, List, [], ◌∷◌, length, map, refl, sym, ap, ◌∙◌, subst, Some, None, Option, Bool, slice_get, not, cond, ◌&&◌, nat_lt, arith}
-use Rattle.std.specs.Prelude.{option_map, unwrap_or, position, is_some}
+use Rattle.std.proofs.Common.{◌≡◌, ◌≢◌, ℕ, ◌+◌, ◌<◌, true, false, List, [], ◌∷◌, length, map, refl, sym, ◌∙◌, subst, Some, None, Option, Bool, slice_get, not, cond, ◌&&◌, arith}
+use Rattle.std.specs.Prelude.{option_map, unwrap_or, is_some}
 use Rattle.std.specs.List.{All, list_all, count_by}
 use Rattle.std.specs.Option.{option_map_or}
 use Rattle.std.proofs.lemmas.List.Elements.{All-cons, All-nil}
-use Rattle.std.proofs.lemmas.Option.{slice_get_past}
 use Rattle.std.proofs.lemmas.List.Sums.{sum_by-cons}
 use Rattle.wl_wire.specs.declared.kind.Kind.{Kind}
 use Rattle.wl_wire.specs.declared.kind.Kind.TheVariants as kinds
@@ -12,7 +11,7 @@ use Rattle.wl_wire.specs.declared.kind.Iface.{Iface}
 use Rattle.wl_sigs.specs.Tables.{Interface, interface_at, new_objects, named_interface, has_destroying_event}
 use Rattle.wl_written.specs.Text.{WrittenKind, takes_interface}
 use Rattle.wl_sigs.specs.Joined.{iface_named, with_iface, kind_placed}
-use Rattle.wl_sigs.specs.Broken.{is_new, is_object, makes_object, makes_unnamed, takes_any, takes_ended, names_missing, is_ended}
+use Rattle.wl_sigs.specs.Broken.{is_new, is_object, makes_object, is_ended}
 
 abbrev as_iface : ℕ → Iface
 as_iface place = record { 0 = place }
@@ -25,10 +24,10 @@ all_placed test f P each (k ∷ ks) all =
     let b = both (test k) (list_all test ks) all in
     All-cons P (f k) (map f ks) (each k b.0) (all_placed test f P each ks b.1)
   where
-  both : (a b : Bool) → a && b ≡ true → (a ≡ true) × (b ≡ true)
-  both true true e = (refl, refl)
-  both true false e = cc e
-  both false b e = cc e
+    both : (a b : Bool) → a && b ≡ true → (a ≡ true) × (b ≡ true)
+    both true true e = (refl, refl)
+    both true false e = cc e
+    both false b e = cc e
 
 -- as many new objects
 counted : (place : List ℕ → Option ℕ) (past : ℕ) (kind : Kind) (iface : Option (List ℕ)) (more : List Kind) (n : ℕ) → length (new_objects more) ≡ n
@@ -113,13 +112,13 @@ not_ended tables place past ended ends none (kinds.Obj n x) (Some name) t null f
     let same : as_iface (unwrap_or (place name) past) ≡ f = cc e in
     object_ended (place name) t (subst (λ (y : Iface). interface_at tables y.0 ≡ Some i) (sym same) at)
   where
-  is_false : (o : Option Bool) (b : Bool) → o ≡ Some b → not (option_map_or (λ x. x) o false) ≡ true → b ≡ false
-  is_false o true is t = let no : not true ≡ true = rw is at t in cc no
-  is_false o false is t = refl
+    is_false : (o : Option Bool) (b : Bool) → o ≡ Some b → not (option_map_or (λ x. x) o false) ≡ true → b ≡ false
+    is_false o true is t = let no : not true ≡ true = rw is at t in cc no
+    is_false o false is t = refl
 
-  object_ended : (o : Option ℕ) → not (is_ended ended o) ≡ true → interface_at tables (unwrap_or o past) ≡ Some i → has_destroying_event i ≡ false
-  object_ended None t at = let no : None ≡ Some i = sym none ∙ at in cc no
-  object_ended (Some p) t at = is_false (slice_get ended p) (has_destroying_event i) (ends p i at) t
+    object_ended : (o : Option ℕ) → not (is_ended ended o) ≡ true → interface_at tables (unwrap_or o past) ≡ Some i → has_destroying_event i ≡ false
+    object_ended None t at = let no : None ≡ Some i = sym none ∙ at in cc no
+    object_ended (Some p) t at = is_false (slice_get ended p) (has_destroying_event i) (ends p i at) t
 not_ended tables place past ended ends none (kinds.New x) iface t null f i e at = cc e
 not_ended tables place past ended ends none kinds.Array iface t null f i e at = cc e
 not_ended tables place past ended ends none kinds.Fd iface t null f i e at = cc e

@@ -1,21 +1,18 @@
 -- Where tables joined with those of a text are valid, no line of the text breaks a rule.
-use Rattle.std.proofs.Common.{◌≡◌, ◌≢◌, ℕ, zero, suc, ◌+◌, ◌-◌, ◌<◌, ◌≤◌, ◌==◌, inl, inr, true, false, List, [], ◌∷◌, ◌++◌, length, map, refl, sym, ap, ◌∙◌, subst, Some, None, Option, Bool, slice_get, not, ◌||◌, nat_lt, nat_le, bytes_eq, arith}
-use Rattle.std.specs.List.{All, list_all, list_any, count_by, position_or_len}
-use Rattle.std.specs.Option.{option_map_or}
+use Rattle.std.proofs.Common.{◌≡◌, ◌≢◌, ℕ, zero, suc, ◌+◌, ◌<◌, ◌≤◌, ◌==◌, inl, inr, true, false, List, [], ◌∷◌, ◌++◌, length, map, refl, ap, ◌∙◌, Some, None, Option, Bool, slice_get, not, ◌||◌, arith}
+use Rattle.std.specs.List.{list_all, list_any, count_by}
 use Rattle.std.specs.Prelude.{option_map}
 use Rattle.std.proofs.lemmas.Bool.{le-leb, lt-ltb}
-use Rattle.std.proofs.lemmas.List.{length-map, map-append}
+use Rattle.std.proofs.lemmas.List.{length-map}
 use Rattle.std.proofs.lemmas.Option.{slice_get-map, slice_get_within}
-use Rattle.std.proofs.lemmas.Slice.Eq.{bytes_eq-Decides}
-use Rattle.wl_wire.specs.declared.kind.Kind.{Kind}
 use Rattle.wl_wire.specs.declared.kind.Iface.{Iface}
 use Rattle.wl_wire.specs.declared.kind.Kind.TheVariants as kinds
 use Rattle.wl_sigs.specs.declared.signature.Side.{Side}
 use Rattle.wl_sigs.specs.declared.signature.Side.TheVariants.{Request, Event}
 use Rattle.wl_sigs.specs.Rules.{is_empty}
-use Rattle.wl_sigs.specs.Tables.{Message, Interface, interface_at, messages_of, message_of, signature_at, named_interface, has_destroying_event}
-use Rattle.wl_sigs.specs.Valid.{Valid, HasFixedThree}
-use Rattle.wl_written.specs.Text.{WrittenKind, WrittenMessage, WrittenInterface}
+use Rattle.wl_sigs.specs.Tables.{Interface, interface_at, signature_at, named_interface, has_destroying_event}
+use Rattle.wl_sigs.specs.Valid.{Valid}
+use Rattle.wl_written.specs.Text.{WrittenMessage, WrittenInterface}
 use Rattle.wl_sigs.specs.Joined.{all_names, first_place, kind_placed, joined}
 use Rattle.wl_sigs.specs.Broken.{is_first, makes_object, makes_unnamed, takes_any, takes_ended, names_missing, most_new, names_objects, is_race_free, interface_rule, message_rule, messages_broken, side_broken, interface_broken, interfaces_broken, ended_of, first_broken}
 use Rattle.wl_sigs.proofs.RulesDecide.{decides_name}
@@ -54,8 +51,8 @@ stands_first names name here at alone =
     let first = first_place-of names name here at in
     rw first.1 (eq_true first.0 here (alone first.0 first.2))
   where
-  eq_true : (p q : ℕ) → p ≡ q → p == q ≡ true
-  eq_true p q e = grind arith
+    eq_true : (p q : ℕ) → p ≡ q → p == q ≡ true
+    eq_true p q e = grind arith
 
 interface_keeps : (tables : List Interface) (written : List WrittenInterface) → Valid (joined tables written) → (k : ℕ) (w : WrittenInterface) → slice_get written k ≡ Some w
     → InterfaceKeeps (first_place (all_names tables written)) (length tables + k) w
@@ -68,13 +65,13 @@ interface_keeps tables written valid k w at =
       version = le-leb 1 w.version (valid.sinces_in_range.versions _ _ here);
     }
   where
-  name_of : (p : ℕ) (i : Interface) → interface_at (joined tables written) p ≡ Some i → slice_get (all_names tables written) p ≡ Some i.name
-  name_of p i found = rw (← names_joined tables written) (slice_get-map (λ (i : Interface). i.name) (joined tables written) p ∙ ap (option_map (λ (i : Interface). i.name)) found)
+    name_of : (p : ℕ) (i : Interface) → interface_at (joined tables written) p ≡ Some i → slice_get (all_names tables written) p ≡ Some i.name
+    name_of p i found = rw (← names_joined tables written) (slice_get-map (λ (i : Interface). i.name) (joined tables written) p ∙ ap (option_map (λ (i : Interface). i.name)) found)
 
-  alone : (p : ℕ) → slice_get (all_names tables written) p ≡ Some w.name → p ≡ length tables + k
-  alone p found =
-      let it = mapped_at (λ (i : Interface). i.name) (joined tables written) p w.name (rw (names_joined tables written) found) in
-      valid.names_distinct.interfaces_distinct p (length tables + k) it.0 _ it.1 (placed_at tables written k w at) it.2
+    alone : (p : ℕ) → slice_get (all_names tables written) p ≡ Some w.name → p ≡ length tables + k
+    alone p found =
+        let it = mapped_at (λ (i : Interface). i.name) (joined tables written) p w.name (rw (names_joined tables written) found) in
+        valid.names_distinct.interfaces_distinct p (length tables + k) it.0 _ it.1 (placed_at tables written k w at) it.2
 
 -- what `ended_of` says of a place
 ended_is : (tables : List Interface) (written : List WrittenInterface) (p : ℕ) (b : Bool) → slice_get (ended_of tables written) p ≡ Some b
@@ -87,9 +84,9 @@ any_true test [] o x at passes = cc at
 any_true test (y ∷ ys) zero x at passes = let same : y ≡ x = cc at in rw (ap test same ∙ passes) refl
 any_true test (y ∷ ys) (suc o) x at passes = or_true (test y) (any_true test ys o x at passes)
   where
-  or_true : (a : Bool) → {b : Bool} → b ≡ true → a || b ≡ true
-  or_true true e = refl
-  or_true false e = e
+    or_true : (a : Bool) → {b : Bool} → b ≡ true → a || b ≡ true
+    or_true true e = refl
+    or_true false e = e
 
 no_messages : {X Y : Type 0} (f : X → Y) (xs : List X) → map f xs ≡ [] → is_empty xs ≡ true
 no_messages f [] none = refl
@@ -166,10 +163,10 @@ message_keeps tables written two valid side k w o m at of =
           m.kinds (valid.interfaces_there side _ _ _ here);
     }
   where
-  alone : (p : ℕ) → slice_get (map (λ n. n.name) (written_of side w)) p ≡ Some m.name → p ≡ o
-  alone p found =
-      let it = mapped_at (λ (n : WrittenMessage). n.name) (written_of side w) p m.name found in
-      valid.names_distinct.messages_distinct (length tables + k) side p o _ _ (message_at tables written side k w p it.0 at it.1) (message_at tables written side k w o m at of) it.2
+    alone : (p : ℕ) → slice_get (map (λ n. n.name) (written_of side w)) p ≡ Some m.name → p ≡ o
+    alone p found =
+        let it = mapped_at (λ (n : WrittenMessage). n.name) (written_of side w) p m.name found in
+        valid.names_distinct.messages_distinct (length tables + k) side p o _ _ (message_at tables written side k w p it.0 at it.1) (message_at tables written side k w o m at of) it.2
 
 -- no rule is broken where all tests pass
 interface_unbroken : (place : List ℕ → Option ℕ) (here : ℕ) (i : WrittenInterface) → InterfaceKeeps place here i → interface_rule place here i ≡ None
@@ -199,21 +196,21 @@ interfaces_unbroken place ended n (i ∷ is) none =
 pub valid_unbroken : (tables : List Interface) (written : List WrittenInterface) → Valid tables → Valid (joined tables written) → first_broken tables written ≡ None
 valid_unbroken tables written old valid =
     interfaces_unbroken place ended (length tables) written (λ k w at.
-        let own = interface_unbroken place (length tables + k) w (interface_keeps tables written valid k w at) in
-        rw (own, side_unbroken Request k w at, side_unbroken Event k w at) refl)
+    let own = interface_unbroken place (length tables + k) w (interface_keeps tables written valid k w at) in
+    rw (own, side_unbroken Request k w at, side_unbroken Event k w at) refl)
   where
-  place : List ℕ → Option ℕ
-  place = first_place (all_names tables written)
+    place : List ℕ → Option ℕ
+    place = first_place (all_names tables written)
 
-  ended : List Bool
-  ended = ended_of tables written
+    ended : List Bool
+    ended = ended_of tables written
 
-  two : 2 ≤ length tables
-  two = let within = slice_get_within tables 1 _ old.fixed_three.registry in omega (arith, within)
+    two : 2 ≤ length tables
+    two = let within = slice_get_within tables 1 _ old.fixed_three.registry in omega (arith, within)
 
-  side_unbroken : (side : Side) (k : ℕ) (w : WrittenInterface) → slice_get written k ≡ Some w → side_broken place ended w side (written_of side w) ≡ None
-  side_unbroken side k w at =
-      messages_unbroken (message_rule place ended w side (first_place (map (λ n. n.name) (written_of side w)))) 0 (written_of side w)
-      (λ o m of.
-          let on : 0 + o ≡ o = omega arith in
-          rw on (message_unbroken place ended w side (first_place (map (λ n. n.name) (written_of side w))) o m (message_keeps tables written two valid side k w o m at of)))
+    side_unbroken : (side : Side) (k : ℕ) (w : WrittenInterface) → slice_get written k ≡ Some w → side_broken place ended w side (written_of side w) ≡ None
+    side_unbroken side k w at =
+        messages_unbroken (message_rule place ended w side (first_place (map (λ n. n.name) (written_of side w)))) 0 (written_of side w)
+        (λ o m of.
+        let on : 0 + o ≡ o = omega arith in
+        rw on (message_unbroken place ended w side (first_place (map (λ n. n.name) (written_of side w))) o m (message_keeps tables written two valid side k w o m at of)))

@@ -1,7 +1,7 @@
 -- Which rules of valid tables the lines of a text break.
 use Rattle.std.specs.Prelude.{ℕ, ◌+◌, ◌==◌, ◌&&◌, ◌||◌, not, nat_le, nat_lt, List, [], ◌∷◌, ◌++◌, length, map, Bool, true, false, slice_get, Option, Some, None, option_map, if◌then◌else◌, is_some}
 use Rattle.std.specs.Option.{option_map_or}
-use Rattle.std.specs.List.{list_all, list_any, count_by, fold}
+use Rattle.std.specs.List.{list_all, list_any, count_by}
 use Rattle.wl_wire.specs.declared.kind.Kind.{Kind}
 use Rattle.wl_wire.specs.declared.kind.Kind.TheVariants as kinds
 use Rattle.wl_sigs.specs.declared.signature.Side.{Side}

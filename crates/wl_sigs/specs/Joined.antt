@@ -1,5 +1,5 @@
 -- The tables of a text behind others, with the names of their arguments' interfaces looked up.
-use Rattle.std.specs.Prelude.{ℕ, List, ◌++◌, length, map, bytes_eq, position, Option, Some, None, option_map, unwrap_or, Bool, true, false}
+use Rattle.std.specs.Prelude.{ℕ, List, ◌++◌, length, map, bytes_eq, position, Option, option_map, unwrap_or, Bool, true, false}
 use Rattle.wl_wire.specs.declared.kind.Kind.{Kind}
 use Rattle.wl_wire.specs.declared.kind.Kind.TheVariants as kinds
 use Rattle.wl_wire.specs.declared.kind.Iface.{Iface}

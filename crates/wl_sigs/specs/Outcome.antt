@@ -1,5 +1,5 @@
 -- What reading tables from a text gives.
-use Rattle.std.specs.Prelude.{◌≡◌, ℕ, List, [], ◌++◌, Option, Some, None, Result, Ok, Err}
+use Rattle.std.specs.Prelude.{ℕ, List, [], Option, Some, None, Result, Ok, Err}
 use Rattle.std.specs.Str.Lines.{lines}
 use Rattle.wl_written.specs.declared.fault.TableFault.{TableFault}
 use Rattle.wl_written.specs.declared.fault.TableFault.TheVariants.{BadLine, BadTable}

@@ -306,10 +306,7 @@ fn interface_broken<'n, A: Allocator + Clone + Drop>(
         interface.events.as_slice(),
     )?;
     let rule = interface_rule(places, here, interface);
-    Ok(earlier(
-        broken_at(interface.line, rule),
-        earlier(requests, events),
-    ))
+    Ok(earlier(broken_at(interface.line, rule), earlier(requests, events)))
 }
 
 /// The first line of interfaces that breaks a rule, where the first interface stands at `from`.

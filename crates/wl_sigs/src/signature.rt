@@ -5,8 +5,8 @@ ghost use Rattle.wl_sigs.specs.Places.{place_in};
 ghost use Rattle.wl_sigs.specs.Written.{message_written};
 
 use crate::core_interfaces::CoreMessage;
-use std::alloc::{AllocError, Allocator, Global};
 use crate::places::place_in;
+use std::alloc::{AllocError, Allocator, Global};
 use std::collections::BTreeMap;
 use std::marker::Model;
 use wl_wire::{Iface, Kind};

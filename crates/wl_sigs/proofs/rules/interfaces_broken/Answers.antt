@@ -1,4 +1,4 @@
-use Rattle.std.proofs.Common.{◌≡◌, sym, ◌∙◌}
+use Rattle.std.proofs.Common.{sym, ◌∙◌}
 use Rattle.wl_sigs.specs.Places.{place_in}
 use Rattle.wl_sigs.proofs.Earlier.{interfaces_broken-next}
 use Rattle.wl_sigs.proofs.rules.interfaces_broken.Goals as goal

@@ -1,4 +1,4 @@
-use Rattle.std.proofs.Common.{◌≡◌, take, map}
+use Rattle.std.proofs.Common.{◌≡◌, take}
 use Rattle.std.specs.Prelude.{option_map}
 use Rattle.wl_sigs.specs.Broken.{message_rule, messages_broken}
 use Rattle.wl_sigs.specs.BrokenLines.{broken}

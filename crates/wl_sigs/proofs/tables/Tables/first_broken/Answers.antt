@@ -1,4 +1,4 @@
-use Rattle.std.proofs.Common.{◌≡◌, ℕ, ◌≤◌, List, Bool, length, refl, subst, ◌∙◌, Option, arith}
+use Rattle.std.proofs.Common.{◌≡◌, length, refl, subst, ◌∙◌, Option, arith}
 use Rattle.std.specs.Prelude.{option_map, IfOk}
 use Rattle.std.proofs.Math.Path.{fun_ext}
 use Rattle.std.proofs.lemmas.Grind.{common_steps}
