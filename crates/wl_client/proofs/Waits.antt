@@ -1,6 +1,5 @@
 -- What a client does as it goes on reading.
-use Rattle.std.proofs.Common.{◌≡◌, ◌≢◌, ℕ, ◌+◌, ◌<◌, ◌≤◌, ◌⊎◌, inl, inr, Bool, true, false, cond, List, [], ◌∷◌, ◌++◌, length, map, take, drop, refl, sym, ap, subst, ◌∙◌, arith}
-use Rattle.std.specs.Prelude.{IsOk}
+use Rattle.std.proofs.Common.{◌≡◌, ◌≢◌, ℕ, ◌<◌, inl, inr, Bool, true, false, cond, List, [], ◌∷◌, ◌++◌, length, take, refl, sym, ap, subst, ◌∙◌}
 use Rattle.std.specs.declared.option.Option.{Option}
 use Rattle.std.specs.declared.option.Option.TheVariants.{None, Some}
 use Rattle.std.specs.declared.result.Result.{Result}
@@ -23,9 +22,9 @@ use Rattle.wl_end.proofs.Appended.{kept_again, kept_more, behind_again, more_beh
 use Rattle.wl_client.specs.declared.incoming.OwnedIncoming.{OwnedIncoming}
 use Rattle.wl_client.specs.Seen.{report_of, report_in}
 use Rattle.wl_client.specs.State.{State}
-use Rattle.wl_client.specs.Reports.{Report, IsNext, needs_memory, Event, Discarded, Deleted, Stray, Error, report, plain_report, error_report, delete_report, deleted, deleted_id, is_error_event, is_delete_event, answer_found, next_answer, state_found, after_next}
-use Rattle.wl_client.specs.Streams.{is_last, Reads, none, fault, error, next, ReadsSome, nothing, more, ReadsUntil, HasReport, WaitingIsRead, appended}
-use Rattle.wl_client.proofs.Comings.{Read, read, answers, leaves, failed_answer, not_failed, some_then, some_reads, some_one}
+use Rattle.wl_client.specs.Reports.{Report, IsNext, needs_memory, Stray, plain_report, error_report, delete_report, deleted, deleted_id, is_error_event, is_delete_event, answer_found, next_answer, state_found, after_next}
+use Rattle.wl_client.specs.Streams.{is_last, Reads, fault, error, ReadsSome, nothing, ReadsUntil, HasReport, WaitingIsRead, appended}
+use Rattle.wl_client.proofs.Comings.{read, answers, leaves, not_failed, some_then, some_reads, some_one}
 
 -- ---- which report is the last
 

@@ -8,7 +8,6 @@ use Rattle.wl_message.specs.InStep.{Part, Need, InStep}
 use Rattle.wl_objects.specs.declared.error.Fault.{Fault}
 use Rattle.wl_objects.specs.declared.error.NextError.{NextError}
 use Rattle.wl_objects.specs.declared.error.NextError.TheVariants as errors
-use Rattle.wl_message.specs.declared.amounts.Fed.{Fed}
 use Rattle.wl_end.specs.declared.streams.ReadAll.{ReadAll}
 use Rattle.wl_end.specs.Core.{with_arrived, no_room}
 use Rattle.wl_end.specs.Streams.{Wants, IsTaken, taken_bytes, taken_tokens, NoneFits}

@@ -1,10 +1,9 @@
 -- What a server has read once more was fed.
-use Rattle.std.proofs.Common.{◌≡◌, ◌≢◌, ℕ, suc, ◌+◌, ◌-◌, ◌<◌, ◌≤◌, ◌⊎◌, inl, inr, Bool, true, false, cond, List, [], ◌∷◌, ◌++◌, length, length-append, map, take, drop, refl, sym, ap, subst, ◌∙◌, arith}
+use Rattle.std.proofs.Common.{◌≡◌, ◌≢◌, ℕ, suc, ◌+◌, ◌-◌, ◌<◌, ◌≤◌, inr, Bool, true, false, cond, List, [], ◌∷◌, ◌++◌, length, take, drop, refl, sym, ap, subst, ◌∙◌, arith}
 use Rattle.std.specs.Prelude.{min, nat_le}
 use Rattle.std.specs.declared.option.Option.{Option}
-use Rattle.std.specs.declared.option.Option.TheVariants.{None, Some}
-use Rattle.std.specs.declared.result.Result.{Result}
-use Rattle.std.specs.declared.result.Result.TheVariants.{Ok, Err}
+use Rattle.std.specs.declared.option.Option.TheVariants.{None}
+use Rattle.std.specs.declared.result.Result.TheVariants.{Ok}
 use Rattle.std.proofs.lemmas.Bool.Decides.{nat_tests}
 use Rattle.std.proofs.lemmas.List.{append-nil, length-drop, take_all}
 use Rattle.std.proofs.Math.Seq.{take-add}
@@ -14,15 +13,15 @@ use Rattle.wl_message.specs.InStep.{Part, part_bytes, part_tokens}
 use Rattle.wl_objects.specs.declared.error.NextError.{NextError}
 use Rattle.wl_end.specs.declared.streams.ReadAll.{ReadAll}
 use Rattle.wl_end.specs.Core.{Core, feeds, no_room, in_room}
-use Rattle.wl_end.specs.Streams.{IsTaken, taken_bytes, taken_tokens, NoneFits}
-use Rattle.wl_end.proofs.Appended.{kept_again, behind_again, none_behind}
+use Rattle.wl_end.specs.Streams.{taken_bytes, taken_tokens, NoneFits}
+use Rattle.wl_end.proofs.Appended.{behind_again, none_behind}
 use Rattle.wl_end.proofs.Pieces.{taken_bytes-at, taken_tokens-at, is_taken_at, part_bytes-next, part_tokens-next, is_taken_none, taken_bytes-none, taken_tokens-none}
 use Rattle.wl_server.specs.declared.request.OwnedRequest.{OwnedRequest}
 use Rattle.wl_server.specs.State.{State}
 use Rattle.wl_server.specs.Seen.{report_of}
-use Rattle.wl_server.specs.Requests.{Report, next_answer, after_next}
+use Rattle.wl_server.specs.Requests.{Report, next_answer}
 use Rattle.wl_server.specs.Streams.{Reads, none, ReadsSome, nothing, ReadsUntil, ReadsAll, arrived, appended}
-use Rattle.wl_server.proofs.Comings.{some_stays, some_then, some_reads, arrived_again, arrived_nothing}
+use Rattle.wl_server.proofs.Comings.{some_stays, some_then, some_reads, arrived_again}
 use Rattle.wl_server.proofs.Waits.{until_then, sound_none, none_waits}
 
 -- ---- how much is fed

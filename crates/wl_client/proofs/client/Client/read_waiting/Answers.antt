@@ -1,8 +1,7 @@
-use Rattle.std.proofs.Common.{◌≡◌, false, arith, sym, ap, subst, ◌∙◌, ◌<◌, length}
+use Rattle.std.proofs.Common.{sym, ap, subst, ◌∙◌, ◌<◌, length}
 use Rattle.wl_end.proofs.Appended.{kept_same, none_behind}
 use Rattle.wl_client.specs.State.{State}
 use Rattle.wl_client.specs.Seen.{report_of}
-use Rattle.wl_client.specs.Reports.{Report}
 use Rattle.wl_client.specs.Streams.{ReadsSome, nothing, WaitingIsRead, appended}
 use Rattle.wl_client.proofs.Waits.{failed_after, fewer_wait, told_read, told_left, reads_more, reads_last, reads_stop, waiting_then, pushed_kept}
 use Rattle.wl_client.proofs.client.Client.read_waiting.Goals as goal

@@ -1,9 +1,4 @@
-use Rattle.std.proofs.Common.{◌≡◌, true, false, [], sym, ap, subst, ◌∙◌}
-use Rattle.std.specs.declared.result.Result.{Result}
-use Rattle.std.specs.declared.result.Result.TheVariants.{Ok, Err}
-use Rattle.std.specs.declared.option.Option.{Option}
-use Rattle.std.specs.declared.option.Option.TheVariants.{Some}
-use Rattle.wl_objects.specs.declared.error.NextError.{NextError}
+use Rattle.std.proofs.Common.{[], sym, ap, subst, ◌∙◌}
 use Rattle.wl_client.specs.State.{State}
 use Rattle.wl_client.specs.Streams.{ReadsSome, nothing, HasReport, WaitingIsRead}
 use Rattle.wl_client.proofs.Waits.{told_error, nothing_read}

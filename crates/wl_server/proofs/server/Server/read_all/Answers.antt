@@ -1,4 +1,4 @@
-use Rattle.std.proofs.Common.{◌≡◌, ◌+◌, ◌≤◌, ◌<◌, [], length, map, take, drop, suc, sym, ap, subst, ◌∙◌, refl, arith, add-one}
+use Rattle.std.proofs.Common.{◌≡◌, ◌+◌, [], length, map, take, sym, ap, subst, ◌∙◌, arith, add-one}
 use Rattle.std.specs.Prelude.{List, ℕ}
 use Rattle.std.specs.declared.option.Option.TheVariants.{None, Some}
 use Rattle.wl_message.specs.InStep.{part, part_bytes, part_tokens}
@@ -8,7 +8,7 @@ use Rattle.wl_end.proofs.Pieces.{parts_len, part_at, few_fit, none_fits_end}
 use Rattle.wl_server.specs.State.{State}
 use Rattle.wl_server.specs.Seen.{report_of}
 use Rattle.wl_server.specs.Requests.{Report}
-use Rattle.wl_server.specs.Streams.{Reads, ReadsSome, nothing, ReadsUntil, ReadsAll, arrived, appended}
+use Rattle.wl_server.specs.Streams.{ReadsSome, nothing, ReadsAll, arrived, appended}
 use Rattle.wl_server.proofs.Comings.{arrived_nothing}
 use Rattle.wl_server.proofs.Waits.{sound_none}
 use Rattle.wl_server.proofs.Feeds.{read_again, until_again, ends_between, ends_within, reads_piece, reads_to_none, room_is}
