@@ -3,14 +3,17 @@ ghost use Rattle.std.specs.Prelude.{◌≡◌, ◌≢◌, ◌++◌, length, take
 ghost use Rattle.wl_message.specs.Outgoing.{goes, waiting_bytes, waiting_tokens};
 ghost use Rattle.wl_end.specs.Core.{in_room, is_drained, feeds, with_arrived, with_gone};
 ghost use Rattle.wl_client.specs.State.{with_core};
+ghost use Rattle.wl_client.specs.Calls.{after_bind};
+ghost use Rattle.wl_client.specs.Reports.{after_next, next_answer};
+ghost use Rattle.waywire_c.specs.Statuses.{read};
+ghost use Rattle.waywire_c.specs.Values.{object_of};
 
 use crate::client_handle::ClientHandle;
 use crate::making;
 use crate::parts::address;
-use crate::reports::{Report, incoming, nothing, unread};
-use crate::statuses::{
-    BAD_SIZES, BAD_VALUE, NO_MEMORY, NOT_FOUND, OK, next_status, send_place, send_status,
-};
+use crate::reading::read_event;
+use crate::reports::Report;
+use crate::statuses::{BAD_SIZES, BAD_VALUE, NO_MEMORY, NOT_FOUND, OK, send_place, send_status};
 use crate::tables_handle::TablesHandle;
 use crate::values::{CAmounts, CObject, CSizes, CallArg, ReportArg, put_args};
 use std::alloc::Global;
@@ -177,21 +180,11 @@ pub extern "C" fn waywire_c_client_next(
     client: &mut ClientHandle,
     report: &mut Report,
     args: &mut [ReportArg],
-) -> u32 {
-    match client.get_mut().client.next() {
-        Ok(Some(read)) => {
-            *report = incoming(read, args);
-            OK
-        }
-        Ok(None) => {
-            *report = nothing();
-            OK
-        }
-        Err(why) => {
-            *report = unread(why);
-            next_status(why)
-        }
-    }
+) -> u32
+    ensures answer { result ≡ read (next_answer client.old.held.client) }
+    ensures state { client.new.held.client ≡ after_next client.old.held.client }
+{
+    read_event(&mut client.get_mut().client, report, args)
 }
 
 #[unsafe(no_mangle)]
@@ -203,6 +196,9 @@ pub extern "C" fn waywire_c_client_bind(
     version: u32,
     bound: &mut CObject,
 ) -> u32
+    ensures state { result ≡ 0
+        → client.new.held.client
+        ≡ after_bind client.old.held.client (object_of registry) name interface.now version }
     ensures unchanged { result ≢ 0 → client.new.held ≡ client.old.held }
 {
     let registry = registry.object();

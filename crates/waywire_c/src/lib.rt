@@ -11,6 +11,7 @@ mod client_handle;
 mod held;
 mod making;
 mod parts;
+mod reading;
 mod reports;
 mod server;
 mod server_handle;

@@ -46,6 +46,7 @@ pub struct Report {
 }
 
 /// A report of this kind and no more.
+#[inline(always)]
 fn plain(kind: u32) -> Report {
     Report {
         kind,
@@ -66,11 +67,13 @@ fn plain(kind: u32) -> Report {
 }
 
 /// The report where no message is whole.
+#[inline(always)]
 pub fn nothing() -> Report {
     plain(NOTHING)
 }
 
 /// Puts arguments into the first slots, as many as there are slots, and returns their number.
+#[inline(always)]
 fn put_shown(mut args: Args<'_>, slots: &mut [ReportArg]) -> usize {
     let count = args.len().min(slots.len());
     'places: for place in 0..count {
@@ -82,6 +85,7 @@ fn put_shown(mut args: Args<'_>, slots: &mut [ReportArg]) -> usize {
 }
 
 /// The report of a request.
+#[inline(always)]
 pub fn request(read: Request<'_>, slots: &mut [ReportArg]) -> Report {
     Report {
         opcode: u32::from(read.opcode),
@@ -92,6 +96,7 @@ pub fn request(read: Request<'_>, slots: &mut [ReportArg]) -> Report {
 }
 
 /// The report of what a client read.
+#[inline(always)]
 pub fn incoming(read: Incoming<'_>, slots: &mut [ReportArg]) -> Report {
     match read {
         Incoming::Event {

@@ -3,14 +3,18 @@ ghost use Rattle.std.specs.Prelude.{◌≡◌, ◌≢◌, ◌++◌, length, take
 ghost use Rattle.wl_message.specs.Outgoing.{goes, waiting_bytes, waiting_tokens};
 ghost use Rattle.wl_end.specs.Core.{in_room, is_drained, feeds, with_arrived, with_gone};
 ghost use Rattle.wl_server.specs.State.{with_core};
+ghost use Rattle.wl_server.specs.Calls.{after_drop, after_error, after_withdraw, drop_refusal, error_refusal, with_global, withdraw_refusal};
+ghost use Rattle.wl_server.specs.Requests.{after_next};
+ghost use Rattle.waywire_c.specs.Statuses.{sent, settled};
+ghost use Rattle.waywire_c.specs.Values.{iface_at, object_of};
 
 use crate::making;
 use crate::parts::address;
-use crate::reports::{Report, nothing, request, unread};
+use crate::reading::read_request;
+use crate::reports::Report;
 use crate::server_handle::ServerHandle;
 use crate::statuses::{
-    BAD_SIZES, BAD_VALUE, NO_MEMORY, NOT_FOUND, OK, global_status, next_status, send_place,
-    send_status,
+    BAD_SIZES, BAD_VALUE, NO_MEMORY, NOT_FOUND, OK, global_status, send_place, send_status,
 };
 use crate::tables_handle::TablesHandle;
 use crate::values::{CAmounts, CObject, CSizes, CallArg, ReportArg, put_args};
@@ -179,25 +183,19 @@ pub extern "C" fn waywire_c_server_next(
     server: &mut ServerHandle,
     report: &mut Report,
     args: &mut [ReportArg],
-) -> u32 {
-    match server.get_mut().server.next() {
-        Ok(Some(read)) => {
-            *report = request(read, args);
-            OK
-        }
-        Ok(None) => {
-            *report = nothing();
-            OK
-        }
-        Err(why) => {
-            *report = unread(why);
-            next_status(why)
-        }
-    }
+) -> u32
+    ensures state { result ≡ 0
+        → server.new.held.server ≡ after_next server.old.held.server }
+{
+    read_request(&mut server.get_mut().server, report, args)
 }
 
 #[unsafe(no_mangle)]
 pub extern "C" fn waywire_c_server_drop_object(server: &mut ServerHandle, object: CObject) -> u32
+    ensures answer { result ≡ sent (drop_refusal server.old.held.server.core (object_of object)) }
+    ensures state { result ≡ 0
+        → server.new.held.server ≡ with_core server.old.held.server
+        (after_drop server.old.held.server.core (object_of object)) }
     ensures unchanged { result ≢ 0 → server.new.held ≡ server.old.held }
 {
     match server.get_mut().server.drop_object(object.object()) {
@@ -213,6 +211,11 @@ pub extern "C" fn waywire_c_server_post_error(
     code: u32,
     text: &[u8],
 ) -> u32
+    ensures answer { result
+        ≡ sent (error_refusal server.old.held.server.core (object_of object) text.now) }
+    ensures state { result ≡ 0
+        → server.new.held.server ≡ with_core server.old.held.server
+        (after_error server.old.held.server.core (object_of object) code text.now) }
     ensures unchanged { result ≢ 0 → server.new.held ≡ server.old.held }
 {
     match server
@@ -232,6 +235,9 @@ pub extern "C" fn waywire_c_server_add_global(
     version: u32,
     name: &mut u32,
 ) -> u32
+    ensures state { result ≡ 0
+        → server.new.held.server
+        ≡ with_global server.old.held.server (iface_at interface) version }
     ensures unchanged { result ≢ 0 → server.new.held ≡ server.old.held }
 {
     match server
@@ -249,6 +255,9 @@ pub extern "C" fn waywire_c_server_add_global(
 
 #[unsafe(no_mangle)]
 pub extern "C" fn waywire_c_server_withdraw(server: &mut ServerHandle, name: u32) -> u32
+    ensures answer { result ≡ settled (withdraw_refusal server.old.held.server name) }
+    ensures state { result ≡ 0
+        → server.new.held.server ≡ after_withdraw server.old.held.server name }
     ensures unchanged { result ≢ 0 → server.new.held ≡ server.old.held }
 {
     match server.get_mut().server.withdraw(name) {

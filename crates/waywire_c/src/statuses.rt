@@ -1,6 +1,9 @@
 //! What a call says of itself: a number for each refusal and each fault. The numbers of the
 //! refusals S1 to S12 are 1 to 12, those of G2, G3 and G5 are 22, 23 and 25, and those of the faults
 //! F1 to F10 are 31 to 40.
+ghost use Rattle.std.specs.Prelude.{◌≡◌};
+ghost use Rattle.waywire_c.specs.Statuses.{send_status, global_status, fault_status, next_status};
+
 use wl_objects::{Fault, NextError, SendError};
 use wl_server::GlobalError;
 use wl_wire::ArgFault;
@@ -26,7 +29,9 @@ pub const BAD_SIZES: u32 = 63;
 pub const NOT_FOUND: u32 = 64;
 
 /// The status of a refusal to send.
-pub fn send_status(error: SendError) -> u32 {
+pub fn send_status(error: SendError) -> u32
+    ensures { result ≡ send_status error }
+{
     match error {
         SendError::Failed => FAILED,
         SendError::Stale => 2,
@@ -51,7 +56,9 @@ pub fn send_place(error: SendError) -> usize {
     }
 }
 
-pub fn global_status(error: GlobalError) -> u32 {
+pub fn global_status(error: GlobalError) -> u32
+    ensures { result ≡ global_status error }
+{
     match error {
         GlobalError::Failed => FAILED,
         GlobalError::BadGlobal => 22,
@@ -61,7 +68,9 @@ pub fn global_status(error: GlobalError) -> u32 {
     }
 }
 
-fn fault_status(fault: Fault) -> u32 {
+fn fault_status(fault: Fault) -> u32
+    ensures { result ≡ fault_status fault }
+{
     match fault {
         Fault::BadSize => 31,
         Fault::UnknownObject => 32,
@@ -77,7 +86,9 @@ fn fault_status(fault: Fault) -> u32 {
 }
 
 /// The status of a `next` that read no message.
-pub fn next_status(error: NextError) -> u32 {
+pub fn next_status(error: NextError) -> u32
+    ensures { result ≡ next_status error }
+{
     match error {
         NextError::Fault { fault, .. } => fault_status(fault),
         NextError::Failed => FAILED,

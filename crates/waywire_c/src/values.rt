@@ -88,12 +88,14 @@ pub struct CAmounts {
 }
 
 impl CObject {
+    ghost use Rattle.waywire_c.specs.Values.{object_of};
+
     pub const fn none() -> CObject {
         CObject { birth: 0, id: 0 }
     }
 
     pub fn of(object: Object) -> CObject
-        ensures { (result.id ≡ object.id) × (result.birth ≡ object.birth) }
+        ensures { object_of result ≡ object }
     {
         CObject {
             birth: object.birth,
@@ -102,7 +104,7 @@ impl CObject {
     }
 
     pub fn object(self) -> Object
-        ensures { (result.id ≡ self.id) × (result.birth ≡ self.birth) }
+        ensures { result ≡ object_of self }
     {
         Object {
             id: self.id,
@@ -155,6 +157,7 @@ impl CAmounts {
 }
 
 /// Where a slice begins; null where it is empty.
+#[inline(always)]
 pub fn start_of(bytes: &[u8]) -> *const u8 {
     match bytes.first() {
         Some(first) => ptr::from_ref(first),
@@ -171,6 +174,7 @@ pub fn start_of_tokens(tokens: &[u32]) -> *const u32 {
 }
 
 /// The argument of a call, where its kind is one of those that a call takes.
+#[inline(always)]
 fn arg_of<'a>(arg: &CallArg<'a>) -> Option<Arg<'a>> {
     match arg.kind {
         INT => Some(Arg::Int(arg.int)),
@@ -189,6 +193,7 @@ fn arg_of<'a>(arg: &CallArg<'a>) -> Option<Arg<'a>> {
 
 /// Puts the arguments of a call into the first slots, as many as there are slots, and returns their
 /// number. None where one is of a kind that no call takes.
+#[inline(always)]
 pub fn put_args<'a>(args: &[CallArg<'a>], slots: &mut [Arg<'a>]) -> Option<usize>
     ensures { IfSome result (λ count. (count ≤ length slots.new) × (length slots.new ≡ length slots.old)) }
 {
@@ -200,6 +205,7 @@ pub fn put_args<'a>(args: &[CallArg<'a>], slots: &mut [Arg<'a>]) -> Option<usize
 }
 
 /// An argument of this kind and no more.
+#[inline(always)]
 fn plain(kind: u32) -> ReportArg {
     ReportArg {
         kind,
@@ -211,6 +217,7 @@ fn plain(kind: u32) -> ReportArg {
     }
 }
 
+#[inline(always)]
 fn with_bytes(kind: u32, bytes: &[u8]) -> ReportArg {
     ReportArg {
         bytes: start_of(bytes),
@@ -219,6 +226,7 @@ fn with_bytes(kind: u32, bytes: &[u8]) -> ReportArg {
     }
 }
 
+#[inline(always)]
 fn with_object(kind: u32, object: Object) -> ReportArg {
     ReportArg {
         object: CObject::of(object),
@@ -226,6 +234,7 @@ fn with_object(kind: u32, object: Object) -> ReportArg {
     }
 }
 
+#[inline(always)]
 fn with_uint(kind: u32, uint: u32) -> ReportArg {
     ReportArg {
         uint,
@@ -233,6 +242,7 @@ fn with_uint(kind: u32, uint: u32) -> ReportArg {
     }
 }
 
+#[inline(always)]
 fn with_int(kind: u32, int: i32) -> ReportArg {
     ReportArg { int, ..plain(kind) }
 }
@@ -247,6 +257,7 @@ pub fn named(named: Named) -> ReportArg {
 }
 
 /// The argument of a report as C sees it.
+#[inline(always)]
 pub fn shown(got: GotRef<'_>) -> ReportArg {
     match got {
         GotRef::Int(number) => with_int(INT, number),
