@@ -6,9 +6,11 @@
 mod births;
 mod changes;
 mod cuts;
+mod dice;
 mod fault;
 mod refusals;
 mod replay;
+mod runs;
 mod sample;
 mod script;
 mod tally;
@@ -19,6 +21,7 @@ use cuts::judge_cut;
 use refusals::{Call, refuse};
 use refusing::RefusingAllocator;
 use replay::{Props, sweep_client, sweep_server};
+use runs::{KINDS, judge_runs};
 use sample::Sample;
 use std::process::ExitCode;
 use std::{env, fs, io};
@@ -88,7 +91,23 @@ fn sweep_all(rt: &HostRuntime) -> io::Result<bool> {
     println!(rt; "births")?;
     all = tell(rt, "at a client", born_at_client(props))? && all;
     all = tell(rt, "at a server", born_at_server(props))? && all;
+    println!(rt; "runs")?;
+    all = tell_runs(rt, props)? && all;
     Ok(all)
+}
+
+/// Plays the runs, and prints how they and their moves went. Whether all went well.
+fn tell_runs(rt: &HostRuntime, props: Props<'_>) -> io::Result<bool> {
+    match judge_runs(props) {
+        Ok(judged) => {
+            let mut all = tell(rt, "recorded lawfully", Ok(judged.runs))?;
+            for (name, tally) in KINDS.iter().zip(judged.moves.iter()) {
+                all = tell(rt, name, Ok(*tally))? && all;
+            }
+            Ok(all)
+        }
+        Err(trouble) => tell(rt, "recorded lawfully", Err(trouble)),
+    }
 }
 
 fn main(rt: HostRuntime) -> io::Result<ExitCode> {

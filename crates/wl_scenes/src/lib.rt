@@ -10,6 +10,7 @@ mod ends;
 mod line;
 mod moves;
 mod names;
+mod own;
 mod repeated;
 mod replies;
 mod scene;
@@ -22,6 +23,7 @@ pub use ends::End;
 pub use line::{Line, Memory};
 pub use moves::{arguments_of, bytes_of, iface_of, lend, message_of, read_arguments, read_move};
 pub use names::Names;
+pub use own::{begin_of, own_verdict};
 pub use repeated::Repeated;
 pub use replies::{
     OUT_OF_MEMORY, Teller, put_name, write_arguments, write_object, write_sent, write_stop,

@@ -1,0 +1,381 @@
+//! Random runs of a pair: whatever is done with it, what it recorded is lawful.
+
+use crate::dice::Dice;
+use crate::replay::Props;
+use crate::tally::Tally;
+use std::alloc::{AllocError, Global};
+use wl_message::Sizes;
+use wl_objects::{Object, SlotTable};
+use wl_scenes::{Trouble, own_verdict};
+use wl_session::{Carried, Move, Pair, Reply, SendArg, Verdict};
+use wl_sigs::{Side, Tables};
+use wl_wire::{Fixed, Iface, Kind};
+
+/// How many runs there are.
+const RUNS: u64 = 100;
+
+/// How many moves each has before an error ends it.
+const MOVES: usize = 600;
+
+/// How many it has after that.
+const LAST_MOVES: usize = 20;
+
+/// Boxes that are full now and then.
+const SIZES: Sizes = Sizes {
+    out_bytes: 400,
+    out_tokens: 6,
+    in_bytes: 4096,
+    in_tokens: 20,
+};
+
+const DISPLAY: Seen = Seen {
+    object: Object { id: 1, birth: 0 },
+    iface: Iface(0),
+};
+
+const REGISTRY: Iface = Iface(1);
+
+/// The kinds of moves, as a scene names them.
+pub const KINDS: [&str; 12] = [
+    "request",
+    "bind",
+    "event",
+    "drop",
+    "error",
+    "global",
+    "withdraw",
+    "announce",
+    "to-server",
+    "to-client",
+    "client-next",
+    "server-next",
+];
+
+/// How all runs went.
+#[derive(Clone, Copy)]
+pub struct Judged {
+    /// How many recordings were lawful up to the error.
+    pub runs: Tally,
+    /// Of each kind how many moves were made; those that did nothing are counted as faults.
+    pub moves: [Tally; 12],
+}
+
+/// An object that was made in a run, with its interface.
+#[derive(Clone, Copy)]
+struct Seen {
+    object: Object,
+    iface: Iface,
+}
+
+/// A move, and the interface of the object that it makes.
+#[derive(Drop)]
+struct Drawn {
+    action: Move,
+    makes: Option<Iface>,
+}
+
+impl Drawn {
+    fn of(action: Move) -> Drawn {
+        Drawn {
+            action,
+            makes: None,
+        }
+    }
+}
+
+/// What a run draws from.
+#[derive(Drop)]
+struct Run<'a> {
+    alloc: Global,
+    tables: &'a Tables,
+    dice: Dice,
+    /// The objects made so far, ended ones too.
+    seen: Vec<Seen>,
+    /// The interfaces of the globals, by their names.
+    globals: Vec<Iface>,
+}
+
+/// Plays all runs.
+pub fn judge_runs(props: Props<'_>) -> Result<Judged, Trouble> {
+    let mut judged = Judged {
+        runs: Tally::NONE,
+        moves: [Tally::NONE; 12],
+    };
+    for seed in 0..RUNS {
+        let mut pair = Pair::<SlotTable<Global>>::new(props.alloc, props.tables, SIZES, SIZES)?;
+        let mut run = Run::new(props, seed)?;
+        run.play(&mut pair, MOVES, &mut judged.moves)?;
+        let error = run.error();
+        run.make(&mut pair, error, &mut judged.moves)?;
+        run.play(&mut pair, LAST_MOVES, &mut judged.moves)?;
+        let verdict = own_verdict(&props.alloc, props.tables, &pair)?;
+        let is_lawful = matches!(verdict, Verdict::Lawful { .. });
+        judged
+            .runs
+            .count(false, is_lawful && pair.ended_at().is_some());
+    }
+    Ok(judged)
+}
+
+impl<'a> Run<'a> {
+    fn new(props: Props<'a>, seed: u64) -> Result<Run<'a>, AllocError> {
+        let mut seen = Vec::new(props.alloc);
+        seen.push(DISPLAY)?;
+        Ok(Run {
+            alloc: props.alloc,
+            tables: props.tables,
+            dice: Dice::new(seed),
+            seen,
+            globals: Vec::new(props.alloc),
+        })
+    }
+
+    /// Makes so many random moves.
+    fn play(
+        &mut self,
+        pair: &mut Pair<'_, SlotTable<Global>>,
+        count: usize,
+        moves: &mut [Tally],
+    ) -> Result<(), AllocError> {
+        for _ in 0..count {
+            let drawn = self.draw()?;
+            self.make(pair, drawn, moves)?;
+        }
+        Ok(())
+    }
+
+    /// Makes a move, in a run of its own.
+    fn make(
+        &mut self,
+        pair: &mut Pair<'_, SlotTable<Global>>,
+        drawn: Drawn,
+        moves: &mut [Tally],
+    ) -> Result<(), AllocError> {
+        let kind = kind_of(&drawn.action);
+        let mut list = Vec::new(self.alloc);
+        list.push(drawn.action)?;
+        let replies = pair.run(&list)?;
+        if let Some(tally) = moves.get_mut(kind) {
+            tally.count(
+                !replies.iter().all(|reply| is_done(reply)),
+                replies.len() == 1,
+            );
+        }
+        if let (Some(iface), Some(object)) = (drawn.makes, replies.first().and_then(made_by)) {
+            self.seen.push(Seen { object, iface })?;
+        }
+        Ok(())
+    }
+
+    /// An error about wl_display.
+    fn error(&self) -> Drawn {
+        Drawn::of(Move::PostError {
+            object: DISPLAY.object,
+            code: 3,
+            text: Vec::new(self.alloc),
+        })
+    }
+
+    /// A move of any kind but an error.
+    fn draw(&mut self) -> Result<Drawn, AllocError> {
+        match self.dice.below(24) {
+            0 | 1 | 2 | 3 | 4 => self.request(),
+            5 | 6 => self.bind(),
+            7 | 8 | 9 => self.event(),
+            10 => Ok(Drawn::of(Move::ServerDrop {
+                object: self.some_object().object,
+            })),
+            11 => self.global(),
+            12 => Ok(Drawn::of(Move::Withdraw {
+                name: self.dice.below(12) as u32,
+            })),
+            13 => Ok(Drawn::of(Move::Announce)),
+            14 | 15 => Ok(Drawn::of(Move::CarryToServer(self.amount()))),
+            16 | 17 => Ok(Drawn::of(Move::CarryToClient(self.amount()))),
+            18 | 19 | 20 => Ok(Drawn::of(Move::ClientNext)),
+            _ => Ok(Drawn::of(Move::ServerNext)),
+        }
+    }
+
+    /// How much a carry may move: often less than a message.
+    fn amount(&mut self) -> usize {
+        match self.dice.below(3) {
+            0 => self.dice.below(12),
+            1 => self.dice.below(100),
+            _ => 4096,
+        }
+    }
+
+    /// wl_display, or one of the last objects that were made.
+    fn some_object(&mut self) -> Seen {
+        if self.dice.below(6) == 0 {
+            return DISPLAY;
+        }
+        let back = self.dice.below(self.seen.len().min(16)).saturating_add(1);
+        let place = self.seen.len().saturating_sub(back);
+        self.seen.get(place).copied().unwrap_or(DISPLAY)
+    }
+
+    /// One of the last objects with this interface, or with any.
+    fn object_of(&mut self, iface: Option<Iface>) -> Option<Object> {
+        let mut fitting = Vec::new(self.alloc);
+        for seen in self.seen.iter().rev() {
+            if fitting.len() < 4 && iface.is_none_or(|iface| iface == seen.iface) {
+                fitting.push(seen.object).ok()?;
+            }
+        }
+        self.dice.pick(&fitting)
+    }
+
+    /// A request of an object.
+    fn request(&mut self) -> Result<Drawn, AllocError> {
+        let target = self.some_object();
+        let opcode = self.dice.below(8) as u16;
+        let kinds = self.kinds_of(target.iface, Side::Request, opcode)?;
+        let args = self.arguments(&kinds)?;
+        let action = Move::ClientSend {
+            target: target.object,
+            opcode,
+            args,
+        };
+        Ok(Drawn {
+            action,
+            makes: kinds.iter().find_map(|kind| made_kind(*kind)),
+        })
+    }
+
+    /// An event of an object.
+    fn event(&mut self) -> Result<Drawn, AllocError> {
+        let target = self.some_object();
+        let opcode = self.dice.below(6) as u16;
+        let kinds = self.kinds_of(target.iface, Side::Event, opcode)?;
+        let args = self.arguments(&kinds)?;
+        Ok(Drawn::of(Move::ServerSend {
+            target: target.object,
+            opcode,
+            args,
+        }))
+    }
+
+    /// A bind of a global by its right interface.
+    fn bind(&mut self) -> Result<Drawn, AllocError> {
+        let place = self.dice.below(self.globals.len());
+        let iface = self.globals.get(place).copied().unwrap_or(REGISTRY);
+        let mut name = Vec::new(self.alloc);
+        name.extend_from_slice(self.tables.name(iface).unwrap_or(&[]))?;
+        let registry = self.object_of(Some(REGISTRY)).unwrap_or(DISPLAY.object);
+        let action = Move::ClientBind {
+            registry,
+            name: u32::try_from(place.saturating_add(1)).unwrap_or(u32::MAX),
+            iface: name,
+            version: self.dice.below(4) as u32,
+        };
+        Ok(Drawn {
+            action,
+            makes: Some(iface),
+        })
+    }
+
+    /// One more global, of any interface.
+    fn global(&mut self) -> Result<Drawn, AllocError> {
+        let iface = Iface(self.dice.below(20) as u16);
+        let version = self.dice.below(6) as u32;
+        let most = self.tables.version(iface).unwrap_or(0);
+        if iface.0 >= 2 && version >= 1 && version <= most {
+            self.globals.push(iface)?;
+        }
+        Ok(Drawn::of(Move::AddGlobal { iface, version }))
+    }
+
+    /// The kinds of a message's arguments; none where there is no such message.
+    fn kinds_of(&self, iface: Iface, side: Side, opcode: u16) -> Result<Vec<Kind>, AllocError> {
+        let mut kinds = Vec::new(self.alloc);
+        if let Some(signature) = self.tables.message(iface, side, opcode) {
+            kinds.extend_from_slice(signature.kinds())?;
+        }
+        Ok(kinds)
+    }
+
+    fn arguments(&mut self, kinds: &[Kind]) -> Result<Vec<SendArg>, AllocError> {
+        let mut args = Vec::new(self.alloc);
+        for kind in kinds {
+            let arg = self.argument(*kind)?;
+            args.push(arg)?;
+        }
+        Ok(args)
+    }
+
+    fn argument(&mut self, kind: Kind) -> Result<SendArg, AllocError> {
+        Ok(match kind {
+            Kind::Int => SendArg::Int(self.dice.below(1000) as i32),
+            Kind::Uint => SendArg::Uint(self.dice.word()),
+            Kind::Fixed => SendArg::Fixed(Fixed::from_raw(self.dice.below(1000) as i32)),
+            Kind::Str { .. } => SendArg::Str(Some(self.text()?)),
+            Kind::Obj { iface, .. } => SendArg::Obj(self.object_of(iface)),
+            Kind::New(_) => SendArg::New,
+            Kind::Array => SendArg::Array(self.text()?),
+            Kind::Fd => SendArg::Fd(self.dice.word()),
+        })
+    }
+
+    /// A few letters.
+    fn text(&mut self) -> Result<Vec<u8>, AllocError> {
+        let mut text = Vec::new(self.alloc);
+        for _ in 0..self.dice.below(9) {
+            text.push(b'a')?;
+        }
+        Ok(text)
+    }
+}
+
+/// The interface of the object that an argument of a request makes.
+fn made_kind(kind: Kind) -> Option<Iface> {
+    match kind {
+        Kind::New(made) => made,
+        _ => None,
+    }
+}
+
+/// The place of a move's kind.
+fn kind_of(action: &Move) -> usize {
+    match action {
+        Move::ClientSend { .. } => 0,
+        Move::ClientBind { .. } => 1,
+        Move::ServerSend { .. } => 2,
+        Move::ServerDrop { .. } => 3,
+        Move::PostError { .. } => 4,
+        Move::AddGlobal { .. } => 5,
+        Move::Withdraw { .. } => 6,
+        Move::Announce => 7,
+        Move::CarryToServer(_) => 8,
+        Move::CarryToClient(_) => 9,
+        Move::ClientNext => 10,
+        Move::ServerNext => 11,
+    }
+}
+
+/// The object that a move made.
+fn made_by(reply: &Reply) -> Option<Object> {
+    match reply {
+        Reply::ClientSend(Ok(made)) => *made,
+        Reply::ClientBind(Ok(made)) => Some(*made),
+        _ => None,
+    }
+}
+
+/// Whether a move did something.
+fn is_done(reply: &Reply) -> bool {
+    match reply {
+        Reply::ClientSend(sent) | Reply::ServerSend(sent) => sent.is_ok(),
+        Reply::ClientBind(bound) => bound.is_ok(),
+        Reply::ServerDrop(done) | Reply::PostError(done) => done.is_ok(),
+        Reply::AddGlobal(added) => added.is_ok(),
+        Reply::Withdraw(done) => done.is_ok(),
+        Reply::Announce(written) => matches!(written, Ok(count) if *count > 0),
+        Reply::CarryToServer(carried) | Reply::CarryToClient(carried) => {
+            matches!(carried, Carried::Moved(amount) if amount.bytes > 0)
+        }
+        Reply::ClientNext(read) => matches!(read, Ok(Some(_))),
+        Reply::ServerNext(read) => matches!(read, Ok(Some(_))),
+    }
+}
