@@ -1,5 +1,5 @@
 -- What it means that a line is the first that breaks a rule, and that the rule is the least there.
-use Rattle.std.specs.Prelude.{◌≡◌, ℕ, ◌+◌, ◌<◌, ◌≤◌, ◌&&◌, not, nat_le, nat_lt, List, [], ◌∷◌, length, map, Bool, false, slice_get, Option, Some}
+use Rattle.std.specs.Prelude.{◌≡◌, ℕ, ◌+◌, ◌≤◌, ◌&&◌, not, nat_le, nat_lt, List, [], ◌∷◌, length, map, Bool, false, slice_get, Option, Some}
 use Rattle.std.specs.List.{list_all, count_by}
 use Rattle.wl_sigs.specs.declared.signature.Side.{Side}
 use Rattle.wl_sigs.specs.declared.signature.Side.TheVariants.{Request, Event}
