@@ -12,6 +12,8 @@ struct handle {
 
 
 uint32_t waywire_c_tables_core(void **tables);
+uint32_t waywire_c_tables_read(struct handle *, const void *text, size_t length, void **more,
+	size_t *line, uint32_t *rule);
 uint32_t waywire_c_tables_interface(struct handle *, const void *name, size_t length,
 	uint16_t *interface);
 uint32_t waywire_c_tables_name(struct handle *, uint16_t interface, const void **name,
@@ -112,6 +114,24 @@ waywire_status waywire_tables_core(waywire_tables **tables)
 	waywire_status status = waywire_c_tables_core(&made);
 	if (!status)
 		*tables = made;
+	return status;
+}
+
+waywire_status waywire_tables_read(const waywire_tables *tables, const void *text, size_t length,
+	waywire_tables **more, size_t *line, uint32_t *rule)
+{
+	if (!tables || !more)
+		return WAYWIRE_NULL;
+	struct handle handle = { (void *)tables };
+	void *made = NULL;
+	size_t no_line;
+	uint32_t no_rule;
+	waywire_status status = slice(&text, length, 1);
+	if (!status)
+		status = waywire_c_tables_read(&handle, text, length, &made, line ? line : &no_line,
+			rule ? rule : &no_rule);
+	if (!status)
+		*more = made;
 	return status;
 }
 
@@ -368,6 +388,8 @@ const char *waywire_strerror(waywire_status status)
 	case WAYWIRE_BAD_SIZES: return "sizes that no end has";
 	case WAYWIRE_NOT_FOUND: return "not found";
 	case WAYWIRE_TOO_LARGE: return "length is too large";
+	case WAYWIRE_BAD_LINE: return "bad line";
+	case WAYWIRE_BAD_TABLE: return "line breaks a rule of tables";
 	}
 	return "unknown status";
 }

@@ -19,8 +19,8 @@
  * `realloc` and `free` are called, and nothing else of the system. After `new` an end takes memory
  * only where an object opens (`send`, `bind`, `next` of a server) and in `add_global`.
  *
- * Threads.  One call at a time for each end, and for each tables; different ends can be used by
- * different threads. A call of an end reads its tables too, which no call changes.
+ * Threads.  Tables, and the ends that are made of them, are used by one thread, the one that made them.
+ * Another thread makes its own. No call is made from a signal handler.
  *
  * Statuses.  Each call that can refuse returns a waywire_status. Unless its own text says otherwise,
  * with a status other than WAYWIRE_OK nothing has changed and nothing was written to what the caller
@@ -88,7 +88,11 @@ typedef enum waywire_status {
 	WAYWIRE_BAD_VALUE = 62,      /* an argument of a kind that no call takes */
 	WAYWIRE_BAD_SIZES = 63,      /* sizes that no end has */
 	WAYWIRE_NOT_FOUND = 64,      /* no such interface, or the object is not live */
-	WAYWIRE_TOO_LARGE = 65       /* a length above PTRDIFF_MAX */
+	WAYWIRE_TOO_LARGE = 65,      /* a length above PTRDIFF_MAX */
+
+	/* Why a text gives no tables. */
+	WAYWIRE_BAD_LINE = 71,       /* a line has none of the forms */
+	WAYWIRE_BAD_TABLE = 72       /* a line breaks a rule of tables */
 } waywire_status;
 
 /* What a status says, in English. The text is static. A number that is no status has a text too. */
@@ -268,8 +272,16 @@ typedef struct waywire_report {
 typedef struct waywire_tables waywire_tables;
 
 /* Makes the tables of the core protocol (wayland.xml without data transfer). Tables are never freed
- * (some 10 KB): make them once, for all ends of the process. WAYWIRE_NO_MEMORY. */
+ * (some 10 KB): make them once, for all ends of a thread. WAYWIRE_NO_MEMORY. */
 waywire_status waywire_tables_core(waywire_tables **tables);
+
+/* Makes tables of these and of those that a text declares (docs/FORMATS.md; tools/tables-from-xml writes
+ * such texts). They are new tables, and are not freed either; the first stay as they are. WAYWIRE_BAD_LINE,
+ * and WAYWIRE_BAD_TABLE once each line has a form: `line` is the first such line, counted from 1, and for
+ * the second `rule` the least rule that it breaks, 1 to 9. WAYWIRE_NO_MEMORY. `line` and `rule` may be
+ * null. */
+waywire_status waywire_tables_read(const waywire_tables *tables, const void *text, size_t length,
+	waywire_tables **more, size_t *line, uint32_t *rule);
 
 /* The place of the interface of this name, which ends with a NUL. WAYWIRE_NOT_FOUND. */
 waywire_status waywire_tables_interface(const waywire_tables *tables, const char *name,

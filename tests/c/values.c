@@ -2,7 +2,7 @@
 #include "must.h"
 
 static const waywire_sizes sizes = { 65536, 64, 4096, 20 };
-static waywire_tables *tables;
+static waywire_tables *tables, *joined;
 static waywire_client *client;
 static waywire_server *server;
 static waywire_object display = { 0, 1 };
@@ -130,10 +130,32 @@ static void misspelled(void)
 	waywire_server_free(other);
 }
 
+/* A text of tables: read, with a bad line, and with a line that breaks a rule. */
+static void more_tables(void)
+{
+	static const char good[] = "interface wp_thing 2\nrequest destroy D\nrequest set_name s @2\n";
+	static const char bad[] = "interface wp_thing 2\n\nnonsense\n";
+	static const char broken[] = "interface wl_seat 1\n";
+	waywire_tables *more = NULL;
+	uint16_t interface;
+	uint32_t version, rule = 0;
+	size_t line = 0;
+	MUST(!waywire_tables_read(tables, good, strlen(good), &joined, NULL, NULL));
+	MUST(!waywire_tables_interface(joined, "wp_thing", &interface) && interface == 18);
+	MUST(!waywire_tables_version(joined, interface, &version) && version == 2);
+	MUST(waywire_tables_interface(tables, "wp_thing", &interface) == WAYWIRE_NOT_FOUND);
+	MUST(waywire_tables_read(tables, bad, strlen(bad), &more, &line, &rule) == WAYWIRE_BAD_LINE);
+	MUST(line == 3 && !more);
+	MUST(waywire_tables_read(tables, broken, strlen(broken), &more, &line, &rule)
+		== WAYWIRE_BAD_TABLE);
+	MUST(line == 1 && rule == 1 && !more);
+	MUST(waywire_tables_read(tables, NULL, 3, &more, NULL, NULL) == WAYWIRE_NULL);
+}
+
 static void texts(void)
 {
 	static const int all[] = { 0, 1, 2, 3, 4, 5, 6, 7, 8, 9, 10, 11, 12, 22, 23, 25, 31, 32, 33, 34,
-		35, 36, 37, 38, 39, 40, 51, 61, 62, 63, 64, 65 };
+		35, 36, 37, 38, 39, 40, 51, 61, 62, 63, 64, 65, 71, 72 };
 	for (size_t each = 0; each < sizeof all / sizeof *all; each++) {
 		const char *text = waywire_strerror((waywire_status)all[each]);
 		MUST(*text && strcmp(text, "unknown status"));
@@ -154,6 +176,7 @@ int main(void)
 	calls();
 	faults();
 	misspelled();
+	more_tables();
 	texts();
 	waywire_client_free(client);
 	waywire_server_free(server);

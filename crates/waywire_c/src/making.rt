@@ -6,7 +6,7 @@ use std::alloc::{AllocError, Global};
 use wl_client::Client;
 use wl_message::Sizes;
 use wl_server::Server;
-use wl_sigs::Tables;
+use wl_sigs::{TableFault, Tables};
 
 fn boxed<T: Drop>(alloc: Global, value: T) -> Result<Box<T>, AllocError> {
     match Box::new(alloc, value) {
@@ -15,15 +15,33 @@ fn boxed<T: Drop>(alloc: Global, value: T) -> Result<Box<T>, AllocError> {
     }
 }
 
-/// The core tables, which are kept until the process ends.
-pub fn core_tables(alloc: Global) -> Result<Box<HeldTables>, AllocError> {
-    let tables = boxed(alloc, Tables::core(alloc)?)?;
+/// Tables, which are kept until the process ends.
+fn kept(alloc: Global, tables: Tables) -> Result<Box<HeldTables>, AllocError> {
+    let tables = boxed(alloc, tables)?;
     boxed(
         alloc,
         HeldTables {
             tables: Box::leak(tables),
         },
     )
+}
+
+/// The core tables.
+pub fn core_tables(alloc: Global) -> Result<Box<HeldTables>, AllocError> {
+    kept(alloc, Tables::core(alloc)?)
+}
+
+/// These tables and those of a text.
+pub fn more_tables(
+    alloc: Global,
+    tables: &Tables,
+    text: &[u8],
+) -> Result<Box<HeldTables>, TableFault> {
+    let joined = tables.read_more(text)?;
+    match kept(alloc, joined) {
+        Ok(boxed) => Ok(boxed),
+        Err(_) => Err(TableFault::Memory),
+    }
 }
 
 pub fn client(

@@ -28,6 +28,12 @@ pub const BAD_SIZES: u32 = 63;
 /// The tables have no such interface, or the object is not live.
 pub const NOT_FOUND: u32 = 64;
 
+/// TB1: a line of a text of tables has none of the forms.
+pub const BAD_LINE: u32 = 71;
+
+/// TB2: a line of a text of tables breaks a rule.
+pub const BAD_TABLE: u32 = 72;
+
 /// The status of a refusal to send.
 pub fn send_status(error: SendError) -> u32
     ensures { result ≡ send_status error }

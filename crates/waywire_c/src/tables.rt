@@ -1,10 +1,11 @@
 //! What C calls of tables.
-use crate::making::core_tables;
+use crate::making::{core_tables, more_tables};
 use crate::parts::address;
-use crate::statuses::{NO_MEMORY, NOT_FOUND, OK};
+use crate::statuses::{BAD_LINE, BAD_TABLE, NO_MEMORY, NOT_FOUND, OK};
 use crate::tables_handle::TablesHandle;
 use crate::values::start_of;
 use std::alloc::Global;
+use wl_sigs::TableFault;
 use wl_wire::Iface;
 
 #[unsafe(no_mangle)]
@@ -15,6 +16,38 @@ pub extern "C" fn waywire_c_tables_core(alloc: Global, tables: &mut *mut u8) -> 
             OK
         }
         Err(_) => NO_MEMORY,
+    }
+}
+
+#[unsafe(no_mangle)]
+pub extern "C" fn waywire_c_tables_read(
+    alloc: Global,
+    tables: &mut TablesHandle,
+    text: &[u8],
+    more: &mut *mut u8,
+    line: &mut usize,
+    rule: &mut u32,
+) -> u32 {
+    match more_tables(alloc, tables.get_mut().tables, text) {
+        Ok(boxed) => {
+            *more = address(boxed);
+            OK
+        }
+        Err(TableFault::BadLine { line: bad }) => {
+            *line = bad;
+            BAD_LINE
+        }
+        Err(
+            TableFault::BadTable {
+                line: broken,
+                rule: least,
+            },
+        ) => {
+            *line = broken;
+            *rule = u32::from(least);
+            BAD_TABLE
+        }
+        Err(TableFault::Memory) => NO_MEMORY,
     }
 }
 
