@@ -1,6 +1,7 @@
 //! A job done over any reader and writers.
-ghost use Rattle.std.specs.Prelude.{◌≡◌, ◌≤◌, ◌⊎◌, ℕ, IfOk, IfErr, IsErr, Some, List, ◌≢◌};
+ghost use Rattle.std.specs.Prelude.{◌≡◌, ◌≤◌, ◌⊎◌, ℕ, IfOk, IfErr, IsErr, Option, Some, List, ◌≢◌};
 ghost use Rattle.wl_sigs.specs.Core.{core_tables};
+ghost use Rattle.wl_command.specs.declared.job.Job.{Job};
 ghost use Rattle.wl_jobs.specs.Failing.{IsReadFailure, IsRefusal};
 ghost use Rattle.wl_jobs.specs.Output.{Acted, IsChecked, IsDone, IsRead, IsRefused, IsTraced, ReadsFile};
 ghost use Rattle.wl_recording.specs.Text.{IsFirstBad};
@@ -21,9 +22,9 @@ const MOST: usize = 16_777_216;
 
 /// What a job prints, whole, and the exit status that goes with it.
 #[derive(Debug, Drop)]
-struct Printed<A: Allocator> {
-    text: Vec<u8, A>,
-    status: u8,
+pub(crate) struct Printed<A: Allocator> {
+    pub(crate) text: Vec<u8, A>,
+    pub(crate) status: u8,
     ghost known: { status ≤ 1 },
 }
 
@@ -113,6 +114,32 @@ fn output<'a, 'b, A: Allocator, R: Read>(
             let text = demo(alloc, &Tables::core(global)?, *piece)?;
             Ok(Printed { text, status: 0 })
         }
+        Job::Socket { .. } => Err(Failure::SocketFailed),
+    }
+}
+
+/// Writes what a job prints to `out`, or says on `err` why it prints nothing, and returns the exit
+/// status.
+pub(crate) fn finish<A: Allocator, O: Write, E: Write>(
+    output: Result<Printed<A>, Failure<'_>>,
+    out: &mut O,
+    err: &mut E,
+) -> u8
+    ensures acted { (job : Job) (known : Option (List ℕ))
+        → IfOk output.entry (λ o. IsDone job known o.text.items o.status)
+        → IfErr output.entry (IsRefused job known)
+        → Acted O.contents E.contents job known out.old out.new err.old err.new result }
+    ensures refused { IsErr output.entry
+        → ((result ≡ 3) ⊎ (result ≡ 4)) × (O.contents out.new ≡ O.contents out.old) }
+    ensures unwritten { result ≡ 4 → O.contents out.new ≡ O.contents out.old }
+    ensures statuses { (result ≤ 4) × (result ≢ 2) }
+{
+    match output {
+        Ok(output) => match write_through(out, &output.text) {
+            Ok(()) => output.status,
+            Err(_) => Failure::CannotWrite.tell(err),
+        },
+        Err(failure) => failure.tell(err),
     }
 }
 
@@ -121,7 +148,7 @@ fn output<'a, 'b, A: Allocator, R: Read>(
 ///
 /// Nothing is written to `out` before the whole output is there. `file` is what the job's file
 /// has, if it reads one; at most 16,777,217 bytes of it are read. The signature tables lie in the
-/// global memory.
+/// global memory. A job that needs a socket fails here, since this binds none.
 pub fn act<A: Allocator, R: Read, O: Write, E: Write>(
     alloc: A,
     global: Global,
@@ -142,11 +169,5 @@ pub fn act<A: Allocator, R: Read, O: Write, E: Write>(
     ensures unwritten { result ≡ 4 → O.contents out.new ≡ O.contents out.old }
     ensures statuses { (result ≤ 4) × (result ≢ 2) }
 {
-    match output(&alloc, global, job, file) {
-        Ok(output) => match write_through(out, &output.text) {
-            Ok(()) => output.status,
-            Err(_) => Failure::CannotWrite.tell(err),
-        },
-        Err(failure) => failure.tell(err),
-    }
+    finish(output(&alloc, global, job, file), out, err)
 }
