@@ -1,5 +1,6 @@
 //! One end of a connection, played at.
 
+use crate::lending::Lends;
 use crate::stage::Stage;
 use std::alloc::{AllocError, Global};
 use std::fmt::Write;
@@ -7,7 +8,7 @@ use wl_end::ReadAll;
 use wl_message::Piece;
 use wl_objects::{NextError, Object, State, Table};
 use wl_scenes::{
-    Actor, Chunk, End, Repeated, Trouble, Words, put_name, read_chunk, read_chunks, write_chunk,
+    Actor, Chunk, Repeated, Trouble, Words, put_name, read_chunk, read_chunks, write_chunk,
     write_stop,
 };
 use wl_sigs::Tables;
@@ -15,7 +16,7 @@ use wl_wire::Iface;
 
 /// An end, and what a scene has seen of it.
 #[derive(Drop)]
-pub struct AtEnd<'a, E: End + Drop> {
+pub struct AtEnd<'a, E: Lends + Drop> {
     pub alloc: Global,
     pub tables: &'a Tables,
     pub end: E,
@@ -26,7 +27,7 @@ pub struct AtEnd<'a, E: End + Drop> {
     pub pieces: usize,
 }
 
-impl<'a, E: End + Drop> Stage for AtEnd<'a, E> {
+impl<'a, E: Lends + Drop> Stage for AtEnd<'a, E> {
     fn play(&mut self, call: &str, reply: &mut String) -> Result<(), Trouble> {
         let mut words = Words::of(call);
         let verb = words.word()?;
@@ -46,7 +47,7 @@ impl<'a, E: End + Drop> Stage for AtEnd<'a, E> {
     }
 }
 
-impl<'a, E: End + Drop> AtEnd<'a, E> {
+impl<'a, E: Lends + Drop> AtEnd<'a, E> {
     /// Makes a call that is no move.
     fn play_other(
         &mut self,
@@ -55,6 +56,7 @@ impl<'a, E: End + Drop> AtEnd<'a, E> {
         reply: &mut String,
     ) -> Result<(), Trouble> {
         match verb {
+            "next-lent" => Ok(self.end.next_lent(&mut self.actor, reply)?),
             "feed" => self.feed(words.rest(), reply),
             "take" => self.take(words, true, reply),
             "go" => self.take(words, false, reply),

@@ -3,6 +3,7 @@
 #![tactic(auto)]
 
 mod ends;
+mod lending;
 mod pair;
 mod places;
 mod playing;

@@ -2,6 +2,7 @@
 ghost use Rattle.wl_message.specs.Arrived.{AreSizes};
 
 use crate::ends::AtEnd;
+use crate::lending::Lends;
 use crate::pair::AtPair;
 use crate::playing::{Played, Refusal, play};
 use crate::recording::AtRecording;
@@ -12,7 +13,7 @@ use wl_client::Client;
 use wl_message::Sizes;
 use wl_objects::Table;
 use wl_recording::Recording;
-use wl_scenes::{Actor, End, Line, Row, Scene, Trouble, Words};
+use wl_scenes::{Actor, Line, Row, Scene, Trouble, Words};
 use wl_server::Server;
 use wl_session::Pair;
 
@@ -162,7 +163,7 @@ fn at_server(
 }
 
 /// Plays a scene at an end.
-fn at_end<T: Table<Alloc = RefusingAllocator>, E: End<Table = T> + Drop>(
+fn at_end<T: Table<Alloc = RefusingAllocator>, E: Lends<Table = T> + Drop>(
     props: Props<'_>,
     end: E,
     scene: &Scene<'_>,

@@ -25,7 +25,7 @@ pub use names::Names;
 pub use repeated::Repeated;
 pub use replies::{
     OUT_OF_MEMORY, Teller, put_name, write_arguments, write_object, write_sent, write_stop,
-    write_verdict,
+    write_tokens, write_verdict,
 };
 pub use scene::{Row, Scene, is_told, read_scenes};
 pub use trouble::Trouble;

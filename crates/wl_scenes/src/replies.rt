@@ -100,7 +100,7 @@ impl<'a> Teller<'a> {
     }
 
     /// Appends a message's name and its object.
-    fn write_message(
+    pub fn write_message(
         self,
         out: &mut String,
         side: Side,
@@ -146,7 +146,8 @@ pub fn write_object(out: &mut String, object: Object) -> Result<(), AllocError> 
     write!(out, "{}/{}", object.id, object.birth)
 }
 
-fn write_tokens(out: &mut String, tokens: &[u32]) -> Result<(), AllocError> {
+/// Appends tokens, a space before each.
+pub fn write_tokens(out: &mut String, tokens: &[u32]) -> Result<(), AllocError> {
     for token in tokens {
         write!(out, " +{token}")?;
     }
