@@ -7,12 +7,16 @@ use Rattle.clap.specs.declared.builder.value_parser.ValueParser.TheVariants as p
 use Rattle.clap.specs.declared.error.kind.ErrorKind.{ErrorKind}
 use Rattle.clap.specs.declared.error.kind.ErrorKind.TheVariants.{DisplayHelp, DisplayVersion, OutOfMemory}
 use Rattle.wl_command.specs.declared.job.Job.{Job}
-use Rattle.wl_command.specs.declared.job.Job.TheVariants.{Trace, Check, Demo}
+use Rattle.wl_command.specs.declared.job.Job.TheVariants.{Trace, Check, Demo, Socket}
 use Rattle.wl_command.specs.declared.job.Stop.{Stop}
 
 -- the argument that names a recording: one word, which has to be there
 abbrev pub file_argument : Rule
 file_argument = record (new_rule (codes "FILE")) { required = true }
+
+-- the argument that says where the socket is bound: one word, which has to be there
+abbrev pub path_argument : Rule
+path_argument = record (new_rule (codes "PATH")) { required = true }
 
 -- `--piece N`, a number from 1 to 4096, and 4096 where it is not given
 abbrev pub piece_argument : Rule
@@ -23,7 +27,7 @@ piece_argument = record (new_rule (codes "piece")) {
   parser = Some (parser.Signed (pos 1) (pos 4096));
 }
 
--- the commands `trace`, `check` and `demo`
+-- the commands `trace`, `check`, `demo` and `socket`
 abbrev pub trace_command : App
 trace_command = with_rule (new_app (codes "trace")) file_argument
 
@@ -33,12 +37,16 @@ check_command = with_rule (new_app (codes "check")) file_argument
 abbrev pub demo_command : App
 demo_command = with_rule (new_app (codes "demo")) piece_argument
 
+abbrev pub socket_command : App
+socket_command = with_rule (new_app (codes "socket")) path_argument
+
 -- the program, which has to be given one of them
 abbrev pub program : App
 program = on_top (λ (s : Shape). record s { subcommand_required = true }) (new_app (codes "waywire"))
 
 abbrev pub command_line : App
-command_line = with_subcommand (with_subcommand (with_subcommand program trace_command.top) check_command.top) demo_command.top
+command_line =
+    with_subcommand (with_subcommand (with_subcommand (with_subcommand program trace_command.top) check_command.top) demo_command.top) socket_command.top
 
 -- the texts of words
 abbrev pub texts_of : {A : Type 0} → List (String A) → List Text
@@ -53,11 +61,13 @@ abbrev pub IsPiece : List Row → Option ℕ → Type 0
 IsPiece arguments (Some piece) = (digits : Text) × (one_of (codes "piece") arguments ≡ Some digits) × Spells digits piece
 IsPiece arguments None = (digits : Text) (piece : ℕ) → one_of (codes "piece") arguments ≡ Some digits → Spells digits piece → ⊥
 
--- What a command and its arguments ask for. A file has the name of the word that was given for it, unchanged; a number is the one that was given.
+-- What a command and its arguments ask for. A file has the name of the word that was given for it, unchanged, and so has a path; a number is the one
+-- that was given.
 abbrev pub IsGiven : Text → List Row → Job → Type 0
 IsGiven name arguments (Trace file) = (name ≡ codes "trace") × (first_of (codes "FILE") arguments ≡ Some (string_bytes file))
 IsGiven name arguments (Check file) = (name ≡ codes "check") × (first_of (codes "FILE") arguments ≡ Some (string_bytes file))
 IsGiven name arguments (Demo piece) = (name ≡ codes "demo") × IsPiece arguments (Some piece)
+IsGiven name arguments (Socket path) = (name ≡ codes "socket") × (first_of (codes "PATH") arguments ≡ Some (string_bytes path))
 
 -- the job that a command and its arguments ask for, or none where they ask for none
 abbrev pub Gives : Text → List Row → Option Job → Type 0

@@ -1,7 +1,7 @@
 //! What the words of a command line ask for.
-ghost use Rattle.std.specs.Prelude.{◌≡◌, List, [], IfOk, IfErr, codes, false, option_map, string_bytes};
+ghost use Rattle.std.specs.Prelude.{◌≡◌, List, [], IfOk, IfErr, false, option_map, string_bytes};
 ghost use Rattle.clap.specs.Words.{HasKind, app_of, fault_of, first_of, found_of, kind_of, rows_of, rule_of, subcommand_of, subcommand_rows_of};
-ghost use Rattle.wl_command.specs.Asking.{Asks, Gives, IsPiece, IsStop, Names, Stops, StopsFor, check_command, command_line, demo_command, file_argument, piece_argument, texts_of, trace_command};
+ghost use Rattle.wl_command.specs.Asking.{Asks, Gives, IsPiece, IsStop, Names, Stops, StopsFor, check_command, command_line, demo_command, file_argument, path_argument, piece_argument, socket_command, texts_of, trace_command};
 
 use clap::error::ErrorKind;
 use clap::{Arg, ArgMatches, Command, Error};
@@ -23,6 +23,9 @@ pub enum Job {
     Check { file: String },
     /// Print a session of both ends, in which at most so many bytes are carried at once: 1 to 4096.
     Demo { piece: u32 },
+    /// Print the same session, played over a Unix socket that is bound at this path and removed at
+    /// the end.
+    Socket { path: String },
 }
 
 /// Why there is no job.
@@ -45,7 +48,8 @@ fn command<'a>(alloc: Global) -> Result<Command<'a>, AllocError>
         .subcommand_required(true)
         .subcommand(trace(alloc)?)?
         .subcommand(check(alloc)?)?
-        .subcommand(demo(alloc)?)
+        .subcommand(demo(alloc)?)?
+        .subcommand(socket(alloc)?)
 }
 
 fn trace<'a>(alloc: Global) -> Result<Command<'a>, AllocError>
@@ -72,6 +76,14 @@ fn demo<'a>(alloc: Global) -> Result<Command<'a>, AllocError>
         .arg(piece(alloc))
 }
 
+fn socket<'a>(alloc: Global) -> Result<Command<'a>, AllocError>
+    ensures { IfOk result (λ c. app_of c ≡ socket_command) }
+{
+    Command::new(alloc, "socket")
+        .about("Prints the same session, played over a Unix socket")
+        .arg(path(alloc))
+}
+
 /// The argument that names a recording.
 fn file<'a>(alloc: Global) -> Arg<'a>
     ensures rule { rule_of result ≡ file_argument }
@@ -95,13 +107,27 @@ fn piece<'a>(alloc: Global) -> Arg<'a>
         .help("The most bytes carried at once, 1 to 4096")
 }
 
-/// The file that a command was given, or none.
-fn file_of(alloc: Global, matches: &ArgMatches<'_>) -> Result<Option<String>, AllocError>
-    ensures { IfOk result (λ r. option_map string_bytes r
-        ≡ first_of (codes "FILE") (rows_of (found_of matches.now))) }
+/// The argument that says where the socket is bound.
+fn path<'a>(alloc: Global) -> Arg<'a>
+    ensures rule { rule_of result ≡ path_argument }
+    ensures local { result.global ≡ false }
 {
-    match matches.get_str("FILE") {
-        Some(file) => Ok(Some(String::from_str(alloc, file)?)),
+    Arg::new(alloc, "PATH")
+        .required(true)
+        .help("Where the socket is bound; nothing may be there")
+}
+
+/// The word that a command was given for the argument of this name, or none.
+fn word_of(
+    alloc: Global,
+    matches: &ArgMatches<'_>,
+    name: &str,
+) -> Result<Option<String>, AllocError>
+    ensures { IfOk result (λ r. option_map string_bytes r
+        ≡ first_of name.now (rows_of (found_of matches.now))) }
+{
+    match matches.get_str(name) {
+        Some(word) => Ok(Some(String::from_str(alloc, word)?)),
         None => Ok(None),
     }
 }
@@ -118,9 +144,10 @@ fn named(alloc: Global, name: &str, given: &ArgMatches<'_>) -> Result<Option<Job
     ensures { IfOk result (Gives name.now (rows_of (found_of given.now))) }
 {
     match name {
-        "trace" => Ok(file_of(alloc, given)?.map(|file| Job::Trace { file })),
-        "check" => Ok(file_of(alloc, given)?.map(|file| Job::Check { file })),
+        "trace" => Ok(word_of(alloc, given, "FILE")?.map(|file| Job::Trace { file })),
+        "check" => Ok(word_of(alloc, given, "FILE")?.map(|file| Job::Check { file })),
         "demo" => Ok(piece_of(given).map(|piece| Job::Demo { piece })),
+        "socket" => Ok(word_of(alloc, given, "PATH")?.map(|path| Job::Socket { path })),
         _ => Ok(None),
     }
 }

@@ -1,7 +1,7 @@
 use Rattle.std.proofs.Common.{◌≡◌, ◌&&◌, ◌∙◌, Bool, true, false, not, rules, refl, ap, ap₂}
 use Rattle.std.proofs.lemmas.Result.{IfOk-weaker}
 use Rattle.clap.specs.Words.{App, app_of, with_subcommand}
-use Rattle.wl_command.specs.Asking.{check_command, command_line, demo_command, program, trace_command}
+use Rattle.wl_command.specs.Asking.{check_command, command_line, demo_command, program, socket_command, trace_command}
 use Rattle.wl_command.proofs.job.command.Goals as goal
 
 -- a plain command has no argument for all of its subcommands
@@ -19,4 +19,6 @@ returns c =
     let demo_local = is_local _ _ _ _ (ap (λ (a : App). a.top.is_plain) c.in_ok-demo.ensures) in
     let one = c.in_ok-subcommand.ensures.shape trace_local ∙ ap₂ with_subcommand top_is (ap (λ (a : App). a.top) c.in_ok-trace.ensures) in
     let two = c.in_ok-subcommand-2.ensures.shape check_local ∙ ap₂ with_subcommand one (ap (λ (a : App). a.top) c.in_ok-check.ensures) in
-    IfOk-weaker c.subcommand-3.result _ _ (λ r adds. adds.shape demo_local ∙ ap₂ with_subcommand two (ap (λ (a : App). a.top) c.in_ok-demo.ensures)) c.subcommand-3.ensures
+    let socket_local = is_local _ _ _ _ (ap (λ (a : App). a.top.is_plain) c.in_ok-socket.ensures) in
+    let three = c.in_ok-subcommand-3.ensures.shape demo_local ∙ ap₂ with_subcommand two (ap (λ (a : App). a.top) c.in_ok-demo.ensures) in
+    IfOk-weaker c.subcommand-4.result _ _ (λ r adds. adds.shape socket_local ∙ ap₂ with_subcommand three (ap (λ (a : App). a.top) c.in_ok-socket.ensures)) c.subcommand-4.ensures

@@ -1,0 +1,12 @@
+//! The session of the demonstration over two connected streams, as the two ends of a socket.
+#![tactic(auto)]
+
+mod end;
+mod error;
+mod session;
+mod showing;
+mod turn;
+
+pub use error::SocketError;
+pub use session::{Played, socket_session};
+pub use showing::socket_text;

@@ -1,0 +1,35 @@
+//! What is printed of the session.
+ghost use Rattle.std.specs.Prelude.{IfOk};
+ghost use Rattle.wl_socket.specs.Socket.{Shows};
+
+use crate::error::SocketError;
+use crate::session::{Played, socket_session};
+use std::alloc::{AllocError, Allocator};
+use std::io::{Read, Write};
+use wl_demo::write_agreement;
+use wl_session::trace;
+use wl_sigs::Tables;
+
+/// What the program prints of the session over two connected streams: the lines of what passed, and
+/// a last one, that both ends have the same objects and how many these are. Where they have not, the
+/// session has failed. No read and no write is made again.
+pub fn socket_text<A, C, S>(
+    alloc: A,
+    tables: &Tables,
+    client: C,
+    server: S,
+) -> Result<Vec<u8, A>, SocketError>
+where
+    A: Allocator + Clone + Drop,
+    C: Read + Write + Drop,
+    S: Read + Write + Drop,
+    ensures { IfOk result (λ text. Shows tables.now text.items) }
+{
+    let played = socket_session(alloc.clone()?, tables, client, server, 0)?;
+    if !played.agree {
+        return Err(SocketError::Failed);
+    }
+    let (mut text, _verdict) = trace(alloc, &played.recording, tables)?;
+    write_agreement(&mut text, true, played.objects)?;
+    Ok(text)
+}
