@@ -1,9 +1,53 @@
 //! Recorded sessions of Wayland clients, as text.
 #![tactic(auto)]
 
-use std::fs::File;
+use std::fs::{self, File};
+use std::os::unix::net::{SocketAddr, UnixListener, UnixStream};
 use std::{env, io};
-use wl_jobs::{Ending, run};
+use wl_jobs::{Bound, Ending, run};
+
+/// A Unix socket that is bound at the path of its address.
+struct Socket<'a> {
+    rt: &'a HostRuntime,
+    address: SocketAddr,
+    listener: UnixListener,
+}
+
+impl Bound for Socket<'_> {
+    type Stream = UnixStream;
+
+    fn connect(&self) -> io::Result<UnixStream> {
+        UnixStream::connect_addr(self.rt, &self.address)
+    }
+
+    fn accept(&self) -> io::Result<UnixStream> {
+        let (stream, _peer) = self.listener.accept()?;
+        Ok(stream)
+    }
+
+    fn remove(self) -> io::Result<()> {
+        let Socket {
+            rt,
+            address,
+            listener: _listener,
+        } = self;
+        match address.as_pathname() {
+            Some(path) => fs::remove_file(rt, path),
+            None => Ok(()),
+        }
+    }
+}
+
+/// Binds a socket at a path where nothing is.
+fn bind<'a>(rt: &'a HostRuntime, path: &str) -> io::Result<Socket<'a>> {
+    let address = SocketAddr::from_pathname(path)?;
+    let listener = UnixListener::bind_addr(rt, &address)?;
+    Ok(Socket {
+        rt,
+        address,
+        listener,
+    })
+}
 
 /// The words of the command line, the program's name first.
 fn words(rt: &HostRuntime) -> io::Result<Vec<String>> {
@@ -11,11 +55,11 @@ fn words(rt: &HostRuntime) -> io::Result<Vec<String>> {
 }
 
 fn main(rt: HostRuntime) -> Ending {
-    let open = |name: &str| File::open(&rt, name);
     run(
         rt.alloc(),
         words(&rt),
-        open,
+        |name: &str| File::open(&rt, name),
+        |path: &str| bind(&rt, path),
         &mut io::writer(&rt),
         &mut rt.stderr(),
     )

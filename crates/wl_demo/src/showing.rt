@@ -46,7 +46,7 @@ fn printed<T: Table>(
 }
 
 /// Appends the last line: how many objects the client has, and whether the server has the same.
-fn write_agreement<A: Allocator>(
+pub fn write_agreement<A: Allocator>(
     out: &mut Vec<u8, A>,
     agree: bool,
     objects: usize,

@@ -1,16 +1,34 @@
 -- The program's failures.
-use Rattle.std.specs.Prelude.{◌≡◌, ℕ, ◌<◌, List, ◌++◌, length, codes, Option, IfSome}
+use Rattle.std.specs.Prelude.{◌≡◌, ◌≢◌, ℕ, ◌<◌, List, ◌++◌, length, codes, Option, IfSome}
 use Rattle.std.specs.Fmt.{decimal}
 use Rattle.wl_recording.specs.declared.recording.RecordingError.{RecordingError}
 use Rattle.wl_recording.specs.declared.recording.RecordingError.TheVariants as recordings
 use Rattle.wl_recording.specs.Text.{IsFirstBad}
+use Rattle.std.specs.declared.io.ErrorKind.{ErrorKind}
+use Rattle.std.specs.declared.io.ErrorKind.TheVariants.{OutOfMemory}
+use Rattle.wl_socket.specs.declared.error.SocketError.{SocketError}
+use Rattle.wl_socket.specs.declared.error.SocketError.TheVariants as sockets
 use Rattle.wl_jobs.specs.declared.failure.Failure.{Failure}
-use Rattle.wl_jobs.specs.declared.failure.Failure.TheVariants.{CannotRead, TooLong, BadLine, CannotWrite, Memory}
+use Rattle.wl_jobs.specs.declared.failure.Failure.TheVariants.{CannotRead, TooLong, BadLine, CannotWrite, SocketFailed, Memory}
 
 -- what the faults of a recording are to the program
 abbrev pub recording_failure : RecordingError → Failure
 recording_failure (recordings.BadLine line) = BadLine line
 recording_failure recordings.Memory = Memory
+
+-- and what those of a session over a socket are
+abbrev pub socket_failure : SocketError → Failure
+socket_failure sockets.Failed = SocketFailed
+socket_failure sockets.Memory = Memory
+
+-- why a call of the socket failed
+abbrev pub IsSocketFailure : ErrorKind → Failure → Type 0
+IsSocketFailure kind SocketFailed = kind ≢ OutOfMemory
+IsSocketFailure kind Memory = kind ≡ OutOfMemory
+IsSocketFailure kind (CannotRead name) = ⊥
+IsSocketFailure kind TooLong = ⊥
+IsSocketFailure kind (BadLine line) = ⊥
+IsSocketFailure kind CannotWrite = ⊥
 
 -- the exit status
 abbrev pub status_of : Failure → ℕ
@@ -19,6 +37,7 @@ status_of (CannotRead name) = 3
 status_of TooLong = 3
 status_of (BadLine line) = 3
 status_of CannotWrite = 3
+status_of SocketFailed = 3
 
 -- what is printed of a failure
 abbrev pub failure_text : Failure → List ℕ
@@ -26,6 +45,7 @@ failure_text (CannotRead name) = codes "cannot read " ++ name.now
 failure_text TooLong = codes "file too long"
 failure_text (BadLine line) = codes "line " ++ decimal line ++ codes ": bad line"
 failure_text CannotWrite = codes "cannot write"
+failure_text SocketFailed = codes "socket failed"
 failure_text Memory = codes "out of memory"
 
 -- the line on standard error
@@ -39,6 +59,7 @@ IsReadFailure file known TooLong = IfSome known (λ all. 16777216 < length all)
 IsReadFailure file known Memory = Unit {0}
 IsReadFailure file known (BadLine line) = ⊥
 IsReadFailure file known CannotWrite = ⊥
+IsReadFailure file known SocketFailed = ⊥
 
 -- why a text that was read has no output
 abbrev pub IsRefusal : List ℕ → Failure → Type 0
@@ -47,3 +68,4 @@ IsRefusal text Memory = Unit {0}
 IsRefusal text (CannotRead name) = ⊥
 IsRefusal text TooLong = ⊥
 IsRefusal text CannotWrite = ⊥
+IsRefusal text SocketFailed = ⊥

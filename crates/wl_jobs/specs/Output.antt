@@ -8,10 +8,11 @@ use Rattle.wl_check.specs.declared.verdict.Verdict.{Verdict}
 use Rattle.wl_check.specs.Session.{Answers, session_of}
 use Rattle.wl_check.specs.Trace.{trace_of}
 use Rattle.wl_command.specs.declared.job.Job.{Job}
-use Rattle.wl_command.specs.declared.job.Job.TheVariants.{Trace, Check, Demo}
+use Rattle.wl_command.specs.declared.job.Job.TheVariants.{Trace, Check, Demo, Socket}
 use Rattle.wl_demo.specs.Demo.{IsShown}
+use Rattle.wl_socket.specs.Socket.{Shows}
 use Rattle.wl_jobs.specs.declared.failure.Failure.{Failure}
-use Rattle.wl_jobs.specs.declared.failure.Failure.TheVariants.{CannotRead, TooLong, BadLine, CannotWrite, Memory}
+use Rattle.wl_jobs.specs.declared.failure.Failure.TheVariants.{CannotRead, TooLong, BadLine, CannotWrite, SocketFailed, Memory}
 use Rattle.wl_jobs.specs.Failing.{failure_line, status_of}
 use Rattle.wl_jobs.specs.Writing.{AppendsFront}
 use Rattle.wl_jobs.specs.Verdict.{verdict_line, last_line, verdict_status}
@@ -49,18 +50,35 @@ abbrev pub IsDone : Job → Option (List ℕ) → List ℕ → ℕ → Type 0
 IsDone (Trace file) known output status = (text : List ℕ) × IsRead known text × IsTraced text output status
 IsDone (Check file) known output status = (text : List ℕ) × IsRead known text × IsChecked text output status
 IsDone (Demo piece) known output status = IsShown core_tables piece output × (status ≡ 0)
+IsDone (Socket path) known output status = Shows core_tables output × (status ≡ 0)
 
 -- the job reads a recording
 abbrev pub ReadsFile : Job → Type 0
 ReadsFile (Trace file) = Unit {0}
 ReadsFile (Check file) = Unit {0}
 ReadsFile (Demo piece) = ⊥
+ReadsFile (Socket path) = ⊥
 
 -- and its file has this name
 abbrev pub NamesFile : Job → List ℕ → Type 0
 NamesFile (Trace file) name = string_bytes file ≡ name
 NamesFile (Check file) name = string_bytes file ≡ name
 NamesFile (Demo piece) name = ⊥
+NamesFile (Socket path) name = ⊥
+
+-- the job binds a socket
+abbrev pub BindsSocket : Job → Type 0
+BindsSocket (Socket path) = Unit {0}
+BindsSocket (Trace file) = ⊥
+BindsSocket (Check file) = ⊥
+BindsSocket (Demo piece) = ⊥
+
+-- and its path is this
+abbrev pub NamesPath : Job → List ℕ → Type 0
+NamesPath (Socket path) name = string_bytes path ≡ name
+NamesPath (Trace file) name = ⊥
+NamesPath (Check file) name = ⊥
+NamesPath (Demo piece) name = ⊥
 
 -- Why a job prints nothing. A file is too long exactly where it has more bytes than may be read.
 abbrev pub IsRefused : Job → Option (List ℕ) → Failure → Type 0
@@ -68,7 +86,17 @@ IsRefused job known (CannotRead name) = NamesFile job name.now
 IsRefused job known TooLong = ReadsFile job × IfSome known (λ all. most_bytes < length all)
 IsRefused job known (BadLine n) = ReadsFile job × ((text : List ℕ) × IsRead known text × IsFirstBad text n)
 IsRefused job known CannotWrite = ⊥
+IsRefused job known SocketFailed = BindsSocket job
 IsRefused job known Memory = Unit {0}
+
+-- why a session over a socket prints nothing
+abbrev pub IsSocketRefusal : Failure → Type 0
+IsSocketRefusal SocketFailed = Unit {0}
+IsSocketRefusal Memory = Unit {0}
+IsSocketRefusal (CannotRead name) = ⊥
+IsSocketRefusal TooLong = ⊥
+IsSocketRefusal (BadLine n) = ⊥
+IsSocketRefusal CannotWrite = ⊥
 
 -- What a job over a reader and two writers does: it prints all and says nothing; or it prints nothing, for the failure of its status; or its
 -- output was made, and was not taken, or not all of it. A failure's line goes to standard error, as far as that takes it.

@@ -11,9 +11,9 @@ use Rattle.wl_command.specs.declared.job.Job.{Job}
 use Rattle.wl_command.specs.declared.job.Stop.{Stop}
 use Rattle.wl_command.specs.Asking.{Asks, Stops, texts_of}
 use Rattle.wl_jobs.specs.declared.failure.Failure.{Failure}
-use Rattle.wl_jobs.specs.declared.failure.Failure.TheVariants.{CannotRead, TooLong, BadLine, CannotWrite, Memory}
-use Rattle.wl_jobs.specs.Failing.{failure_line, status_of}
-use Rattle.wl_jobs.specs.Output.{Acted, NamesFile, ReadsFile}
+use Rattle.wl_jobs.specs.declared.failure.Failure.TheVariants.{CannotRead, TooLong, BadLine, CannotWrite, SocketFailed, Memory}
+use Rattle.wl_jobs.specs.Failing.{IsSocketFailure, failure_line, status_of}
+use Rattle.wl_jobs.specs.Output.{Acted, BindsSocket, NamesFile, NamesPath, ReadsFile}
 use Rattle.wl_jobs.specs.Writing.{AppendsFront}
 
 -- what stops a file from being opened
@@ -23,18 +23,26 @@ IsOpenFailure name kind Memory = kind ≡ OutOfMemory
 IsOpenFailure name kind TooLong = ⊥
 IsOpenFailure name kind (BadLine line) = ⊥
 IsOpenFailure name kind CannotWrite = ⊥
+IsOpenFailure name kind SocketFailed = ⊥
 
 -- A job that names a file is done over the very reader that opening this file gave. Where it cannot be opened nothing is printed, and standard
--- error is given the failure's line: the status is 4 where it is out of memory, and else 3. A job that reads none is done over an empty one.
-pub data Opened {R O E : Type 0} (remaining : R → Option (List ℕ)) (contents : O → Option (List ℕ)) (said : E → Option (List ℕ))
-    (opens : List ℕ → Result R Error → Type 0) (job : Job) (out out' : O) (err err' : E) (status : ℕ) : Type 0 where
+-- error is given the failure's line: the status is 4 where it is out of memory, and else 3. A job with a socket is done over the one that was
+-- bound at its path; where none could be bound, the same is said of that. A job that has neither is done over an empty file.
+pub data Opened {R S O E : Type 0} (remaining : R → Option (List ℕ)) (contents : O → Option (List ℕ)) (said : E → Option (List ℕ))
+    (opens : List ℕ → Result R Error → Type 0) (binds : List ℕ → Result S Error → Type 0) (job : Job) (out out' : O) (err err' : E) (status : ℕ)
+    : Type 0 where
   over : (name : List ℕ) (file : R) → NamesFile job name → opens name (Ok file) → Acted contents said job (remaining file) out out' err err' status
-      → Opened remaining contents said opens job out out' err err' status
+      → Opened remaining contents said opens binds job out out' err err' status
   not_opened : (name : List ℕ) (why : Error) (failure : Failure) → NamesFile job name → opens name (Err why) → IsOpenFailure name (error_kind why) failure
       → status ≡ status_of failure → out' ≡ out → AppendsFront (said err) (said err') (failure_line failure)
-      → Opened remaining contents said opens job out out' err err' status
-  alone : (known : Option (List ℕ)) → (ReadsFile job → ⊥) → Acted contents said job known out out' err err' status
-      → Opened remaining contents said opens job out out' err err' status
+      → Opened remaining contents said opens binds job out out' err err' status
+  bound : (path : List ℕ) (socket : S) (known : Option (List ℕ)) → NamesPath job path → binds path (Ok socket)
+      → Acted contents said job known out out' err err' status → Opened remaining contents said opens binds job out out' err err' status
+  not_bound : (path : List ℕ) (why : Error) (failure : Failure) → NamesPath job path → binds path (Err why) → IsSocketFailure (error_kind why) failure
+      → status ≡ status_of failure → out' ≡ out → AppendsFront (said err) (said err') (failure_line failure)
+      → Opened remaining contents said opens binds job out out' err err' status
+  alone : (known : Option (List ℕ)) → (ReadsFile job → ⊥) → (BindsSocket job → ⊥) → Acted contents said job known out out' err err' status
+      → Opened remaining contents said opens binds job out out' err err' status
 
 -- Help is printed and nothing is said, or the output did not take it, or not all of it; for anything else nothing is printed, the status is that of
 -- the stop, and standard error is given its text, or the line that says out of memory, as far as it takes that.
@@ -56,11 +64,12 @@ pub data Unread {E : Type 0} (said : E → Option (List ℕ)) (kind : ErrorKind)
   no_text : kind ≢ OutOfMemory → status ≡ 2 → AppendsFront (said err) (said err') no_text_line → Unread said kind err err' status
 
 -- The words ask for a job, and this job is done; or they ask for none, and are told why; or they could not be read.
-pub data Runs {A M R O E : Type 0} (words : Result (Vec (String A) M) Error) (remaining : R → Option (List ℕ)) (contents : O → Option (List ℕ))
-    (said : E → Option (List ℕ)) (opens : List ℕ → Result R Error → Type 0) (out out' : O) (err err' : E) (status : ℕ) : Type 0 where
+pub data Runs {A M R S O E : Type 0} (words : Result (Vec (String A) M) Error) (remaining : R → Option (List ℕ)) (contents : O → Option (List ℕ))
+    (said : E → Option (List ℕ)) (opens : List ℕ → Result R Error → Type 0) (binds : List ℕ → Result S Error → Type 0) (out out' : O) (err err' : E)
+    (status : ℕ) : Type 0 where
   did : (list : Vec (String A) M) (job : Job) → words ≡ Ok list → Asks (texts_of list.items) job
-      → Opened remaining contents said opens job out out' err err' status → Runs words remaining contents said opens out out' err err' status
+      → Opened remaining contents said opens binds job out out' err err' status → Runs words remaining contents said opens binds out out' err err' status
   stopped : (list : Vec (String A) M) (stop : Stop) → words ≡ Ok list → Stops (texts_of list.items) stop
-      → Told contents said stop out out' err err' status → Runs words remaining contents said opens out out' err err' status
+      → Told contents said stop out out' err err' status → Runs words remaining contents said opens binds out out' err err' status
   not_read : (why : Error) → words ≡ Err why → Unread said (error_kind why) err err' status → out' ≡ out
-      → Runs words remaining contents said opens out out' err err' status
+      → Runs words remaining contents said opens binds out out' err err' status

@@ -1,8 +1,9 @@
 //! A job done over any reader and writers.
-ghost use Rattle.std.specs.Prelude.{◌≡◌, ◌≤◌, ◌⊎◌, ℕ, IfOk, IfErr, IsErr, Some, List, ◌≢◌};
+ghost use Rattle.std.specs.Prelude.{◌≡◌, ◌≤◌, ◌⊎◌, ℕ, IfOk, IfErr, IsErr, Option, Some, List, ◌≢◌};
 ghost use Rattle.wl_sigs.specs.Core.{core_tables};
+ghost use Rattle.wl_command.specs.declared.job.Job.{Job};
 ghost use Rattle.wl_jobs.specs.Failing.{IsReadFailure, IsRefusal};
-ghost use Rattle.wl_jobs.specs.Output.{Acted, IsChecked, IsDone, IsRead, IsRefused, IsTraced, ReadsFile};
+ghost use Rattle.wl_jobs.specs.Output.{Acted, BindsSocket, IsChecked, IsDone, IsRead, IsRefused, IsTraced, ReadsFile};
 ghost use Rattle.wl_recording.specs.Text.{IsFirstBad};
 
 use crate::failure::Failure;
@@ -21,9 +22,9 @@ const MOST: usize = 16_777_216;
 
 /// What a job prints, whole, and the exit status that goes with it.
 #[derive(Debug, Drop)]
-struct Printed<A: Allocator> {
-    text: Vec<u8, A>,
-    status: u8,
+pub(crate) struct Printed<A: Allocator> {
+    pub(crate) text: Vec<u8, A>,
+    pub(crate) status: u8,
     ghost known: { status ≤ 1 },
 }
 
@@ -95,6 +96,7 @@ fn output<'a, 'b, A: Allocator, R: Read>(
     job: &'b Job,
     file: &mut R,
 ) -> Result<Printed<&'a A>, Failure<'b>>
+    requires { BindsSocket job.now → ⊥ }
     ensures done { IfOk result (λ o. IsDone job.now (R.remaining file.old) o.text.items o.status) }
     ensures refused { IfErr result (IsRefused job.now (R.remaining file.old)) }
     ensures bad { (text : List ℕ) (n : ℕ) → R.remaining file.old ≡ Some text → IsFirstBad text n
@@ -113,10 +115,36 @@ fn output<'a, 'b, A: Allocator, R: Read>(
             let text = demo(alloc, &Tables::core(global)?, *piece)?;
             Ok(Printed { text, status: 0 })
         }
+        Job::Socket { .. } => unreachable!(),
     }
 }
 
-/// Does the job and returns the exit status: 0 or 1 where `out` has taken the whole output, 1 where
+/// Writes what a job prints to `out`, or says on `err` why it prints nothing, and returns the exit
+/// status.
+pub(crate) fn finish<A: Allocator, O: Write, E: Write>(
+    output: Result<Printed<A>, Failure<'_>>,
+    out: &mut O,
+    err: &mut E,
+) -> u8
+    ensures acted { (job : Job) (known : Option (List ℕ))
+        → IfOk output (λ o. IsDone job known o.text.items o.status)
+        → IfErr output (IsRefused job known)
+        → Acted O.contents E.contents job known out.old out.new err.old err.new result }
+    ensures refused { IsErr output
+        → ((result ≡ 3) ⊎ (result ≡ 4)) × (O.contents out.new ≡ O.contents out.old) }
+    ensures unwritten { result ≡ 4 → O.contents out.new ≡ O.contents out.old }
+    ensures statuses { (result ≤ 4) × (result ≢ 2) }
+{
+    match output {
+        Ok(output) => match write_through(out, &output.text) {
+            Ok(()) => output.status,
+            Err(_) => Failure::CannotWrite.tell(err),
+        },
+        Err(failure) => failure.tell(err),
+    }
+}
+
+/// Does a job other than `Socket` and returns the exit status: 0 or 1 where `out` has taken the whole output, 1 where
 /// it tells of a broken rule; else the status of a `Failure`, whose line goes to `err`.
 ///
 /// Nothing is written to `out` before the whole output is there. `file` is what the job's file
@@ -130,6 +158,8 @@ pub fn act<A: Allocator, R: Read, O: Write, E: Write>(
     out: &mut O,
     err: &mut E,
 ) -> u8
+    requires { BindsSocket job.now → ⊥ }
+
     // The output was written whole, and nothing to `err`: 0 stands for a lawful session or a
     // demonstration, 1 for a broken session; or no output was written; or writing it failed, and a
     // beginning of it was written. In the last two cases `err` was given the failure's line.
@@ -142,11 +172,5 @@ pub fn act<A: Allocator, R: Read, O: Write, E: Write>(
     ensures unwritten { result ≡ 4 → O.contents out.new ≡ O.contents out.old }
     ensures statuses { (result ≤ 4) × (result ≢ 2) }
 {
-    match output(&alloc, global, job, file) {
-        Ok(output) => match write_through(out, &output.text) {
-            Ok(()) => output.status,
-            Err(_) => Failure::CannotWrite.tell(err),
-        },
-        Err(failure) => failure.tell(err),
-    }
+    finish(output(&alloc, global, job, file), out, err)
 }

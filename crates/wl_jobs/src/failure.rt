@@ -2,7 +2,8 @@
 ghost use Rattle.std.specs.Prelude.{◌≡◌, ◌++◌, OnOk};
 ghost use Rattle.std.specs.Io.KnownBytes.{Appends};
 ghost use Rattle.wl_jobs.specs.declared.failure.Failure.TheVariants as failures;
-ghost use Rattle.wl_jobs.specs.Failing.{failure_line, failure_text, recording_failure, status_of};
+ghost use Rattle.std.specs.IoError.{error_kind};
+ghost use Rattle.wl_jobs.specs.Failing.{IsSocketFailure, failure_line, failure_text, recording_failure, socket_failure, status_of};
 ghost use Rattle.wl_jobs.specs.Writing.{AppendsFront};
 
 use crate::writing::write_whole;
@@ -10,8 +11,9 @@ use itoa::Buffer;
 use std::alloc::AllocError;
 use std::error::Error;
 use std::fmt::{self, Display, Formatter};
-use std::io::{self, Write};
+use std::io::{self, ErrorKind, Write};
 use wl_recording::RecordingError;
+use wl_socket::SocketError;
 
 /// Why a job has no output. Its text is what standard error says behind `waywire: `.
 #[derive(Clone, Copy, Debug, PartialEq, Eq)]
@@ -24,6 +26,9 @@ pub enum Failure<'a> {
     BadLine(usize),
     /// The output was not taken.
     CannotWrite,
+    /// A call of the socket failed, its input ended early, or the two ends over it do not have the
+    /// same objects.
+    SocketFailed,
     /// There is no memory.
     Memory,
 }
@@ -49,6 +54,16 @@ struct Parts<'a>(&'a str, &'a str, &'a str);
 impl Error for Failure<'_> {}
 
 impl Failure<'_> {
+    /// Why a call of the socket failed.
+    pub(crate) fn of_socket(error: &io::Error) -> Failure<'static>
+        ensures { IsSocketFailure (error_kind error.now) result }
+    {
+        match error.kind() {
+            ErrorKind::OutOfMemory => Failure::Memory,
+            _ => Failure::SocketFailed,
+        }
+    }
+
     /// The exit status: 4 for lack of memory, else 3.
     fn status(&self) -> u8
         ensures { result ≡ status_of self.now }
@@ -68,6 +83,7 @@ impl Failure<'_> {
             Failure::TooLong => Parts("file too long", "", ""),
             Failure::BadLine(line) => Parts("line ", digits.format(*line), ": bad line"),
             Failure::CannotWrite => Parts("cannot write", "", ""),
+            Failure::SocketFailed => Parts("socket failed", "", ""),
             Failure::Memory => Parts("out of memory", "", ""),
         }
     }
@@ -113,6 +129,17 @@ impl From<RecordingError> for Failure<'_> {
         match error {
             RecordingError::BadLine { line } => Failure::BadLine(line),
             RecordingError::Memory => Failure::Memory,
+        }
+    }
+}
+
+impl From<SocketError> for Failure<'_> {
+    ghost from_gives = { λ error e. e ≡ socket_failure error };
+
+    fn from(error: SocketError) -> Self {
+        match error {
+            SocketError::Failed => Failure::SocketFailed,
+            SocketError::Memory => Failure::Memory,
         }
     }
 }

@@ -7,9 +7,11 @@
 mod acting;
 mod failure;
 mod running;
+mod socket;
 mod verdict;
 mod writing;
 
 pub use acting::act;
 pub use failure::Failure;
 pub use running::{Ending, run};
+pub use socket::Bound;

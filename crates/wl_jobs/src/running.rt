@@ -5,8 +5,9 @@ ghost use Rattle.std.specs.IoError.{error_kind};
 ghost use Rattle.std.specs.Process.{exit_status};
 ghost use Rattle.wl_jobs.specs.Running.{IsOpenFailure, Opened, Runs, Told, Unread};
 
-use crate::acting::act;
+use crate::acting::{act, finish};
 use crate::failure::Failure;
+use crate::socket::{Bound, over};
 use crate::writing::{write_through, write_whole};
 use std::alloc::Global;
 use std::io::{self, Eprint, ErrorKind, Read, Write};
@@ -32,22 +33,32 @@ impl Termination for Ending {
 
 /// Does what the words of a command line ask for, of which the first is the program's name.
 ///
-/// `opener` opens the file of a job that reads one. The output and help go to `out`, and what is
-/// said of a failure or of a fault of usage to `err`.
-pub fn run<R: Read + Drop, F: FnOnce(&str) -> io::Result<R>, O: Write, E: Write>(
+/// `opener` opens the file of a job that reads one, and `binder` binds the socket of one that needs
+/// it. The output and help go to `out`, and what is said of a failure or of a fault of usage to
+/// `err`.
+pub fn run<R, F, S, B, O, E>(
     alloc: Global,
     words: io::Result<Vec<String>>,
     opener: F,
+    binder: B,
     out: &mut O,
     err: &mut E,
 ) -> Ending
-    requires { F.IsAlwaysCallable opener }
+where
+    R: Read + Drop,
+    F: FnOnce(&str) -> io::Result<R>,
+    S: Bound,
+    B: FnOnce(&str) -> io::Result<S>,
+    O: Write,
+    E: Write,
+    requires opens { F.IsAlwaysCallable opener }
+    requires binds { B.IsAlwaysCallable binder }
     ensures { Runs words R.remaining O.contents E.contents (FnOnceReturnsAt F.FnOnce opener)
-        out.old out.new err.old err.new result.status }
+        (FnOnceReturnsAt B.FnOnce binder) out.old out.new err.old err.new result.status }
 {
     let status = match words {
         Ok(words) => match job_of(alloc, words.as_slice()) {
-            Ok(job) => done(alloc, &job, opener, out, err),
+            Ok(job) => done(alloc, &job, opener, binder, out, err),
             Err(stop) => tell(&stop, out, err),
         },
         Err(error) => not_read(&error, err),
@@ -94,17 +105,26 @@ fn open_failure<'a>(name: &'a str, error: &io::Error) -> Failure<'a>
     Failure::CannotRead(name)
 }
 
-/// Opens what the job reads, does it, and returns the status.
-fn done<R: Read + Drop, F: FnOnce(&str) -> io::Result<R>, O: Write, E: Write>(
+/// Opens what the job reads, or binds its socket, does it, and returns the status.
+fn done<R, F, S, B, O, E>(
     alloc: Global,
     job: &Job,
     opener: F,
+    binder: B,
     out: &mut O,
     err: &mut E,
 ) -> u8
-    requires { F.IsAlwaysCallable opener }
-    ensures { Opened R.remaining O.contents E.contents (FnOnceReturnsAt F.FnOnce opener) job.now
-        out.old out.new err.old err.new result }
+where
+    R: Read + Drop,
+    F: FnOnce(&str) -> io::Result<R>,
+    S: Bound,
+    B: FnOnce(&str) -> io::Result<S>,
+    O: Write,
+    E: Write,
+    requires opens { F.IsAlwaysCallable opener }
+    requires binds { B.IsAlwaysCallable binder }
+    ensures { Opened R.remaining O.contents E.contents (FnOnceReturnsAt F.FnOnce opener)
+        (FnOnceReturnsAt B.FnOnce binder) job.now out.old out.new err.old err.new result }
 {
     match job {
         Job::Trace { file: name } | Job::Check { file: name } => match opener(name.as_str()) {
@@ -112,5 +132,9 @@ fn done<R: Read + Drop, F: FnOnce(&str) -> io::Result<R>, O: Write, E: Write>(
             Err(error) => open_failure(name.as_str(), &error).tell(err),
         },
         Job::Demo { .. } => act(alloc, alloc, job, &mut io::empty(), out, err),
+        Job::Socket { path } => match binder(path.as_str()) {
+            Ok(bound) => finish(over(alloc, alloc, bound), out, err),
+            Err(error) => Failure::of_socket(&error).tell(err),
+        },
     }
 }
