@@ -1,8 +1,10 @@
-// The session over streams in memory of which one call fails.
-use std::alloc::Global;
+// The session over streams in memory, of which one call fails, and with each allocation refused.
+use refusing::RefusingAllocator;
+use std::alloc::{AllocError, Allocator, Global};
 use std::cell::{Cell, RefCell};
 use std::io::{self, ErrorKind, Read, Write};
 use std::test::Fail;
+use wl_message::{ScriptReader, ScriptWriter, Step};
 use wl_session::trace;
 use wl_sigs::Tables;
 use wl_socket::{Played, SocketError, socket_session, socket_text};
@@ -29,25 +31,66 @@ agree: 4 objects
 /// The bytes on their way in one direction, which wait in memory.
 type Way = RefCell<Vec<u8>>;
 
-/// One end of a connection in memory. Of the calls at both ends one fails.
+/// A connection in memory. One call of its two streams fails, and at each other call at most so many
+/// bytes pass.
+#[derive(Drop)]
+struct Connection {
+    to_server: Way,
+    to_client: Way,
+    alloc: Global,
+    calls: Cell<u32>,
+    fails_at: u32,
+    most: usize,
+}
+
+impl Connection {
+    fn new(alloc: Global, fails_at: u32, most: usize) -> Connection {
+        Connection {
+            to_server: RefCell::new(Vec::new(alloc)),
+            to_client: RefCell::new(Vec::new(alloc)),
+            alloc,
+            calls: Cell::new(0),
+            fails_at,
+            most,
+        }
+    }
+
+    /// What the next call of a stream does.
+    fn next_step(&self) -> Step {
+        let call = self.calls.get();
+        self.calls.set(call.saturating_add(1));
+        if call == self.fails_at {
+            Step::Fail(ErrorKind::Interrupted)
+        } else {
+            Step::Pass(self.most)
+        }
+    }
+
+    /// The stream of the client.
+    fn client(&self) -> Stream<'_> {
+        Stream {
+            input: &self.to_client,
+            output: &self.to_server,
+            connection: self,
+        }
+    }
+
+    /// The stream of the server.
+    fn server(&self) -> Stream<'_> {
+        Stream {
+            input: &self.to_server,
+            output: &self.to_client,
+            connection: self,
+        }
+    }
+}
+
+/// One end of a connection.
 #[derive(Drop)]
 struct Stream<'a> {
     input: &'a Way,
     output: &'a Way,
-    calls: &'a Cell<u32>,
-    fails_at: u32,
-}
-
-impl<'a> Stream<'a> {
-    /// Counts one more read or write, and fails where it is the one chosen.
-    fn count(&self) -> io::Result<()> {
-        let call = self.calls.get();
-        self.calls.set(call.saturating_add(1));
-        if call == self.fails_at {
-            return Err(io::Error::from(ErrorKind::Interrupted));
-        }
-        Ok(())
-    }
+    connection: &'a Connection,
 }
 
 /// The error where a way is in use, which it never is.
@@ -57,10 +100,9 @@ fn busy() -> io::Error {
 
 impl<'a> Read for Stream<'a> {
     fn read(&mut self, buf: &mut [u8]) -> io::Result<usize> {
-        self.count()?;
+        let step = [self.connection.next_step()];
         let mut way = self.input.try_borrow_mut().map_err(|_| busy())?;
-        let n = buf.len().min(way.len());
-        buf[..n].copy_from_slice(&way[..n]);
+        let n = ScriptReader::new(way.as_slice(), &step).read(buf)?;
         drop(way.drain(..n));
         Ok(n)
     }
@@ -68,10 +110,12 @@ impl<'a> Read for Stream<'a> {
 
 impl<'a> Write for Stream<'a> {
     fn write(&mut self, buf: &[u8]) -> io::Result<usize> {
-        self.count()?;
+        let step = [self.connection.next_step()];
+        let mut writer = ScriptWriter::new(self.connection.alloc, &step);
+        let n = writer.write(buf)?;
         let mut way = self.output.try_borrow_mut().map_err(|_| busy())?;
-        way.extend_from_slice(buf)?;
-        Ok(buf.len())
+        way.extend_from_slice(writer.written())?;
+        Ok(n)
     }
 
     fn flush(&mut self) -> io::Result<()> {
@@ -79,53 +123,20 @@ impl<'a> Write for Stream<'a> {
     }
 }
 
-/// A connection in memory, and the number of reads and writes made over it.
-#[derive(Drop)]
-struct Connection {
-    to_server: Way,
-    to_client: Way,
-    calls: Cell<u32>,
-}
-
-impl Connection {
-    fn new(alloc: Global) -> Connection {
-        Connection {
-            to_server: RefCell::new(Vec::new(alloc)),
-            to_client: RefCell::new(Vec::new(alloc)),
-            calls: Cell::new(0),
-        }
-    }
-
-    fn client(&self, fails_at: u32) -> Stream<'_> {
-        Stream {
-            input: &self.to_client,
-            output: &self.to_server,
-            calls: &self.calls,
-            fails_at,
-        }
-    }
-
-    fn server(&self, fails_at: u32) -> Stream<'_> {
-        Stream {
-            input: &self.to_server,
-            output: &self.to_client,
-            calls: &self.calls,
-            fails_at,
-        }
-    }
-}
-
-/// Plays the session over a connection of which the call of this number fails.
+/// Plays the session over a connection, with so many retries.
 fn play(
     alloc: Global,
     tables: &Tables,
     connection: &Connection,
-    fails_at: u32,
     retries: usize,
 ) -> Result<Played<Global>, SocketError> {
-    let client = connection.client(fails_at);
-    let server = connection.server(fails_at);
-    socket_session(alloc, tables, client, server, retries)
+    socket_session(
+        alloc,
+        tables,
+        connection.client(),
+        connection.server(),
+        retries,
+    )
 }
 
 /// Whether both ends have the same four objects, and the trace of what passed is that of the
@@ -142,12 +153,12 @@ fn is_the_session(alloc: Global, tables: &Tables, played: &Played<Global>) -> bo
 
 /// Whether the session comes to the same where the call of this number fails and is made again, and
 /// fails where it is not made again.
-fn overcomes(alloc: Global, tables: &Tables, fails_at: u32) -> bool {
-    let overcome = match play(alloc, tables, &Connection::new(alloc), fails_at, 1) {
+fn overcomes(alloc: Global, tables: &Tables, fails_at: u32, most: usize) -> bool {
+    let overcome = match play(alloc, tables, &Connection::new(alloc, fails_at, most), 1) {
         Ok(played) => is_the_session(alloc, tables, &played),
         Err(_) => false,
     };
-    let failed = match play(alloc, tables, &Connection::new(alloc), fails_at, 0) {
+    let failed = match play(alloc, tables, &Connection::new(alloc, fails_at, most), 0) {
         Ok(_) => false,
         Err(error) => error == SocketError::Failed,
     };
@@ -156,44 +167,76 @@ fn overcomes(alloc: Global, tables: &Tables, fails_at: u32) -> bool {
 
 /// How many reads and writes the session makes where none fails, if it is the session.
 fn count_calls(alloc: Global, tables: &Tables, connection: &Connection) -> Option<u32> {
-    match play(alloc, tables, connection, NEVER, 0) {
+    match play(alloc, tables, connection, 0) {
         Ok(played) if is_the_session(alloc, tables, &played) => Some(connection.calls.get()),
         _ => None,
     }
 }
 
-/// Whether the session overcomes a failure at each of its calls, of which there are at least ten.
-fn overcomes_each(alloc: Global, tables: &Tables) -> bool {
-    let Some(calls) = count_calls(alloc, tables, &Connection::new(alloc)) else {
+/// Whether the session overcomes a failure at each of its calls, of which there are at least this
+/// many.
+fn overcomes_each(alloc: Global, tables: &Tables, most: usize, at_least: u32) -> bool {
+    let Some(calls) = count_calls(alloc, tables, &Connection::new(alloc, NEVER, most)) else {
         return false;
     };
-    calls >= 10 && (0..calls).all(|call| overcomes(alloc, tables, call))
+    calls >= at_least && (0..calls).all(|call| overcomes(alloc, tables, call, most))
 }
 
 #[test]
 fn each_call_may_fail_once(rt: HostRuntime) -> Result<(), Fail> {
     let tables = Tables::core(rt.alloc())?;
-    assert!(rt; overcomes_each(rt.alloc(), &tables));
+    // A write and a read in each of the six turns.
+    assert!(rt; overcomes_each(rt.alloc(), &tables, usize::MAX, 12));
+    // 34 of each, for at most seven bytes at a time.
+    assert!(rt; overcomes_each(rt.alloc(), &tables, 7, 68));
     Ok(())
 }
 
-/// Whether this is what the session prints.
-fn prints(alloc: Global, tables: &Tables, connection: &Connection) -> bool {
-    match socket_text(
-        alloc,
-        tables,
-        connection.client(NEVER),
-        connection.server(NEVER),
-    ) {
-        Ok(text) => text.as_slice() == SHOWN,
-        Err(_) => false,
+/// What the session over a connection prints, in this memory.
+fn printed<A: Allocator + Clone + Drop>(
+    memory: A,
+    tables: &Tables,
+    connection: &Connection,
+) -> Result<Vec<u8, A>, SocketError> {
+    socket_text(memory, tables, connection.client(), connection.server())
+}
+
+/// Whether the session is out of memory where an allocation was refused, and else prints what it
+/// should.
+fn is_refused_or_whole(
+    alloc: Global,
+    tables: &Tables,
+    memory: RefusingAllocator,
+    told: &RefusingAllocator,
+) -> bool {
+    match printed(memory, tables, &Connection::new(alloc, NEVER, usize::MAX)) {
+        Ok(text) => !told.has_refused() && text.as_slice() == SHOWN,
+        Err(error) => told.has_refused() && error == SocketError::Memory,
     }
 }
 
+/// Refuses each allocation in turn. Whether each run ends as it should, and the last is refused none.
+fn is_refused_in_turn(
+    alloc: Global,
+    tables: &Tables,
+    memory: &RefusingAllocator,
+) -> Result<bool, AllocError> {
+    for number in 0u64..2000 {
+        memory.refuse_nth(number);
+        if !is_refused_or_whole(alloc, tables, memory.clone()?, memory) {
+            return Ok(false);
+        }
+        if !memory.has_refused() {
+            return Ok(number > 0);
+        }
+    }
+    Ok(false)
+}
+
 #[test]
-fn the_session_is_printed(rt: HostRuntime) -> Result<(), Fail> {
-    let alloc = rt.alloc();
-    let tables = Tables::core(alloc)?;
-    assert!(rt; prints(alloc, &tables, &Connection::new(alloc)));
+fn is_refused_each_of_its_allocations_in_turn(rt: HostRuntime) -> Result<(), Fail> {
+    let tables = Tables::core(rt.alloc())?;
+    let memory = RefusingAllocator::new(rt.alloc())?;
+    assert!(rt; is_refused_in_turn(rt.alloc(), &tables, &memory)?);
     Ok(())
 }
