@@ -92,7 +92,7 @@ AsksHelp words = IsAmong DisplayHelp (fault_of command_line words) ⊎ IsAmong D
 abbrev pub IsStop : ℕ → Stop → Type 0
 IsStop status stop = ((stop.status ≡ status) × (string_bytes stop.text ≢ [])) ⊎ ((stop.status ≡ 4) × (string_bytes stop.text ≡ []))
 
--- Why there is no job: help was asked for; or the words ask for none of the program's jobs; or there is no memory. The text is empty for want of
+-- Why there is no job: help was asked for; or the words ask for none of the program's jobs; or there is no memory. The text is empty for lack of
 -- memory alone.
 pub data Stops (words : List Text) (stop : Stop) : Type 0 where
   helps : AsksHelp words → IsStop 0 stop → Stops words stop

@@ -1,4 +1,4 @@
--- What a session over two streams comes to.
+-- How a session over two streams ends.
 use Rattle.std.specs.Prelude.{◌≡◌, ◌↔◌, ℕ, Bool, true, false, IsTrue, List, ◌++◌, Result, Ok, Err, codes}
 use Rattle.std.specs.FinMap.{len as row_count}
 use Rattle.wl_table.specs.View.{View}
@@ -16,14 +16,14 @@ abbrev pub socket_error_text : SocketError → List ℕ
 socket_error_text socket_error.Failed = codes "socket failed"
 socket_error_text socket_error.Memory = codes "out of memory"
 
--- The two ends that the session left: whether they have the same rows, all live, and how many the client has.
+-- The tables of the two ends after the session: whether they have the same rows, all live, and how many rows the client has.
 pub record Ends (agree : Bool) (objects : ℕ) : Type 0 where
   pub client : View
   pub server : View
   pub exact : IsTrue agree ↔ Agree client server
   pub counted : objects ≡ row_count client.rows
 
--- The text is the trace of what passed, and a last line: both ends have the same objects, all live, and how many the client has.
+-- The text is the trace of what passed, and a last line, which says that both ends have the same objects, all live, and how many.
 pub record Shows (tables : List Interface) (text : List ℕ) : Type 0 where
   pub passed : List Piece
   pub objects : ℕ

@@ -9,8 +9,8 @@ use wl_server::GlobalError;
 /// Why a session over streams was not played to its end.
 #[derive(Clone, Copy, Debug, PartialEq, Eq)]
 pub enum SocketError {
-    /// A read or a write failed, the input ended early, what came was at fault, or an end refused
-    /// what the session writes.
+    /// A read or write failed, the input ended early, an end could not read what came or refused a
+    /// call of the session, or the two ends do not agree.
     Failed,
     /// Out of memory.
     Memory,

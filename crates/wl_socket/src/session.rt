@@ -1,5 +1,7 @@
 //! The session over two streams.
-ghost use Rattle.std.specs.Prelude.{IfOk};
+ghost use Rattle.std.specs.Prelude.{◌≡◌, ◌↔◌, IfOk, IsTrue};
+ghost use Rattle.std.specs.FinMap.{len as row_count};
+ghost use Rattle.wl_world.specs.Runs.{Agree};
 ghost use Rattle.wl_socket.specs.Socket.{Ends};
 
 use crate::end::End;
@@ -22,10 +24,10 @@ const SIZES: Sizes = Sizes {
     in_tokens: 64,
 };
 
-/// How many bytes each reading side copies in one turn.
+/// How many bytes each reading side can copy in one turn.
 const ROOM: usize = 4096;
 
-/// What a session over streams came to.
+/// How a session over streams ended.
 #[derive(Debug, Drop)]
 pub struct Played<A: Allocator> {
     /// What passed, a piece for each turn.
@@ -39,8 +41,8 @@ pub struct Played<A: Allocator> {
 /// Plays the session of the demonstration over two connected streams, turn by turn: one end writes
 /// all that waits, then the other reads until all of it has come.
 ///
-/// So many reads and writes that fail are made again; one more ends the session. It ends also where
-/// the input does before all has come.
+/// A read or write that fails is made again, `retries` times in all; the next failure ends the
+/// session with `Failed`. So does an end of input before all has come.
 pub fn socket_session<A, C, S>(
     alloc: A,
     tables: &Tables,
@@ -70,7 +72,7 @@ struct Session<'t, T: Table, C: Read, S: Read> {
     server_stream: Tee<S, T::Alloc>,
     recording: Recording<T::Alloc>,
     retries: usize,
-    // What gives reports their memory.
+    /// For the reports.
     alloc: T::Alloc,
 }
 
@@ -165,8 +167,11 @@ impl<'t, T: Table + Drop, C: Read + Write + Drop, S: Read + Write + Drop> Sessio
         self.client.read_waiting(self.alloc.clone()?)
     }
 
+    /// What passed, and whether both ends have the same objects now.
     fn ended(self) -> Played<T::Alloc>
-        ensures { Ends result.agree result.objects }
+        ensures agree { IsTrue result.agree
+            ↔ Agree self.client.core.view self.server.core.view }
+        ensures objects { result.objects ≡ row_count self.client.core.view.rows }
     {
         Played {
             agree: same_rows(&self.client, &self.server),

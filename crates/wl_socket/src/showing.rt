@@ -11,8 +11,8 @@ use wl_session::trace;
 use wl_sigs::Tables;
 
 /// What the program prints of the session over two connected streams: the lines of what passed, and
-/// a last one, that both ends have the same objects and how many these are. Where they have not, the
-/// session has failed. No read and no write is made again.
+/// a last line, which says that both ends have the same objects, and how many. Where they do not,
+/// this fails. No read or write is made again.
 pub fn socket_text<A, C, S>(
     alloc: A,
     tables: &Tables,

@@ -25,7 +25,7 @@ pub(crate) fn flush_all<E: End, W: Write>(
     }
 }
 
-/// Reads until so many bytes have come.
+/// Reads until this number of bytes has come.
 pub(crate) fn fill_all<E: End, R: Read>(
     end: &mut E,
     reader: &mut R,
@@ -44,7 +44,7 @@ pub(crate) fn fill_all<E: End, R: Read>(
     Ok(())
 }
 
-/// Takes one of the retries that are left, or fails where none is.
+/// Uses up one of the retries, or fails where none is left.
 fn try_again(retries: &mut usize) -> Result<(), SocketError>
     ensures { OnOk result (retries.new < retries.old) }
 {
