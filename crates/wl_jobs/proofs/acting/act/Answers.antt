@@ -1,27 +1,8 @@
-use Rattle.std.proofs.Common.{ℕ, List, rules, refl, subst}
-use Rattle.std.specs.Io.KnownBytes.{Appends}
-use Rattle.wl_jobs.specs.Output.{printed, refused, not_taken}
-use Rattle.wl_jobs.specs.Writing.{AppendsFront}
 use Rattle.wl_jobs.proofs.acting.act.Goals as goal
 
--- where there is an output, no line is bad
-pub returns-in-Ok-write_through-clause-bad : goal.returns-in-Ok-write_through-clause-bad
-returns-in-Ok-write_through-clause-bad g c = λ text n known bad reads. cc (c.in-Ok.ensures.bad text n known bad reads)
-
-pub returns-in-Ok-clause-bad : goal.returns-in-Ok-clause-bad
-returns-in-Ok-clause-bad g c = λ text n known bad reads. cc (c.in-Ok.ensures.bad text n known bad reads)
-
--- all was written
-pub returns-in-Ok-write_through-clause-acted : goal.returns-in-Ok-write_through-clause-acted
-returns-in-Ok-write_through-clause-acted g c =
-    let written = subst (λ (bytes : List ℕ). Appends (g.O.Write.contents c.args.out.now) (g.O.Write.contents c.write_through.new.out) bytes) c.deref.ensures.value c.in-Ok-write_through.ensures.whole in
-    printed c.in-Ok.output.text.items c.in-Ok.ensures.done written refl
-
--- it was made, and not taken
-pub returns-in-Ok-clause-acted : goal.returns-in-Ok-clause-acted
-returns-in-Ok-clause-acted g c =
-    let front = subst (λ (bytes : List ℕ). AppendsFront (g.O.Write.contents c.args.out.now) (g.O.Write.contents c.write_through.new.out) bytes) c.deref.ensures.value c.write_through.ensures.front in
-    not_taken c.in-Ok.output.text.items c.in-Ok.output.status (search rules) c.in-Ok.ensures.done front c.tell.ensures.said
-
 pub returns-clause-acted : goal.returns-clause-acted
-returns-clause-acted g c = refused c.in-Err.failure (search rules) c.in-Err.ensures.refused refl c.tell-in-Err.ensures.said
+returns-clause-acted g c = c.finish.ensures.acted c.args.job.now (g.R.Read.remaining c.args.file.now) c.output.ensures.done c.output.ensures.refused
+
+-- where there is an output, no line is bad
+pub returns-clause-bad : goal.returns-clause-bad
+returns-clause-bad g c = λ text n known bad reads. c.finish.ensures.refused (c.output.ensures.bad text n known bad reads)

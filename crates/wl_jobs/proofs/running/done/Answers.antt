@@ -1,12 +1,12 @@
 use Rattle.std.proofs.Common.{rules, refl, sym, subst, inl, inr}
 use Rattle.wl_command.specs.declared.job.Job.{Job}
-use Rattle.wl_jobs.specs.Output.{NamesFile, ReadsFile}
-use Rattle.wl_jobs.specs.Running.{over, not_opened, alone}
+use Rattle.wl_jobs.specs.Output.{BindsSocket, NamesFile, NamesPath, ReadsFile}
+use Rattle.wl_jobs.specs.Running.{over, not_opened, bound, not_bound, alone}
 use Rattle.wl_jobs.proofs.running.done.Goals as goal
 
--- a demonstration reads nothing
+-- a demonstration reads nothing, and binds nothing
 pub returns-in-Demo : goal.returns-in-Demo
-returns-in-Demo g c = alone _ (λ reads. subst (λ (job : Job). ReadsFile job) c.in-Demo.is reads) c.act.ensures.acted
+returns-in-Demo g c = alone _ (λ reads. subst (λ (job : Job). ReadsFile job) c.in-Demo.is reads) (λ binds. subst (λ (job : Job). BindsSocket job) c.in-Demo.is binds) c.act-in-Demo.ensures.acted
 
 pub returns-in-Ok : goal.returns-in-Ok
 returns-in-Ok g c =
