@@ -170,8 +170,8 @@ impl<'t, T: Table + Drop, C: Read + Write + Drop, S: Read + Write + Drop> Sessio
     /// What passed, and whether both ends have the same objects now.
     fn ended(self) -> Played<T::Alloc>
         ensures agree { IsTrue result.agree
-            ↔ Agree self.client.core.view self.server.core.view }
-        ensures objects { result.objects ≡ row_count self.client.core.view.rows }
+            ↔ Agree self.entry.client.core.view self.entry.server.core.view }
+        ensures objects { result.objects ≡ row_count self.entry.client.core.view.rows }
     {
         Played {
             agree: same_rows(&self.client, &self.server),
