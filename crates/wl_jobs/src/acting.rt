@@ -127,10 +127,10 @@ pub(crate) fn finish<A: Allocator, O: Write, E: Write>(
     err: &mut E,
 ) -> u8
     ensures acted { (job : Job) (known : Option (List ℕ))
-        → IfOk output (λ o. IsDone job known o.text.items o.status)
-        → IfErr output (IsRefused job known)
+        → IfOk output.entry (λ o. IsDone job known o.text.items o.status)
+        → IfErr output.entry (IsRefused job known)
         → Acted O.contents E.contents job known out.old out.new err.old err.new result }
-    ensures refused { IsErr output
+    ensures refused { IsErr output.entry
         → ((result ≡ 3) ⊎ (result ≡ 4)) × (O.contents out.new ≡ O.contents out.old) }
     ensures unwritten { result ≡ 4 → O.contents out.new ≡ O.contents out.old }
     ensures statuses { (result ≤ 4) × (result ≢ 2) }
