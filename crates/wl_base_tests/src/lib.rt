@@ -4,6 +4,8 @@
 #[cfg(test)]
 mod message;
 #[cfg(test)]
+mod rings;
+#[cfg(test)]
 mod sigs;
 #[cfg(test)]
 mod streams;

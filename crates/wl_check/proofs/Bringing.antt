@@ -54,7 +54,7 @@ why_step n s p More e within ih fine = e
 why_step n s p (Bad z) e within ih fine = absurd (cc)
 why_step n s p (Whole z) e within ih fine = let x = next_within s p z e within in ih z x.0 x.1 fine
 
-why : (n : ℕ) (s : List ℕ) (p : ℕ) → p ≤ length s → length s ≤ p + n → (cutting n s p).is_bad ≡ false → front usual_limit (drop (cutting n s p).place s) ≡ More
+pub why : (n : ℕ) (s : List ℕ) (p : ℕ) → p ≤ length s → length s ≤ p + n → (cutting n s p).is_bad ≡ false → front usual_limit (drop (cutting n s p).place s) ≡ More
 unfolding cutting
 why zero s p within enough fine = front_past s p (omega arith)
 why (suc n) s p within enough fine = why_step n s p (front usual_limit (drop p s)) refl within (λ z big there. why n s (p + z) there (omega arith)) fine

@@ -87,7 +87,7 @@ unexamined tables s j h = rw (le-ltb j (examined (messages tables s)) h) refl
 passed_fine : (tables : List Interface) (s : Session) (k : ℕ) → ArePassed (messages tables s) k → (j : ℕ) → j < k → breaks tables s j ≡ None
 passed_fine tables s k a j h = let p = a j h in fine_at tables s j p.call p.is
 
-lawful_all : (tables : List Interface) (s : Session) → ArePassed (messages tables s) (length (messages tables s)) → IsLawful tables s
+pub lawful_all : (tables : List Interface) (s : Session) → ArePassed (messages tables s) (length (messages tables s)) → IsLawful tables s
 lawful_all tables s a j = elim (cases_lt j (length (messages tables s))) [
   | inl h ↦ passed_fine tables s (length (messages tables s)) a j h
   | inr h ↦ past tables s j h
@@ -179,7 +179,7 @@ first_taken : (d : Direction) → taken_after beginning d 0 ≡ 0
 first_taken ToServer = refl
 first_taken ToClient = refl
 
-known_first : (tables : List Interface) (s : Session) (k : Known) → IsFirst k → k ≡ known (effects tables (messages tables s)) 1
+pub known_first : (tables : List Interface) (s : Session) (k : Known) → IsFirst k → k ≡ known (effects tables (messages tables s)) 1
 unfolding holder is_ending used advertised_version taken
 known_first tables s k h =
     let o = fun_ext (λ id. h.objects id ∙ sym (named_next (effects tables (messages tables s)) 0 id ∙ first_object id)) in

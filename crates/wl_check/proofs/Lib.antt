@@ -11,3 +11,5 @@ pub mod Fresh
 pub mod Bringing
 pub mod Once
 pub mod Ordering
+pub mod Growing
+pub mod Passing

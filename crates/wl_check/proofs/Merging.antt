@@ -21,7 +21,7 @@ read_mapped f (y ∷ ys) (suc k) d x h e = read_mapped f ys k d x (omega arith) 
 abbrev pub own : Direction → Piece → List ℕ
 own d p = cond (same_direction p.direction d) p.bytes []
 
-abbrev own_tokens : Direction → Piece → ℕ
+abbrev pub own_tokens : Direction → Piece → ℕ
 own_tokens d p = cond (same_direction p.direction d) p.tokens 0
 
 pub stream_more : (d : Direction) (ps : List Piece) (k : ℕ) (p : Piece) → slice_get ps k ≡ Some p → stream_of d (take (suc k) ps) ≡ stream_of d (take k ps) ++ own d p

@@ -71,11 +71,11 @@ get_end : {A : Type 0} (xs ys : List A) (y : A) → slice_get (xs ++ y ∷ ys) (
 get_end [] ys y = refl
 get_end (x ∷ xs) ys y = get_end xs ys y
 
-effects_same : (tables : List Interface) (e ys : List Judged) (q : ℕ) → q < suc (length e) → effects tables (e ++ ys) q ≡ effects tables e q
+pub effects_same : (tables : List Interface) (e ys : List Judged) (q : ℕ) → q < suc (length e) → effects tables (e ++ ys) q ≡ effects tables e q
 effects_same tables e ys zero below = refl
 effects_same tables e ys (suc j) below = ap (effect_of tables) (get_front e ys j (omega arith))
 
-front_known : (tables : List Interface) (e ys : List Judged) → known (effects tables e) (suc (length e)) ≡ known (effects tables (e ++ ys)) (suc (length e))
+pub front_known : (tables : List Interface) (e ys : List Judged) → known (effects tables e) (suc (length e)) ≡ known (effects tables (e ++ ys)) (suc (length e))
 front_known tables e ys = known_same (effects tables e) (effects tables (e ++ ys)) (suc (length e)) (λ q h. sym (effects_same tables e ys q h))
 
 -- the judgement of the next frame

@@ -56,7 +56,7 @@ stream_le d (x ∷ xs) (suc k) p e same =
     let i = stream_le d xs k p e same in
     omega (arith, i, length-append own (stream_of d xs), length-append (own ++ stream_of d (take k xs)) p.bytes, length-append own (stream_of d (take k xs)), length-append (stream_of d (take k xs)) p.bytes)
 
-abbrev LiesIn : List Piece → Frame → Type 0
+abbrev pub LiesIn : List Piece → Frame → Type 0
 LiesIn ps f = IsWithin (length (stream_of f.direction ps)) f
 
 frames_step : (ps : List Piece) (d : Direction) (t n : ℕ) (ms : List Mark) → n ≤ length (stream_of d ps) → AllByRecursion (FitsIn n) ms → AllByRecursion (LiesIn ps) (map (framed d t) ms)
@@ -75,7 +75,7 @@ completed_within ps k (Some p) e =
     (stream_le p.direction ps k p e (same_itself p.direction))
     (all_drop (FitsIn (length (s ++ p.bytes))) (length (cut s).marks) (cut (s ++ p.bytes)).marks (marks_within (length (s ++ p.bytes)) (s ++ p.bytes) 0 (omega arith)))
 
-merged_lies : (ps : List Piece) (k : ℕ) → AllByRecursion (LiesIn ps) (merged_within ps k)
+pub merged_lies : (ps : List Piece) (k : ℕ) → AllByRecursion (LiesIn ps) (merged_within ps k)
 unfolding merged_within
 merged_lies ps zero = tt
 merged_lies ps (suc k) = all_append (LiesIn ps) (merged_within ps k) (completed_at ps k (slice_get ps k)) (merged_lies ps k) (completed_within ps k (slice_get ps k) refl)

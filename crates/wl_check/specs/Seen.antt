@@ -15,8 +15,7 @@ use Rattle.wl_check.specs.declared.frames.Front.TheVariants.{More, Bad, Whole}
 use Rattle.wl_check.specs.declared.frames.Stream.{Stream}
 use Rattle.wl_check.specs.declared.known.Knowledge.{Knowledge}
 use Rattle.wl_check.specs.declared.judging.Message.{Message}
-use Rattle.wl_objects.specs.Messages.{Received}
-use Rattle.wl_objects.specs.declared.reading.Received.{Received as Read}
+use Rattle.wl_objects.specs.Seen.{message_of}
 use Rattle.wl_check.specs.Effects.{Call}
 use Rattle.wl_check.specs.Places.{Known}
 use Rattle.wl_check.specs.declared.frames.Merged.{Merged}
@@ -52,12 +51,8 @@ known_in k = record {
   taken = taken_in k;
 }
 
--- a message that was read
-abbrev pub read_of : Read → Received
-read_of read = record { target = read.target; entry = read.entry; signature = read.signature.now; values = read.values }
-
 abbrev pub call_of : Message → Call
-call_of message = record { direction = message.direction; opcode = message.opcode; received = read_of message.received }
+call_of message = record { direction = message.direction; opcode = message.opcode; received = message_of message.received }
 
 abbrev pub judged_in : Result Message Fault → Result Call Fault
 judged_in (Err fault) = Err fault

@@ -4,7 +4,8 @@ ghost use Rattle.wl_sigs.specs.Valid.{Valid};
 ghost use Rattle.wl_message.specs.Cut.{usual_limit, is_size};
 ghost use Rattle.wl_check.specs.Effects.{advertised, effect, first_number, is_global, side_of};
 ghost use Rattle.wl_check.specs.Rules.{is_bad_bind, judged, judged_as, may_bind, version_of};
-ghost use Rattle.wl_check.specs.Seen.{call_of, judged_in, known_in, read_of, taken_in};
+ghost use Rattle.wl_objects.specs.Seen.{message_of};
+ghost use Rattle.wl_check.specs.Seen.{call_of, judged_in, known_in, taken_in};
 ghost use Rattle.wl_check.specs.Trace.{call_line};
 
 use crate::effect::{Advertised, Effect};
@@ -110,14 +111,15 @@ fn is_bad_bind<A: Allocator>(
     received: &Received<'_, '_>,
 ) -> bool
     ensures { result ≡ is_bad_bind tables.now (known_in known.now) side opcode
-        (read_of received.now) }
+        (message_of received.now) }
 {
     if !is_bind(side, received.entry.iface, opcode) {
         return false;
     }
     let kinds = received.signature.kinds();
-    let new = made_by_message(tables, received.entry.version, kinds, &received.values);
-    !may_bind(tables, known, first_number(&received.values), new)
+    let values = received.values();
+    let new = made_by_message(tables, received.entry.version, kinds, &values);
+    !may_bind(tables, known, first_number(&values), new)
 }
 
 /// Whether a bind of this name may make this object.
@@ -187,7 +189,7 @@ impl<'t, 'a> Message<'t, 'a> {
         let side = side_of(self.direction);
         let iface = self.received.entry.iface;
         let kinds = self.received.signature.kinds();
-        let values = &self.received.values;
+        let values = &self.received.values();
         Effect {
             direction: self.direction,
             made: match self.direction {

@@ -1,6 +1,6 @@
 -- An accepted bind is spelled.
 use Rattle.std.proofs.Common.{◌≡◌, ℕ, ◌<◌, ◌^◌, Bool, true, false, not, List, [], ◌∷◌, Some, None, refl, sym, ap, subst, ◌∙◌, arith}
-use Rattle.std.specs.Prelude.{Option, bytes_eq, nat_le, ◌&&◌, if◌then◌else◌}
+use Rattle.std.specs.Prelude.{Option, bytes_eq, if◌then◌else◌}
 use Rattle.std.specs.Option.{option_and_then}
 use Rattle.std.specs.declared.result.Result.{Result}
 use Rattle.std.specs.declared.result.Result.TheVariants.{Ok, Err}
@@ -8,12 +8,12 @@ use Rattle.std.proofs.lemmas.Bool.{and_parts}
 use Rattle.std.proofs.lemmas.Slice.Eq.{bytes_eq-Decides}
 use Rattle.wl_wire.specs.declared.kind.Kind.{Kind}
 use Rattle.wl_sigs.specs.declared.signature.Side.TheVariants.{Request}
-use Rattle.wl_sigs.specs.Tables.{Interface, Message, interface_at, signature_at, message_of}
+use Rattle.wl_sigs.specs.Tables.{Interface, Message, interface_at, message_of}
 use Rattle.wl_sigs.specs.Fixed.{uint, new, registry}
-use Rattle.wl_sigs.specs.Valid.{Valid, IsName}
+use Rattle.wl_sigs.specs.Valid.{Valid}
 use Rattle.wl_table.specs.declared.object.Object.{Object}
 use Rattle.wl_table.specs.declared.object.Entry.{Entry}
-use Rattle.wl_table.specs.View.{Sound, next_id}
+use Rattle.wl_table.specs.View.{next_id}
 use Rattle.wl_table.specs.Views.{free_is, free_or_next-next_id}
 use Rattle.wl_objects.specs.declared.error.SendError.{SendError}
 use Rattle.wl_objects.specs.declared.error.SendError.TheVariants as refusals

@@ -5,7 +5,6 @@ use Rattle.std.proofs.lemmas.List.Sums.{count_by-le-length}
 use Rattle.std.specs.Prelude.{if◌then◌else◌}
 use Rattle.std.specs.declared.option.Option.{Option}
 use Rattle.std.specs.declared.option.Option.TheVariants.{Some}
-use Rattle.std.specs.declared.result.Result.{Result}
 use Rattle.std.specs.declared.result.Result.TheVariants.{Ok, Err}
 use Rattle.wl_wire.specs.declared.header.Header.{Header}
 use Rattle.wl_wire.specs.Word.{IsHeader, header_at, header_bytes}
@@ -16,7 +15,7 @@ use Rattle.wl_sigs.specs.declared.signature.Side.TheVariants.{Event as event_sid
 use Rattle.wl_sigs.specs.Valid.{Valid}
 use Rattle.wl_message.specs.declared.inbox.Frame.{Frame}
 use Rattle.wl_message.specs.Arrived.{Tells}
-use Rattle.wl_message.specs.Cut.{usual_limit, front, Whole, HasMessage, message_size}
+use Rattle.wl_message.specs.Cut.{usual_limit, front, Whole}
 use Rattle.wl_table.specs.declared.object.State.{State as ObjectState}
 use Rattle.wl_table.specs.declared.object.State.TheVariants.{Live, Zombie}
 use Rattle.wl_table.specs.View.{View}

@@ -1,12 +1,8 @@
 -- The names of interfaces can be written.
-use Rattle.std.proofs.Common.{◌≡◌, ◌≢◌, ℕ, ◌+◌, ◌<◌, ◌≤◌, ◌⊎◌, List, length, arith, inl, inr}
+use Rattle.std.proofs.Common.{◌≢◌, ℕ, List, arith, inl, inr}
 use Rattle.std.proofs.lemmas.List.Elements.{All-weaker}
-use Rattle.std.specs.Prelude.{option_map}
-use Rattle.std.specs.declared.option.Option.{Option}
-use Rattle.std.specs.declared.option.Option.TheVariants.{None, Some}
 use Rattle.wl_wire.specs.Spelling.{IsText}
-use Rattle.wl_sigs.specs.Tables.{Interface, interface_at}
-use Rattle.wl_sigs.specs.Valid.{Valid, IsName, IsNameByte}
+use Rattle.wl_sigs.specs.Valid.{IsName, IsNameByte}
 use Rattle.wl_client.specs.Binding.{FitsBind}
 
 not_zero : (b : ℕ) → IsNameByte b → b ≢ 0

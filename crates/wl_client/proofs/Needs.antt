@@ -8,7 +8,8 @@ use Rattle.wl_objects.specs.Reading.{Reported}
 use Rattle.wl_end.specs.Receiving.{Found, found, is_none}
 use Rattle.wl_client.specs.State.{State}
 use Rattle.wl_client.specs.Reports.{report, answer_found}
-use Rattle.wl_client.specs.Streams.{HasReport}
+use Rattle.wl_end.specs.Reads.{HasReport}
+use Rattle.wl_client.specs.Streams.{reading}
 use Rattle.wl_client.proofs.Comings.{answers}
 
 -- a report of some arguments needs memory
@@ -17,5 +18,5 @@ some_arguments [] h = absurd (h refl)
 some_arguments (x ∷ args) h = refl
 
 -- a message that is found is reported
-pub has_one : (state : State) (f : Found) → state.core.failed ≡ false → found state.core event_side ≡ Ok (Some f) → HasReport state
+pub has_one : (state : State) (f : Found) → state.core.failed ≡ false → found state.core event_side ≡ Ok (Some f) → HasReport reading state
 has_one state f s e = (report state.core f, answers state s ∙ ap (answer_found state.core) e)

@@ -1,11 +1,9 @@
 -- What a client does as it goes on reading.
-use Rattle.std.proofs.Common.{◌≡◌, ◌≢◌, ℕ, ◌+◌, ◌<◌, ◌≤◌, ◌⊎◌, inl, inr, Bool, true, false, cond, List, [], ◌∷◌, ◌++◌, length, map, take, drop, refl, sym, ap, subst, ◌∙◌, arith}
-use Rattle.std.specs.Prelude.{IsOk}
+use Rattle.std.proofs.Common.{◌≡◌, ◌≢◌, ℕ, ◌<◌, inl, inr, Bool, true, false, cond, [], length, refl, sym, ap, subst, ◌∙◌}
 use Rattle.std.specs.declared.option.Option.{Option}
 use Rattle.std.specs.declared.option.Option.TheVariants.{None, Some}
 use Rattle.std.specs.declared.result.Result.{Result}
 use Rattle.std.specs.declared.result.Result.TheVariants.{Ok, Err}
-use Rattle.std.proofs.lemmas.List.{append-nil}
 use Rattle.wl_sigs.specs.declared.signature.Side.TheVariants.{Event as event_side}
 use Rattle.wl_table.specs.declared.object.Entry.{Entry}
 use Rattle.wl_table.specs.declared.object.State.{State as ObjectState}
@@ -19,13 +17,13 @@ use Rattle.wl_end.specs.Receiving.{Found, found}
 use Rattle.wl_end.specs.Outcomes.{Gives, left}
 use Rattle.wl_end.proofs.Coming.{is_found, past_shorter, none_short}
 use Rattle.wl_end.proofs.Receivings.{some_report}
-use Rattle.wl_end.proofs.Appended.{kept_again, kept_more, behind_again, more_behind}
 use Rattle.wl_client.specs.declared.incoming.OwnedIncoming.{OwnedIncoming}
 use Rattle.wl_client.specs.Seen.{report_of, report_in}
 use Rattle.wl_client.specs.State.{State}
-use Rattle.wl_client.specs.Reports.{Report, IsNext, needs_memory, Event, Discarded, Deleted, Stray, Error, report, plain_report, error_report, delete_report, deleted, deleted_id, is_error_event, is_delete_event, answer_found, next_answer, state_found, after_next}
-use Rattle.wl_client.specs.Streams.{is_last, Reads, none, fault, error, next, ReadsSome, nothing, more, ReadsUntil, HasReport, WaitingIsRead, appended}
-use Rattle.wl_client.proofs.Comings.{Read, read, answers, leaves, failed_answer, not_failed, some_then, some_reads, some_one}
+use Rattle.wl_client.specs.Reports.{Report, IsNext, needs_memory, Stray, plain_report, error_report, delete_report, deleted, deleted_id, is_error_event, is_delete_event, answer_found, next_answer, state_found, after_next}
+use Rattle.wl_end.specs.Reads.{arrived, Reads, fault, nothing, ReadsUntil, ReadsReport, ReadsNothing, ReadsNext}
+use Rattle.wl_client.specs.Streams.{is_last, reading}
+use Rattle.wl_client.proofs.Comings.{read, answers, leaves, not_failed, answer_stays, after_stays}
 
 -- ---- which report is the last
 
@@ -110,93 +108,34 @@ never_by state why (Ok (Some f)) n e = cc e
 never : (state : State) (why : NextError) → state.core.failed ≡ false → ((what : Fault) (offset : ℕ) → why ≢ errors.Fault what offset) → next_answer state ≢ Err why
 never state why s n e = never_by state why (found state.core event_side) n (sym (answers state s) ∙ e)
 
-pub told_error : (state new : State) (why : NextError) → state.core.failed ≡ false → IsNext state (Err why) → new ≡ left {R = Option Report} state (after_next state) (Err why) → ReadsUntil state [] (Some why) new
-told_error state new (errors.Fault what offset) s (inl e) l = subst (λ (x : State). Reads state [] (Some (errors.Fault what offset)) x) (sym l) (fault (sym e))
+pub told_error : (state new : State) (why : NextError) → state.core.failed ≡ false → IsNext state (Err why) → new ≡ left {R = Option Report} state (after_next state) (Err why) → ReadsUntil reading state [] (Some why) new
+told_error state new (errors.Fault what offset) s (inl e) l = subst (λ (x : State). Reads reading state [] (Some (errors.Fault what offset)) x) (sym l) (fault (sym e))
 told_error state new (errors.Fault what offset) s (inr e) l = absurd (cc e.0)
 told_error state new errors.Failed s (inl e) l = absurd (never state errors.Failed s (λ what offset h. cc h) (sym e))
 told_error state new errors.Failed s (inr e) l = absurd (cc e.0)
 told_error state new errors.Memory s (inl e) l = absurd (never state errors.Memory s (λ what offset h. cc h) (sym e))
 told_error state new errors.Memory s (inr e) l = (let some = some_report needs_memory (next_answer state) e.1 in
-    subst (λ (x : State). ReadsUntil state [] (Some errors.Memory) x) (sym l) (nothing, (some.0, some.1)))
+    subst (λ (x : State). ReadsUntil reading state [] (Some errors.Memory) x) (sym l) (nothing, (some.0, some.1)))
 told_error state new errors.OutFull s (inl e) l = absurd (never state errors.OutFull s (λ what offset h. cc h) (sym e))
 told_error state new errors.OutFull s (inr e) l = absurd (cc e.0)
 
--- ---- going on
+-- ---- what one reading is
 
-pub until_then : (state middle last : State) (reports others : List Report) (stop : Option NextError) → ReadsSome state reports middle → ReadsUntil middle others stop last → ReadsUntil state (reports ++ others) stop last
-until_then state middle last reports others None h g = some_reads h g
-until_then state middle last reports others (Some (errors.Fault what offset)) h g = some_reads h g
-until_then state middle last reports others (Some errors.Failed) h g = some_reads h g
-until_then state middle last reports others (Some errors.Memory) h g = (some_then h g.0, g.1)
-until_then state middle last reports others (Some errors.OutFull) h g = some_reads h g
+one_report : (state new : State) (r : Report) → next_answer state ≡ Ok (Some r) → new ≡ after_next state → ReadsReport reading state r new
+one_report state new r e l = record {
+  is = e;
+  leaves = l;
+  stays = λ bytes tokens. answer_stays state r bytes tokens e;
+  leaves_more = λ bytes tokens. after_stays state r bytes tokens e ∙ ap (λ (s : State). arrived reading s bytes tokens) (sym l);
+  fewer = subst (λ (s : State). length s.core.inbox.bytes < length state.core.inbox.bytes) (sym l) (fewer_wait state r e);
+  ends = ap (λ (s : State). s.core.failed) l ∙ failed_after state r e;
+}
 
--- a stop, where nothing more was read
-pub stopped : (state middle last : State) (reports : List Report) (why : NextError) → ReadsSome state reports middle → ReadsUntil middle [] (Some why) last → ReadsUntil state reports (Some why) last
-stopped state middle last reports why h g = subst (λ (l : List Report). ReadsUntil state l (Some why) last) (append-nil reports) (until_then state middle last reports [] (Some why) h g)
+no_report : (state : State) → next_answer state ≡ Ok None → ReadsNothing reading state
+no_report state e = record { is = e; sound = sound_none state e; short = none_waits state e }
 
--- what is read where there is no room for a report
-pub waiting_then : {X : Type 0} (state middle last : State) (reports : List Report) (r : Result X (Option NextError)) → ReadsSome state reports middle → WaitingIsRead middle [] r last → WaitingIsRead state reports r last
-waiting_then state middle last reports (Ok x) h g = (subst (λ (l : List Report). ReadsSome state l last) (append-nil reports) (some_then h g.0), g.1)
-waiting_then state middle last reports (Err stop) h g =
-    (subst (λ (l : List Report). ReadsUntil state l stop last) (append-nil reports) (until_then state middle last reports [] stop h g.0), g.1)
-
--- one report more
-pub one_more : (state middle : State) (reports : List Report) (r : Report) → ReadsSome state reports middle → next_answer middle ≡ Ok (Some r) → is_last r ≡ false → ReadsSome state (reports ++ r ∷ []) (after_next middle)
-one_more state middle reports r h e n = some_then h (some_one e n)
-
-pub last_one : (state middle : State) (reports : List Report) (r : Report) → ReadsSome state reports middle → next_answer middle ≡ Ok (Some r) → is_last r ≡ true → Reads state (reports ++ r ∷ []) None (after_next middle)
-last_one state middle reports r h e n = some_reads h (error e n)
-
--- ---- reports that are appended
-
-pub pushed_kept : {A : Type 0} (xs before reserved after : List (OwnedIncoming A)) (x : OwnedIncoming A) → take (length xs) before ≡ xs → reserved ≡ before → after ≡ reserved ++ x ∷ [] → take (length xs) after ≡ xs
-pushed_kept xs before reserved after x k r e =
-    let same : after ≡ before ++ x ∷ [] = e ∙ ap (λ l. l ++ x ∷ []) r in
-    kept_again xs before after k (ap (take (length before)) same ∙ kept_more before (x ∷ []))
-
-pub pushed_appended : {A : Type 0} (xs before reserved after : List (OwnedIncoming A)) (x : OwnedIncoming A) → take (length xs) before ≡ xs → reserved ≡ before → after ≡ reserved ++ x ∷ []
-    → appended xs after ≡ appended xs before ++ report_of x ∷ []
-pushed_appended xs before reserved after x k r e =
-    let same : after ≡ before ++ x ∷ [] = e ∙ ap (λ l. l ++ x ∷ []) r in
-    let kept : take (length before) after ≡ before = ap (take (length before)) same ∙ kept_more before (x ∷ []) in
-    behind_again report_of xs before after k kept
-    ∙ ap (λ l. appended xs before ++ l) (ap (appended before) same ∙ more_behind report_of before (x ∷ []))
-
--- the report that is read, and what is left
-pub told_read : {A : Type 0} (state new : State) (wants : Bool) (some : Option (OwnedIncoming A)) (x : OwnedIncoming A) → some ≡ Some x → Told state wants (report_in (Ok some)) → next_answer state ≡ Ok (Some (report_of x))
-told_read state new wants some x e t = told_report state new wants (report_of x) (subst (λ (o : Option (OwnedIncoming _)). Told state wants (report_in (Ok o))) e t)
-
-pub told_left : {A : Type 0} (state new : State) (some : Option (OwnedIncoming A)) (x : OwnedIncoming A) → some ≡ Some x → new ≡ left state (after_next state) (report_in (Ok some)) → new ≡ after_next state
-told_left state new some x e l = l ∙ ap (λ (o : Option (OwnedIncoming _)). left state (after_next state) (report_in (Ok o))) e
-
--- a message more
-pub reads_more : {A : Type 0} (state middle new : State) (xs before reserved after : List (OwnedIncoming A)) (x : OwnedIncoming A) → ReadsSome state (appended xs before) middle → next_answer middle ≡ Ok (Some (report_of x))
-    → new ≡ after_next middle → is_last (report_of x) ≡ false → take (length xs) before ≡ xs → reserved ≡ before → after ≡ reserved ++ x ∷ [] → ReadsSome state (appended xs after) new
-reads_more state middle new xs before reserved after x h e l n k r p =
-    let reports = pushed_appended xs before reserved after x k r p in
-    subst (λ (s : State). ReadsSome state (appended xs after) s) (sym l)
-    (subst (λ (rs : List Report). ReadsSome state rs (after_next middle)) (sym reports) (one_more state middle (appended xs before) (report_of x) h e n))
-
--- wl_display.error
-pub reads_last : {A : Type 0} (state middle new : State) (xs before reserved after : List (OwnedIncoming A)) (x : OwnedIncoming A) → ReadsSome state (appended xs before) middle → next_answer middle ≡ Ok (Some (report_of x))
-    → new ≡ after_next middle → is_last (report_of x) ≡ true → take (length xs) before ≡ xs → reserved ≡ before → after ≡ reserved ++ x ∷ [] → Reads state (appended xs after) None new
-reads_last state middle new xs before reserved after x h e l n k r p =
-    let reports = pushed_appended xs before reserved after x k r p in
-    subst (λ (s : State). Reads state (appended xs after) None s) (sym l)
-    (subst (λ (rs : List Report). Reads state rs None (after_next middle)) (sym reports) (last_one state middle (appended xs before) (report_of x) h e n))
-
--- a stop
-pub reads_stop : {A : Type 0} (state middle new : State) (xs before reserved : List (OwnedIncoming A)) (why : NextError) → ReadsSome state (appended xs before) middle → middle.core.failed ≡ false
-    → IsNext middle (Err why) → new ≡ left {R = Option Report} middle (after_next middle) (Err why) → reserved ≡ before → ReadsUntil state (appended xs reserved) (Some why) new
-reads_stop state middle new xs before reserved why h s t l r =
-    let until = stopped state middle new (appended xs before) why h (told_error middle new why s t l) in
-    subst (λ rs. ReadsUntil state (appended xs rs) (Some why) new) (sym r) until
-
--- nothing is read where there is nothing to report
-pub nothing_read : {A : Type 0} (state new : State) (some : Option (OwnedIncoming A)) → (HasReport state → ⊥) → IsNext state (report_in (Ok some)) → new ≡ left state (after_next state) (report_in (Ok some))
-    → ReadsSome state [] new × (next_answer new ≡ Ok None)
-nothing_read state new (Some x) n t l = absurd (n (report_of x, told_report state new _ (report_of x) t))
-nothing_read state new None n t l =
-    let e = told_none state new _ t in
-    let both : State → Type 0 = λ (s : State). ReadsSome state [] s × (next_answer s ≡ Ok None) in
-    subst both (sym (l ∙ none_leaves state e)) (nothing, e)
+pub next_read : {A : Type 0} (state new : State) (r : Result (Option (OwnedIncoming A)) NextError) → state.core.failed ≡ false → IsNext state (report_in r) → new ≡ left state (after_next state) (report_in r)
+    → ReadsNext reading report_of state r new
+next_read state new (Ok (Some x)) s t l = one_report state new (report_of x) (told_report state new _ (report_of x) t) l
+next_read state new (Ok None) s t l = (l ∙ none_leaves state (told_none state new _ t), no_report state (told_none state new _ t))
+next_read state new (Err why) s t l = told_error state new why s t l

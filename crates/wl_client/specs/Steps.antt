@@ -5,7 +5,7 @@ use Rattle.wl_message.specs.Outgoing.{no_messages}
 use Rattle.wl_objects.specs.declared.reading.Received.{Received as Read}
 use Rattle.wl_sigs.specs.Fixed.{display}
 use Rattle.wl_table.specs.View.{View, opening, is_held, is_live, closed, zombied}
-use Rattle.wl_objects.specs.Messages.{Received}
+use Rattle.wl_objects.specs.Seen.{message_of}
 use Rattle.wl_end.specs.Core.{Core, past, with_view}
 use Rattle.wl_end.specs.Receiving.{Found}
 use Rattle.wl_client.specs.declared.steps.Change.{Change}
@@ -14,10 +14,6 @@ use Rattle.wl_client.specs.declared.steps.Lesson.{Lesson}
 use Rattle.wl_client.specs.declared.steps.Lesson.TheVariants as lessons
 use Rattle.wl_client.specs.State.{State, Global}
 use Rattle.wl_client.specs.Reports.{Report, report, view_after, globals_after, forgotten, remembered}
-
--- a message that was read, without where it lies in memory
-abbrev pub message_of : Read → Received
-message_of read = record { target = read.target; entry = read.entry; signature = read.signature.now; values = read.values }
 
 -- an end with these tables and objects, at which these tokens wait
 abbrev pub end_with : List Interface → View → List ℕ → Core

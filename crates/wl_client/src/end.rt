@@ -1,10 +1,13 @@
 //! The client, as whoever carries bytes to it and from it sees it.
 use crate::client::Client;
-use wl_end::End;
+use crate::incoming::OwnedIncoming;
+use crate::reading::step_in_front;
+use wl_end::{End, Receiver};
 use wl_message::{Fed, Taken};
-use wl_objects::Table;
+use wl_objects::{NextError, Table};
 
 impl<'t, T: Table> End for Client<'t, T> {
+    ghost use Rattle.std.specs.Prelude.{refl};
     ghost use Rattle.wl_client.specs.State.{with_core};
 
     ghost core = { λ client. client.core };
@@ -25,5 +28,44 @@ impl<'t, T: Table> End for Client<'t, T> {
 
     fn feed(&mut self, bytes: &[u8], tokens: &[u32]) -> Fed {
         self.feed(bytes, tokens)
+    }
+
+    ghost laws = { record {
+      kept = λ client. refl;
+      new = λ client core. refl;
+      again = λ client core other. refl;
+    } };
+}
+
+impl<'t, T: Table> Receiver for Client<'t, T> {
+    ghost use Rattle.wl_client.specs.Reports.{Report as ClientReport, next_answer, after_next};
+    ghost use Rattle.wl_client.specs.Seen.{report_of};
+    ghost use Rattle.wl_client.specs.Streams.{is_last};
+
+    type Report = OwnedIncoming<T::Alloc>;
+
+    ghost Seen = { ClientReport };
+
+    ghost seen = { report_of };
+
+    ghost answer = { next_answer };
+
+    ghost after = { after_next };
+
+    ghost is_last = { is_last };
+
+    fn has_failed(&self) -> bool {
+        self.core.failed
+    }
+
+    fn has_report(&mut self) -> bool {
+        match step_in_front(&mut self.core) {
+            Ok(Some(_)) => true,
+            _ => false,
+        }
+    }
+
+    fn next_owned(&mut self) -> Result<Option<OwnedIncoming<T::Alloc>>, NextError> {
+        self.next_owned()
     }
 }

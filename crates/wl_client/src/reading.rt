@@ -224,18 +224,18 @@ fn step_of<T: Table>(tables: &Tables, table: &T, frame: Frame<'_>) -> Result<Ste
 {
     let header = frame.header;
     let opcode = header.opcode;
-    let body = frame.body;
-    let message = match receive(tables, Side::Event, table, header, body, frame.tokens) {
+    let received = receive(tables, Side::Event, table, header, frame.body, frame.tokens);
+    let message = match received {
         Ok(message) => message,
         Err(fault) => return Err(fault),
     };
     Ok(Step {
-        change: change_of(table, opcode, &message, body),
-        lesson: lesson_of(tables, opcode, &message, body),
+        change: change_of(table, opcode, &message),
+        lesson: lesson_of(tables, opcode, &message),
         bytes: header.size,
         tokens: descriptors(message.signature.kinds()),
         last: is_error(Side::Event, message.entry.iface, opcode),
-        outline: outline_of(table, opcode, message, body),
+        outline: outline_of(table, opcode, message),
     })
 }
 

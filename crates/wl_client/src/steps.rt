@@ -5,6 +5,7 @@ ghost use Rattle.wl_end.specs.Core.{HasDisplay, with_view};
 ghost use Rattle.wl_client.specs.State.{Global as Told};
 ghost use Rattle.wl_objects.specs.Parsed.{AreParsed, spelled_in};
 ghost use Rattle.wl_objects.specs.Messages.{reader_of};
+ghost use Rattle.wl_objects.specs.Seen.{message_of};
 ghost use Rattle.wl_client.specs.Reports.{delete_report, error_report};
 ghost use Rattle.wl_client.specs.Outlines.{outlined};
 ghost use Rattle.wl_client.specs.Steps.{CanChange, changed, end_with, found_as, globals_by, learnt, report_by, view_by};
@@ -39,13 +40,7 @@ pub(crate) enum Lesson {
 }
 
 /// What a message changes among the objects.
-pub(crate) fn change_of<T: Table>(
-    table: &T,
-    opcode: u16,
-    message: &Received<'_, '_>,
-    body: &[u8],
-) -> Change
-    requires parsed { spelled_in body.now message.now.args ≡ message.now.values }
+pub(crate) fn change_of<T: Table>(table: &T, opcode: u16, message: &Received<'_, '_>) -> Change
     requires display { HasDisplay (T.view table.now) }
     requires row { look (T.view table.now) message.now.target.id ≡ Some message.now.entry }
     requires lasts { message.now.target.id ≡ 1
@@ -58,7 +53,7 @@ pub(crate) fn change_of<T: Table>(
         return Change::Nothing;
     }
     if is_delete_id(Side::Event, message.entry.iface, opcode) {
-        let id = number_at(&message.args, body, 0);
+        let id = number_at(&message.args, message.body, 0);
         return match table.look(id) {
             Some(_) if id != 1 => Change::Close(id),
             _ => Change::Nothing,
@@ -84,53 +79,43 @@ pub(crate) fn make<T: Table>(core: &mut Core<'_, T>, change: Change)
 }
 
 /// What a message teaches of globals: only events on a live wl_registry do.
-pub(crate) fn lesson_of(
-    tables: &Tables,
-    opcode: u16,
-    message: &Received<'_, '_>,
-    body: &[u8],
-) -> Lesson
-    requires parsed { spelled_in body.now message.now.args ≡ message.now.values }
+pub(crate) fn lesson_of(tables: &Tables, opcode: u16, message: &Received<'_, '_>) -> Lesson
     ensures { (globals : List Told)
         → learnt globals result ≡ globals_by tables.now globals (found_as opcode message.now) }
 {
     if message.entry.iface != REGISTRY || message.entry.state != State::Live {
         return Lesson::Nothing;
     }
+    let Received { args, body, .. } = message;
     match opcode {
         0 => {
-            let name = number_at(&message.args, body, 0);
-            match tables.interface(text_at(&message.args, body, 1)) {
+            let name = number_at(args, body, 0);
+            match tables.interface(text_at(args, body, 1)) {
                 None => Lesson::Forget(name),
                 Some(iface) => Lesson::Remember(Global {
                     name,
                     iface,
-                    version: number_at(&message.args, body, 2),
+                    version: number_at(args, body, 2),
                 }),
             }
         }
-        1 => Lesson::Forget(number_at(&message.args, body, 0)),
+        1 => Lesson::Forget(number_at(args, body, 0)),
         _ => Lesson::Nothing,
     }
 }
 
 /// The outline of a message's report.
-pub(crate) fn outline_of<T: Table>(
-    table: &T,
-    opcode: u16,
-    message: Received<'_, '_>,
-    body: &[u8],
-) -> Outline
-    requires parsed { AreParsed (reader_of (T.view table.now)) body.now message.args
-        message.values }
-    ensures { (tokens : List ℕ) → outlined body.now tokens result
+pub(crate) fn outline_of<T: Table>(table: &T, opcode: u16, message: Received<'_, '_>) -> Outline
+    requires parsed { AreParsed (reader_of (T.view table.now)) message.body.now message.args
+        (message_of message).values }
+    ensures { (tokens : List ℕ) → outlined message.entry.body.now tokens result
         ≡ report_by (T.view table.now) tokens (found_as opcode message.entry) }
 {
     if is_error(Side::Event, message.entry.iface, opcode) {
-        return error_outline(table, message.args, body);
+        return error_outline(table, message.args, message.body);
     }
     if is_delete_id(Side::Event, message.entry.iface, opcode) {
-        return delete_outline(table, number_at(&message.args, body, 0));
+        return delete_outline(table, number_at(&message.args, message.body, 0));
     }
     let target = message.target;
     match message.entry.state {

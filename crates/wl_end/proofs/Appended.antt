@@ -1,5 +1,5 @@
 -- Lists that grow at their end, and what stands behind what was there before.
-use Rattle.std.proofs.Common.{◌≡◌, ℕ, ◌≤◌, List, [], ◌∷◌, ◌++◌, length, length-append, take, drop, map, refl, sym, ap, subst, ◌∙◌, arith}
+use Rattle.std.proofs.Common.{◌≡◌, List, [], ◌++◌, length, take, drop, map, refl, sym, ap, ◌∙◌, arith}
 use Rattle.std.proofs.lemmas.List.{append_assoc, map-append, take-append-drop, take_all, drop_all, take_at, drop_at}
 
 pub kept_same : {X : Type 0} (xs : List X) → take (length xs) xs ≡ xs

@@ -7,3 +7,5 @@ pub mod Appended
 pub mod Sends
 pub mod Receivings
 pub mod Spelled
+pub mod Readings
+pub mod AnyCut

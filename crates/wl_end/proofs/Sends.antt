@@ -5,7 +5,7 @@ use Rattle.std.specs.declared.option.Option.{Option}
 use Rattle.std.specs.declared.option.Option.TheVariants.{None, Some}
 use Rattle.std.specs.declared.result.Result.{Result}
 use Rattle.std.specs.declared.result.Result.TheVariants.{Ok, Err}
-use Rattle.std.specs.Prelude.{IfSome, is_some, if◌then◌else◌, unwrap_or}
+use Rattle.std.specs.Prelude.{IfSome, is_some, if◌then◌else◌}
 use Rattle.wl_wire.specs.declared.kind.Kind.{Kind}
 use Rattle.wl_wire.specs.declared.kind.Kind.TheVariants as kinds
 use Rattle.wl_wire.specs.declared.kind.Iface.{Iface}
@@ -26,10 +26,10 @@ use Rattle.wl_objects.specs.declared.error.SendError.{SendError}
 use Rattle.wl_objects.specs.declared.error.SendError.TheVariants as refusals
 use Rattle.wl_table.specs.View.{View, look, is_live, lives, lives_in, next_id}
 use Rattle.wl_table.specs.Views.{look-opened_at}
-use Rattle.wl_objects.specs.Writing.{Given, given, given_of, wired, on_wire, suits, wrong_place, call_makes, id_of, message_len, len_in_limit, message_bytes, tokens_of}
+use Rattle.wl_objects.specs.Writing.{Given, given, given_of, wired, on_wire, suits, wrong_place, call_makes, id_of, message_len, message_bytes, tokens_of}
 use Rattle.wl_objects.specs.Writing as writing
 use Rattle.wl_objects.specs.Messages.{Made, opens, checked, destroys}
-use Rattle.wl_objects.proofs.Calls.{len-any, len-known}
+use Rattle.wl_objects.proofs.Calls.{len-any}
 use Rattle.wl_objects.proofs.Carrying.{if-none}
 use Rattle.wl_objects.proofs.Fitting.{call-makes}
 use Rattle.wl_objects.proofs.Wholes.{length-message, passes}
@@ -125,11 +125,9 @@ target-live core side target opcode list signature new version e =
     live-opened core.view new version target.id (ap lives_in p.row ∙ state-lives p.entry.state p.live)
 
 -- what the code counts is the room that a call needs
-pub fits-known : (o : Outgoing) (list : List Arg) (found : Option ℕ) (len more other count : ℕ) (all : List ℕ) (b : Bool) → found ≡ len_in_limit (on_wire 0 list) → message_len (on_wire 0 list) ≤ 4096
-    → len ≡ unwrap_or found 0 → more ≡ other → take count all ≡ tokens_of (given list) → count ≤ length all → b ≡ fits o (len + more) count
+pub fits-known : (o : Outgoing) (list : List Arg) (len more other count : ℕ) (all : List ℕ) (b : Bool) → len ≡ message_len (on_wire 0 list) → more ≡ other → take count all ≡ tokens_of (given list) → count ≤ length all → b ≡ fits o (len + more) count
     → b ≡ fits o (message_len (on_wire 0 list) + other) (length (tokens_of (given list)))
-fits-known o list found len more other count all b f h l m t c e =
-    let whole : len ≡ message_len (on_wire 0 list) = l ∙ len-known 0 (given list) found f h in
+fits-known o list len more other count all b whole m t c e =
     let tokens : count ≡ length (tokens_of (given list)) = sym (length-take-le count all c) ∙ ap length t in
     e ∙ (ap (λ (n : ℕ). fits o (n + more) count) whole ∙ (ap (λ (n : ℕ). fits o (message_len (on_wire 0 list) + n) count) m ∙ ap (fits o (message_len (on_wire 0 list) + other)) tokens))
 

@@ -1,6 +1,6 @@
 -- Whole messages are spelled by their values.
 use Rattle.std.proofs.Common.{◌≡◌, ◌≢◌, ℕ, suc, ◌+◌, ◌-◌, ◌*◌, ◌/◌, ◌%◌, ◌<◌, ◌≤◌, ◌^◌, Bool, true, false, cond, List, [], ◌∷◌, ◌++◌, length, map, take, drop, Some, None, refl, sym, ap, subst, ◌∙◌, arith, append_assoc}
-use Rattle.std.specs.Prelude.{Option, not, nat_lt, nat_eq, ◌&&◌, if◌then◌else◌, is_some}
+use Rattle.std.specs.Prelude.{Option, not, nat_lt, if◌then◌else◌, is_some}
 use Rattle.std.specs.List.{All, concat}
 use Rattle.std.specs.declared.result.Result.{Result}
 use Rattle.std.specs.declared.result.Result.TheVariants.{Ok, Err}
@@ -9,7 +9,7 @@ use Rattle.std.proofs.lemmas.List.{take-append-drop, length-take-le}
 use Rattle.std.proofs.lemmas.List.Elements.{All-take, All-drop, All-nil, All-cons}
 use Rattle.wl_wire.specs.declared.kind.Kind.{Kind}
 use Rattle.wl_wire.specs.declared.header.Header.{Header}
-use Rattle.wl_wire.specs.Word.{header_bytes, header_at, number_at, IsHeader}
+use Rattle.wl_wire.specs.Word.{header_bytes, header_at, IsHeader}
 use Rattle.wl_wire.specs.Argument.{Argument, Int, Uint, Fixed, Str, Obj, New, NewNamed, Array, Fd}
 use Rattle.wl_wire.proofs.Canonicals.{canonical-spells, header_at-bytes, header_bytes-at}
 use Rattle.wl_wire.proofs.Numbers.{number_at_fits}
@@ -24,13 +24,12 @@ use Rattle.wl_table.specs.View.{View, Sound, look, next_id, times}
 use Rattle.wl_table.specs.Views.{free_is, free_or_next-next_id}
 use Rattle.wl_objects.specs.declared.error.Fault.{Fault}
 use Rattle.wl_objects.specs.declared.error.Fault.TheVariants as faults
-use Rattle.wl_objects.specs.Reading.{Reader, forgiving, arguments_at, descriptors, kind_at}
+use Rattle.wl_objects.specs.Reading.{Reader, forgiving, arguments_at, descriptors}
 use Rattle.wl_objects.specs.Spelling.{SpellsAll}
 use Rattle.wl_objects.specs.Spelling as spelling
 use Rattle.wl_wire.specs.Spelling.{Suits}
-use Rattle.wl_objects.specs.Writing.{Given, wired, spelled, lost_place, wrong_place, can_name, is_live, is_live_as, message_len, message_bytes}
-use Rattle.wl_objects.specs.Carried.{InRange}
-use Rattle.wl_objects.specs.Messages.{Received, received, received_by, received_as, received_whole, is_empty, is_error, checked, reader_of}
+use Rattle.wl_objects.specs.Writing.{Given, wired, spelled, lost_place, wrong_place, can_name, is_live_as, message_len, message_bytes}
+use Rattle.wl_objects.specs.Messages.{Received, received, received_by, received_as, received_whole, is_empty, is_error, reader_of}
 use Rattle.wl_objects.proofs.Carrying.{if-none}
 use Rattle.wl_objects.proofs.Calls.{len-any, len-least}
 use Rattle.wl_objects.proofs.Meeting.{met}

@@ -1,7 +1,9 @@
 //! An end, as whoever carries bytes to it and from it sees it.
-ghost use Rattle.std.specs.Prelude.{◌≡◌, ◌++◌, length, take, drop};
+ghost use Rattle.std.specs.Prelude.{◌≡◌, ◌≤◌, ◌++◌, length, take, drop};
+ghost use Rattle.wl_message.specs.Cut.{usual_limit};
 ghost use Rattle.wl_message.specs.Outgoing.{goes, waiting_bytes, waiting_tokens};
 ghost use Rattle.wl_end.specs.Core.{Core, feeds, in_room, with_arrived, with_gone};
+ghost use Rattle.wl_end.specs.Reads.{IsCoreOf};
 
 use wl_message::{Fed, Taken};
 
@@ -31,9 +33,13 @@ pub trait End {
             ≡ with_core self.old (with_gone (core self.old) result.bytes) };
 
     /// Takes in what comes: as many tokens as fit, and where these are all, as many bytes as fit.
+    /// Whatever waits, the inbox can hold the longest message.
     fn feed(&mut self, bytes: &[u8], tokens: &[u32]) -> Fed
         ensures fed { result ≡ feeds (core self.old) bytes.now tokens.now }
         ensures state { self.new
             ≡ with_core self.old (with_arrived (core self.old)
-            (take result.bytes bytes.now) (take result.tokens tokens.now)) };
+            (take result.bytes bytes.now) (take result.tokens tokens.now)) }
+        ensures holds { usual_limit ≤ (core self.old).inbox.capacity };
+
+    ghost laws: { IsCoreOf core with_core };
 }

@@ -7,6 +7,7 @@
 
 mod end;
 mod laws;
+mod receiver;
 mod sending;
 mod shared;
 mod streams;
@@ -15,6 +16,7 @@ mod transport;
 
 pub use end::End;
 pub use laws::{found_stays, taking_keeps_pieces};
+pub use receiver::Receiver;
 pub use shared::Core;
-pub use streams::ReadAll;
+pub use streams::{ReadAll, read_all};
 pub use taking::MAX_TOKENS;

@@ -15,11 +15,11 @@ use crate::shared::Core;
 use std::alloc::Allocator;
 use wl_message::Outbox;
 use wl_objects::{
-    Arg, Entry, Object, SendError, Table, TableError, call_makes, check_call, encode_bind,
-    encode_call, encode_error, encode_number, message_len, tokens_of,
+    Arg, CheckedCall, Object, SendError, Table, TableError, call_makes, check_call, encode_bind,
+    encode_call, encode_error, encode_number, tokens_of,
 };
 use wl_sigs::event::wl_display::DELETE_ID;
-use wl_sigs::{Destroys, Side, Signature};
+use wl_sigs::{Destroys, Side};
 use wl_table::DISPLAY_ID;
 use wl_wire::Iface;
 
@@ -52,7 +52,7 @@ fn add<A: Allocator>(outbox: &mut Outbox<A>, message: &[u8], tokens: &[u32])
     requires room { IsTrue (fits outbox.old (length message.now) (length tokens.now)) }
     ensures { outbox.new ≡ with_message outbox.old message.now tokens.now }
 {
-    let _ = outbox.push(message, tokens);
+    outbox.push_fitting(message, tokens);
 }
 
 impl<'t, T: Table> Core<'t, T> {
@@ -124,7 +124,7 @@ impl<'t, T: Table> Core<'t, T> {
         }
     }
 
-    /// Writes the message that a call becomes, where this is its new object.
+    /// Writes the message of this length that a call becomes, where this is its new object.
     fn write_call(
         &mut self,
         target: u32,
@@ -132,16 +132,18 @@ impl<'t, T: Table> Core<'t, T> {
         args: &[Arg<'_>],
         tokens: &[u32],
         new: Option<Object>,
+        len: usize,
     )
         requires fits { EachFits (on_wire (id_of new) args.now) }
-        requires len { message_len (on_wire (id_of new) args.now) ≤ 4096 }
+        requires len { len ≡ message_len (on_wire (id_of new) args.now) }
+        requires short { len ≤ 4096 }
         requires room { IsTrue
             (fits self.old.outbox (message_len (on_wire (id_of new) args.now))
             (length tokens.now)) }
         ensures { self.new ≡ with_sent self.old target opcode
             (on_wire (id_of new) args.now) tokens.now }
     {
-        encode_call(&mut self.store, target, opcode, args, id_of(new));
+        encode_call(&mut self.store, target, opcode, args, id_of(new), len);
         add(&mut self.outbox, &self.store, tokens);
     }
 
@@ -171,32 +173,37 @@ impl<'t, T: Table> Core<'t, T> {
         target: Object,
         opcode: u16,
         args: &[Arg<'_>],
-        entry: Entry,
-        signature: &Signature,
+        call: CheckedCall<'_>,
     ) -> Result<Option<Object>, SendError>
         requires passes { checked self.old.tables side self.old.view target opcode (given args.now)
-            ≡ Ok signature.now }
-        requires entry { look self.old.view target.id ≡ Some entry }
+            ≡ Ok call.signature.now }
+        requires entry { look self.old.view target.id ≡ Some call.entry }
+        requires len { (id : ℕ) → call.len ≡ message_len (on_wire id args.now) }
         requires fits { (id : ℕ) → EachFits (on_wire id args.now)
             × (message_len (on_wire id args.now) ≤ 4096) }
         requires few { length args.now ≤ 20 }
         requires sound { Sound self.old.view }
         requires display { HasDisplay self.old.view }
         requires valid { Valid self.old.tables }
-        ensures answer { Gives SendError.Memory (is_some (makes signature.now))
-            (answer_of self.old side target (given args.now) (Ok signature.now)) result }
+        ensures answer { Gives SendError.Memory (is_some (makes call.entry.signature.now))
+            (answer_of self.old side target (given args.now) (Ok call.entry.signature.now)) result }
         ensures ok { OnOk result
-            (self.new ≡ sent self.old side target opcode (given args.now) signature.now) }
+            (self.new
+            ≡ sent self.old side target opcode (given args.now) call.entry.signature.now) }
         ensures err { OnErr result (self.new ≡ self.old) }
     {
-        let len = message_len(args).unwrap_or(0);
+        let CheckedCall {
+            entry,
+            signature,
+            len,
+        } = call;
         let mut tokens = [0; MOST_ARGUMENTS];
         let count = tokens_of(args, &mut tokens);
         if !self.fits(len + following_len(side, signature.destroys()), count) {
             return Err(SendError::Full);
         }
         let new = self.open_new(call_makes(signature.kinds()), entry.version)?;
-        self.write_call(target.id, opcode, args, &tokens[..count], new);
+        self.write_call(target.id, opcode, args, &tokens[..count], new, len);
         self.end_target(side, signature.destroys(), target.id);
         Ok(new)
     }
@@ -226,17 +233,10 @@ impl<'t, T: Table> Core<'t, T> {
         if self.failed {
             return Err(SendError::Failed);
         }
-        let (entry, signature) = match check_call(
-            self.tables,
-            side,
-            &self.table,
-            target,
-            opcode,
-            args,
-        ) {
-            Ok(found) => found,
+        let call = match check_call(self.tables, side, &self.table, target, opcode, args) {
+            Ok(call) => call,
             Err(refusal) => return Err(refusal),
         };
-        self.write_checked(side, target, opcode, args, entry, signature)
+        self.write_checked(side, target, opcode, args, call)
     }
 }

@@ -140,6 +140,18 @@ impl<A: Allocator> Outbox<A> {
         if self.room() < message.len() || self.token_room() < tokens.len() {
             return Err(Full);
         }
+        self.push_fitting(message, tokens);
+        Ok(())
+    }
+
+    /// Adds a whole message and its tokens at the end, for which there is room.
+    pub fn push_fitting(&mut self, message: &[u8], tokens: &[u32])
+        requires whole { IsMessage usual_limit message.now }
+        requires bytes { length message.now ≤ room_of self.old }
+        requires tokens { length tokens.now ≤ token_room_of self.old }
+        ensures { self.new ≡ with_message self.old message.now tokens.now }
+    {
+        let _waiting = self.tokens.len();
         let mark = Mark {
             len: message.len(),
             tokens: tokens.len(),
@@ -147,7 +159,6 @@ impl<A: Allocator> Outbox<A> {
         push_mark(&mut self.marks, mark);
         append(&mut self.bytes, message);
         append(&mut self.tokens, tokens);
-        Ok(())
     }
 
     /// Adds the error event, a whole message of at most 64 bytes without tokens, at the end. It

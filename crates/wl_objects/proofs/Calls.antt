@@ -1,8 +1,8 @@
 -- What is left of a call's arguments, from a place on.
 use Rattle.std.proofs.Common.{◌≡◌, ℕ, ◌+◌, ◌<◌, ◌≤◌, true, false, List, [], ◌∷◌, length, get_or, drop, Some, None, refl, arith, add-one, drop-cons}
-use Rattle.std.specs.Prelude.{Option, map, unwrap_or}
+use Rattle.std.specs.Prelude.{Option, map}
 use Rattle.std.proofs.lemmas.List.{drop_all}
-use Rattle.std.proofs.lemmas.Bool.{lt-ltb, le-ltb}
+use Rattle.std.proofs.lemmas.Bool.{lt-ltb}
 use Rattle.wl_wire.specs.declared.kind.Kind.{Kind}
 use Rattle.wl_objects.specs.declared.argument.Arg.{Arg}
 use Rattle.wl_objects.specs.declared.argument.Arg.TheVariants as args
@@ -68,6 +68,3 @@ len-one id (Fd token) = refl
 pub len-any : (id : ℕ) (list : List Given) → message_len (map (wired id) list) ≡ message_len (map (wired 0) list)
 len-any id [] = refl
 len-any id (x ∷ list) = rw (len-one id x, len-any id list) refl
-
-pub len-known : (id : ℕ) (list : List Given) (found : Option ℕ) → found ≡ len_in_limit (map (wired 0) list) → message_len (map (wired 0) list) ≤ 4096 → unwrap_or found 0 ≡ message_len (map (wired id) list)
-len-known id list found e h = rw (e, le-ltb 4096 (message_len (map (wired 0) list)) h, len-any id list) refl

@@ -1,6 +1,6 @@
 -- What a call that passed its checks gives the writer of its message.
-use Rattle.std.proofs.Common.{◌≡◌, ℕ, suc, ◌≤◌, Bool, true, false, List, [], ◌∷◌, length, map, Some, None, refl, sym, subst, arith}
-use Rattle.std.specs.Prelude.{Option, option_map, nat_lt, is_some, if◌then◌else◌}
+use Rattle.std.proofs.Common.{◌≡◌, ℕ, suc, ◌≤◌, Bool, true, false, List, [], ◌∷◌, length, map, Some, None, refl, sym, ◌∙◌, subst, arith}
+use Rattle.std.specs.Prelude.{option_map, nat_lt, if◌then◌else◌}
 use Rattle.std.proofs.lemmas.Bool.{ltb-false}
 use Rattle.std.proofs.lemmas.List.{length-map}
 use Rattle.wl_wire.specs.declared.kind.Kind.{Kind}
@@ -84,19 +84,24 @@ call-makes tables version id place (kind ∷ ks) (x ∷ list) w =
     (λ (e : kind ≡ kinds.New None). not_named x (subst (λ (k : Kind). suits k (given_of x) ≡ true) e suit.0))
     (call-makes tables version id (suc place) ks list suit.1)
 
-in-limit : (values : List Argument) (b : Bool) → nat_lt 4096 (message_len values) ≡ b → is_some (if b then None else Some (message_len values)) ≡ true → message_len values ≤ 4096
-in-limit values true e h = absurd (cc)
-in-limit values false e h = ltb-false 4096 (message_len values) e
+in-limit : (values : List Argument) (n : ℕ) (b : Bool) → nat_lt 4096 (message_len values) ≡ b → Some n ≡ (if b then None else Some (message_len values)) → (n ≡ message_len values) × (message_len values ≤ 4096)
+in-limit values n true e h = absurd (cc)
+in-limit values n false e h = (cc, ltb-false 4096 (message_len values) e)
 
-pub within : (values : List Argument) (found : Option ℕ) → found ≡ len_in_limit values → is_some found ≡ true → message_len values ≤ 4096
-within values found e h = in-limit values (nat_lt 4096 (message_len values)) refl (rw e at h)
+-- a length that was found is that of the message
+pub within : (values : List Argument) (n : ℕ) → Some n ≡ len_in_limit values → (n ≡ message_len values) × (message_len values ≤ 4096)
+within values n e = in-limit values n (nat_lt 4096 (message_len values)) refl e
 
 -- what a call's checks tell the writer of its message
-pub checked-fits : (ks : List Kind) (list : List Arg) (found : Option ℕ) → None ≡ wrong_place 0 ks (given list) → found ≡ len_in_limit (on_wire 0 list) → is_some found ≡ true
+pub checked-fits : (ks : List Kind) (list : List Arg) (n : ℕ) → None ≡ wrong_place 0 ks (given list) → Some n ≡ len_in_limit (on_wire 0 list)
     → (id : ℕ) → EachFits (on_wire id list) × (message_len (on_wire id list) ≤ 4096)
-checked-fits ks list found w e h id =
-    let len : message_len (on_wire id list) ≤ 4096 = omega (arith, within (on_wire 0 list) found e h, len-any id (given list)) in
+checked-fits ks list n w f id =
+    let len : message_len (on_wire id list) ≤ 4096 = omega (arith, (within (on_wire 0 list) n f).1, len-any id (given list)) in
     (each-fits id 0 ks (given list) (sym w) (omega arith), len)
+
+-- the length is the same whatever the new object's id
+pub checked-len : (list : List Arg) (n : ℕ) → Some n ≡ len_in_limit (on_wire 0 list) → (id : ℕ) → n ≡ message_len (on_wire id list)
+checked-len list n f id = (within (on_wire 0 list) n f).0 ∙ sym (len-any id (given list))
 
 pub few : (ks : List Kind) (list : List Arg) → length ks ≤ 20 → None ≡ wrong_place 0 ks (given list) → length list ≤ 20
 few ks list h w = omega (arith, h, same-number 0 ks (given list) (sym w), length-map list given_of)

@@ -1,11 +1,11 @@
 -- The bytes of a value lie behind its first word.
-use Rattle.std.proofs.Common.{◌≡◌, ℕ, ◌+◌, ◌<◌, ◌^◌, List, [], ◌∷◌, ◌++◌, length, take, drop, Some, sym, subst, arith, append_assoc, drop-drop}
+use Rattle.std.proofs.Common.{◌≡◌, ℕ, ◌+◌, List, [], ◌∷◌, ◌++◌, length, take, drop, sym, subst, arith, append_assoc, drop-drop}
 use Rattle.std.proofs.Math.Seq.{take-append_seam}
 use Rattle.std.proofs.lemmas.List.{take-append-drop}
-use Rattle.wl_wire.specs.Argument.{Argument, Str, NewNamed, Array}
+use Rattle.wl_wire.specs.Argument.{Argument}
 use Rattle.wl_wire.specs.declared.kind.Kind.{Kind}
 use Rattle.wl_wire.specs.Word.{word}
-use Rattle.wl_wire.specs.Spelling.{Spells, SpellsText, Padded, is_int, is_uint, is_fixed, is_null, is_text, is_object, is_new, is_named, is_array, is_descriptor}
+use Rattle.wl_wire.specs.Spelling.{Spells, SpellsText, is_int, is_uint, is_fixed, is_null, is_text, is_object, is_new, is_named, is_array, is_descriptor}
 use Rattle.wl_objects.specs.Parsed.{part, Lies, LiesBehind}
 
 -- what begins with the text, before more

@@ -10,10 +10,9 @@ use Rattle.wl_wire.specs.Reading.{reading}
 use Rattle.wl_objects.specs.declared.error.Fault.{Fault}
 use Rattle.wl_objects.specs.declared.parsed.ParsedArg.{ParsedArg}
 use Rattle.wl_objects.specs.declared.parsed.ParsedArg.TheVariants as parsed_as
-use Rattle.wl_objects.specs.Reading.{Reader, Reported, kind_at, value_fault, unless, judged, before, arguments_at, values_at, is_descriptor, first_or, report_of, reports_of}
+use Rattle.wl_objects.specs.Reading.{Reader, Reported, kind_at, unless, judged, before, arguments_at, is_descriptor, first_or, report_of, reports_of}
 use Rattle.wl_objects.specs.declared.argument.Got.{Got}
 use Rattle.wl_objects.specs.Seen.{got, gots}
-use Rattle.wl_objects.proofs.Receiving.{values_found}
 use Rattle.wl_objects.specs.Parsed.{AreParsed, Both, all_of, all_parsed, argument_of, behind_those, both, both_of, is_fd, made_of, made_of_one, made_unless, place_after, place_behind, reported_in, reported_of, spelled_in, token_at, with_token}
 
 pub one-ok : (r : Reader) (place n : ℕ) (v : Argument) (f : Option Fault) (x : Both) → Ok x ≡ made_unless r place v f → Ok (x, n) ≡ made_of_one r place (unless f (v, n))
@@ -166,7 +165,7 @@ reports-of r place tokens (Fd x ∷ values) =
     let behind : drop 1 (drop place tokens) ≡ drop (place + 1) tokens = drop-drop 1 place tokens in
     rw (first-at tokens place, behind) (ap (λ (l : List Reported). Fd (first_or (drop place tokens) 0) ∷ l) (reports-of r (place + 1) tokens values))
 
-pub are_parsed : (r : Reader) (body : List ℕ) (parsed : List ParsedArg) (values : List Argument) → all_parsed body r.birth parsed ≡ all_of r 0 values → AreParsed r body parsed values
+are_parsed : (r : Reader) (body : List ℕ) (parsed : List ParsedArg) (values : List Argument) → all_parsed body r.birth parsed ≡ all_of r 0 values → AreParsed r body parsed values
 are_parsed r body parsed values e = record {
   spelled = sym (values-parsed body r.birth parsed) ∙ (ap values_in e ∙ values-of r 0 values);
   reported = λ tokens. sym (reports-parsed body r.birth tokens parsed) ∙ (ap (reports_in tokens) e ∙ reports-of r 0 tokens values);
@@ -195,11 +194,11 @@ are-made r list rest (Ok found) e =
 
 pub parsed_whole : (r q : Reader) (ks : List Kind) (body rest : List ℕ) (parsed : List ParsedArg)
     → Ok (all_parsed body r.birth parsed, rest) ≡ made_of r 0 (arguments_at q 0 ks body)
-    → (Ok (values_at q.forgives ks body, rest) ≡ arguments_at q 0 ks body) × AreParsed r body parsed (values_at q.forgives ks body)
+    → (Ok (spelled_in body parsed, rest) ≡ arguments_at q 0 ks body) × AreParsed r body parsed (spelled_in body parsed)
 parsed_whole r q ks body rest parsed e =
     let m = are-made r (all_parsed body r.birth parsed) rest (arguments_at q 0 ks body) e in
-    let same : values_at q.forgives ks body ≡ m.values = values_found q ks body rest m.values m.found in
-    ((λ i. Ok (same i, rest)) ∙ sym m.found, are_parsed r body parsed (values_at q.forgives ks body) (m.made ∙ ap (all_of r 0) (sym same)))
+    let p = are_parsed r body parsed m.values m.made in
+    ((λ i. Ok (p.spelled i, rest)) ∙ sym m.found, record { spelled = refl; reported = λ tokens. p.reported tokens ∙ ap (reports_of r tokens) (sym p.spelled) })
 
 pub parsed_err : (r : Reader) (fault : Fault) (x : Result (List Argument × List ℕ) Fault) → Err fault ≡ made_of r 0 x → Err fault ≡ x
 parsed_err r fault (Err other) e = let same : fault ≡ other = cc in λ i. Err (same i)

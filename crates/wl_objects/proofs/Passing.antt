@@ -1,23 +1,11 @@
--- Reports and new objects, one argument after another.
-use Rattle.std.proofs.Common.{◌≡◌, ℕ, ◌+◌, ◌<◌, ◌≤◌, List, [], ◌∷◌, ◌++◌, length, get_or, drop, Some, None, refl, add-one, drop-cons, append_assoc}
-use Rattle.std.proofs.lemmas.List.{drop_all, map-append, append-nil}
+-- New objects, one argument after another.
+use Rattle.std.proofs.Common.{◌≡◌, ℕ, ◌+◌, ◌<◌, ◌≤◌, List, [], ◌∷◌, length, get_or, drop, Some, None, refl, add-one, drop-cons}
+use Rattle.std.proofs.lemmas.List.{drop_all}
 use Rattle.wl_wire.specs.declared.kind.Kind.{Kind}
 use Rattle.wl_wire.specs.Argument.{Argument}
 use Rattle.wl_sigs.specs.Tables.{Interface}
-use Rattle.wl_objects.specs.declared.argument.Got.{Got}
 use Rattle.wl_objects.specs.declared.made.Made.{Made}
-use Rattle.wl_objects.specs.Reading.{Reader, first_or, tokens_after, report_of, reports_of}
 use Rattle.wl_objects.specs.Messages.{made, made_by}
-use Rattle.wl_objects.specs.Seen.{got, gots}
-
-pub report-next : {A : Type 0} (r : Reader) (items : List (Got A)) (g : Got A) (v : Argument) (left more : List Argument) (tokens waiting : List ℕ) (token : ℕ)
-    → left ≡ v ∷ more → token ≡ first_or tokens 0 → waiting ≡ tokens_after v tokens → got g ≡ report_of r token v
-    → gots (items ++ g ∷ []) ++ reports_of r waiting more ≡ gots items ++ reports_of r tokens left
-report-next r items g v left more tokens waiting token e t w s = rw (e, w, map-append, append_assoc, s, t) refl
-
-pub reported-end : {A : Type 0} (r : Reader) (items : List (Got A)) (left : List Argument) (tokens : List ℕ) → left ≡ []
-    → gots items ++ reports_of r tokens left ≡ gots items
-reported-end r items left tokens e = rw (e, append-nil) refl
 
 pub made-next : (tables : List Interface) (version i : ℕ) (ks : List Kind) (k : Kind) (left more : List Argument) (v : Argument) → i < length ks → left ≡ v ∷ more
     → made_by tables version (get_or ks i k) v ≡ None → made tables version (drop i ks) left ≡ made tables version (drop (i + 1) ks) more

@@ -111,10 +111,10 @@ abbrev pub parsed_in : List ℕ → ℕ → Result (List ParsedArg × ℕ) Fault
 parsed_in body birth (Err fault) = Err fault
 parsed_in body birth (Ok found) = Ok (all_parsed body birth found.0, drop found.1 body)
 
--- these values, and the bytes that were found behind them
-abbrev pub with_end : List Argument → Result (List ParsedArg × Bor (List ℕ)) Fault → Result (List Argument × List ℕ) Fault
-with_end values (Err fault) = Err fault
-with_end values (Ok found) = Ok (values, found.1.now)
+-- what was parsed as it is spelled, and the bytes that were found behind it
+abbrev pub whole_in : List ℕ → Result (List ParsedArg × Bor (List ℕ)) Fault → Result (List Argument × List ℕ) Fault
+whole_in body (Err fault) = Err fault
+whole_in body (Ok found) = Ok (spelled_in body found.0, found.1.now)
 
 abbrev pub one_in : List ℕ → ℕ → Result (ParsedArg × ℕ) Fault → Result (Both × ℕ) Fault
 one_in body birth (Err fault) = Err fault

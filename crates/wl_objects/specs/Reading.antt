@@ -82,15 +82,6 @@ abbrev pub arguments_at : Reader → ℕ → List Kind → List ℕ → Result (
 arguments_at r place [] bytes = Ok ([], bytes)
 arguments_at r place (kind ∷ ks) bytes = and_those (arguments_at r (suc place) ks) bytes (judged r place kind (reading (kind_at r.forgives kind) bytes))
 
--- The values that stand at the front of bytes, one of each kind, as far as there are such.
-abbrev pub values_of : Result (Argument × ℕ) ArgFault → (List ℕ → List Argument) → List ℕ → List Argument
-values_of (Err fault) others bytes = []
-values_of (Ok value) others bytes = value.0 ∷ others (drop value.1 bytes)
-
-abbrev pub values_at : Bool → List Kind → List ℕ → List Argument
-values_at forgives [] bytes = []
-values_at forgives (kind ∷ ks) bytes = values_of (reading (kind_at forgives kind) bytes) (values_at forgives ks) bytes
-
 -- a reader that forgives, or does not
 abbrev pub forgiving : Bool → Reader → Reader
 forgiving forgives r = record r { forgives = forgives }

@@ -1,18 +1,18 @@
 -- What the code's own types stand for, without where they lie in memory.
-use Rattle.std.specs.Prelude.{ℕ, List, map}
-use Rattle.std.specs.Borrow.{Bor}
+use Rattle.std.specs.Prelude.{List, map}
 use Rattle.std.specs.declared.result.Result.{Result}
 use Rattle.std.specs.declared.result.Result.TheVariants.{Ok, Err}
-use Rattle.wl_wire.specs.Argument.{Argument, units, Int, Uint, Fixed, Str, Obj, New, NewNamed, Array, Fd}
+use Rattle.wl_wire.specs.Argument.{units, Int, Uint, Fixed, Str, Obj, New, NewNamed, Array, Fd}
 use Rattle.wl_sigs.specs.Tables.{Message}
 use Rattle.wl_objects.specs.declared.argument.Got.{Got}
 use Rattle.wl_objects.specs.declared.argument.Got.TheVariants as values
-use Rattle.wl_table.specs.declared.object.Entry.{Entry}
+use Rattle.wl_objects.specs.declared.calling.CheckedCall.{CheckedCall}
 use Rattle.wl_objects.specs.declared.error.Fault.{Fault}
 use Rattle.wl_objects.specs.declared.error.SendError.{SendError}
 use Rattle.wl_objects.specs.declared.reading.Received.{Received as Read}
 use Rattle.wl_objects.specs.Reading.{Reported}
 use Rattle.wl_objects.specs.Messages.{Received}
+use Rattle.wl_objects.specs.Parsed.{spelled_in}
 
 -- what an owned argument of a report is
 abbrev pub got : {A : Type 0} → Got A → Reported
@@ -29,12 +29,15 @@ got (values.Fd token) = Fd token
 abbrev pub gots : {A : Type 0} → List (Got A) → List Reported
 gots list = map got list
 
--- a message that was read
+-- a message that was read, without where it lies in memory
+abbrev pub message_of : Read → Received
+message_of read = record { target = read.target; entry = read.entry; signature = read.signature.now; values = spelled_in read.body.now read.args }
+
 abbrev pub received_in : Result Read Fault → Result Received Fault
 received_in (Err fault) = Err fault
-received_in (Ok read) = Ok (record { target = read.target; entry = read.entry; signature = read.signature.now; values = read.values })
+received_in (Ok read) = Ok (message_of read)
 
 -- a signature that was found
-abbrev pub signature_in : Result (Entry × Bor Message) SendError → Result Message SendError
+abbrev pub signature_in : Result CheckedCall SendError → Result Message SendError
 signature_in (Err refusal) = Err refusal
-signature_in (Ok found) = Ok found.1.now
+signature_in (Ok call) = Ok call.signature.now

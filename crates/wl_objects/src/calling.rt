@@ -17,8 +17,19 @@ use wl_sigs::{Side, Signature, Tables};
 use wl_table::{Entry, Object, State, Table};
 use wl_wire::{Iface, Kind};
 
+/// A call that passed its checks.
+#[derive(Clone, Copy, Debug)]
+pub struct CheckedCall<'t> {
+    /// The target's entry.
+    pub entry: Entry,
+    /// The message's signature.
+    pub signature: &'t Signature,
+    /// How many bytes the message has.
+    pub len: usize,
+}
+
 /// Checks a call before its room is looked at: the first of S2, S3, S4, S5, S6 and S8, else the
-/// target's entry and the message's signature. Takes no memory.
+/// target's entry, the message's signature and its length. Takes no memory.
 pub fn check_call<'t, T: Table>(
     tables: &'t Tables,
     side: Side,
@@ -26,10 +37,12 @@ pub fn check_call<'t, T: Table>(
     target: Object,
     opcode: u16,
     args: &[Arg<'_>],
-) -> Result<(Entry, &'t Signature), SendError>
+) -> Result<CheckedCall<'t>, SendError>
     ensures answer { signature_in result
         ≡ checked tables.now side (T.view table.now) target opcode (given args.now) }
-    ensures entry { IfOk result (λ found. look (T.view table.now) target.id ≡ Some found.0) }
+    ensures entry { IfOk result (λ call. look (T.view table.now) target.id ≡ Some call.entry) }
+    ensures len { IfOk result
+        (λ call. (id : ℕ) → call.len ≡ message_len (on_wire id args.now)) }
     // So the message can be written, whatever the id of its new object.
     ensures fits { IfOk result
         (λ _. (id : ℕ) → EachFits (on_wire id args.now)
@@ -60,11 +73,16 @@ pub fn check_call<'t, T: Table>(
     if let Some(place) = lost_place(table, signature.kinds(), args) {
         return Err(SendError::BadObject(place));
     }
-    if message_len(args).is_none() {
-        return Err(SendError::TooLong);
-    }
+    let len = match message_len(args) {
+        Some(len) => len,
+        None => return Err(SendError::TooLong),
+    };
     each_typed(args);
-    Ok((entry, signature))
+    Ok(CheckedCall {
+        entry,
+        signature,
+        len,
+    })
 }
 
 /// The entry of an object that is live with this birth.

@@ -2,13 +2,12 @@
 ghost use Rattle.std.specs.Prelude.{◌≡◌, ◌≤◌, ◌+◌, ℕ, List, IfOk, drop, length, option_map, slice_get};
 ghost use Rattle.wl_wire.specs.Argument.{Obj, lent};
 ghost use Rattle.wl_wire.specs.Reading.{reading};
-ghost use Rattle.wl_objects.specs.Reading.{arguments_at, forgiving, judged, kind_at, named, object_fault, value_fault, values_at};
-ghost use Rattle.wl_objects.specs.Parsed.{AreParsed, Lies, argument_of, made_of, made_of_one, made_unless, one_in, parsed_in, parsed_one, part, place_behind, placed_of, spelled_in, with_end};
+ghost use Rattle.wl_objects.specs.Reading.{arguments_at, forgiving, judged, kind_at, named, object_fault, value_fault};
+ghost use Rattle.wl_objects.specs.Parsed.{AreParsed, Lies, argument_of, made_of, made_of_one, made_unless, one_in, parsed_in, parsed_one, part, place_behind, placed_of, spelled_in, whole_in};
 
 use crate::error::Fault;
 use crate::lookup::Lookup;
 use crate::reading::{iface_of, new_fault, object_fault};
-use crate::values::kind_at;
 use std::fmt::{self, Debug, Formatter};
 use std::marker::Model;
 use wl_table::{Entry, State};
@@ -108,7 +107,7 @@ impl Debug for ParsedArgs {
 }
 
 /// An argument as it is spelled.
-fn value_of(body: &[u8], parsed: ParsedArg) -> ValueRef<'_>
+pub(crate) fn value_of(body: &[u8], parsed: ParsedArg) -> ValueRef<'_>
     ensures { lent result ≡ argument_of body.now parsed }
 {
     match parsed {
@@ -151,10 +150,10 @@ pub(crate) fn parse_body<'a, L: Lookup>(
     body: &'a [u8],
 ) -> Result<(ParsedArgs, &'a [u8]), Fault>
     requires few { length kinds.now ≤ 20 }
-    ensures answer { with_end (values_at forgives kinds.now body.now) result
+    ensures answer { whole_in body.now result
         ≡ arguments_at (forgiving forgives (L.reader lookup.now)) 0 kinds.now body.now }
     ensures args { IfOk result (λ x. AreParsed (L.reader lookup.now) body.now x.0
-        (values_at forgives kinds.now body.now)) }
+        (spelled_in body.now x.0)) }
 {
     match parse(lookup, forgives, kinds, body) {
         Ok((args, end)) => Ok((args, bytes_from(body, end))),
@@ -245,6 +244,16 @@ fn parse_at<L: Lookup>(
             }
         }
         Err(fault) => Err(Fault::BadArgument(place, fault)),
+    }
+}
+
+/// The kind as a reader takes it: one that forgives lets an object be null.
+fn kind_at(forgives: bool, kind: Kind) -> Kind
+    ensures { result ≡ kind_at forgives kind }
+{
+    match kind {
+        Kind::Obj { iface, .. } if forgives => Kind::Obj { null: true, iface },
+        _ => kind,
     }
 }
 

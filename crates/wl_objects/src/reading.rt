@@ -5,7 +5,7 @@ ghost use Rattle.wl_sigs.specs.Valid.{Valid};
 ghost use Rattle.wl_table.specs.View.{look};
 ghost use Rattle.wl_objects.specs.Reading.{descriptors, object_fault, new_fault, iface_of};
 ghost use Rattle.wl_objects.specs.Messages.{reader_of, received};
-ghost use Rattle.wl_objects.specs.Seen.{received_in};
+ghost use Rattle.wl_objects.specs.Seen.{message_of, received_in};
 ghost use Rattle.wl_objects.specs.Parsed.{AreParsed};
 
 use crate::error::Fault;
@@ -26,10 +26,19 @@ pub struct Received<'t, 'a> {
     pub entry: Entry,
     /// The message's signature.
     pub signature: &'t Signature,
-    /// The arguments as they are spelled.
-    pub values: Values<'a>,
-    /// The same arguments, parsed, their objects as they are now.
+    /// The message's body.
+    pub body: &'a [u8],
+    /// The arguments, parsed over the body, their objects as they are now.
     pub args: ParsedArgs,
+}
+
+impl<'t, 'a> Received<'t, 'a> {
+    /// The arguments as they are spelled.
+    pub fn values(&self) -> Values<'_>
+        ensures { result ≡ (message_of self.now).values }
+    {
+        Values::of(self.args.as_slice(), self.body)
+    }
 }
 
 /// Reads one whole message, where so many tokens wait. Takes no memory.
@@ -47,7 +56,8 @@ pub fn receive<'t: 'a, 'a, T: Table>(
     ensures answer { received_in result
         ≡ received tables.now side (reader_of (T.view table.now)) header body.now waiting }
     ensures args { IfOk result
-        (λ m. AreParsed (reader_of (T.view table.now)) body.now m.args m.values) }
+        (λ m. AreParsed (reader_of (T.view table.now)) body.now m.args (message_of m).values) }
+    ensures body { IfOk result (λ m. m.body.now ≡ body.now) }
     // Always so, and known because the tables were asked and the header was given.
     ensures valid { IfOk result (λ _. Valid tables.now) }
     ensures header { IsHeader header }
@@ -66,7 +76,9 @@ pub fn receive_by<'t: 'a, 'a, L: Lookup>(
 ) -> Result<Received<'t, 'a>, Fault>
     ensures answer { received_in result
         ≡ received tables.now side (L.reader lookup.now) header body.now waiting }
-    ensures args { IfOk result (λ m. AreParsed (L.reader lookup.now) body.now m.args m.values) }
+    ensures args { IfOk result
+        (λ m. AreParsed (L.reader lookup.now) body.now m.args (message_of m).values) }
+    ensures body { IfOk result (λ m. m.body.now ≡ body.now) }
     ensures valid { IfOk result (λ _. Valid tables.now) }
 {
     let entry = match lookup.object(header.object) {
@@ -96,7 +108,7 @@ pub fn receive_by<'t: 'a, 'a, L: Lookup>(
         },
         entry,
         signature,
-        values: Values::of(kinds, forgives, body),
+        body,
         args,
     })
 }

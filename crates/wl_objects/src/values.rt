@@ -1,48 +1,36 @@
 //! The values of one message's arguments, one after another.
-ghost use Rattle.std.specs.Prelude.{◌≡◌, ◌↔◌, ◌∷◌, [], IsTrue, MatchOption};
+ghost use Rattle.std.specs.Prelude.{◌≡◌, ◌∷◌, [], MatchOption};
 ghost use Rattle.wl_wire.specs.Argument.{lent};
-ghost use Rattle.wl_objects.specs.Reading.{values_at, kind_at};
+ghost use Rattle.wl_objects.specs.Parsed.{spelled_in};
 
+use crate::parsed::{ParsedArg, value_of};
 use std::marker::Model;
-use wl_wire::{Kind, ValueRef, read_ref};
+use wl_wire::ValueRef;
 
-/// The values of a message's arguments that are left to go through, in order. Their strings and
-/// arrays lie in the message's bytes.
+/// The values of a message's arguments that are left to go through, in order. They were parsed
+/// before; their strings and arrays lie in the message's body.
 #[derive(Debug, Drop)]
 pub struct Values<'a> {
-    kinds: &'a [Kind],
+    left: &'a [ParsedArg],
     body: &'a [u8],
-    // Whether an object argument may be null whatever its kind says.
-    forgives: bool,
 }
 
 impl<'a> Model for Values<'a> {
     ghost use Rattle.std.specs.Prelude.{List};
     ghost use Rattle.wl_wire.specs.Argument.{Argument};
-    ghost use Rattle.wl_objects.specs.Reading.{values_at};
+    ghost use Rattle.wl_objects.specs.Parsed.{spelled_in};
 
     ghost Value = { List Argument };
 
-    ghost view = { λ v. values_at v.forgives v.kinds.now v.body.now };
+    ghost view = { λ v. spelled_in v.body.now v.left.now };
 }
 
 impl<'a> Values<'a> {
-    /// The values at the front of a message's body, whose spellings were tested before.
-    pub(crate) fn of(kinds: &'a [Kind], forgives: bool, body: &'a [u8]) -> Values<'a>
-        ensures { result ≡ values_at forgives kinds.now body.now }
+    /// The values of what was parsed in this body.
+    pub(crate) fn of(parsed: &'a [ParsedArg], body: &'a [u8]) -> Values<'a>
+        ensures { result ≡ spelled_in body.now parsed.now }
     {
-        Values {
-            kinds,
-            body,
-            forgives,
-        }
-    }
-
-    /// Whether no value is left.
-    pub fn is_empty(&self) -> bool
-        ensures { IsTrue result ↔ (self.now ≡ []) }
-    {
-        self.again().next().is_none()
+        Values { left: parsed, body }
     }
 
     /// Takes out the first value.
@@ -50,11 +38,9 @@ impl<'a> Values<'a> {
         ensures { MatchOption result ((self.old ≡ []) × (self.new ≡ []))
             (λ value. self.old ≡ lent value ∷ self.new) }
     {
-        let (kind, kinds) = self.kinds.split_first()?;
-        let (value, len) = read_ref(kind_at(self.forgives, *kind), self.body).ok()?;
-        self.kinds = kinds;
-        self.body = &self.body[len..];
-        Some(value)
+        let (parsed, left) = self.left.split_first()?;
+        self.left = left;
+        Some(value_of(self.body, *parsed))
     }
 
     /// The same values once more.
@@ -62,19 +48,8 @@ impl<'a> Values<'a> {
         ensures { result ≡ self.now }
     {
         Values {
-            kinds: self.kinds,
+            left: self.left,
             body: self.body,
-            forgives: self.forgives,
         }
-    }
-}
-
-/// The kind as a reader takes it: one that forgives lets an object be null.
-pub(crate) fn kind_at(forgives: bool, kind: Kind) -> Kind
-    ensures { result ≡ kind_at forgives kind }
-{
-    match kind {
-        Kind::Obj { iface, .. } if forgives => Kind::Obj { null: true, iface },
-        _ => kind,
     }
 }

@@ -88,22 +88,23 @@ pub fn tokens_of(args: &[Arg<'_>], tokens: &mut [u32; 20]) -> usize
     count
 }
 
-/// Writes the message that a call becomes, where the new object gets this id. It is the whole
-/// contents of the store afterwards. Takes no memory.
+/// Writes the message of this length that a call becomes, where the new object gets this id. It is
+/// the whole contents of the store afterwards. Takes no memory.
 pub fn encode_call<A: Allocator>(
     store: &mut Vec<u8, A>,
     object: u32,
     opcode: u16,
     args: &[Arg<'_>],
     new_id: u32,
+    len: usize,
 )
     requires fits { EachFits (on_wire new_id args.now) }
-    requires len { message_len (on_wire new_id args.now) ≤ 4096 }
+    requires len { len ≡ message_len (on_wire new_id args.now) }
+    requires short { len ≤ 4096 }
     requires room { 4096 ≤ vec_capacity store.old }
     ensures message { store.new.items ≡ message_bytes object opcode (on_wire new_id args.now) }
     ensures capacity { vec_capacity store.old ≤ vec_capacity store.new }
 {
-    let len = len_of_call(args);
     start(store, object, len, opcode);
     'arguments: for arg in args {
         append(store, wired(arg, new_id));
@@ -179,15 +180,6 @@ pub fn encode_global<A: Allocator>(
     append(store, ValueRef::Uint(global));
     append(store, iface);
     append(store, ValueRef::Uint(version));
-}
-
-/// How many bytes a call's message has, which is not too long. Its length is the same whatever
-/// the new object's id.
-fn len_of_call(args: &[Arg<'_>]) -> usize
-    requires { message_len (on_wire 0 args.now) ≤ 4096 }
-    ensures { (id : ℕ) → result ≡ message_len (on_wire id args.now) }
-{
-    message_len(args).unwrap_or(0)
 }
 
 /// Empties the store and writes a header there.

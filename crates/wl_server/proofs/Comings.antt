@@ -6,9 +6,6 @@ use Rattle.std.specs.declared.option.Option.TheVariants.{None, Some}
 use Rattle.std.specs.declared.result.Result.{Result}
 use Rattle.std.specs.declared.result.Result.TheVariants.{Ok, Err}
 use Rattle.wl_sigs.specs.declared.signature.Side.TheVariants.{Request as request_side}
-use Rattle.wl_message.specs.declared.amounts.Fed.{Fed}
-use Rattle.wl_message.specs.InStep.{Part, InStep, part_bytes, part_tokens}
-use Rattle.wl_message.proofs.Steps.{step_first, step_read}
 use Rattle.wl_objects.specs.declared.error.Fault.{Fault}
 use Rattle.wl_objects.specs.declared.error.Fault.TheVariants as faults
 use Rattle.wl_objects.specs.declared.error.NextError.{NextError}
@@ -17,12 +14,13 @@ use Rattle.wl_objects.specs.Messages.{Server as server, after, is_bind}
 use Rattle.wl_end.specs.Core.{Core, with_arrived, with_view}
 use Rattle.wl_end.specs.Receiving.{Found, found, past_found}
 use Rattle.wl_end.specs.Sending.{with_following}
-use Rattle.wl_end.specs.Streams.{waiting, need_of, Wants, IsTaken, taken_bytes, taken_tokens, untaken}
-use Rattle.wl_end.proofs.Pieces.{taken-untaken_bytes, taken-untaken_tokens, taken_in_step}
-use Rattle.wl_end.proofs.Coming.{IsFound, is_found, reported_stays, past_stays, Faulty, always, lacks, is_fault, arrived_none, arrived_twice}
+use Rattle.wl_end.specs.Streams.{waiting}
+use Rattle.wl_end.proofs.AnyCut.{IsOfMessage, IsFaultAgain, IsFault, stays, comes as found_first, IsReading}
+use Rattle.wl_end.proofs.Coming.{IsFound, is_found, reported_stays, past_stays}
 use Rattle.wl_server.specs.State.{State, with_core}
 use Rattle.wl_server.specs.Requests.{Report, report, judged, request, is_good_bind, made_in, destroys_it, core_after, state_past, is_out_full, answer_found, next_answer, state_found, after_next}
-use Rattle.wl_server.specs.Streams.{Reads, none, fault, full, next, ReadsSome, nothing, more, arrived, Begins, ends, goes_on, ComeInStep}
+use Rattle.wl_end.specs.Reads.{arrived}
+use Rattle.wl_server.specs.Streams.{reading}
 
 -- ---- one message
 
@@ -39,7 +37,7 @@ core_arrived core f bytes tokens h =
     ap (λ (c : Core). with_following (destroys_it f.message) f.message.target.id (with_view c view)) (past_stays core request_side f bytes tokens h)
     ∙ following_arrived (destroys_it f.message) f.message.target.id (with_view (past_found core f) view) bytes tokens
 
-past_arrived : (state : State) (f : Found) (bytes tokens : List ℕ) → IsFound state.core request_side f → state_past (arrived state bytes tokens) f ≡ arrived (state_past state f) bytes tokens
+past_arrived : (state : State) (f : Found) (bytes tokens : List ℕ) → IsFound state.core request_side f → state_past (arrived reading state bytes tokens) f ≡ arrived reading (state_past state f) bytes tokens
 past_arrived state f bytes tokens h = ap (with_core (state_past state f)) (core_arrived state.core f bytes tokens h)
 
 -- the request that is read next: it is found, and what is answered and left
@@ -99,27 +97,27 @@ pub read : (state : State) (r : Report) → next_answer state ≡ Ok (Some r) �
 read state r e = read_at state r state.core.failed refl e
 
 -- the next request is read in the same way with more behind it, and leaves that behind
-request_stays : (state : State) (f : Found) (bytes tokens : List ℕ) → IsFound state.core request_side f → judged state (Ok (Some f)) ≡ Ok (Some f) → request (arrived state bytes tokens) ≡ Ok (Some f)
-request_stays state f bytes tokens h j = ap (judged (arrived state bytes tokens)) (h.stays bytes tokens) ∙ j
+request_stays : (state : State) (f : Found) (bytes tokens : List ℕ) → IsFound state.core request_side f → judged state (Ok (Some f)) ≡ Ok (Some f) → request (arrived reading state bytes tokens) ≡ Ok (Some f)
+request_stays state f bytes tokens h j = ap (judged (arrived reading state bytes tokens)) (h.stays bytes tokens) ∙ j
 
-pub answer_stays : (state : State) (r : Report) (bytes tokens : List ℕ) → next_answer state ≡ Ok (Some r) → next_answer (arrived state bytes tokens) ≡ Ok (Some r)
+pub answer_stays : (state : State) (r : Report) (bytes tokens : List ℕ) → next_answer state ≡ Ok (Some r) → next_answer (arrived reading state bytes tokens) ≡ Ok (Some r)
 answer_stays state r bytes tokens e =
     let m = read state r e in
     let h = is_found state.core request_side m.message m.there in
-    answers (arrived state bytes tokens) m.sound
+    answers (arrived reading state bytes tokens) m.sound
     ∙ ap (answer_found (with_arrived state.core bytes tokens)) (request_stays state m.message bytes tokens h m.good)
     ∙ ap (λ (b : Bool). cond b (Err errors.OutFull) (Ok (Some (report (with_arrived state.core bytes tokens) m.message)))) m.room
     ∙ ap (λ (x : Report). Ok (Some x)) (report_stays state.core m.message bytes tokens h ∙ m.is)
 
-pub after_stays : (state : State) (r : Report) (bytes tokens : List ℕ) → next_answer state ≡ Ok (Some r) → after_next (arrived state bytes tokens) ≡ arrived (after_next state) bytes tokens
+pub after_stays : (state : State) (r : Report) (bytes tokens : List ℕ) → next_answer state ≡ Ok (Some r) → after_next (arrived reading state bytes tokens) ≡ arrived reading (after_next state) bytes tokens
 after_stays state r bytes tokens e =
     let m = read state r e in
     let h = is_found state.core request_side m.message m.there in
-    leaves (arrived state bytes tokens) m.sound
-    ∙ ap (state_found (arrived state bytes tokens)) (request_stays state m.message bytes tokens h m.good)
-    ∙ ap (λ (b : Bool). cond b (arrived state bytes tokens) (state_past (arrived state bytes tokens) m.message)) m.room
+    leaves (arrived reading state bytes tokens) m.sound
+    ∙ ap (state_found (arrived reading state bytes tokens)) (request_stays state m.message bytes tokens h m.good)
+    ∙ ap (λ (b : Bool). cond b (arrived reading state bytes tokens) (state_past (arrived reading state bytes tokens) m.message)) m.room
     ∙ past_arrived state m.message bytes tokens h
-    ∙ ap (λ (s : State). arrived s bytes tokens) (sym m.leaves)
+    ∙ ap (λ (s : State). arrived reading s bytes tokens) (sym m.leaves)
 
 -- what waits after a request was read
 waits_less : (b : Bool) (id : ℕ) (core : Core) → waiting (with_following b id core) ≡ waiting core
@@ -128,32 +126,6 @@ waits_less false id core = refl
 
 pub waits_past : (state : State) (f : Found) → waiting (state_past state f).core ≡ waiting (past_found state.core f)
 waits_past state f = waits_less (destroys_it f.message) f.message.target.id (with_view (past_found state.core f) (after server state.core.view (made_in state.core f.message) f.message.signature.destroys f.message.target.id))
-
--- ---- several messages
-
-pub some_stays : {state last : State} {reports : List Report} (bytes tokens : List ℕ) → ReadsSome state reports last → ReadsSome (arrived state bytes tokens) reports (arrived last bytes tokens)
-some_stays bytes tokens nothing = nothing
-some_stays bytes tokens (more {state = state} {last = last} {report = r} {reports = rs} e h) =
-    more (answer_stays state r bytes tokens e)
-    (subst (λ (s : State). ReadsSome s rs (arrived last bytes tokens)) (sym (after_stays state r bytes tokens e)) (some_stays bytes tokens h))
-
-pub some_then : {state middle last : State} {reports others : List Report} → ReadsSome state reports middle → ReadsSome middle others last → ReadsSome state (reports ++ others) last
-some_then nothing h = h
-some_then (more e g) h = more e (some_then g h)
-
-pub some_reads : {state middle last : State} {reports others : List Report} {stop : Option NextError} → ReadsSome state reports middle → Reads middle others stop last → Reads state (reports ++ others) stop last
-some_reads nothing h = h
-some_reads (more e g) h = next e (some_reads g h)
-
-pub some_one : {state : State} {r : Report} → next_answer state ≡ Ok (Some r) → ReadsSome state (r ∷ []) (after_next state)
-some_one e = more e nothing
-
--- what came at two times
-pub arrived_again : (state : State) (a s b t : List ℕ) → arrived (arrived state a s) b t ≡ arrived state (a ++ b) (s ++ t)
-arrived_again state a s b t = ap (with_core state) (arrived_twice state.core a s b t)
-
-pub arrived_nothing : (state : State) → arrived state [] [] ≡ state
-arrived_nothing state = ap (with_core state) (arrived_none state.core)
 
 -- ---- where all that is read is left
 
@@ -200,107 +172,39 @@ fails state what offset e =
     fails_by state what offset (request state) s refl (sym (answers state s) ∙ e)
 
 -- the same fault with more behind it
-fault_again : (state : State) (what : Fault) (offset : ℕ) (bytes tokens : List ℕ) → Fails state what offset → request (arrived state bytes tokens) ≡ Err what
-    → Reads (arrived state bytes tokens) [] (Some (errors.Fault what offset)) (arrived (after_next state) bytes tokens)
-fault_again state what offset bytes tokens f h =
-    let answer : next_answer (arrived state bytes tokens) ≡ Err (errors.Fault what offset) =
-    answers (arrived state bytes tokens) f.sound ∙ ap (answer_found (with_arrived state.core bytes tokens)) h ∙ ap (λ (n : ℕ). Err (errors.Fault what n)) f.offset_is in
-    let left : after_next (arrived state bytes tokens) ≡ arrived (after_next state) bytes tokens =
-    leaves (arrived state bytes tokens) f.sound ∙ ap (state_found (arrived state bytes tokens)) h
-    ∙ ap (λ (s : State). arrived s bytes tokens) (sym (leaves state f.sound ∙ ap (state_found state) f.there)) in
-    subst (λ (s : State). Reads (arrived state bytes tokens) [] (Some (errors.Fault what offset)) s) left (fault answer)
+fault_again : (state : State) (what : Fault) (offset : ℕ) (bytes tokens : List ℕ) → Fails state what offset → request (arrived reading state bytes tokens) ≡ Err what → IsFaultAgain reading state what offset bytes tokens
+fault_again state what offset bytes tokens f h = record {
+  is = answers (arrived reading state bytes tokens) f.sound ∙ ap (answer_found (with_arrived state.core bytes tokens)) h ∙ ap (λ (n : ℕ). Err (errors.Fault what n)) f.offset_is;
+  leaves = leaves (arrived reading state bytes tokens) f.sound ∙ ap (state_found (arrived reading state bytes tokens)) h
+      ∙ ap (λ (s : State). arrived reading s bytes tokens) (sym (leaves state f.sound ∙ ap (state_found state) f.there));
+}
 
-fault_by : (state : State) (what : Fault) (offset : ℕ) (later : List Part) → Fails state what offset → ComeInStep (arrived state (part_bytes later) (part_tokens later)) (waiting state.core ∷ later)
-    → Faulty state.core request_side what
-    → Reads (arrived state (part_bytes later) (part_tokens later)) [] (Some (errors.Fault what offset)) (arrived (after_next state) (part_bytes later) (part_tokens later))
-fault_by state what offset later f s (always h) =
-    fault_again state what offset (part_bytes later) (part_tokens later) f (ap (judged (arrived state (part_bytes later) (part_tokens later))) (h (part_bytes later) (part_tokens later)))
-fault_by state what offset later f s (lacks need w few some e h) =
-    elim (step_first need [] (waiting state.core) later (s (need ∷ []) (ends f.sound (w (part_bytes later) (part_tokens later)))) some) [
-      | inl x ↦ absurd (omega arith)
-      | inr x ↦ fault_again state what offset (part_bytes later) (part_tokens later) f
-          (ap (λ (t : List ℕ). judged (arrived state (part_bytes later) (part_tokens later)) (found (with_arrived state.core (part_bytes later) t) request_side)) x
-          ∙ ap (judged (arrived state (part_bytes later) (part_tokens later))) (h (part_bytes later)))
-    ]
+fault_leaves : (state : State) (what : Fault) (offset : ℕ) → Fails state what offset → (after_next state).core.inbox.bytes ≡ state.core.inbox.bytes
+fault_leaves state what offset f = ap (λ (s : State). s.core.inbox.bytes) (leaves state f.sound ∙ ap (state_found state) f.there)
 
-comes_again : (state : State) (what : Fault) (offset : ℕ) (later : List Part) → Fails state what offset → ComeInStep (arrived state (part_bytes later) (part_tokens later)) (waiting state.core ∷ later)
-    → Comes state what
-    → Reads (arrived state (part_bytes later) (part_tokens later)) [] (Some (errors.Fault what offset)) (arrived (after_next state) (part_bytes later) (part_tokens later))
-comes_again state what offset later f s (comes e) = fault_by state what offset later f s (is_fault state.core request_side what e)
-comes_again state what offset later f s (binds g e j) =
-    fault_again state what offset (part_bytes later) (part_tokens later) f
-    (ap (judged (arrived state (part_bytes later) (part_tokens later))) ((is_found state.core request_side g e).stays (part_bytes later) (part_tokens later)) ∙ j)
+-- ---- so a server reads as an end does
 
--- once the first request is read, with its tokens, the others come in step
-step_past : (state : State) (r : Report) (later : List Part) → next_answer state ≡ Ok (Some r) → ComeInStep (arrived state (part_bytes later) (part_tokens later)) (waiting state.core ∷ later)
-    → ComeInStep (arrived (after_next state) (part_bytes later) (part_tokens later)) (waiting (after_next state).core ∷ later)
-step_past state r later e s needs b =
-    let bytes = part_bytes later in
-    let tokens = part_tokens later in
-    let m = read state r e in
-    let h = is_found state.core request_side m.message m.there in
-    let wants : Wants (arrived state bytes tokens).core request_side (need_of m.message) =
-    record { more = []; message = m.message; there = ap (λ (c : Core). found c request_side) (arrived_twice state.core bytes tokens [] []) ∙ h.stays (bytes ++ []) (tokens ++ []); needed = refl } in
-    let begins = goes_on (answer_stays state r bytes tokens e) wants (subst (λ (x : State). Begins x needs) (sym (after_stays state r bytes tokens e)) b) in
-    let waits : waiting (after_next state).core ≡ waiting (past_found state.core m.message) = ap (λ (x : State). waiting x.core) m.leaves ∙ waits_past state m.message in
-    subst (λ (x : Part). InStep needs (x ∷ later)) (sym waits)
-    (step_read (need_of m.message) needs (waiting state.core) later (s (need_of m.message ∷ needs) begins) h.there h.enough)
+message_of : (state : State) (r : Report) → Read state r → IsOfMessage reading request_side state
+message_of state r m = record { message = m.message; there = m.there; left = ap (λ (s : State). waiting s.core) m.leaves ∙ waits_past state m.message }
 
--- What is read up to a fault is read in the same way when more comes in step.
-pub reads_stay : {state last : State} {reports : List Report} {stop : Option NextError} (later : List Part) → Reads state reports stop last → last.core.failed ≡ true
-    → ComeInStep (arrived state (part_bytes later) (part_tokens later)) (waiting state.core ∷ later)
-    → Reads (arrived state (part_bytes later) (part_tokens later)) reports stop (arrived last (part_bytes later) (part_tokens later))
-reads_stay later (none {state = state} e) f s = absurd (cc (failed_answer state f, e))
-reads_stay later (full {state = state} e) f s = absurd (cc (failed_answer state f, e))
-reads_stay later (fault {state = state} {what = what} {offset = offset} e) f s =
-    let g = fails state what offset e in
-    comes_again state what offset later g s g.how
-reads_stay later (next {state = state} {last = last} {report = r} {reports = rs} {stop = stop} e h) f s =
-    next (answer_stays state r (part_bytes later) (part_tokens later) e)
-    (subst (λ (x : State). Reads x rs stop (arrived last (part_bytes later) (part_tokens later))) (sym (after_stays state r (part_bytes later) (part_tokens later) e))
-    (reads_stay later h f (step_past state r later e s)))
+fault_of : (state : State) (what : Fault) (offset : ℕ) → Fails state what offset → Comes state what → IsFault reading request_side state what offset
+fault_of state what offset f (comes e) =
+    found_first e (λ bytes tokens h. fault_again state what offset bytes tokens f (ap (judged (arrived reading state bytes tokens)) h))
+fault_of state what offset f (binds g e j) =
+    stays (λ bytes tokens. fault_again state what offset bytes tokens f
+    (ap (judged (arrived reading state bytes tokens)) ((is_found state.core request_side g e).stays bytes tokens) ∙ j))
 
-pub any_cut : (state last : State) (pieces : List Part) (count : ℕ) (some : Fed) (reports : List Report) (stop : Option NextError) → IsTaken pieces count some
-    → ComeInStep (arrived state (part_bytes pieces) (part_tokens pieces)) (waiting state.core ∷ pieces)
-    → Reads (arrived state (taken_bytes pieces count some) (taken_tokens pieces count some)) reports stop last → last.core.failed ≡ true
-    → Reads (arrived state (part_bytes pieces) (part_tokens pieces)) reports stop (arrived last (part_bytes (untaken pieces count some)) (part_tokens (untaken pieces count some)))
-any_cut state last pieces count some reports stop t s h f =
-    let later = untaken pieces count some in
-    let bytes = taken_bytes pieces count some in
-    let tokens = taken_tokens pieces count some in
-    let b = taken-untaken_bytes pieces count some in
-    let k = taken-untaken_tokens pieces count some in
-    let whole : arrived (arrived state bytes tokens) (part_bytes later) (part_tokens later) ≡ arrived state (part_bytes pieces) (part_tokens pieces) =
-    arrived_again state bytes tokens (part_bytes later) (part_tokens later) ∙ (λ i. arrived state (b i) (k i)) in
-    subst (λ (x : State). Reads x reports stop (arrived last (part_bytes later) (part_tokens later))) whole
-    (reads_stay later h f (λ needs g. taken_in_step needs (waiting state.core) pieces count some t (s needs (subst (λ (x : State). Begins x needs) whole g))))
+fault_by : (state : State) (what : Fault) (offset : ℕ) → Fails state what offset → IsFault reading request_side state what offset
+fault_by state what offset f = fault_of state what offset f f.how
 
--- ---- what waits is read in one way
-
-pub record Same (reports others : List Report) (stop halt : Option NextError) (last end : State) : Type 0 where
-  pub same_reports : reports ≡ others
-  pub same_stop : stop ≡ halt
-  pub same_last : last ≡ end
-
-pub one_reading : {state last end : State} {reports others : List Report} {stop halt : Option NextError} → Reads state reports stop last → Reads state others halt end → Same reports others stop halt last end
-one_reading (none e) (none d) = record { same_reports = refl; same_stop = refl; same_last = refl }
-one_reading (none e) (fault d) = absurd (cc (e, d))
-one_reading (none e) (full d) = absurd (cc (e, d))
-one_reading (none e) (next d h) = absurd (cc (e, d))
-one_reading (fault e) (none d) = absurd (cc (e, d))
-one_reading (fault {state = state} {what = what} {offset = offset} e) (fault {what = other} {offset = place} d) =
-    let same : errors.Fault what offset ≡ errors.Fault other place = cc (e, d) in
-    record { same_reports = refl; same_stop = ap Some same; same_last = refl }
-one_reading (fault e) (full d) = absurd (cc (e, d))
-one_reading (fault e) (next d h) = absurd (cc (e, d))
-one_reading (full e) (none d) = absurd (cc (e, d))
-one_reading (full e) (fault d) = absurd (cc (e, d))
-one_reading (full e) (full d) = record { same_reports = refl; same_stop = refl; same_last = refl }
-one_reading (full e) (next d h) = absurd (cc (e, d))
-one_reading (next e h) (none d) = absurd (cc (e, d))
-one_reading (next e h) (fault d) = absurd (cc (e, d))
-one_reading (next e h) (full d) = absurd (cc (e, d))
-one_reading (next {state = state} {report = r} e h) (next {report = q} d g) =
-    let same : r ≡ q = cc (e, d) in
-    let rest = one_reading h g in
-    record { same_reports = (λ i. same i ∷ rest.same_reports i); same_stop = rest.same_stop; same_last = rest.same_last }
+pub is_reading : IsReading reading request_side
+is_reading = record {
+  laws = record { kept = λ state. refl; new = λ state c. refl; again = λ state c d. refl };
+  failed = failed_answer;
+  report_stays = answer_stays;
+  leaves_more = after_stays;
+  message = λ state r e. message_of state r (read state r e);
+  sound = λ state what offset e. (fails state what offset e).sound;
+  fault = λ state what offset e. fault_by state what offset (fails state what offset e);
+  fault_leaves = λ state what offset e. fault_leaves state what offset (fails state what offset e);
+}

@@ -1,6 +1,6 @@
 -- What stands in front of a server's waiting bytes, and that it can be taken.
-use Rattle.std.proofs.Common.{◌≡◌, ◌≢◌, ℕ, zero, suc, ◌≤◌, Bool, true, false, List, [], ◌∷◌, ◌++◌, length, take, drop, Some, refl, sym, ap, subst, ◌∙◌, inl, inr, arith, append_assoc, rules}
-use Rattle.std.specs.Prelude.{Option, not, ◌&&◌, nat_lt, slice_get, IsOk, IsTrue}
+use Rattle.std.proofs.Common.{◌≡◌, ◌≢◌, ℕ, zero, suc, ◌≤◌, Bool, true, false, List, [], ◌∷◌, ◌++◌, length, take, drop, Some, refl, sym, ap, subst, ◌∙◌, arith, append_assoc}
+use Rattle.std.specs.Prelude.{Option, not, ◌&&◌, nat_lt, slice_get, IsTrue}
 use Rattle.std.specs.Option.{option_and_then}
 use Rattle.std.specs.declared.result.Result.{Result}
 use Rattle.std.specs.declared.result.Result.TheVariants.{Ok, Err}
@@ -35,7 +35,6 @@ use Rattle.wl_objects.specs.Messages.{Received, received, reader_of, is_bind}
 use Rattle.wl_end.specs.Core.{Core, HasDisplay}
 use Rattle.wl_end.specs.Receiving.{Found, found, found_at, found_in, header_of, takes}
 use Rattle.wl_end.specs.Sending.{delete_id_len, fits}
-use Rattle.wl_end.specs.Outcomes.{answers_with}
 use Rattle.wl_end.proofs.Receivings.{is_received}
 use Rattle.wl_end.proofs.Coming.{is_found}
 use Rattle.wl_end.proofs.Descriptors.{fds, reports_stay}

@@ -1,18 +1,18 @@
 -- What a server writes of itself is spelled.
-use Rattle.std.proofs.Common.{◌≡◌, ◌≢◌, ◌⊎◌, ℕ, ◌+◌, ◌<◌, ◌≤◌, ◌^◌, Bool, true, false, not, List, [], ◌∷◌, length, Some, None, refl, sym, ap, subst, ◌∙◌, inl, inr, arith, lit≤}
-use Rattle.std.specs.Prelude.{Option, nat_eq, nat_le, ◌&&◌, ◌||◌}
+use Rattle.std.proofs.Common.{◌≡◌, ◌≢◌, ℕ, ◌≤◌, Bool, true, false, not, List, [], ◌∷◌, length, Some, None, refl, sym, ap, subst, ◌∙◌, inl, inr, arith, lit≤}
+use Rattle.std.specs.Prelude.{Option, nat_eq, nat_le, ◌||◌}
 use Rattle.std.specs.List.{All, list_any}
 use Rattle.std.specs.Option.{option_and_then, option_map_or}
 use Rattle.std.proofs.lemmas.Bool.{and_parts, eq-eqb, leb-true}
 use Rattle.std.proofs.lemmas.List.Elements.{All-nil, All-cons, All-weaker}
-use Rattle.wl_wire.specs.Argument.{Argument, Uint, Obj, Str}
+use Rattle.wl_wire.specs.Argument.{Argument, Uint, Str}
 use Rattle.wl_wire.specs.Spelling.{IsText}
 use Rattle.wl_wire.specs.declared.kind.Kind.{Kind}
 use Rattle.wl_wire.specs.declared.kind.Iface.{Iface}
 use Rattle.wl_sigs.specs.declared.signature.Side.TheVariants.{Event}
 use Rattle.wl_sigs.specs.Tables.{Interface, Message, interface_at, signature_at, message_of}
 use Rattle.wl_sigs.specs.Fixed.{any_object, uint, string}
-use Rattle.wl_sigs.specs.Valid.{Valid, IsName, IsNameByte}
+use Rattle.wl_sigs.specs.Valid.{Valid, IsNameByte}
 use Rattle.wl_objects.specs.declared.error.Fault.{Fault}
 use Rattle.wl_objects.specs.declared.error.Fault.TheVariants as faults
 use Rattle.wl_objects.specs.Writing.{error_values, message_bytes}
@@ -21,7 +21,7 @@ use Rattle.wl_end.proofs.Spelled.{own-spelled}
 use Rattle.wl_server.specs.Calls.{is_error_text}
 use Rattle.wl_server.specs.Requests.{fault_message}
 use Rattle.wl_server.specs.Announcing.{Due, Owing, Removal, Telling, name_at}
-use Rattle.wl_server.specs.Spelled.{DeleteSpells, ErrorSpells, DueSpells, InWords, IsSpelled}
+use Rattle.wl_server.specs.Spelled.{DeleteSpells, ErrorSpells, DueSpells, IsSpelled}
 
 -- the kinds of a message that valid tables have
 kinds_in : (o : Option Message) (m signature : Message) → o ≡ Some m → o ≡ Some signature → m.kinds ≡ signature.kinds

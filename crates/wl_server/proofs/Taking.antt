@@ -1,5 +1,5 @@
 -- What a server is after the step of a request.
-use Rattle.std.proofs.Common.{◌≡◌, ◌≢◌, ◌⊎◌, ℕ, zero, suc, ◌+◌, ◌<◌, ◌≤◌, length, take, drop, get_or, Bool, true, false, List, [], ◌∷◌, ◌++◌, Some, None, map, refl, sym, ap, subst, ◌∙◌, inl, inr, arith, rules, eqb, cond}
+use Rattle.std.proofs.Common.{◌≡◌, ◌≢◌, ℕ, zero, suc, ◌+◌, ◌<◌, ◌≤◌, length, take, drop, get_or, Bool, true, false, List, [], ◌∷◌, ◌++◌, Some, None, map, refl, sym, ap, subst, ◌∙◌, inr, arith, rules, eqb, cond}
 use Rattle.std.specs.Prelude.{Option, not, nat_eq, if◌then◌else◌, IsOk, IsTrue, is_some}
 use Rattle.std.specs.List.{filter}
 use Rattle.std.specs.declared.result.Result.{Result}
@@ -28,7 +28,7 @@ use Rattle.wl_server.specs.State.{State, Global, Registry, RiseFrom, with_core, 
 use Rattle.wl_server.specs.Requests.{Report, request, made_in, is_out_full, next_answer, after_next, answer_found, state_found, state_past, registries_after, needs_memory, opens_object, IsNext, IsLentNext}
 use Rattle.wl_server.specs.Registries.{without_registry, registry_birth}
 use Rattle.wl_server.specs.declared.pending.PendingRequest.{PendingRequest}
-use Rattle.wl_server.specs.Steps.{Step, pending_in, report_over, taken_report, step_of, step_found, front_step, checked_front, after_front, after_step, report_by, core_by, core_told, core_without, registries_by, state_of}
+use Rattle.wl_server.specs.Steps.{Step, pending_in, report_over, taken_report, step_of, step_found, front_step, checked_front, after_front, after_step, report_by, core_by, core_told, core_without, state_of}
 use Rattle.wl_server.proofs.Risings.{rise-below, rise-new}
 
 -- ---- the registries

@@ -1,6 +1,6 @@
 -- What a server writes of itself, as spellings by the signatures of its tables.
 use Rattle.std.specs.Prelude.{◌≡◌, ℕ, ◌<◌, ◌^◌, true, List, [], ◌∷◌, Some}
-use Rattle.wl_wire.specs.Argument.{Argument, Uint, Obj, Str}
+use Rattle.wl_wire.specs.Argument.{Argument, Uint}
 use Rattle.wl_sigs.specs.declared.signature.Side.TheVariants.{Event}
 use Rattle.wl_sigs.specs.Tables.{Interface, Message, signature_at}
 use Rattle.wl_sigs.specs.Valid.{Valid}

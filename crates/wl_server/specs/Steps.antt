@@ -1,5 +1,5 @@
 -- How a server reads a request: what it makes of the message in front, and then what the reading leaves.
-use Rattle.std.specs.Prelude.{◌≡◌, ◌≢◌, ℕ, ◌≤◌, Bool, if◌then◌else◌, List, [], length, take, drop, Option, Some, None, IsTrue}
+use Rattle.std.specs.Prelude.{◌≡◌, ◌≢◌, ℕ, ◌≤◌, if◌then◌else◌, List, [], length, take, drop, Option, Some, None, IsTrue}
 use Rattle.std.specs.declared.result.Result.{Result}
 use Rattle.std.specs.declared.result.Result.TheVariants.{Ok, Err}
 use Rattle.wl_sigs.specs.declared.signature.Destroys.{Destroys}
@@ -10,20 +10,18 @@ use Rattle.wl_table.specs.declared.object.Entry.{Entry}
 use Rattle.wl_objects.specs.declared.error.Fault.{Fault}
 use Rattle.wl_objects.specs.declared.error.NextError.{NextError}
 use Rattle.wl_objects.specs.declared.error.NextError.TheVariants as errors
-use Rattle.wl_table.specs.View.{View, look, closed}
+use Rattle.wl_table.specs.View.{look, closed}
 use Rattle.wl_wire.specs.declared.header.Header.{Header}
-use Rattle.wl_objects.specs.declared.reading.Received.{Received as Read}
 use Rattle.wl_objects.specs.Reading.{descriptors}
 use Rattle.wl_objects.specs.declared.parsed.ParsedArg.{ParsedArg}
 use Rattle.wl_objects.specs.Parsed.{reported_in}
-use Rattle.wl_objects.specs.Messages.{Made, Received, made, reader_of, opens}
+use Rattle.wl_objects.specs.Messages.{Made, Received, made, opens}
 use Rattle.wl_end.specs.Core.{Core, past, with_view}
-use Rattle.wl_end.specs.Outcomes.{Gives, answers_with}
 use Rattle.wl_end.specs.Receiving.{Found, takes}
 use Rattle.wl_end.specs.Sending.{with_delete_id, with_error_event, fits, delete_id_len}
 use Rattle.wl_server.specs.declared.pending.PendingRequest.{PendingRequest}
 use Rattle.wl_server.specs.State.{State, Global, Registry, with_core}
-use Rattle.wl_server.specs.Requests.{Report, request, report, made_in, is_out_full, registries_after, fault_code, fault_message, needs_memory}
+use Rattle.wl_server.specs.Requests.{Report, request, report, made_in, is_out_full, registries_after, fault_code, fault_message}
 use Rattle.wl_server.specs.Registries.{without_registry, registry_birth}
 
 -- what a request is and does: its report, its numbers of bytes and tokens, the object that it makes, and whether it destroys its target
@@ -52,10 +50,6 @@ pending_in core p = record {
   made = p.made;
   destroys = p.destroys;
 }
-
--- a message as it was read, without where it lies
-abbrev pub received_now : Read → Received
-received_now read = record { target = read.target; entry = read.entry; signature = read.signature.now; values = read.values }
 
 -- what a message is and does, where these are its arguments and a new object gets this birth
 abbrev pub pending_of : List Interface → ℕ → Header → Received → List ParsedArg → PendingRequest

@@ -1,10 +1,13 @@
 //! The server, as whoever carries bytes to it and from it sees it.
+use crate::receive::find_request;
+use crate::request::OwnedRequest;
 use crate::server::Server;
-use wl_end::End;
+use wl_end::{End, Receiver};
 use wl_message::{Fed, Taken};
-use wl_objects::Table;
+use wl_objects::{NextError, Table};
 
 impl<'t, T: Table> End for Server<'t, T> {
+    ghost use Rattle.std.specs.Prelude.{refl};
     ghost use Rattle.wl_server.specs.State.{with_core};
 
     ghost core = { λ server. server.core };
@@ -25,5 +28,44 @@ impl<'t, T: Table> End for Server<'t, T> {
 
     fn feed(&mut self, bytes: &[u8], tokens: &[u32]) -> Fed {
         self.feed(bytes, tokens)
+    }
+
+    ghost laws = { record {
+      kept = λ server. refl;
+      new = λ server core. refl;
+      again = λ server core other. refl;
+    } };
+}
+
+impl<'t, T: Table> Receiver for Server<'t, T> {
+    ghost use Rattle.wl_server.specs.Requests.{Report as ServerReport, next_answer, after_next};
+    ghost use Rattle.wl_server.specs.Seen.{report_of};
+    ghost use Rattle.wl_server.specs.Streams.{is_last};
+
+    type Report = OwnedRequest<T::Alloc>;
+
+    ghost Seen = { ServerReport };
+
+    ghost seen = { report_of };
+
+    ghost answer = { next_answer };
+
+    ghost after = { after_next };
+
+    ghost is_last = { is_last };
+
+    fn has_failed(&self) -> bool {
+        self.core.failed
+    }
+
+    fn has_report(&mut self) -> bool {
+        match find_request(&mut self.core, &self.globals) {
+            Ok(Some(_)) => true,
+            _ => false,
+        }
+    }
+
+    fn next_owned(&mut self) -> Result<Option<OwnedRequest<T::Alloc>>, NextError> {
+        self.next_owned()
     }
 }

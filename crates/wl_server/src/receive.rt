@@ -5,6 +5,7 @@ ghost use Rattle.std.specs.Io.BufRead.{Rests};
 ghost use Rattle.wl_sigs.specs.declared.signature.Side.TheVariants.{Request as request_side};
 ghost use Rattle.wl_sigs.specs.Tables.{destroys_target};
 ghost use Rattle.wl_objects.specs.Messages.{is_bind, opens};
+ghost use Rattle.wl_objects.specs.Seen.{message_of};
 ghost use Rattle.wl_table.specs.View.{is_held};
 ghost use Rattle.wl_end.specs.Core.{with_view};
 ghost use Rattle.wl_end.specs.Outcomes.{left};
@@ -13,7 +14,7 @@ ghost use Rattle.wl_server.specs.State.{with_core};
 ghost use Rattle.wl_server.specs.Requests.{is_good_bind_of, after_next, registries_after, IsLentNext, IsNext};
 ghost use Rattle.wl_server.specs.Registries.{IsFresh, without_registry, registry_birth};
 ghost use Rattle.wl_server.specs.Seen.{lent_in, lent_report, report_in, report_of};
-ghost use Rattle.wl_server.specs.Steps.{CanTake, after_step, checked_front, core_by, core_told, core_unless, core_without, front_step, pending_in, pending_of, pendings_in, received_now, registries_by, report_over, state_of, taken_in, taken_report};
+ghost use Rattle.wl_server.specs.Steps.{CanTake, after_step, checked_front, core_by, core_told, core_unless, core_without, front_step, pending_in, pending_of, pendings_in, registries_by, report_over, state_of, taken_in, taken_report};
 ghost use Rattle.wl_server.specs.Lent.{server_row};
 
 use crate::advertised::{Advertised, OpenRegistry};
@@ -337,10 +338,10 @@ fn is_bad_bind(
     message: &Received<'_, '_>,
 ) -> bool
     ensures { result ≡ (is_bind request_side message.now.entry.iface opcode && not
-        (is_good_bind_of tables.now globals.now message.now.values)) }
+        (is_good_bind_of tables.now globals.now (message_of message.now).values)) }
 {
     is_bind(Side::Request, message.entry.iface, opcode)
-        && !is_good_bind(tables, globals, &message.values)
+        && !is_good_bind(tables, globals, &message.values())
 }
 
 /// Whether a message needs more room for its delete_id than there is.
@@ -379,7 +380,7 @@ fn pending_of(
     header: Header,
     message: Received<'_, '_>,
 ) -> PendingRequest
-    ensures { result ≡ pending_of tables.now birth header (received_now message.entry)
+    ensures { result ≡ pending_of tables.now birth header (message_of message.entry)
         message.entry.args }
 {
     let kinds = message.signature.kinds();
@@ -389,7 +390,7 @@ fn pending_of(
         birth,
         size: header.size,
         tokens: descriptors(kinds),
-        made: made_by_message(tables, message.entry.version, kinds, &message.values),
+        made: made_by_message(tables, message.entry.version, kinds, &message.values()),
         destroys: message.signature.destroys(),
         args: message.args,
     }

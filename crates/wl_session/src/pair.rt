@@ -5,9 +5,11 @@ ghost use Rattle.wl_sigs.specs.Valid.{Valid};
 ghost use Rattle.wl_message.specs.Arrived.{AreSizes};
 ghost use Rattle.wl_client.specs.State.{new_state as new_client};
 ghost use Rattle.wl_server.specs.State.{new_state as new_server};
-ghost use Rattle.wl_world.specs.World.{opening};
+ghost use Rattle.wl_check.specs.Session.{IsLawful, session_of};
+ghost use Rattle.wl_world.specs.World.{World, opening};
 ghost use Rattle.wl_world.specs.Pair.{new_pair, drained};
 ghost use Rattle.wl_world.specs.Stands.{Stands};
+ghost use Rattle.wl_link.specs.Linked.{Linked, up_to};
 
 use std::alloc::{AllocError, Allocator};
 use std::marker::Model;
@@ -68,6 +70,7 @@ impl<'t, T: Table + Drop> Pair<'t, T> {
         requires server { AreSizes server }
         ensures begins { IfOk result (λ pair. pair ≡ new_pair tables.now client server) }
         ensures stands { IfOk result (λ pair. Stands pair opening) }
+        ensures linked { IfOk result (λ pair. Linked pair opening) }
     {
         know_valid(tables);
         let (bytes, tokens) = buffers(&alloc, client.in_bytes.max(server.in_bytes))?;
@@ -102,8 +105,14 @@ impl<'t, T: Table> Pair<'t, T> {
     }
 
     /// What was carried, piece by piece.
+    ///
+    /// Up to the first error that was posted it is lawful: `check` says so of it, whatever was done
+    /// with the pair.
     pub fn recording(&self) -> &Recording<T::Alloc>
-        ensures { result.now ≡ self.now.recording }
+        ensures lends { result.now ≡ self.now.recording }
+        ensures lawful { (world : World) → Linked self.now world
+            → IsLawful self.now.server.core.tables
+            (session_of (up_to self.now.ended_at result.now)) }
     {
         &self.recording
     }

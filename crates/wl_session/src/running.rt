@@ -5,6 +5,7 @@ ghost use Rattle.wl_world.specs.World.{World};
 ghost use Rattle.wl_world.specs.Pair.{Does};
 ghost use Rattle.wl_world.specs.Stands.{Stands};
 ghost use Rattle.wl_world.specs.Runs.{DoesAll, Runs, IsMove};
+ghost use Rattle.wl_link.specs.Linked.{Linked, RunsLinked};
 ghost use Rattle.wl_session.specs.Meaning.{move_of, moves_of, reply_of, replies_of, arguments};
 
 use crate::lending::lend;
@@ -31,6 +32,11 @@ impl<'t, T: Table> Pair<'t, T> {
         ensures runs { IfOk result
             (λ replies. (world : World) → Stands self.old world
             → Runs self.old world (moves_of moves.now) (replies_of replies.items) self.new) }
+
+        // and one that keeps a linked pair linked, so that what it records is lawful
+        ensures links { IfOk result
+            (λ replies. (world : World) → Linked self.old world
+            → RunsLinked self.old world (moves_of moves.now) (replies_of replies.items) self.new) }
         ensures err { OnErr result (self.new ≡ self.old) }
     {
         let mut replies = Vec::with_capacity(self.alloc.clone()?, moves.len())?;

@@ -1,4 +1,12 @@
 pub mod Lookups
+pub mod FirstPlaces
+pub mod Earlier
+mod Kept
+mod JoinedLookup
+mod PlacedKinds
+pub mod JoinedValid
+mod KindsKept
+pub mod ValidKeeps
 mod Deciding
 mod Distinct
 mod ByPlace

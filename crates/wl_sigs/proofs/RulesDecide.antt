@@ -24,7 +24,7 @@ decides_name_byte b =
     (Decides-and (nat_le 97 b) (nat_le b 122) (Decides-le 97 b) (Decides-le b 122))
     (Decides-or (nat_le 48 b && nat_le b 57) (nat_eq b 95) (Decides-and (nat_le 48 b) (nat_le b 57) (Decides-le 48 b) (Decides-le b 57)) (Decides-eqb b 95))
 
-decides_name : (name : List ℕ) → Decides (test.is_name name) (IsName name)
+pub decides_name : (name : List ℕ) → Decides (test.is_name name) (IsName name)
 decides_name name =
     Decides-like (test.is_name name) (λ h. record { some = h.0.0; few = h.0.1; bytes = h.1 }) (λ n. ((n.some, n.few), n.bytes))
     (Decides-and (nat_le 1 (length name) && nat_le (length name) 256) (list_all test.is_name_byte name)

@@ -5,3 +5,8 @@ pub mod Valid
 pub mod Rules
 pub mod Written
 pub mod Opcodes
+pub mod Joined
+pub mod Broken
+pub mod Places
+pub mod BrokenLines
+pub mod Outcome

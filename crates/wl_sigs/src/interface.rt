@@ -1,12 +1,16 @@
 //! An interface and its messages.
-ghost use Rattle.std.specs.Prelude.{◌≡◌, IfOk, map, slice_get, option_copied, option_map};
+ghost use Rattle.wl_sigs.specs.Joined.{message_placed, interface_placed};
+ghost use Rattle.wl_sigs.specs.Places.{place_in};
+ghost use Rattle.std.specs.Prelude.{◌≡◌, ℕ, ◌<◌, List, unwrap_or, IfOk, map, slice_get, option_copied, option_map};
 ghost use Rattle.wl_sigs.specs.Tables.{has_destroying_event, message_of};
 ghost use Rattle.wl_sigs.specs.Written.{message_written, interface_written};
 
 use crate::core_interfaces::{CoreInterface, CoreMessage};
 use crate::signature::{Destroys, Side, Signature};
 use std::alloc::{AllocError, Allocator, Global};
+use std::collections::BTreeMap;
 use std::marker::Model;
+use wl_written::{WrittenInterface, WrittenMessage};
 
 /// One interface of the tables.
 #[derive(Debug, Drop)]
@@ -68,6 +72,66 @@ impl<A: Allocator + Clone + Drop> Entry<A> {
             events: signatures_of(alloc, interface.events)?,
         })
     }
+
+    /// The same interface in memory of its own.
+    pub(crate) fn copy(&self, alloc: &A) -> Result<Self, AllocError>
+        ensures { IfOk result (λ i. i ≡ self.now) }
+    {
+        Ok(Entry {
+            name: Vec::from_slice(alloc.clone()?, self.name())?,
+            version: self.version,
+            requests: copies_of(alloc, self.requests.as_slice())?,
+            events: copies_of(alloc, self.events.as_slice())?,
+        })
+    }
+
+    /// An interface of a text, with the places of the interfaces that it names.
+    pub(crate) fn placed<'t>(
+        alloc: &A,
+        places: &BTreeMap<&[u8], usize, A>,
+        past: usize,
+        interface: &WrittenInterface<'t, A>,
+    ) -> Result<Self, AllocError>
+        requires { (name : List ℕ) → unwrap_or (place_in places.now name) past < 65536 }
+        ensures { IfOk result (λ i. i ≡ interface_placed (place_in places.now) past interface.now) }
+    {
+        Ok(Entry {
+            name: Vec::from_slice(alloc.clone()?, interface.name)?,
+            version: interface.version,
+            requests: placed_signatures(alloc, places, past, interface.requests.as_slice())?,
+            events: placed_signatures(alloc, places, past, interface.events.as_slice())?,
+        })
+    }
+}
+
+fn copies_of<A: Allocator + Clone + Drop>(
+    alloc: &A,
+    signatures: &[Signature<A>],
+) -> Result<Vec<Signature<A>, A>, AllocError>
+    ensures { IfOk result (λ v. v.items ≡ signatures.now) }
+{
+    let mut copies = Vec::with_capacity(alloc.clone()?, signatures.len())?;
+    'signatures: for signature in signatures {
+        copies.push(signature.copy(alloc)?)?;
+    }
+    Ok(copies)
+}
+
+fn placed_signatures<'t, A: Allocator + Clone + Drop>(
+    alloc: &A,
+    places: &BTreeMap<&[u8], usize, A>,
+    past: usize,
+    messages: &[WrittenMessage<'t, A>],
+) -> Result<Vec<Signature<A>, A>, AllocError>
+    requires { (name : List ℕ) → unwrap_or (place_in places.now name) past < 65536 }
+    ensures { IfOk result (λ v. v.items
+        ≡ map (message_placed (place_in places.now) past) messages.now) }
+{
+    let mut signatures = Vec::with_capacity(alloc.clone()?, messages.len())?;
+    'messages: for message in messages {
+        signatures.push(Signature::placed(alloc, places, past, message)?)?;
+    }
+    Ok(signatures)
 }
 
 fn signatures_of<A: Allocator + Clone + Drop>(

@@ -1,11 +1,14 @@
 //! Laws of valid tables. They do nothing: their contracts state facts about the definitions.
-ghost use Rattle.std.specs.Prelude.{◌≡◌, ◌↔◌, ℕ, List, true};
+ghost use Rattle.std.specs.Prelude.{◌≡◌, ◌↔◌, ℕ, List, None, true};
 ghost use Rattle.wl_sigs.specs.declared.signature.Side.{Side};
+ghost use Rattle.wl_sigs.specs.Broken.{first_broken};
 ghost use Rattle.wl_sigs.specs.Core.{core_tables};
+ghost use Rattle.wl_sigs.specs.Joined.{joined};
 ghost use Rattle.wl_sigs.specs.Opcodes.{opcodes, opcodes_in};
 ghost use Rattle.wl_sigs.specs.Rules.{keep_rules};
 ghost use Rattle.wl_sigs.specs.Tables.{Interface, interface_at, place_of};
 ghost use Rattle.wl_sigs.specs.Valid.{Valid, HasFixedThree};
+ghost use Rattle.wl_written.specs.Text.{WrittenInterface};
 
 /// Tables are valid exactly where wl_display, wl_registry and wl_callback stand in front and the
 /// tests of the other rules pass.
@@ -26,4 +29,11 @@ pub fn found_by_its_name()
 #[tactic(auto, unfolding(crate::specs::Core::core_tables))]
 pub fn opcodes_are_of_their_names()
     ensures { (side : Side) → opcodes side ≡ opcodes_in core_tables side }
+{}
+
+/// The interfaces of a text break no rule behind valid tables exactly where the tables are valid that
+/// both make together.
+pub fn unbroken_where_valid()
+    ensures { (tables : List Interface) (written : List WrittenInterface) → Valid tables
+        → (first_broken tables written ≡ None) ↔ Valid (joined tables written) }
 {}

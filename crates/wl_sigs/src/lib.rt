@@ -9,10 +9,15 @@ mod core_interfaces;
 pub mod event;
 mod interface;
 mod laws;
+mod places;
 pub mod request;
+mod rules;
 mod signature;
 mod tables;
 
-pub use laws::{found_by_its_name, opcodes_are_of_their_names, valid_where_tests_pass};
+pub use laws::{
+    found_by_its_name, opcodes_are_of_their_names, unbroken_where_valid, valid_where_tests_pass,
+};
 pub use signature::{Destroys, Side, Signature};
 pub use tables::Tables;
+pub use wl_written::TableFault;

@@ -1,11 +1,16 @@
 //! What the tables say of one message.
-ghost use Rattle.std.specs.Prelude.{◌≡◌, IfOk};
+ghost use Rattle.std.specs.Prelude.{◌≡◌, ℕ, ◌<◌, List, IfOk, unwrap_or};
+ghost use Rattle.wl_sigs.specs.Joined.{kind_placed, destroys_of, message_placed};
+ghost use Rattle.wl_sigs.specs.Places.{place_in};
 ghost use Rattle.wl_sigs.specs.Written.{message_written};
 
 use crate::core_interfaces::CoreMessage;
+use crate::places::place_in;
 use std::alloc::{AllocError, Allocator, Global};
+use std::collections::BTreeMap;
 use std::marker::Model;
-use wl_wire::Kind;
+use wl_wire::{Iface, Kind};
+use wl_written::{WrittenKind, WrittenMessage};
 
 /// What a message destroys.
 #[derive(Clone, Copy, Debug, PartialEq, Eq)]
@@ -82,5 +87,73 @@ impl<A: Allocator + Clone + Drop> Signature<A> {
             kinds: Vec::from_slice(alloc.clone()?, message.kinds)?,
             destroys: message.destroys,
         })
+    }
+
+    /// The same signature in memory of its own.
+    pub(crate) fn copy(&self, alloc: &A) -> Result<Self, AllocError>
+        ensures { IfOk result (λ s. s ≡ self.now) }
+    {
+        Ok(Signature {
+            name: Vec::from_slice(alloc.clone()?, self.name())?,
+            since: self.since,
+            kinds: Vec::from_slice(alloc.clone()?, self.kinds())?,
+            destroys: self.destroys,
+        })
+    }
+
+    /// The signature of a message of a text, with the places of the interfaces that it names.
+    pub(crate) fn placed<'t>(
+        alloc: &A,
+        places: &BTreeMap<&[u8], usize, A>,
+        past: usize,
+        message: &WrittenMessage<'t, A>,
+    ) -> Result<Self, AllocError>
+        requires { (name : List ℕ) → unwrap_or (place_in places.now name) past < 65536 }
+        ensures { IfOk result (λ s. s ≡ message_placed (place_in places.now) past message.now) }
+    {
+        let mut kinds = Vec::with_capacity(alloc.clone()?, message.kinds.len())?;
+        for kind in &message.kinds {
+            kinds.push(kind_placed(places, past, kind))?;
+        }
+        Ok(Signature {
+            name: Vec::from_slice(alloc.clone()?, message.name)?,
+            since: message.since,
+            kinds,
+            destroys: destroys_of(message.destroys),
+        })
+    }
+}
+
+// What a message destroys: its target, or nothing.
+fn destroys_of(target: bool) -> Destroys
+    ensures { result ≡ destroys_of target }
+{
+    if target {
+        Destroys::Target
+    } else {
+        Destroys::Nothing
+    }
+}
+
+// The kind of an argument with the place of its interface, or `past` where its name has none.
+fn kind_placed<A: Allocator>(
+    places: &BTreeMap<&[u8], usize, A>,
+    past: usize,
+    k: &WrittenKind,
+) -> Kind
+    requires { (name : List ℕ) → unwrap_or (place_in places.now name) past < 65536 }
+    ensures { result ≡ kind_placed (place_in places.now) past k.now }
+{
+    let iface = match k.iface {
+        Some(name) => {
+            let place = place_in(places, name).unwrap_or(past);
+            Some(Iface(place as u16))
+        }
+        None => None,
+    };
+    match k.kind {
+        Kind::Obj { null, .. } => Kind::Obj { null, iface },
+        Kind::New(_) => Kind::New(iface),
+        kind => kind,
     }
 }

@@ -1,17 +1,27 @@
 //! Interfaces in their order.
-ghost use Rattle.std.specs.Prelude.{◌≡◌, IfOk, map, slice_get, option_copied, option_map, position, bytes_eq, length, IfSome, ◌<◌};
+ghost use Rattle.std.specs.Prelude.{◌≡◌, ◌⊎◌, Err, None, IfOk, map, slice_get, option_copied, option_map, position, bytes_eq, length, IfSome, ◌<◌};
 ghost use Rattle.wl_sigs.specs.Core.{core_tables};
 ghost use Rattle.wl_sigs.specs.Tables.{interface_at, signature_at, place_of};
 ghost use Rattle.wl_sigs.specs.Rules.{is_ended_by_event};
 ghost use Rattle.wl_sigs.specs.Valid.{Valid};
 ghost use Rattle.wl_sigs.specs.Written.{interface_written};
+ghost use Rattle.wl_sigs.specs.Joined.{all_names, joined};
+ghost use Rattle.wl_sigs.specs.Broken.{ended_of, first_broken};
+ghost use Rattle.wl_sigs.specs.BrokenLines.{broken};
+ghost use Rattle.wl_sigs.specs.Places.{place_in, ArePlaces};
+ghost use Rattle.wl_sigs.specs.Outcome.{outcome};
+ghost use Rattle.wl_written.specs.declared.fault.TableFault.TheVariants.{Memory};
 
 use crate::core_interfaces::{CORE, CoreInterface};
 use crate::interface::Entry;
+use crate::places::places_of;
+use crate::rules::{BrokenLine, interfaces_broken};
 use crate::signature::{Side, Signature};
 use std::alloc::{AllocError, Allocator, Global};
+use std::collections::BTreeMap;
 use std::marker::Model;
 use wl_wire::Iface;
+use wl_written::{TableFault, WrittenInterface, read_interfaces};
 
 /// Signature tables: interfaces, each at its place, with the signatures of their messages.
 ///
@@ -104,6 +114,124 @@ impl<A: Allocator + Clone + Drop> Tables<A> {
         ensures valid { IfOk result (λ tables. Valid tables) }
     {
         Self::of(alloc, &CORE)
+    }
+
+    /// These tables followed by those of a text.
+    ///
+    /// The text is lines, each ended by a line feed, which the last may lack; one carriage return
+    /// before a line feed is dropped. An empty line and a line that begins with `#` are skipped. Each
+    /// other line is one of
+    ///
+    /// ```text
+    /// "interface " name " " number
+    /// side " " name *( " " arg ) [ " D" ] [ " @" number ]
+    /// side = "request" or "event"
+    /// arg  = i | u | f | s | ?s | a | h | o | ?o | o(name) | ?o(name) | n | n(name)
+    /// ```
+    ///
+    /// where the first number is the version of the interface, `D` marks a message that destroys its
+    /// target, and `@` gives the version that brought the message, 1 where it is missing. A name is one
+    /// or more bytes other than space, `(`, `)` and the line feed; a number is 1 to 10 decimal digits,
+    /// at most 4,294,967,295. `o` alone takes an object of any interface, and `n` alone makes one whose
+    /// interface only the bytes tell. A message belongs to the last interface line above it. An
+    /// argument may name an interface that stands further down; of equal names it names the first, those
+    /// of these tables counted as earlier.
+    ///
+    /// `BadLine` (TB1) and `BadTable` (TB2) come as `TableFault` says; the first interface or message of
+    /// a name breaks no rule by it, the later does. `Memory` (TB3) may come in place of any answer.
+    pub fn read_more(&self, text: &[u8]) -> Result<Self, TableFault>
+        ensures exact { (result ≡ outcome self.now text.now) ⊎ (result ≡ Err Memory) }
+        ensures valid { IfOk result (λ tables. Valid tables) }
+    {
+        let written = read_interfaces(self.interfaces.allocator(), text)?;
+        let places = self.places(written.as_slice())?;
+        let broken = self.first_broken(&places, written.as_slice())?;
+        if let Some(BrokenLine { line, rule }) = broken {
+            return Err(TableFault::BadTable { line, rule });
+        }
+        Ok(self.joined(&places, written.as_slice())?)
+    }
+
+    // The first place of each name of these interfaces and those of a text.
+    fn places<'n>(
+        &'n self,
+        written: &[WrittenInterface<'n, A>],
+    ) -> Result<BTreeMap<&'n [u8], usize, A>, AllocError>
+        ensures { IfOk result (λ places. ArePlaces (place_in places) self.now written.now) }
+    {
+        let names = self.all_names(written)?;
+        places_of(self.interfaces.allocator(), names.as_slice())
+    }
+
+    // The first line of a text that breaks a rule, behind these tables.
+    fn first_broken<'n>(
+        &self,
+        places: &BTreeMap<&'n [u8], usize, A>,
+        written: &[WrittenInterface<'n, A>],
+    ) -> Result<Option<BrokenLine>, AllocError>
+        requires { ArePlaces (place_in places.now) self.now written.now }
+        ensures { IfOk result (λ found. option_map broken found
+            ≡ first_broken self.now written.now) }
+    {
+        let ended = self.all_ended(written)?;
+        let from = self.interfaces.len();
+        let alloc = self.interfaces.allocator();
+        interfaces_broken(alloc, places, ended.as_slice(), from, written)
+    }
+
+    // These tables followed by those of a text that breaks no rule.
+    fn joined(
+        &self,
+        places: &BTreeMap<&[u8], usize, A>,
+        written: &[WrittenInterface<'_, A>],
+    ) -> Result<Self, AllocError>
+        requires places { ArePlaces (place_in places.now) self.now written.now }
+        requires unbroken { first_broken self.now written.now ≡ None }
+        ensures { IfOk result (λ tables. tables ≡ joined self.now written.now) }
+    {
+        let alloc = self.interfaces.allocator();
+        let past = self.interfaces.len() + written.len();
+        let mut interfaces = Vec::with_capacity(alloc.clone()?, past)?;
+        for entry in &self.interfaces {
+            interfaces.push(entry.copy(alloc)?)?;
+        }
+        for interface in written {
+            interfaces.push(Entry::placed(alloc, places, past, interface)?)?;
+        }
+        Ok(Tables { interfaces })
+    }
+
+    // The names of these interfaces, then those of a text.
+    fn all_names<'n>(
+        &'n self,
+        written: &[WrittenInterface<'n, A>],
+    ) -> Result<Vec<&'n [u8], A>, AllocError>
+        ensures { IfOk result (λ names. map (λ n. n.now) names.items ≡ all_names self.now written.now) }
+    {
+        let alloc = self.interfaces.allocator();
+        let mut names = Vec::new(alloc.clone()?);
+        for entry in &self.interfaces {
+            names.push(entry.name())?;
+        }
+        for interface in written {
+            names.push(interface.name)?;
+        }
+        Ok(names)
+    }
+
+    // Which of these interfaces, and then of those of a text, an event of theirs may end.
+    fn all_ended(&self, written: &[WrittenInterface<'_, A>]) -> Result<Vec<bool, A>, AllocError>
+        ensures { IfOk result (λ ended. ended.items ≡ ended_of self.now written.now) }
+    {
+        let alloc = self.interfaces.allocator();
+        let mut ended = Vec::new(alloc.clone()?);
+        for entry in &self.interfaces {
+            ended.push(entry.has_destroying_event())?;
+        }
+        for interface in written {
+            ended.push(interface.has_destroying_event())?;
+        }
+        Ok(ended)
     }
 
     fn of(alloc: A, interfaces: &[CoreInterface]) -> Result<Self, AllocError>

@@ -4,7 +4,7 @@ use Rattle.std.specs.Prelude.{option_map, nat_eq, ◌&&◌, slice_get, codes}
 use Rattle.std.specs.declared.option.Option.{Option}
 use Rattle.std.specs.declared.option.Option.TheVariants.{None, Some}
 use Rattle.std.specs.declared.result.Result.{Result}
-use Rattle.std.proofs.lemmas.List.{append-nil}
+use Rattle.std.proofs.lemmas.List.{append-nil, append_assoc}
 use Rattle.std.proofs.lemmas.Option.{slice_get_within}
 use Rattle.wl_wire.specs.declared.kind.Iface.{Iface}
 use Rattle.wl_wire.specs.Argument.{Uint, Str}
@@ -27,22 +27,22 @@ use Rattle.wl_end.specs.Sending.{with_sent}
 use Rattle.wl_server.specs.State as server
 use Rattle.wl_server.specs.State.{Global, Registry, global_of, max_globals}
 use Rattle.wl_server.specs.Calls.{can_be_global, version_in}
-use Rattle.wl_server.specs.Announcing.{Owing, Removal, Telling, owes_removal, owes_telling, owings, owed_to, Due, due_to, owed_in, owed, name_at, opcode_of, values_of, with_dues, marked, marked_in, all_marked}
+use Rattle.wl_server.specs.Announcing.{after_announce, Owing, Removal, Telling, owes_removal, owes_telling, owings, owed_to, Due, due_to, owed_in, owed, name_at, opcode_of, values_of, with_dues, marked, marked_in, all_marked}
 use Rattle.wl_server.specs.Registries.{IsAmong, IsRegistry}
 use Rattle.wl_server.proofs.Registries.{has_marked}
 use Rattle.wl_world.specs.Meant.{Born, Known, Message, Coming, Event, Arg, renamed, rearg, born_of, birth_of, wire, tokens, made_in, objects, plain}
 use Rattle.wl_world.specs.World.{World, Each, event_written}
 use Rattle.wl_world.specs.Pair.{PairState, Announce, with_server, with_server_core, Announces, announced, refused}
 use Rattle.wl_world.specs.Answers.{NotEnded, Owed, owed_by, mark_in, marks_of, registry_of, told_args, WritesThat, AnnouncesThose, none, more, before}
-use Rattle.wl_world.specs.Flight.{Rows, server_rows}
-use Rattle.wl_world.specs.Stands.{stands, StandsBy, TellsFitly, IsGlobal}
-use Rattle.wl_world.specs.Runs.{Keeps}
-use Rattle.wl_world.proofs.Wholes.{ThereRow}
+use Rattle.wl_world.specs.Flight.{IsBelow, Rows, server_rows, tells, all_tells}
+use Rattle.wl_world.specs.Stands.{StandsBy, TellsFitly, IsGlobal}
+use Rattle.wl_world.proofs.Wholes.{ThereRow, each_more}
 use Rattle.wl_world.proofs.Afters.{there_row, made_map, Aged}
 use Rattle.wl_world.proofs.Calls.{row_low}
 use Rattle.wl_world.proofs.ServerTells.{CanTell, told_core, tell_stands}
 use Rattle.wl_world.proofs.ServerSend.{tells_world}
 use Rattle.wl_world.proofs.Places.{place_there, name_text}
+use Rattle.wl_world.proofs.Happenings.{Happens, Moves, goes_on, telling, event_below}
 
 -- ---- what can be owed
 
@@ -329,9 +329,12 @@ marked_stands p w asked told s d = record {
   open_registries = has_marked p.server.core.view d p.server.registries s.open_registries;
 }
 
-pub record Told (p : PairState) (w : World) (asked : List (Message Known)) (ds : List Due) (after_all : PairState) : Type 0 where
+pub record Told (p : PairState) (w : World) (asked : List (Message Known)) (earlier : List (Coming Known)) (ds : List Due) (after_all : PairState) : Type 0 where
   pub world : World
   pub told : List (Coming Known)
+  pub news : List (Coming Known)
+  pub added : told ≡ earlier ++ news
+  pub below : Each (IsBelow p.server.core.view.births) (all_tells news)
   pub not_ended : NotEnded after_all world
   pub announces : AnnouncesThose p.server.core.tables w (map owed_of ds) world
   pub stands_by : StandsBy after_all world asked told
@@ -364,15 +367,31 @@ writes_due p w asked told s d i =
 
 pub tell_all : (p : PairState) (w : World) (asked : List (Message Known)) (told : List (Coming Known)) → StandsBy p w asked told → NotEnded p w → (ds : List Due)
     → Each (IsDue p.server.core.tables p.server.globals (server_rows p.server.core.view)) ds
-    → Told p w asked ds (with_server p (record p.server { core = with_dues p.server.core ds; registries = all_marked ds p.server.registries }))
-tell_all p w asked told s z [] i = record { world = w; told = told; not_ended = z; announces = none; stands_by = s }
+    → Told p w asked told ds (with_server p (record p.server { core = with_dues p.server.core ds; registries = all_marked ds p.server.registries }))
+tell_all p w asked told s z [] i = record { world = w; told = told; news = []; added = sym (append-nil told); below = tt; not_ended = z; announces = none; stands_by = s }
 tell_all p w asked told s z (d ∷ ds) i =
     let one = one_stands p w asked told s d i.0 in
     let r = tell_all (with_server p (one_told p.server d)) _ asked _ one z ds i.1 in
-    record { world = r.world; told = r.told; not_ended = r.not_ended; announces = more (writes_due p w asked told s d i.0) r.announces; stands_by = r.stands_by }
+    let can = due_can p w asked told s d i.0 in
+    let m = due_message p.server.core.tables d i.0.version in
+    record {
+      world = r.world;
+      told = r.told;
+      news = Event m ∷ r.news;
+      added = r.added ∙ append_assoc told (Event m ∷ []) r.news;
+      below = each_more (IsBelow p.server.core.view.births) (tells (Event m)) (all_tells r.news) (event_below (server_rows p.server.core.view) p.server.core.view.births s.server_sets.below m can.target can.args) r.below;
+      not_ended = r.not_ended;
+      announces = more (writes_due p w asked told s d i.0) r.announces;
+      stands_by = r.stands_by;
+    }
+
+-- only the outbox of an end's core is another
+pub only_sent : (c : Core) (ds : List Due) → with_dues c ds ≡ record c { outbox = (with_dues c ds).outbox }
+only_sent c [] = refl
+only_sent c (d ∷ ds) = only_sent (with_sent c d.object.id (opcode_of d.owing) (values_of c.tables d.owing) []) ds
 
 pub announce_keeps : (p : PairState) (w : World) (asked : List (Message Known)) (told : List (Coming Known)) → StandsBy p w asked told → NotEnded p w → (reply : Result ℕ SendError) (p' : PairState) → Announces p reply p'
-    → Keeps p w Announce (Announce reply) p'
+    → Moves p w asked told Announce (Announce reply) p'
 announce_keeps p w asked told s z reply p' (announced {count = count} l f) =
     let ds = take count (owed p.server) in
     let due = each_take (IsDue p.server.core.tables p.server.globals (server_rows p.server.core.view)) count (owed p.server)
@@ -383,6 +402,9 @@ announce_keeps p w asked told s z reply p' (announced {count = count} l f) =
     record {
       world = r.world;
       answers = before z (announced l f) (subst (λ (os : List Owed). AnnouncesThose p.server.core.tables w os r.world) (sym owes) r.announces);
-      stands = stands asked r.told r.not_ended r.stands_by;
+      outcome = goes_on asked r.told r.not_ended r.stands_by
+          (subst (λ (l : List (Coming Known)). Happens p asked told (with_server p (after_announce p.server count)) asked l) (sym r.added)
+          (subst (λ (c : Core). Happens p asked told (with_server p (record p.server { core = c; registries = all_marked ds p.server.registries })) asked (told ++ r.news)) (sym (only_sent p.server.core ds))
+          (telling p.server.core.view (with_dues p.server.core ds).outbox (all_marked ds p.server.registries) r.news refl r.below)));
     }
 announce_keeps p w asked told s z reply p' (refused l) = absurd (cc (l, s.server_lives))

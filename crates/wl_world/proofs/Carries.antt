@@ -13,9 +13,9 @@ use Rattle.wl_world.specs.Meant.{Known, Message, Coming, spelled, spelled_coming
 use Rattle.wl_world.specs.World.{World}
 use Rattle.wl_world.specs.Pair.{PairState, CarryToServer, CarryToClient, Carried, Carries, moved, no_memory, carries, carried_bytes, carried_tokens, all_of, after_carry_to_server, after_carry_to_client}
 use Rattle.wl_world.specs.Answers.{NotEnded, before}
-use Rattle.wl_world.specs.Stands.{stands, StandsBy, InFlight}
-use Rattle.wl_world.specs.Runs.{Keeps}
+use Rattle.wl_world.specs.Stands.{StandsBy, InFlight}
 use Rattle.wl_world.proofs.Channels.{carried, goes_there, goes_tokens, all_tokens_more}
+use Rattle.wl_world.proofs.Happenings.{Moves, goes_on, stays, carrying_to_server, carrying_to_client}
 
 flies : (o : Outgoing) (i : Arrived) (ms : List Sent) (b t : ℕ) → InFlight o i ms
     → InFlight (after_taking o (goes o b t).bytes) (with_more i (take (goes o b t).bytes (waiting_bytes o)) (take (goes o b t).tokens (waiting_tokens o))) ms
@@ -23,7 +23,7 @@ flies o i ms b t f =
     subst (λ (n : ℕ). InFlight (after_taking o (goes o b t).bytes) (with_more i (take (goes o b t).bytes (waiting_bytes o)) (take n (waiting_tokens o))) ms) (sym (goes_tokens o b t))
     (carried o i ms (goes o b t).bytes f (goes_there o b t))
 
-to_server_stands : (p : PairState) (w : World) (asked : List (Message Known)) (told : List (Coming Known)) (most : ℕ) → StandsBy p w asked told
+pub to_server_stands : (p : PairState) (w : World) (asked : List (Message Known)) (told : List (Coming Known)) (most : ℕ) → StandsBy p w asked told
     → StandsBy (after_carry_to_server p (carries p.client.core p.server.core most)) w asked told
 to_server_stands p w asked told most s = record {
   same_tables = s.same_tables;
@@ -57,7 +57,7 @@ to_server_stands p w asked told most s = record {
   open_registries = s.open_registries;
 }
 
-to_client_stands : (p : PairState) (w : World) (asked : List (Message Known)) (told : List (Coming Known)) (most : ℕ) → StandsBy p w asked told
+pub to_client_stands : (p : PairState) (w : World) (asked : List (Message Known)) (told : List (Coming Known)) (most : ℕ) → StandsBy p w asked told
     → StandsBy (after_carry_to_client p (carries p.server.core p.client.core most)) w asked told
 to_client_stands p w asked told most s = record {
   same_tables = s.same_tables;
@@ -92,14 +92,14 @@ to_client_stands p w asked told most s = record {
 }
 
 pub carry_to_server_keeps : (p : PairState) (w : World) (asked : List (Message Known)) (told : List (Coming Known)) → StandsBy p w asked told → NotEnded p w → (most : ℕ) (reply : Carried) (p' : PairState)
-    → Carries (carries p.client.core p.server.core most) p (after_carry_to_server p (carries p.client.core p.server.core most)) reply p' → Keeps p w (CarryToServer most) (CarryToServer reply) p'
-carry_to_server_keeps p w asked told s z most reply p' moved = record { world = w; answers = before z moved refl; stands = stands asked told z (to_server_stands p w asked told most s) }
-carry_to_server_keeps p w asked told s z most reply p' (no_memory h) = record { world = w; answers = before z (no_memory h) refl; stands = stands asked told z s }
+    → Carries (carries p.client.core p.server.core most) p (after_carry_to_server p (carries p.client.core p.server.core most)) reply p' → Moves p w asked told (CarryToServer most) (CarryToServer reply) p'
+carry_to_server_keeps p w asked told s z most reply p' moved = record { world = w; answers = before z moved refl; outcome = goes_on asked told z (to_server_stands p w asked told most s) (carrying_to_server most) }
+carry_to_server_keeps p w asked told s z most reply p' (no_memory h) = record { world = w; answers = before z (no_memory h) refl; outcome = goes_on asked told z s stays }
 
 pub carry_to_client_keeps : (p : PairState) (w : World) (asked : List (Message Known)) (told : List (Coming Known)) → StandsBy p w asked told → NotEnded p w → (most : ℕ) (reply : Carried) (p' : PairState)
-    → Carries (carries p.server.core p.client.core most) p (after_carry_to_client p (carries p.server.core p.client.core most)) reply p' → Keeps p w (CarryToClient most) (CarryToClient reply) p'
-carry_to_client_keeps p w asked told s z most reply p' moved = record { world = w; answers = before z moved refl; stands = stands asked told z (to_client_stands p w asked told most s) }
-carry_to_client_keeps p w asked told s z most reply p' (no_memory h) = record { world = w; answers = before z (no_memory h) refl; stands = stands asked told z s }
+    → Carries (carries p.server.core p.client.core most) p (after_carry_to_client p (carries p.server.core p.client.core most)) reply p' → Moves p w asked told (CarryToClient most) (CarryToClient reply) p'
+carry_to_client_keeps p w asked told s z most reply p' moved = record { world = w; answers = before z moved refl; outcome = goes_on asked told z (to_client_stands p w asked told most s) (carrying_to_client most) }
+carry_to_client_keeps p w asked told s z most reply p' (no_memory h) = record { world = w; answers = before z (no_memory h) refl; outcome = goes_on asked told z s stays }
 
 -- ---- all that goes is taken in
 

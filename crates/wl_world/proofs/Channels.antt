@@ -9,9 +9,9 @@ use Rattle.wl_message.proofs.Fronts.{front_stands}
 use Rattle.wl_message.proofs.Goings.{begun_front, going_there}
 use Rattle.wl_world.specs.World.{Each}
 use Rattle.wl_world.specs.Stands.{InFlight}
-use Rattle.wl_world.proofs.Wholes.{each_more}
+use Rattle.wl_world.proofs.Wholes.{each_more, each_rest}
 
-all_bytes_more : (xs ys : List Message) → all_bytes (xs ++ ys) ≡ all_bytes xs ++ all_bytes ys
+pub all_bytes_more : (xs ys : List Message) → all_bytes (xs ++ ys) ≡ all_bytes xs ++ all_bytes ys
 all_bytes_more [] ys = refl
 all_bytes_more (x ∷ xs) ys = rw (all_bytes_more xs ys) (sym (append_assoc x.bytes (all_bytes xs) (all_bytes ys)))
 
@@ -177,10 +177,6 @@ none_at o i ms (b ∷ bs) f e x y z =
 messages_empty : (ms : List Message) → Each (λ m. IsMessage usual_limit m.bytes) ms → all_bytes ms ≡ [] → ms ≡ []
 messages_empty [] w e = refl
 messages_empty (m ∷ ms) w e = let v = front_nil m.bytes (all_bytes ms) e in let l : length m.bytes ≡ 0 = ap length v in absurd (omega (arith, l, w.0.size.header))
-
-each_rest : {X : Type 0} (P : X → Type 0) (xs ys : List X) → Each P (xs ++ ys) → Each P ys
-each_rest P [] ys h = h
-each_rest P (x ∷ xs) ys h = each_rest P xs ys h.1
 
 back_nil : (xs ys : List ℕ) → xs ++ ys ≡ [] → ys ≡ []
 back_nil [] ys h = h

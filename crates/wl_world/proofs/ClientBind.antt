@@ -41,8 +41,7 @@ use Rattle.wl_world.specs.Pair.{PairState, ClientBind, with_client, Writes, acce
 use Rattle.wl_world.specs.Answers.{NotEnded, WritesThat, birth_at, before}
 use Rattle.wl_world.specs.Answers as answers
 use Rattle.wl_world.specs.Flight.{client_rows, row, as_row}
-use Rattle.wl_world.specs.Stands.{Stands, stands, StandsBy, WasGiven, IsGlobal}
-use Rattle.wl_world.specs.Runs.{Keeps}
+use Rattle.wl_world.specs.Stands.{StandsBy, WasGiven, IsGlobal}
 use Rattle.wl_world.proofs.Bridges.{next_fresh}
 use Rattle.wl_world.proofs.Afters.{only_opens}
 use Rattle.wl_world.proofs.Registries.{registry_plain}
@@ -53,6 +52,7 @@ use Rattle.wl_world.proofs.Places.{place_there, name_text, bytes_same, bytes_sel
 use Rattle.wl_world.proofs.Announces.{each_get}
 use Rattle.wl_world.proofs.ClientSends.{CanAsk, asked_core, ask_stands}
 use Rattle.wl_world.proofs.ClientSend.{asks_world}
+use Rattle.wl_world.proofs.Happenings.{Moves, Outcome, goes_on, stays, asking}
 
 -- ---- what an accepted bind tells
 
@@ -122,7 +122,7 @@ found_if : (P : Remembered → Type 0) (test : Remembered → Bool) (x g : Remem
 found_if P test x g rest true t p f k = let q : x ≡ g = cc k in (subst P q p, ap test (sym q) ∙ t)
 found_if P test x g rest false t p f k = f k
 
-find_at : (P : Remembered → Type 0) (test : Remembered → Bool) (gs : List Remembered) (g : Remembered) → Each P gs → find test gs ≡ Some g → P g × (test g ≡ true)
+pub find_at : (P : Remembered → Type 0) (test : Remembered → Bool) (gs : List Remembered) (g : Remembered) → Each P gs → find test gs ≡ Some g → P g × (test g ≡ true)
 find_at P test [] g h e = absurd (cc e)
 find_at P test (x ∷ gs) g h e = found_if P test x g (find test gs) (test x) refl h.0 (λ k. find_at P test gs g h.1 k) e
 
@@ -136,11 +136,14 @@ given_at P given (suc k) g e h = each_get P given k g e h
 
 -- ---- the request
 
+abbrev pub the_bound : View → ℕ → Iface → Known
+the_bound v version place = record { id = next_id v; born = record { birth = v.births; iface = place; version = version } }
+
 abbrev pub bind_message : View → Entry → Object → ℕ → List ℕ → ℕ → Iface → Message Known
 bind_message v entry target name iface version place = record {
   target = record { id = target.id; born = plain entry };
   opcode = 0;
-  args = Uint name ∷ NewNamed iface version (record { id = next_id v; born = record { birth = v.births; iface = place; version = version } }) ∷ [];
+  args = Uint name ∷ NewNamed iface version (the_bound v version place) ∷ [];
   destroys = false;
 }
 
@@ -228,7 +231,7 @@ left_by st entry target name iface version g what e d =
 pub client_bind_keeps : (p : PairState) (w : World) (asked : List (Message Known)) (told : List (Coming Known)) → StandsBy p w asked told → NotEnded p w → (target : Object) (name : ℕ) (iface : List ℕ) (version : ℕ)
     → (reply : Result (Option Object) SendError) (p' : PairState)
     → Writes (bind_answer p.client target name iface version) true p (with_client p (after_bind p.client target name iface version)) reply p'
-    → Keeps p w (ClientBind target name iface version) (ClientBind reply) p'
+    → Moves p w asked told (ClientBind target name iface version) (ClientBind reply) p'
 client_bind_keeps p w asked told s z target name iface version reply p' (accepted {new = new} h) =
     let b = is_bound p.client target name iface version new s.client_lives h in
     let o = opens p.client.core (Some (bound p.client name version)) new b.opens_it in
@@ -247,8 +250,8 @@ client_bind_keeps p w asked told s z target name iface version reply p' (accepte
         new_is = ap (option_map birth_at) (sym o.is);
         steps = asks_world p w asked told s m can;
       });
-      stands = subst (λ (x : client.State). Stands (with_client p x) (request_written w (renamed born_of m))) (sym (left_by p.client b.entry target name iface version n.global can.fitly.fits.signature.destroys n.there (sym can.fitly.fits.destroys)))
-          (stands (asked ++ m ∷ []) told z (ask_stands p w asked told s m can));
+      outcome = subst (λ (x : client.State). Outcome p asked told (with_client p x) (request_written w (renamed born_of m))) (sym (left_by p.client b.entry target name iface version n.global can.fitly.fits.signature.destroys n.there (sym can.fitly.fits.destroys)))
+          (goes_on (asked ++ m ∷ []) told z (ask_stands p w asked told s m can) (asking m can (λ h. record { name = name; iface = iface; version = version; new = the_bound p.client.core.view version n.global.iface; args_are = refl; global = n.global; there = n.there; iface_is = refl; most = n.most })));
     }
-client_bind_keeps p w asked told s z target name iface version reply p' (refused h) = record { world = w; answers = before z (refused h) refl; stands = stands asked told z s }
-client_bind_keeps p w asked told s z target name iface version reply p' (no_memory h o) = record { world = w; answers = before z (no_memory h o) refl; stands = stands asked told z s }
+client_bind_keeps p w asked told s z target name iface version reply p' (refused h) = record { world = w; answers = before z (refused h) refl; outcome = goes_on asked told z s stays }
+client_bind_keeps p w asked told s z target name iface version reply p' (no_memory h o) = record { world = w; answers = before z (no_memory h o) refl; outcome = goes_on asked told z s stays }

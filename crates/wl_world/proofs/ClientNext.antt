@@ -1,5 +1,5 @@
 -- A move of the client's reading.
-use Rattle.std.proofs.Common.{◌≡◌, ◌≢◌, ℕ, true, false, List, [], ◌∷◌, ◌++◌, map, length, take, refl, sym, ap, subst, ◌∙◌}
+use Rattle.std.proofs.Common.{◌≡◌, ℕ, true, false, List, [], ◌∷◌, ◌++◌, map, length, take, refl, sym, ap, subst, ◌∙◌}
 use Rattle.std.specs.declared.option.Option.{Option}
 use Rattle.std.specs.declared.option.Option.TheVariants.{None, Some}
 use Rattle.std.specs.declared.result.Result.{Result}
@@ -23,12 +23,12 @@ use Rattle.wl_world.specs.World as world
 use Rattle.wl_world.specs.Pair.{PairState, ClientNext, with_client, Nexts, answered, no_memory}
 use Rattle.wl_world.specs.Answers.{NotEnded, before, ReportsArgs, ReportsComing, NeedsMemory}
 use Rattle.wl_world.specs.Flight.{as_row}
-use Rattle.wl_world.specs.Stands.{stands, StandsBy}
-use Rattle.wl_world.specs.Runs.{Keeps}
+use Rattle.wl_world.specs.Stands.{StandsBy}
 use Rattle.wl_world.proofs.Channels.{pops, never_bad}
 use Rattle.wl_world.proofs.Afters.{tokens_map}
 use Rattle.wl_world.proofs.Readings.{reports_right, tokens_taken}
 use Rattle.wl_world.proofs.Findings.{the_found, the_message}
+use Rattle.wl_world.proofs.Happenings.{Moves, goes_on, stays, reading_event, reading_delete}
 use Rattle.wl_world.proofs.ClientReads.{InEvent, in_event, after_event, teaches, event_answer, event_stands, event_mortal, InDelete, in_delete, after_delete, delete_answer, delete_stands, deleting}
 
 -- ---- what is answered and left where a message is found
@@ -84,11 +84,12 @@ keeps_event : (p : PairState) (w : World) (m : Message Known) (cs : List (Coming
     → (Nexts needs_memory (next_answer p.client) p (with_client p (after_next p.client)) reply p')
     → Nexts needs_memory (Ok (Some (report p.client.core (the_found n m i.target.entry s.told_fit.0.fits.signature)))) p
     (with_client p (after_event p.client m n s.told_fit.0.fits.signature.destroys (teaches m i.target.entry))) reply p'
-    → Keeps p w ClientNext (ClientNext reply) p'
+    → Moves p w asked (Event m ∷ cs) ClientNext (ClientNext reply) p'
 keeps_event p w m cs asked s n z e i reply p' d answered = record {
   world = event_read p.client.core.tables w (renamed born_of m) (map (recoming born_of) cs);
   answers = before z d (record { waits = subst HasMessage (sym e) tt; coming = Event (renamed born_of m); steps = reads_event (renamed born_of m) (map (recoming born_of) cs) s.events; reports = reports_it p w m cs asked s n i });
-  stands = stands asked cs z (event_stands p w m cs asked s n i (event_mortal p w m cs asked s n i));
+  outcome = goes_on asked cs z (event_stands p w m cs asked s n i (event_mortal p w m cs asked s n i))
+      (reading_event m cs n s.told_fit.0.fits.signature.destroys i.target.entry refl e (sym s.told_fit.0.fits.destroys));
 }
 keeps_event p w m cs asked s n z e i reply p' d (no_memory {report = r} q h) =
     let same : report p.client.core (the_found n m i.target.entry s.told_fit.0.fits.signature) ≡ r = cc q in
@@ -96,12 +97,12 @@ keeps_event p w m cs asked s n z e i reply p' d (no_memory {report = r} q h) =
     record {
       world = w;
       answers = before z d (record { waits = subst HasMessage (sym e) tt; coming = Event (renamed born_of m); rest = map (recoming born_of) cs; first = s.events; because = needs; same = refl });
-      stands = stands asked (Event m ∷ cs) z s;
+      outcome = goes_on asked (Event m ∷ cs) z s stays;
     }
 
 at_event : (p : PairState) (w : World) (m : Message Known) (cs : List (Coming Known)) (asked : List (Message Known)) (s : StandsBy p w asked (Event m ∷ cs)) (n : ℕ) → NotEnded p w
     → front usual_limit p.client.core.inbox.bytes ≡ Whole n → (reply : Result (Option Report) NextError) (p' : PairState)
-    → (Nexts needs_memory (next_answer p.client) p (with_client p (after_next p.client)) reply p') → Keeps p w ClientNext (ClientNext reply) p'
+    → (Nexts needs_memory (next_answer p.client) p (with_client p (after_next p.client)) reply p') → Moves p w asked (Event m ∷ cs) ClientNext (ClientNext reply) p'
 at_event p w m cs asked s n z e reply p' d =
     let i = in_event p w m cs asked s n e in
     let sig = s.told_fit.0.fits.signature in
@@ -118,11 +119,11 @@ keeps_delete : (p : PairState) (w : World) (x : Known) (cs : List (Coming Known)
     → front usual_limit p.client.core.inbox.bytes ≡ Whole n → (i : InDelete p x cs s.meet.middle n) → (reply : Result (Option Report) NextError) (p' : PairState)
     → (Nexts needs_memory (next_answer p.client) p (with_client p (after_next p.client)) reply p')
     → Nexts needs_memory (Ok (Some (reports.Deleted (record { id = x.id; birth = i.entry.birth })))) p (with_client p (after_delete p.client x n)) reply p'
-    → Keeps p w ClientNext (ClientNext reply) p'
+    → Moves p w asked (Delete x ∷ cs) ClientNext (ClientNext reply) p'
 keeps_delete p w x cs asked s n z e i reply p' d answered = record {
   world = delete_read w x.born (map (recoming born_of) cs);
   answers = before z d (record { waits = subst HasMessage (sym e) tt; coming = Delete x.born; steps = reads_delete x.born (map (recoming born_of) cs) s.events; reports = ap birth_of i.same });
-  stands = stands asked cs z (delete_stands p w x cs asked s n i);
+  outcome = goes_on asked cs z (delete_stands p w x cs asked s n i) (reading_delete x cs n refl e);
 }
 keeps_delete p w x cs asked s n z e i reply p' d (no_memory {report = r} q h) =
     let same : reports.Deleted (record { id = x.id; birth = i.entry.birth }) ≡ r = cc q in
@@ -130,7 +131,7 @@ keeps_delete p w x cs asked s n z e i reply p' d (no_memory {report = r} q h) =
 
 at_delete : (p : PairState) (w : World) (x : Known) (cs : List (Coming Known)) (asked : List (Message Known)) (s : StandsBy p w asked (Delete x ∷ cs)) (n : ℕ) → NotEnded p w
     → front usual_limit p.client.core.inbox.bytes ≡ Whole n → (reply : Result (Option Report) NextError) (p' : PairState)
-    → (Nexts needs_memory (next_answer p.client) p (with_client p (after_next p.client)) reply p') → Keeps p w ClientNext (ClientNext reply) p'
+    → (Nexts needs_memory (next_answer p.client) p (with_client p (after_next p.client)) reply p') → Moves p w asked (Delete x ∷ cs) ClientNext (ClientNext reply) p'
 at_delete p w x cs asked s n z e reply p' d =
     let i = in_delete p w x cs asked s n e in
     let f = the_found n (deleting x) (live_entry world.display_born) i.signature in
@@ -144,20 +145,20 @@ at_delete p w x cs asked s n z e reply p' d =
 
 at_whole : (p : PairState) (w : World) (asked : List (Message Known)) (told : List (Coming Known)) (s : StandsBy p w asked told) (n : ℕ) → NotEnded p w
     → front usual_limit p.client.core.inbox.bytes ≡ Whole n → (reply : Result (Option Report) NextError) (p' : PairState)
-    → (Nexts needs_memory (next_answer p.client) p (with_client p (after_next p.client)) reply p') → Keeps p w ClientNext (ClientNext reply) p'
+    → (Nexts needs_memory (next_answer p.client) p (with_client p (after_next p.client)) reply p') → Moves p w asked told ClientNext (ClientNext reply) p'
 at_whole p w asked [] s n z e reply p' d = absurd (let q = pops p.server.core.outbox p.client.core.inbox [] n s.to_client e in cc q.is)
 at_whole p w asked (Event m ∷ cs) s n z e reply p' d = at_event p w m cs asked s n z e reply p' d
 at_whole p w asked (Delete x ∷ cs) s n z e reply p' d = at_delete p w x cs asked s n z e reply p' d
 
 keeps_idle : (p : PairState) (w : World) (asked : List (Message Known)) (told : List (Coming Known)) (s : StandsBy p w asked told) → NotEnded p w → front usual_limit p.client.core.inbox.bytes ≡ More
     → (reply : Result (Option Report) NextError) (p' : PairState) → (Nexts needs_memory (next_answer p.client) p (with_client p (after_next p.client)) reply p')
-    → Nexts needs_memory (Ok None) p p reply p' → Keeps p w ClientNext (ClientNext reply) p'
-keeps_idle p w asked told s z e reply p' d answered = record { world = w; answers = before z d (λ h. subst HasMessage e h, refl); stands = stands asked told z s }
+    → Nexts needs_memory (Ok None) p p reply p' → Moves p w asked told ClientNext (ClientNext reply) p'
+keeps_idle p w asked told s z e reply p' d answered = record { world = w; answers = before z d (λ h. subst HasMessage e h, refl); outcome = goes_on asked told z s stays }
 keeps_idle p w asked told s z e reply p' d (no_memory q h) = absurd (cc q)
 
 at_front : (p : PairState) (w : World) (asked : List (Message Known)) (told : List (Coming Known)) (s : StandsBy p w asked told) → NotEnded p w
     → (reply : Result (Option Report) NextError) (p' : PairState) → (Nexts needs_memory (next_answer p.client) p (with_client p (after_next p.client)) reply p')
-    → (f : Front) → front usual_limit p.client.core.inbox.bytes ≡ f → Keeps p w ClientNext (ClientNext reply) p'
+    → (f : Front) → front usual_limit p.client.core.inbox.bytes ≡ f → Moves p w asked told ClientNext (ClientNext reply) p'
 at_front p w asked told s z reply p' d More e =
     let i = idle p s.client_lives e in
     keeps_idle p w asked told s z e reply p' d
@@ -168,5 +169,5 @@ at_front p w asked told s z reply p' d (Whole n) e = at_whole p w asked told s n
 
 pub client_next_keeps : (p : PairState) (w : World) (asked : List (Message Known)) (told : List (Coming Known)) → StandsBy p w asked told → NotEnded p w
     → (reply : Result (Option Report) NextError) (p' : PairState) → (Nexts needs_memory (next_answer p.client) p (with_client p (after_next p.client)) reply p')
-    → Keeps p w ClientNext (ClientNext reply) p'
+    → Moves p w asked told ClientNext (ClientNext reply) p'
 client_next_keeps p w asked told s z reply p' d = at_front p w asked told s z reply p' d _ refl

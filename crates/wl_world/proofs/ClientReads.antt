@@ -1,5 +1,5 @@
 -- The client reads.
-use Rattle.std.proofs.Common.{◌≡◌, ◌≢◌, ℕ, ◌+◌, ◌<◌, ◌≤◌, Bool, true, false, cond, List, [], ◌∷◌, ◌++◌, map, length, take, drop, refl, sym, ap, subst, ◌∙◌, arith, min}
+use Rattle.std.proofs.Common.{◌≡◌, ◌≢◌, ℕ, ◌+◌, ◌<◌, ◌≤◌, Bool, true, false, cond, List, [], ◌∷◌, ◌++◌, map, length, take, refl, sym, ap, subst, ◌∙◌, arith, min}
 use Rattle.std.specs.Prelude.{option_map, codes, is_some, nat_eq, not, ◌&&◌}
 use Rattle.std.specs.declared.option.Option.{Option}
 use Rattle.std.specs.declared.option.Option.TheVariants.{None, Some}
@@ -251,7 +251,7 @@ event_mortal p w m cs asked s n i d one =
 abbrev pub deleting : Known → Message Known
 deleting x = record { target = record { id = 1; born = display_born }; opcode = 1; args = Uint x.id ∷ []; destroys = false }
 
-delete_signature : (tables : List Interface) → signature_at tables 0 event_side 1 ≡ Some (fixed.message (codes "delete_id") 1 (fixed.uint ∷ []) Nothing) → (x : Known) → x.id ≤ 1048576 → Fits tables event_side (deleting x)
+pub delete_signature : (tables : List Interface) → signature_at tables 0 event_side 1 ≡ Some (fixed.message (codes "delete_id") 1 (fixed.uint ∷ []) Nothing) → (x : Known) → x.id ≤ 1048576 → Fits tables event_side (deleting x)
 delete_signature tables e x h = record {
   signature = fixed.message (codes "delete_id") 1 (fixed.uint ∷ []) Nothing;
   there = e;

@@ -24,8 +24,8 @@ use Rattle.wl_world.specs.World.{World, display_born, Open, Each, IfThere, IsOpe
 use Rattle.wl_world.specs.Pair.{PairState, ClientSend, with_client_core, Writes, accepted, refused, no_memory}
 use Rattle.wl_world.specs.Answers.{NotEnded, WritesThat, handed, birth_at, before}
 use Rattle.wl_world.specs.Flight.{Fresh, client_rows, row, as_row}
-use Rattle.wl_world.specs.Stands.{Stands, stands, StandsBy, Fits, AreOf}
-use Rattle.wl_world.specs.Runs.{Keeps, IsGiven}
+use Rattle.wl_world.specs.Stands.{StandsBy, Fits, AreOf}
+use Rattle.wl_world.specs.Runs.{IsGiven}
 use Rattle.wl_world.proofs.Wholes.{OpenRow, each_by}
 use Rattle.wl_world.proofs.Bridges.{next_fresh}
 use Rattle.wl_world.proofs.Afters.{made_map, objects_map, each_map}
@@ -34,6 +34,7 @@ use Rattle.wl_world.proofs.Calls.{Checked, is_checked, LiveAt, handed_all, token
 use Rattle.wl_world.proofs.Rules.{target_plain, objects_plain, display_lasts}
 use Rattle.wl_world.proofs.Written.{the_made, the_new, the_call, new_id, new_birth, CallIs, call_is, accepted_call, Opens, opens}
 use Rattle.wl_world.proofs.ClientSends.{CanAsk, asked_core, ask_stands}
+use Rattle.wl_world.proofs.Happenings.{Moves, Outcome, goes_on, stays, asking}
 
 -- the same by other tables
 abbrev pub moved : (t u : List Interface) (side : Side) (m : Message Known) → t ≡ u → Fits t side m → Fits u side m
@@ -173,7 +174,7 @@ pub client_send_keeps : (p : PairState) (w : World) (asked : List (Message Known
     → (reply : Result (Option Object) SendError) (p' : PairState)
     → Writes (send_answer p.client.core Request target opcode given) (opens_object (checked p.client.core.tables Request p.client.core.view target opcode given)) p
     (with_client_core p (after_send p.client.core Request target opcode given)) reply p'
-    → Keeps p w (ClientSend target opcode given) (ClientSend reply) p'
+    → Moves p w asked told (ClientSend target opcode given) (ClientSend reply) p'
 client_send_keeps p w asked told s z target opcode given g reply p' (accepted {new = new} h) =
     let core = p.client.core in
     let a = accepted_call core Request target opcode given new s.client_lives h in
@@ -187,8 +188,8 @@ client_send_keeps p w asked told s z target opcode given g reply p' (accepted {n
     record {
       world = request_written w (renamed born_of m);
       answers = before z (accepted h) (sends_that p w asked told s target opcode given a.signature new c k o can);
-      stands = subst (λ (x : Core). Stands (with_client_core p x) (request_written w (renamed born_of m))) (sym (left_by core target opcode given a.signature c.entry a.checks c.there k ∙ ap (λ (x : sigs.Message). asked_core core m x.destroys) (sym e)))
-          (stands (asked ++ m ∷ []) told z (ask_stands p w asked told s m can));
+      outcome = subst (λ (x : Core). Outcome p asked told (with_client_core p x) (request_written w (renamed born_of m))) (sym (left_by core target opcode given a.signature c.entry a.checks c.there k ∙ ap (λ (x : sigs.Message). asked_core core m x.destroys) (sym e)))
+          (goes_on (asked ++ m ∷ []) told z (ask_stands p w asked told s m can) (asking m can (λ h. absurd (cc (h, c.hidden)))));
     }
-client_send_keeps p w asked told s z target opcode given g reply p' (refused h) = record { world = w; answers = before z (refused h) refl; stands = stands asked told z s }
-client_send_keeps p w asked told s z target opcode given g reply p' (no_memory h o) = record { world = w; answers = before z (no_memory h o) refl; stands = stands asked told z s }
+client_send_keeps p w asked told s z target opcode given g reply p' (refused h) = record { world = w; answers = before z (refused h) refl; outcome = goes_on asked told z s stays }
+client_send_keeps p w asked told s z target opcode given g reply p' (no_memory h o) = record { world = w; answers = before z (no_memory h o) refl; outcome = goes_on asked told z s stays }

@@ -65,7 +65,7 @@ all_met tables version view rows There f (k ∷ ks) (NewNamed name own x ∷ arg
 all_met tables version view rows There f (k ∷ ks) (Array z ∷ args) a o n = (tt, all_met tables version view rows There f ks args a.1 o n.1)
 all_met tables version view rows There f (k ∷ ks) (Fd z ∷ args) a o n = (tt, all_met tables version view rows There f ks args a.1 o n.1)
 
-if_by : {X : Type 0} (P Q : X → Type 0) (o : Option X) → ((x : X) → P x → Q x) → IfThere P o → IfThere Q o
+pub if_by : {X : Type 0} (P Q : X → Type 0) (o : Option X) → ((x : X) → P x → Q x) → IfThere P o → IfThere Q o
 if_by P Q None f h = tt
 if_by P Q (Some x) f h = f x h
 

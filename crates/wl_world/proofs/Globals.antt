@@ -18,9 +18,9 @@ use Rattle.wl_world.specs.Pair.{PairState, AddGlobal, Withdraw, with_server, Add
 use Rattle.wl_server.specs.declared.request.GlobalError.{GlobalError}
 use Rattle.wl_server.specs.declared.request.GlobalError.TheVariants.{Failed, BadGlobal, TooMany}
 use Rattle.wl_world.specs.Answers.{NotEnded, before}
-use Rattle.wl_world.specs.Stands.{stands, StandsBy, WasGiven, AsksFitly, ComesFitly, IsGlobal}
-use Rattle.wl_world.specs.Runs.{Keeps}
+use Rattle.wl_world.specs.Stands.{StandsBy, WasGiven, AsksFitly, ComesFitly, IsGlobal}
 use Rattle.wl_world.proofs.Wholes.{each_by, each_more}
+use Rattle.wl_world.proofs.Happenings.{Moves, goes_on, stays, giving}
 
 -- each name has the interface and version that it had
 pub record Same (g h : Global) : Type 0 where
@@ -125,7 +125,7 @@ can_add s iface version false true true l e f h = record { can = e; few = ltb-tr
 
 pub add_global_keeps : (p : PairState) (w : World) (asked : List (Message Known)) (told : List (Coming Known)) → StandsBy p w asked told → NotEnded p w → (iface : Iface) (version : ℕ) → version < 2 ^ 32
     → (reply : Result ℕ GlobalError) (p' : PairState) → Adds (add_refusal p.server iface version) (next_name p.server) p (with_server p (with_global p.server iface version)) reply p'
-    → Keeps p w (AddGlobal iface version) (AddGlobal reply) p'
+    → Moves p w asked told (AddGlobal iface version) (AddGlobal reply) p'
 add_global_keeps p w asked told s z iface version v reply p' (added h) =
     let c = can_add p.server iface version p.server.core.failed _ _ s.server_lives refl refl h in
     let g : Global = record { iface = iface; version = version; present = true } in
@@ -135,10 +135,10 @@ add_global_keeps p w asked told s z iface version v reply p' (added h) =
     record {
       world = record w { given = p.server.globals ++ g ∷ [] };
       answers = before z (added h) (ap (λ (l : List Global). length l + 1) (sym s.given), ap (λ (l : List Global). record w { given = l ++ g ∷ [] }) (sym s.given));
-      stands = stands asked told z t;
+      outcome = goes_on asked told z t (giving (p.server.globals ++ g ∷ []));
     }
-add_global_keeps p w asked told s z iface version v reply p' (refused h) = record { world = w; answers = before z (refused h) refl; stands = stands asked told z s }
-add_global_keeps p w asked told s z iface version v reply p' (no_memory h) = record { world = w; answers = before z (no_memory h) refl; stands = stands asked told z s }
+add_global_keeps p w asked told s z iface version v reply p' (refused h) = record { world = w; answers = before z (refused h) refl; outcome = goes_on asked told z s stays }
+add_global_keeps p w asked told s z iface version v reply p' (no_memory h) = record { world = w; answers = before z (no_memory h) refl; outcome = goes_on asked told z s stays }
 
 -- ---- one withdrawn
 
@@ -185,10 +185,10 @@ withdraw_stands p w asked told s name (Some x) e =
     (let l = length_set p.server.globals (name - 1) (withdrawn x) in omega (arith, l, s.few_globals))
 
 pub withdraw_keeps : (p : PairState) (w : World) (asked : List (Message Known)) (told : List (Coming Known)) → StandsBy p w asked told → NotEnded p w → (name : ℕ) (reply : Result (Unit {0}) GlobalError) (p' : PairState)
-    → Calls (withdraw_refusal p.server name) p (with_server p (after_withdraw p.server name)) reply p' → Keeps p w (Withdraw name) (Withdraw reply) p'
+    → Calls (withdraw_refusal p.server name) p (with_server p (after_withdraw p.server name)) reply p' → Moves p w asked told (Withdraw name) (Withdraw reply) p'
 withdraw_keeps p w asked told s z name reply p' (done h) = record {
   world = record w { given = without_at p.server.globals name (global_of p.server.globals name) };
   answers = before z (done h) (ap (λ (l : List Global). record w { given = without_at l name (global_of l name) }) (sym s.given));
-  stands = stands asked told z (withdraw_stands p w asked told s name (global_of p.server.globals name) refl);
+  outcome = goes_on asked told z (withdraw_stands p w asked told s name (global_of p.server.globals name) refl) (giving (without_at p.server.globals name (global_of p.server.globals name)));
 }
-withdraw_keeps p w asked told s z name reply p' (refused h) = record { world = w; answers = before z (refused h) refl; stands = stands asked told z s }
+withdraw_keeps p w asked told s z name reply p' (refused h) = record { world = w; answers = before z (refused h) refl; outcome = goes_on asked told z s stays }

@@ -17,6 +17,7 @@ pub mod Calls
 pub mod Rules
 pub mod Written
 pub mod ClientSends
+pub mod Happenings
 pub mod ClientSend
 pub mod ServerTells
 pub mod ServerSend

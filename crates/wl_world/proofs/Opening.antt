@@ -60,8 +60,8 @@ opening_aged false e h = absurd (cc h)
 nothing_flies : (from : Outgoing) (to : Arrived) → from.left ≡ [] → from.messages ≡ [] → to.bytes ≡ [] → to.tokens ≡ [] → InFlight from to []
 nothing_flies from to a b c d = record { begun = []; all = sym b; bytes = rw (c, a) refl; tokens = d; whole = tt }
 
-pub new_stands : (tables : List Interface) (client_sizes server_sizes : Sizes) → Valid tables → Stands (new_pair tables client_sizes server_sizes) opening
-new_stands tables client_sizes server_sizes v = stands [] [] (refl, refl) (record {
+pub new_stands_by : (tables : List Interface) (client_sizes server_sizes : Sizes) → Valid tables → StandsBy (new_pair tables client_sizes server_sizes) opening [] []
+new_stands_by tables client_sizes server_sizes v = record {
   same_tables = refl;
   valid = v;
   deletes_follow = tt;
@@ -91,7 +91,7 @@ new_stands tables client_sizes server_sizes v = stands [] [] (refl, refl) (recor
   globals = tt;
   few_globals = lit≤ tt;
   open_registries = has_none;
-})
+}
   where
     live_row : (e : Entry) (s : State) → s ≡ states.Live → as_row s (plain e) ≡ Open (plain e)
     live_row e states.Live h = refl
@@ -100,6 +100,9 @@ new_stands tables client_sizes server_sizes v = stands [] [] (refl, refl) (recor
     both : (o : Option Entry) → ((e : Entry) → o ≡ Some e → e.state ≡ states.Live) → option_map row o ≡ at_client (option_map plain o)
     both None h = refl
     both (Some e) h = ap Some (live_row e e.state (h e refl))
+
+pub new_stands : (tables : List Interface) (client_sizes server_sizes : Sizes) → Valid tables → Stands (new_pair tables client_sizes server_sizes) opening
+new_stands tables client_sizes server_sizes v = stands [] [] (refl, refl) (new_stands_by tables client_sizes server_sizes v)
 
 -- ---- drained ends
 

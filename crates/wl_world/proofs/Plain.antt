@@ -47,7 +47,7 @@ module _ {test : Born → Bool} where
   free_mid i (delete z a b r) h = free_mid i r (grind (arith, put_tells))
 
   -- nor in a request
-  free_asks : {qs : List Ask} {s : Rows Born} {m : Rows Row} (i : ℕ) → Tied test qs s m → m.rows i ≡ None → Each (λ a. ask_id a ≢ i) qs
+  pub free_asks : {qs : List Ask} {s : Rows Born} {m : Rows Row} (i : ℕ) → Tied test qs s m → m.rows i ≡ None → Each (λ a. ask_id a ≢ i) qs
   free_asks i (drained r u b) h = tt
   free_asks i (use_ {m = m} {x = n} a b t) h = (held_some m n i (held_at_client n t a) h, free_asks i t h)
   free_asks i (make {s = s} {m = m} {x = n} a t) h = (held_some m n i (held_at_client n t (put_same s.rows n.id (Some n.born))) h, free_asks i t h)

@@ -24,11 +24,12 @@ use Rattle.wl_table.specs.declared.object.Entry.{Entry}
 use Rattle.wl_table.specs.declared.object.State.{State}
 use Rattle.wl_table.specs.declared.object.State.TheVariants as states
 use Rattle.wl_table.specs.View.{View, look, free_or_next, has_room}
-use Rattle.wl_objects.specs.Reading.{value_fault, iface_of, is_of, arguments_at, judged, descriptors, is_descriptor_kind, in_state, report_of, reports_of, first_or, tokens_after}
+use Rattle.wl_objects.specs.declared.lookup.NewId.TheVariants.{Free}
+use Rattle.wl_objects.specs.Reading.{Reader, value_fault, iface_of, is_of, arguments_at, judged, descriptors, is_descriptor_kind, in_state, report_of, reports_of, first_or, tokens_after}
 use Rattle.wl_objects.specs.Writing.{spelled as spelled_values, message_len, message_bytes}
 use Rattle.wl_objects.specs.Messages.{reader_of, received, is_error, Made, made_by, made, or_else as made_or_else}
 use Rattle.wl_world.specs.Meant.{Born, Known, Message, Arg, rearg, born_of, birth_of, wire, tokens, token_in, new_in, made_in, or_else, plain, live_entry}
-use Rattle.wl_world.specs.World.{Row}
+use Rattle.wl_world.specs.World.{Row, Each}
 use Rattle.wl_world.specs.Flight.{row, as_row}
 use Rattle.wl_world.specs.Answers.{Seen, Live, Dead, seen, seen_by, by_row, birth_at}
 use Rattle.wl_world.specs.Stands.{Fits, AreOf, NamesRightly}
@@ -57,48 +58,61 @@ abbrev pub AllMet : View → (ℕ → Option Row) → List (Arg Known) → Type 
 AllMet view rows [] = Unit {0}
 AllMet view rows (a ∷ args) = Met view rows a × AllMet view rows args
 
--- ---- no argument is at fault
+-- ---- what a reader finds
+
+-- it knows an object with this id, of the interface and version that was meant
+pub record HasObject (r : Reader) (x : Known) : Type 0 where
+  pub entry : Entry
+  pub there : r.object x.id ≡ Some entry
+  pub iface : entry.iface ≡ x.born.iface
+  pub version : entry.version ≡ x.born.version
+
+-- it finds what an argument names
+abbrev pub Finds : Reader → Arg Known → Type 0
+Finds r (Obj (Some x)) = HasObject r x
+Finds r (New x) = r.new_id x.id ≡ Free
+Finds r (NewNamed name own x) = r.new_id x.id ≡ Free
+Finds r _ = Unit {0}
 
 is_of_same : (iface : Option Iface) (e d : Entry) → e.iface ≡ d.iface → is_of iface d ≡ true → is_of iface e ≡ true
 is_of_same None e d h k = refl
 is_of_same (Some iface) e d h k = rw h k
 
-iface_in : Born → Iface
-iface_in x = x.iface
+-- it forgives nothing
+abbrev strict : Reader → Reader
+strict r = record r { forgives = false }
 
-right : (tables : List Interface) (version place : ℕ) (view : View) (rows : ℕ → Option Row) (kind : Kind) (a : Arg Known) → NamesRightly tables version kind a → Met view rows a
-    → value_fault (reader_of view) place kind (wire a) ≡ None
-right tables version place view rows kind (Int z) n m = refl
-right tables version place view rows kind (Uint z) n m = refl
-right tables version place view rows kind (Fixed z) n m = refl
-right tables version place view rows kind (Str z) n m = refl
-right tables version place view rows kind (Obj None) n m = refl
-right tables version place view rows kind (Obj (Some x)) n m =
-    let some : nat_eq x.id 0 ≡ false = ne_eqb x.id 0 (λ h. omega (arith, m.some)) in
-    let of : is_of (iface_of kind) m.entry ≡ true = is_of_same (iface_of kind) m.entry (live_entry x.born) (ap (λ (b : Born). b.iface) m.same) n.1 in
+right : (tables : List Interface) (version place : ℕ) (r : Reader) (kind : Kind) (a : Arg Known) → NamesRightly tables version kind a → Finds r a
+    → value_fault (strict r) place kind (wire a) ≡ None
+right tables version place r kind (Int v) n m = refl
+right tables version place r kind (Uint v) n m = refl
+right tables version place r kind (Fixed v) n m = refl
+right tables version place r kind (Str v) n m = refl
+right tables version place r kind (Obj None) n m = refl
+right tables version place r kind (Obj (Some x)) n m =
+    let some : nat_eq x.id 0 ≡ false = ne_eqb x.id 0 (λ h. omega (arith, n.0)) in
+    let of : is_of (iface_of kind) m.entry ≡ true = is_of_same (iface_of kind) m.entry (live_entry x.born) m.iface n.1 in
     rw (some, m.there, of) refl
-right tables version place view rows kind (New x) n m = rw (m.free, m.room) refl
-right tables version place view rows kind (NewNamed name own x) n m = rw (m.free, m.room) refl
-right tables version place view rows kind (Array z) n m = refl
-right tables version place view rows kind (Fd z) n m = refl
+right tables version place r kind (New x) n m = rw m refl
+right tables version place r kind (NewNamed name own x) n m = rw m refl
+right tables version place r kind (Array v) n m = refl
+right tables version place r kind (Fd v) n m = refl
 
--- ---- the values are read
-
-read_one : (view : View) (place : ℕ) (kind : Kind) (ks : List Kind) (v : Argument) (rest : List ℕ) (vs : List Argument) → Suits kind v → value_fault (reader_of view) place kind v ≡ None
-    → arguments_at (reader_of view) (suc place) ks rest ≡ Ok (vs, []) → arguments_at (reader_of view) place (kind ∷ ks) (canonical v ++ rest) ≡ Ok (v ∷ vs, [])
-read_one view place kind ks v rest vs s g h =
+read_one : (r : Reader) (place : ℕ) (kind : Kind) (ks : List Kind) (v : Argument) (rest : List ℕ) (vs : List Argument) → Suits kind v → value_fault (strict r) place kind v ≡ None
+    → arguments_at (strict r) (suc place) ks rest ≡ Ok (vs, []) → arguments_at (strict r) place (kind ∷ ks) (canonical v ++ rest) ≡ Ok (v ∷ vs, [])
+read_one r place kind ks v rest vs s g h =
     let back : drop (spelled_len v) (canonical v ++ rest) ≡ rest = drop_at (canonical v) rest (spelled_len v) (canonical-len v) in
-    let found : judged (reader_of view) place kind (reading kind (canonical v ++ rest)) ≡ Ok (v, spelled_len v) = rw (reading-canonical kind v rest s, judged, g) refl in
+    let found : judged (strict r) place kind (reading kind (canonical v ++ rest)) ≡ Ok (v, spelled_len v) = rw (reading-canonical kind v rest s, judged, g) refl in
     rw (found, back, h) refl
 
-pub values_read : (tables : List Interface) (version place : ℕ) (view : View) (rows : ℕ → Option Row) (ks : List Kind) (args : List (Arg Known)) → AreOf tables version ks args → AllMet view rows args
-    → arguments_at (reader_of view) place ks (spelled_values (map wire args)) ≡ Ok (map wire args, [])
-values_read tables version place view rows [] [] f m = refl
-values_read tables version place view rows (kind ∷ ks) [] f m = absurd f
-values_read tables version place view rows [] (a ∷ args) f m = absurd f
-values_read tables version place view rows (kind ∷ ks) (a ∷ args) f m =
-    read_one view place kind ks (wire a) (spelled_values (map wire args)) (map wire args) f.0.0 (right tables version place view rows kind a f.0.1 m.0)
-    (values_read tables version (suc place) view rows ks args f.1 m.1)
+values_read : (tables : List Interface) (version place : ℕ) (r : Reader) (ks : List Kind) (args : List (Arg Known)) → AreOf tables version ks args → Each (Finds r) args
+    → arguments_at (strict r) place ks (spelled_values (map wire args)) ≡ Ok (map wire args, [])
+values_read tables version place r [] [] f m = refl
+values_read tables version place r (kind ∷ ks) [] f m = absurd f
+values_read tables version place r [] (a ∷ args) f m = absurd f
+values_read tables version place r (kind ∷ ks) (a ∷ args) f m =
+    read_one r place kind ks (wire a) (spelled_values (map wire args)) (map wire args) f.0.0 (right tables version place r kind a f.0.1 m.0)
+    (values_read tables version (suc place) r ks args f.1 m.1)
 
 -- ---- tokens
 
@@ -127,19 +141,48 @@ tokens_taken tables version (kind ∷ ks) (a ∷ args) f =
 
 -- ---- the whole message
 
+-- by any reader that knows what it names
+pub received_by_any : (tables : List Interface) (side : Side) (r : Reader) (m : Message Known) (header : Header) (waiting : ℕ) (o : HasObject r m.target) (f : Fits tables side m)
+    → header.object ≡ m.target.id → header.opcode ≡ m.opcode → Each (Finds r) m.args → length (tokens m.args) ≤ waiting
+    → received tables side r header (spelled_values (map wire m.args)) waiting
+    ≡ Ok (record { target = record { id = m.target.id; birth = o.entry.birth }; entry = o.entry; signature = f.signature; values = map wire m.args })
+received_by_any tables side r m header waiting o f ho hp k w =
+    let row_there : r.object header.object ≡ Some o.entry = ap r.object ho ∙ o.there in
+    let sig : signature_at tables o.entry.iface.0 side header.opcode ≡ Some f.signature =
+    ap (λ (i : Iface). signature_at tables i.0 side header.opcode) o.iface ∙ ap (signature_at tables m.target.born.iface.0 side) hp ∙ f.there in
+    let old : nat_lt o.entry.version f.signature.since ≡ false = le-ltb o.entry.version f.signature.since (omega (arith, f.old_enough, o.version)) in
+    let forgives : is_error side o.entry.iface header.opcode ≡ false = ap (λ (i : Iface). is_error side i header.opcode) o.iface ∙ ap (is_error side m.target.born.iface) hp ∙ f.no_error in
+    let enough : nat_lt waiting (descriptors f.signature.kinds) ≡ false =
+    le-ltb waiting (descriptors f.signature.kinds) (omega (arith, w, tokens_taken tables m.target.born.version f.signature.kinds m.args f.args)) in
+    rw (row_there, sig, old, forgives, values_read tables m.target.born.version 0 r f.signature.kinds m.args f.args k, enough, ho) refl
+
+object_held : (view : View) (rows : ℕ → Option Row) (x : Known) → HeldAt view rows x → HasObject (reader_of view) x
+object_held view rows x h = record { entry = h.entry; there = h.there; iface = ap (λ (b : Born). b.iface) h.same; version = ap (λ (b : Born). b.version) h.same }
+
+one_found : (view : View) (rows : ℕ → Option Row) (a : Arg Known) → Met view rows a → Finds (reader_of view) a
+one_found view rows (Obj None) m = tt
+one_found view rows (Obj (Some x)) m = object_held view rows x m
+one_found view rows (New x) m = rw (m.free, m.room) refl
+one_found view rows (NewNamed name own x) m = rw (m.free, m.room) refl
+one_found view rows (Int z) m = tt
+one_found view rows (Uint z) m = tt
+one_found view rows (Fixed z) m = tt
+one_found view rows (Str z) m = tt
+one_found view rows (Array z) m = tt
+one_found view rows (Fd z) m = tt
+
+all_found : (view : View) (rows : ℕ → Option Row) (args : List (Arg Known)) → AllMet view rows args → Each (Finds (reader_of view)) args
+all_found view rows [] m = tt
+all_found view rows (a ∷ args) m = (one_found view rows a m.0, all_found view rows args m.1)
+
+-- by an end
 pub received_right : (tables : List Interface) (side : Side) (view : View) (rows : ℕ → Option Row) (m : Message Known) (header : Header) (waiting : ℕ) (entry : Entry) (f : Fits tables side m)
     → header.object ≡ m.target.id → header.opcode ≡ m.opcode → look view m.target.id ≡ Some entry → plain entry ≡ m.target.born → AllMet view rows m.args → length (tokens m.args) ≤ waiting
     → received tables side (reader_of view) header (spelled_values (map wire m.args)) waiting
     ≡ Ok (record { target = record { id = m.target.id; birth = entry.birth }; entry = entry; signature = f.signature; values = map wire m.args })
 received_right tables side view rows m header waiting entry f ho hp l s k w =
-    let iface : entry.iface ≡ m.target.born.iface = ap (λ (b : Born). b.iface) s in
-    let version : entry.version ≡ m.target.born.version = ap (λ (b : Born). b.version) s in
-    let row_there : look view header.object ≡ Some entry = ap (look view) ho ∙ l in
-    let sig : signature_at tables entry.iface.0 side header.opcode ≡ Some f.signature = ap (λ (i : Iface). signature_at tables i.0 side header.opcode) iface ∙ ap (signature_at tables m.target.born.iface.0 side) hp ∙ f.there in
-    let old : nat_lt entry.version f.signature.since ≡ false = le-ltb entry.version f.signature.since (omega (arith, f.old_enough, version)) in
-    let forgives : is_error side entry.iface header.opcode ≡ false = ap (λ (i : Iface). is_error side i header.opcode) iface ∙ ap (is_error side m.target.born.iface) hp ∙ f.no_error in
-    let enough : nat_lt waiting (descriptors f.signature.kinds) ≡ false = le-ltb waiting (descriptors f.signature.kinds) (omega (arith, w, tokens_taken tables m.target.born.version f.signature.kinds m.args f.args)) in
-    rw (row_there, sig, old, forgives, values_read tables m.target.born.version 0 view rows f.signature.kinds m.args f.args k, enough, ho) refl
+    let o : HasObject (reader_of view) m.target = record { entry = entry; there = l; iface = ap (λ (b : Born). b.iface) s; version = ap (λ (b : Born). b.version) s } in
+    received_by_any tables side (reader_of view) m header waiting o f ho hp (all_found view rows m.args k) w
 
 -- ---- the report
 

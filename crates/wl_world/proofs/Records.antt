@@ -7,8 +7,6 @@ use Rattle.std.specs.declared.result.Result.{Result}
 use Rattle.wl_table.specs.declared.object.Object.{Object}
 use Rattle.wl_objects.specs.declared.error.SendError.{SendError}
 use Rattle.wl_objects.specs.declared.error.NextError.{NextError}
-use Rattle.wl_objects.specs.declared.error.Fault.{Fault}
-use Rattle.wl_end.specs.Receiving.{Found}
 use Rattle.wl_server.specs.declared.request.GlobalError.{GlobalError}
 use Rattle.wl_message.specs.declared.amounts.Taken.{Taken}
 use Rattle.wl_recording.specs.Piece.{Piece}

@@ -1,5 +1,5 @@
 -- A move of the server's reading.
-use Rattle.std.proofs.Common.{◌≡◌, ◌≢◌, ℕ, ◌<◌, Bool, true, false, cond, List, [], ◌∷◌, map, refl, sym, ap, subst, ◌∙◌, arith}
+use Rattle.std.proofs.Common.{◌≡◌, ◌≢◌, ℕ, ◌<◌, Bool, true, false, cond, List, [], ◌∷◌, ◌++◌, map, refl, sym, ap, subst, ◌∙◌, arith}
 use Rattle.std.specs.Prelude.{not, ◌&&◌}
 use Rattle.std.specs.declared.option.Option.{Option}
 use Rattle.std.specs.declared.option.Option.TheVariants.{None, Some}
@@ -16,15 +16,15 @@ use Rattle.wl_end.specs.Receiving.{Found, found_at, is_none}
 use Rattle.wl_end.specs.Sending.{delete_id_len}
 use Rattle.wl_server.specs.Requests.{Report, judged, request, report, needs_memory, is_out_full, next_answer, after_next, state_past}
 use Rattle.wl_world.specs.Meant.{Known, Born, Message, Coming, renamed, born_of, birth_of}
-use Rattle.wl_world.specs.World.{World, request_read, reads_request}
+use Rattle.wl_world.specs.World.{World, request_read, reads_request, delete}
 use Rattle.wl_world.specs.Pair.{PairState, ServerNext, with_server, Nexts, answered, no_memory}
 use Rattle.wl_world.specs.Answers.{NotEnded, before, ReportsRequest, rows_of_server, IsOutFull}
-use Rattle.wl_world.specs.Stands.{stands, StandsBy}
-use Rattle.wl_world.specs.Runs.{Keeps}
+use Rattle.wl_world.specs.Stands.{StandsBy}
 use Rattle.wl_world.proofs.Channels.{pops, never_bad}
 use Rattle.wl_world.proofs.Readings.{reports_right}
 use Rattle.wl_world.proofs.Findings.{the_found}
 use Rattle.wl_world.proofs.ServerReads.{InRequest, in_request, left_state, left_is, server_read_stands}
+use Rattle.wl_world.proofs.Happenings.{Moves, goes_on, stays, reading_request}
 
 -- ---- nothing in front
 
@@ -71,11 +71,11 @@ keeps_out_full : (p : PairState) (w : World) (m : Message Known) (ms : List (Mes
     → front usual_limit p.server.core.inbox.bytes ≡ Whole n → InRequest p w m ms told s n → (reply : Result (Option Report) NextError) (p' : PairState)
     → (Nexts needs_memory (next_answer p.server) p (with_server p (after_next p.server)) reply p')
     → (m.destroys ≡ true) × (room_of p.server.core.outbox < delete_id_len)
-    → Nexts needs_memory (Err errors.OutFull) p p reply p' → Keeps p w ServerNext (ServerNext reply) p'
+    → Nexts needs_memory (Err errors.OutFull) p p reply p' → Moves p w (m ∷ ms) told ServerNext (ServerNext reply) p'
 keeps_out_full p w m ms told s n z e i reply p' d full answered = record {
   world = w;
   answers = before z d (record { waits = subst HasMessage (sym e) tt; message = renamed born_of m; rest = map (renamed born_of) ms; first = s.requests; because = full; same = refl });
-  stands = stands (m ∷ ms) told z s;
+  outcome = goes_on (m ∷ ms) told z s stays;
 }
 keeps_out_full p w m ms told s n z e i reply p' d full (no_memory q h) = absurd (cc q)
 
@@ -85,11 +85,12 @@ keeps_read : (p : PairState) (w : World) (m : Message Known) (ms : List (Message
     → (IsOutFull p (renamed born_of m) → ⊥)
     → Nexts needs_memory (Ok (Some (report p.server.core (the_found n m i.entry s.asked_fit.0.fits.signature)))) p
     (with_server p (left_state p.server m n s.asked_fit.0.fits.signature.destroys)) reply p'
-    → Keeps p w ServerNext (ServerNext reply) p'
+    → Moves p w (m ∷ ms) told ServerNext (ServerNext reply) p'
 keeps_read p w m ms told s n z e i reply p' d room answered = record {
   world = request_read w (renamed born_of m) (map (renamed born_of) ms);
   answers = before z d (record { waits = subst HasMessage (sym e) tt; message = renamed born_of m; steps = reads_request (renamed born_of m) (map (renamed born_of) ms) s.requests; reports = reports p w m ms told s n i; has_room = room });
-  stands = stands ms _ z (server_read_stands p w m ms told s n i.asks_it i.up);
+  outcome = goes_on ms (told ++ delete m.destroys m.target) z (server_read_stands p w m ms told s n i.asks_it i.up)
+      (reading_request m ms n s.asked_fit.0.fits.signature.destroys refl e (s.server_sets.below m.target.id m.target.born i.asks_it.target));
 }
 keeps_read p w m ms told s n z e i reply p' d room (no_memory {report = r} q h) =
     let same : report p.server.core (the_found n m i.entry s.asked_fit.0.fits.signature) ≡ r = cc q in
@@ -97,13 +98,13 @@ keeps_read p w m ms told s n z e i reply p' d room (no_memory {report = r} q h) 
     record {
       world = w;
       answers = before z d (record { waits = subst HasMessage (sym e) tt; message = renamed born_of m; rest = map (renamed born_of) ms; first = s.requests; because = needs; same = refl });
-      stands = stands (m ∷ ms) told z s;
+      outcome = goes_on (m ∷ ms) told z s stays;
     }
 
 at_request : (p : PairState) (w : World) (m : Message Known) (ms : List (Message Known)) (told : List (Coming Known)) (s : StandsBy p w (m ∷ ms) told) (n : ℕ) → NotEnded p w
     → front usual_limit p.server.core.inbox.bytes ≡ Whole n → (i : InRequest p w m ms told s n) → (reply : Result (Option Report) NextError) (p' : PairState)
     → (Nexts needs_memory (next_answer p.server) p (with_server p (after_next p.server)) reply p')
-    → (b : Bool) → is_out_full p.server.core (the_found n m i.entry s.asked_fit.0.fits.signature) ≡ b → Keeps p w ServerNext (ServerNext reply) p'
+    → (b : Bool) → is_out_full p.server.core (the_found n m i.entry s.asked_fit.0.fits.signature) ≡ b → Moves p w (m ∷ ms) told ServerNext (ServerNext reply) p'
 at_request p w m ms told s n z e i reply p' d true h =
     let a = answer_is p m (the_found n m i.entry s.asked_fit.0.fits.signature) true s.server_lives i.finds_it h in
     let k = and_both _ _ h in
@@ -120,7 +121,7 @@ at_request p w m ms told s n z e i reply p' d false h =
 
 at_whole : (p : PairState) (w : World) (asked : List (Message Known)) (told : List (Coming Known)) (s : StandsBy p w asked told) (n : ℕ) → NotEnded p w
     → front usual_limit p.server.core.inbox.bytes ≡ Whole n → (reply : Result (Option Report) NextError) (p' : PairState)
-    → (Nexts needs_memory (next_answer p.server) p (with_server p (after_next p.server)) reply p') → Keeps p w ServerNext (ServerNext reply) p'
+    → (Nexts needs_memory (next_answer p.server) p (with_server p (after_next p.server)) reply p') → Moves p w asked told ServerNext (ServerNext reply) p'
 at_whole p w [] told s n z e reply p' d = absurd (let q = pops p.client.core.outbox p.server.core.inbox [] n s.to_server e in cc q.is)
 at_whole p w (m ∷ ms) told s n z e reply p' d =
     let i = in_request p w m ms told s n e in
@@ -128,13 +129,13 @@ at_whole p w (m ∷ ms) told s n z e reply p' d =
 
 keeps_idle : (p : PairState) (w : World) (asked : List (Message Known)) (told : List (Coming Known)) (s : StandsBy p w asked told) → NotEnded p w → front usual_limit p.server.core.inbox.bytes ≡ More
     → (reply : Result (Option Report) NextError) (p' : PairState) → (Nexts needs_memory (next_answer p.server) p (with_server p (after_next p.server)) reply p')
-    → Nexts needs_memory (Ok None) p p reply p' → Keeps p w ServerNext (ServerNext reply) p'
-keeps_idle p w asked told s z e reply p' d answered = record { world = w; answers = before z d (λ h. subst HasMessage e h, refl); stands = stands asked told z s }
+    → Nexts needs_memory (Ok None) p p reply p' → Moves p w asked told ServerNext (ServerNext reply) p'
+keeps_idle p w asked told s z e reply p' d answered = record { world = w; answers = before z d (λ h. subst HasMessage e h, refl); outcome = goes_on asked told z s stays }
 keeps_idle p w asked told s z e reply p' d (no_memory q h) = absurd (cc q)
 
 at_front : (p : PairState) (w : World) (asked : List (Message Known)) (told : List (Coming Known)) (s : StandsBy p w asked told) → NotEnded p w
     → (reply : Result (Option Report) NextError) (p' : PairState) → (Nexts needs_memory (next_answer p.server) p (with_server p (after_next p.server)) reply p')
-    → (f : Front) → front usual_limit p.server.core.inbox.bytes ≡ f → Keeps p w ServerNext (ServerNext reply) p'
+    → (f : Front) → front usual_limit p.server.core.inbox.bytes ≡ f → Moves p w asked told ServerNext (ServerNext reply) p'
 at_front p w asked told s z reply p' d More e =
     let i = idle p w asked told s e in
     keeps_idle p w asked told s z e reply p' d
@@ -145,5 +146,5 @@ at_front p w asked told s z reply p' d (Whole n) e = at_whole p w asked told s n
 
 pub server_next_keeps : (p : PairState) (w : World) (asked : List (Message Known)) (told : List (Coming Known)) → StandsBy p w asked told → NotEnded p w
     → (reply : Result (Option Report) NextError) (p' : PairState) → (Nexts needs_memory (next_answer p.server) p (with_server p (after_next p.server)) reply p')
-    → Keeps p w ServerNext (ServerNext reply) p'
+    → Moves p w asked told ServerNext (ServerNext reply) p'
 server_next_keeps p w asked told s z reply p' d = at_front p w asked told s z reply p' d _ refl

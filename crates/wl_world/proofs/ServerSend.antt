@@ -1,5 +1,5 @@
 -- Moves of the server's writing.
-use Rattle.std.proofs.Common.{◌≡◌, ℕ, Bool, true, false, cond, List, [], ◌∷◌, ◌++◌, refl, sym, ap, subst, ◌∙◌}
+use Rattle.std.proofs.Common.{◌≡◌, ℕ, Bool, true, false, cond, List, [], ◌∷◌, ◌++◌, length, refl, sym, ap, subst, ◌∙◌}
 use Rattle.std.specs.Prelude.{option_map, not, ◌||◌}
 use Rattle.std.specs.declared.option.Option.{Option}
 use Rattle.std.specs.declared.option.Option.TheVariants.{None, Some}
@@ -8,13 +8,15 @@ use Rattle.std.specs.declared.result.Result.TheVariants.{Ok}
 use Rattle.wl_sigs.specs.declared.signature.Side.TheVariants.{Event}
 use Rattle.wl_sigs.specs.Tables.{Interface, interface_at, destroys_target}
 use Rattle.wl_sigs.specs.Tables as sigs
+use Rattle.wl_sigs.specs.declared.signature.Destroys.{Destroys}
+use Rattle.wl_sigs.specs.declared.signature.Destroys.TheVariants.{Nothing, Target}
 use Rattle.wl_sigs.specs.Fixed.{display, registry}
 use Rattle.wl_message.specs.Outgoing.{message}
 use Rattle.wl_table.specs.declared.object.Object.{Object}
 use Rattle.wl_table.specs.declared.object.Entry.{Entry}
 use Rattle.wl_objects.specs.declared.error.SendError.{SendError}
 use Rattle.wl_objects.specs.declared.error.SendError.TheVariants as refusals
-use Rattle.wl_table.specs.View.{View, look, next_id}
+use Rattle.wl_table.specs.View.{View, look, next_id, closed}
 use Rattle.wl_objects.specs.Writing.{Given, message_bytes, is_live_as}
 use Rattle.wl_objects.specs.Messages.{Made, Server as server_end, after, checked, live_row, same_iface}
 use Rattle.wl_end.specs.Core.{Core}
@@ -22,12 +24,12 @@ use Rattle.wl_end.specs.Sending.{send_answer, after_send, after_checked, made_at
 use Rattle.wl_server.specs.Calls.{drop_refusal, drop_at, ends_by_event, after_drop, error_refusal}
 use Rattle.wl_world.specs.Meant.{Known, Message, Coming, Event as event_of, Delete, renamed, born_of, birth_of, spelled, made_in, objects, plain}
 use Rattle.wl_world.specs.World.{World, Each, IsThere, delete, event_written, dropped, Steps, writes_event, drops, WriteEvent}
-use Rattle.wl_world.specs.Pair.{after_post, PairState, ServerSend, ServerDrop, PostError, with_server_core, Writes, accepted, refused, no_memory, Calls, done}
+use Rattle.wl_world.specs.Pair.{marked, after_post, PairState, ServerSend, ServerDrop, PostError, with_server_core, Writes, accepted, refused, no_memory, Calls, done}
 use Rattle.wl_world.specs.Answers.{NotEnded, birth_at, before}
-use Rattle.wl_world.specs.Flight.{server_rows}
-use Rattle.wl_world.specs.Stands.{Stands, stands, ended, StandsBy}
-use Rattle.wl_world.specs.Runs.{Keeps, IsGiven}
-use Rattle.wl_world.proofs.Wholes.{ThereRow, each_by}
+use Rattle.wl_world.specs.Flight.{IsBelow, server_rows, tells, all_tells}
+use Rattle.wl_world.specs.Stands.{StandsBy}
+use Rattle.wl_world.specs.Runs.{IsGiven}
+use Rattle.wl_world.proofs.Wholes.{ThereRow, each_by, each_more}
 use Rattle.wl_world.proofs.Afters.{made_map, objects_map, each_map}
 use Rattle.wl_world.proofs.Readings.{made_of}
 use Rattle.wl_world.proofs.ServerReads.{followed}
@@ -35,7 +37,8 @@ use Rattle.wl_world.proofs.Calls.{Checked, is_checked, LiveAt, live_as, handed_n
 use Rattle.wl_world.proofs.Rules.{ends_so, no_event_new}
 use Rattle.wl_world.proofs.Written.{the_new, the_args, the_call, CallIs, call_is, accepted_call, opens, no_delete}
 use Rattle.wl_world.proofs.ClientSend.{made_same}
-use Rattle.wl_world.proofs.ServerTells.{CanTell, told_core, tell_stands, drop_stands}
+use Rattle.wl_world.proofs.ServerTells.{CanTell, told_core, dropped_core, tell_stands, drop_stands}
+use Rattle.wl_world.proofs.Happenings.{Happens, Moves, Outcome, goes_on, ends_it, stays, telling, event_below, delete_below}
 
 there_live : (v : View) (x : Known) → LiveAt v x → ThereRow (server_rows v) x
 there_live v x l = ap (option_map plain) l.there ∙ ap Some l.same
@@ -87,11 +90,27 @@ tells_world p w asked told s m c =
     writes_event (renamed born_of m) (s.server_sets.shown m.target.id m.target.born c.target)
     (rw (objects_map born_of m.args) (each_map born_of (IsThere w.server) (objects m.args) (each_by (ThereRow (server_rows v)) (λ (x : Known). IsThere w.server x.born) (λ x h. s.server_sets.shown x.id x.born h) (objects m.args) c.args)))
 
+same_births : (v : View) (x : ℕ) (what : Destroys) → (after server_end v None what x).births ≡ v.births
+same_births v x Nothing = refl
+same_births v x Target = refl
+
+-- what is told of it
+tells_one : (p : PairState) (w : World) (asked : List (Message Known)) (told : List (Coming Known)) → StandsBy p w asked told → (m : Message Known) (c : CanTell p m)
+    → Happens p asked told (with_server_core p (told_core p.server.core m c.fitly.fits.signature.destroys)) asked (told ++ (event_of m ∷ delete m.destroys m.target))
+tells_one p w asked told s m c =
+    let v = p.server.core.view in
+    let what = c.fitly.fits.signature.destroys in
+    let news = event_of m ∷ delete m.destroys m.target in
+    let below = s.server_sets.below in
+    telling (after server_end v None what m.target.id) (told_core p.server.core m what).outbox p.server.registries news (same_births v m.target.id what)
+    (each_more (IsBelow v.births) (tells (event_of m)) (all_tells (delete m.destroys m.target)) (event_below (server_rows v) v.births below m c.target c.args)
+    (delete_below v.births m.destroys m.target (below m.target.id m.target.born c.target)))
+
 pub server_send_keeps : (p : PairState) (w : World) (asked : List (Message Known)) (told : List (Coming Known)) → StandsBy p w asked told → NotEnded p w → (target : Object) (opcode : ℕ) (given : List Given) → Each IsGiven given
     → (reply : Result (Option Object) SendError) (p' : PairState)
     → Writes (send_answer p.server.core Event target opcode given) (opens_object (checked p.server.core.tables Event p.server.core.view target opcode given)) p
     (with_server_core p (after_send p.server.core Event target opcode given)) reply p'
-    → Keeps p w (ServerSend target opcode given) (ServerSend reply) p'
+    → Moves p w asked told (ServerSend target opcode given) (ServerSend reply) p'
 server_send_keeps p w asked told s z target opcode given g reply p' (accepted {new = new} h) =
     let core = p.server.core in
     let a = accepted_call core Event target opcode given new s.server_lives h in
@@ -115,12 +134,12 @@ server_send_keeps p w asked told s z target opcode given g reply p' (accepted {n
         new_is = ap (option_map birth_of) (made_map born_of args ∙ ap (option_map born_of) n) ∙ ap (option_map birth_at) (sym none);
         steps = tells_world p w asked told s m can;
       });
-      stands = subst (λ (x : Core). Stands (with_server_core p x) (event_written w (renamed born_of m)))
+      outcome = subst (λ (x : Core). Outcome p asked told (with_server_core p x) (event_written w (renamed born_of m)))
           (sym (left_by core target opcode given a.signature c.entry a.checks c.there k n ∙ ap (λ (x : sigs.Message). told_core core m x.destroys) (sym e)))
-          (stands asked (told ++ (event_of m ∷ delete m.destroys m.target)) z (tell_stands p w asked told s m can));
+          (goes_on asked (told ++ (event_of m ∷ delete m.destroys m.target)) z (tell_stands p w asked told s m can) (tells_one p w asked told s m can));
     }
-server_send_keeps p w asked told s z target opcode given g reply p' (refused h) = record { world = w; answers = before z (refused h) refl; stands = stands asked told z s }
-server_send_keeps p w asked told s z target opcode given g reply p' (no_memory h o) = record { world = w; answers = before z (no_memory h o) refl; stands = stands asked told z s }
+server_send_keeps p w asked told s z target opcode given g reply p' (refused h) = record { world = w; answers = before z (refused h) refl; outcome = goes_on asked told z s stays }
+server_send_keeps p w asked told s z target opcode given g reply p' (no_memory h o) = record { world = w; answers = before z (no_memory h o) refl; outcome = goes_on asked told z s stays }
 
 -- ---- dropping
 
@@ -157,7 +176,7 @@ droppable core object l h =
     droppable_at core object (live_row core.view object) refl (sym (ap (λ (b : Bool). cond b (Some refusals.Failed) (drop_at core (live_row core.view object))) l) ∙ h)
 
 pub server_drop_keeps : (p : PairState) (w : World) (asked : List (Message Known)) (told : List (Coming Known)) → StandsBy p w asked told → NotEnded p w → (object : Object) (reply : Result (Unit {0}) SendError) (p' : PairState)
-    → Calls (drop_refusal p.server.core object) p (with_server_core p (after_drop p.server.core object)) reply p' → Keeps p w (ServerDrop object) (ServerDrop reply) p'
+    → Calls (drop_refusal p.server.core object) p (with_server_core p (after_drop p.server.core object)) reply p' → Moves p w asked told (ServerDrop object) (ServerDrop reply) p'
 server_drop_keeps p w asked told s z object reply p' (done h) =
     let d = droppable p.server.core object s.server_lives h in
     let x : Known = record { id = object.id; born = plain d.entry } in
@@ -166,13 +185,14 @@ server_drop_keeps p w asked told s z object reply p' (done h) =
     record {
       world = dropped w x.born;
       answers = before z (done h) (record { object = x.born; is = d.birth; steps = drops x.born (s.server_sets.shown x.id x.born there) d.by });
-      stands = stands asked (told ++ Delete x ∷ []) z (drop_stands p w asked told s x there d.by low);
+      outcome = goes_on asked (told ++ Delete x ∷ []) z (drop_stands p w asked told s x there d.by low)
+          (telling (closed p.server.core.view x.id) (dropped_core p.server.core x).outbox p.server.registries (Delete x ∷ []) refl (s.server_sets.below x.id x.born there, tt));
     }
-server_drop_keeps p w asked told s z object reply p' (refused h) = record { world = w; answers = before z (refused h) refl; stands = stands asked told z s }
+server_drop_keeps p w asked told s z object reply p' (refused h) = record { world = w; answers = before z (refused h) refl; outcome = goes_on asked told z s stays }
 
 -- ---- an error
 
 pub post_error_keeps : (p : PairState) (w : World) (asked : List (Message Known)) (told : List (Coming Known)) → StandsBy p w asked told → NotEnded p w → (object : Object) (code : ℕ) (text : List ℕ) (reply : Result (Unit {0}) SendError) (p' : PairState)
-    → Calls (error_refusal p.server.core object text) p (after_post p object code text) reply p' → Keeps p w (PostError object code text) (PostError reply) p'
-post_error_keeps p w asked told s z object code text reply p' (done h) = record { world = record w { ended = true }; answers = before z (done h) refl; stands = ended refl }
-post_error_keeps p w asked told s z object code text reply p' (refused h) = record { world = w; answers = before z (refused h) refl; stands = stands asked told z s }
+    → Calls (error_refusal p.server.core object text) p (after_post p object code text) reply p' → Moves p w asked told (PostError object code text) (PostError reply) p'
+post_error_keeps p w asked told s z object code text reply p' (done h) = record { world = record w { ended = true }; answers = before z (done h) refl; outcome = ends_it refl (record { tables = refl; pieces = refl; mark = ap (λ (o : Option ℕ). marked o (length p.recording)) z.1 }) }
+post_error_keeps p w asked told s z object code text reply p' (refused h) = record { world = w; answers = before z (refused h) refl; outcome = goes_on asked told z s stays }

@@ -24,26 +24,27 @@ use Rattle.wl_world.proofs.Carries.{carry_to_server_keeps, carry_to_client_keeps
 use Rattle.wl_world.proofs.ClientNext.{client_next_keeps}
 use Rattle.wl_world.proofs.ServerNext.{server_next_keeps}
 use Rattle.wl_world.proofs.Records.{keeps_record}
+use Rattle.wl_world.proofs.Happenings.{Moves, forget}
 
-by_move : (p : PairState) (w : World) (asked : List (Message Known)) (told : List (Coming Known)) → StandsBy p w asked told → NotEnded p w → (move : Move) (reply : Reply) (p' : PairState) → IsMove move → Does p move reply p'
-    → Keeps p w move reply p'
-by_move p w asked told s z (ClientSend target opcode given) (ClientSend reply) p' m d = client_send_keeps p w asked told s z target opcode given m reply p' d
-by_move p w asked told s z (ClientBind target name iface version) (ClientBind reply) p' m d = client_bind_keeps p w asked told s z target name iface version reply p' d
-by_move p w asked told s z (ServerSend target opcode given) (ServerSend reply) p' m d = server_send_keeps p w asked told s z target opcode given m reply p' d
-by_move p w asked told s z (ServerDrop object) (ServerDrop reply) p' m d = server_drop_keeps p w asked told s z object reply p' d
-by_move p w asked told s z (PostError object code text) (PostError reply) p' m d = post_error_keeps p w asked told s z object code text reply p' d
-by_move p w asked told s z (AddGlobal iface version) (AddGlobal reply) p' m d = add_global_keeps p w asked told s z iface version m reply p' d
-by_move p w asked told s z (Withdraw name) (Withdraw reply) p' m d = withdraw_keeps p w asked told s z name reply p' d
-by_move p w asked told s z Announce (Announce reply) p' m d = announce_keeps p w asked told s z reply p' d
-by_move p w asked told s z (CarryToServer most) (CarryToServer reply) p' m d = carry_to_server_keeps p w asked told s z most reply p' d
-by_move p w asked told s z (CarryToClient most) (CarryToClient reply) p' m d = carry_to_client_keeps p w asked told s z most reply p' d
-by_move p w asked told s z ClientNext (ClientNext reply) p' m d = client_next_keeps p w asked told s z reply p' d
-by_move p w asked told s z ServerNext (ServerNext reply) p' m d = server_next_keeps p w asked told s z reply p' d
-by_move p w asked told s z _ _ p' m d = absurd d
+pub does_moves : (p : PairState) (w : World) (asked : List (Message Known)) (told : List (Coming Known)) → StandsBy p w asked told → NotEnded p w → (move : Move) (reply : Reply) (p' : PairState) → IsMove move → Does p move reply p'
+    → Moves p w asked told move reply p'
+does_moves p w asked told s z (ClientSend target opcode given) (ClientSend reply) p' m d = client_send_keeps p w asked told s z target opcode given m reply p' d
+does_moves p w asked told s z (ClientBind target name iface version) (ClientBind reply) p' m d = client_bind_keeps p w asked told s z target name iface version reply p' d
+does_moves p w asked told s z (ServerSend target opcode given) (ServerSend reply) p' m d = server_send_keeps p w asked told s z target opcode given m reply p' d
+does_moves p w asked told s z (ServerDrop object) (ServerDrop reply) p' m d = server_drop_keeps p w asked told s z object reply p' d
+does_moves p w asked told s z (PostError object code text) (PostError reply) p' m d = post_error_keeps p w asked told s z object code text reply p' d
+does_moves p w asked told s z (AddGlobal iface version) (AddGlobal reply) p' m d = add_global_keeps p w asked told s z iface version m reply p' d
+does_moves p w asked told s z (Withdraw name) (Withdraw reply) p' m d = withdraw_keeps p w asked told s z name reply p' d
+does_moves p w asked told s z Announce (Announce reply) p' m d = announce_keeps p w asked told s z reply p' d
+does_moves p w asked told s z (CarryToServer most) (CarryToServer reply) p' m d = carry_to_server_keeps p w asked told s z most reply p' d
+does_moves p w asked told s z (CarryToClient most) (CarryToClient reply) p' m d = carry_to_client_keeps p w asked told s z most reply p' d
+does_moves p w asked told s z ClientNext (ClientNext reply) p' m d = client_next_keeps p w asked told s z reply p' d
+does_moves p w asked told s z ServerNext (ServerNext reply) p' m d = server_next_keeps p w asked told s z reply p' d
+does_moves p w asked told s z _ _ p' m d = absurd d
 
 pub step_keeps : (p : PairState) (w : World) → Stands p w → (move : Move) (reply : Reply) (p' : PairState) → IsMove move → Does p move reply p' → Keeps p w move reply p'
 step_keeps p w (ended e) move reply p' m d = record { world = w; answers = after e e (keeps_record p move reply p' d); stands = ended e }
-step_keeps p w (stands asked told z s) move reply p' m d = by_move p w asked told s z move reply p' m d
+step_keeps p w (stands asked told z s) move reply p' m d = forget (does_moves p w asked told s z move reply p' m d)
 
 -- whole lists of moves
 pub run_keeps : (p : PairState) (w : World) (moves : List Move) (replies : List Reply) (last : PairState) → Stands p w → Each IsMove moves → DoesAll p moves replies last → Runs p w moves replies last

@@ -195,6 +195,10 @@ pub all_asks_more : (rs : List (Message Known)) (r : Message Known) → all_asks
 all_asks_more [] r = append-nil (asks r)
 all_asks_more (x ∷ xs) r = rw (all_asks_more xs r) (sym (append_assoc (asks x) (all_asks xs) (asks r)))
 
+pub all_asks_both : (rs qs : List (Message Known)) → all_asks (rs ++ qs) ≡ all_asks rs ++ all_asks qs
+all_asks_both [] qs = refl
+all_asks_both (x ∷ xs) qs = rw (all_asks_both xs qs) (sym (append_assoc (asks x) (all_asks xs) (all_asks qs)))
+
 pub all_tells_more : (es fs : List (Coming Known)) → all_tells (es ++ fs) ≡ all_tells es ++ all_tells fs
 all_tells_more [] fs = refl
 all_tells_more (x ∷ xs) fs = rw (all_tells_more xs fs) (sym (append_assoc (tells x) (all_tells xs) (all_tells fs)))
@@ -202,6 +206,14 @@ all_tells_more (x ∷ xs) fs = rw (all_tells_more xs fs) (sym (append_assoc (tel
 pub each_more : {X : Type 0} (P : X → Type 0) (xs ys : List X) → Each P xs → Each P ys → Each P (xs ++ ys)
 each_more P [] ys h p = p
 each_more P (x ∷ xs) ys h p = (h.0, each_more P xs ys h.1 p)
+
+pub each_front : {X : Type 0} (P : X → Type 0) (xs ys : List X) → Each P (xs ++ ys) → Each P xs
+each_front P [] ys h = tt
+each_front P (x ∷ xs) ys h = (h.0, each_front P xs ys h.1)
+
+pub each_rest : {X : Type 0} (P : X → Type 0) (xs ys : List X) → Each P (xs ++ ys) → Each P ys
+each_rest P [] ys h = h
+each_rest P (x ∷ xs) ys h = each_rest P xs ys h.1
 
 pub each_by : {X : Type 0} (P Q : X → Type 0) (f : (x : X) → P x → Q x) (xs : List X) → Each P xs → Each Q xs
 each_by P Q f [] h = tt

@@ -81,6 +81,16 @@ abbrev pub all_tells : List (Coming Known) → List Tell
 all_tells [] = []
 all_tells (c ∷ cs) = tells c ++ all_tells cs
 
+-- the object that an event's deed is about
+abbrev pub about : Tell → Known
+about (Name x) = x
+about (End x) = x
+about (Delete x) = x
+
+-- its birth is one of the first of this number
+abbrev pub IsBelow : ℕ → Tell → Type 0
+IsBelow births t = (about t).born.birth < births
+
 -- ---- what they lead to
 
 -- an object is held at the client, open or ending

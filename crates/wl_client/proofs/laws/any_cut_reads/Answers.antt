@@ -1,5 +1,8 @@
-use Rattle.wl_client.proofs.Comings.{any_cut}
+use Rattle.wl_sigs.specs.declared.signature.Side.TheVariants.{Event as event_side}
+use Rattle.wl_end.proofs.AnyCut.{any_cut}
+use Rattle.wl_client.specs.Streams.{reading}
+use Rattle.wl_client.proofs.Comings.{is_reading}
 use Rattle.wl_client.proofs.laws.any_cut_reads.Goals as goal
 
 pub returns : goal.returns
-returns c = any_cut
+returns c = any_cut reading event_side is_reading

@@ -1,4 +1,5 @@
-use Rattle.wl_client.proofs.Comings.{one_reading, some_stays}
+use Rattle.wl_end.proofs.AnyCut.{one_reading, some_stays}
+use Rattle.wl_client.proofs.Comings.{is_reading}
 use Rattle.wl_client.proofs.laws.one_reading.Goals as goal
 
 pub returns-clause-reports : goal.returns-clause-reports
@@ -11,4 +12,4 @@ pub returns-clause-left : goal.returns-clause-left
 returns-clause-left c state last end reports others stop halt h g = (one_reading h g).same_last
 
 pub returns-clause-stays : goal.returns-clause-stays
-returns-clause-stays c state last reports bytes tokens h = some_stays bytes tokens h
+returns-clause-stays c state last reports bytes tokens h = some_stays is_reading bytes tokens h

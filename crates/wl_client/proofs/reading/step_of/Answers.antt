@@ -1,9 +1,9 @@
-use Rattle.std.proofs.Common.{◌≡◌, sym, ◌∙◌}
+use Rattle.std.proofs.Common.{sym, ◌∙◌}
 use Rattle.wl_sigs.specs.declared.signature.Side.TheVariants.{Event as event_side}
 use Rattle.wl_objects.specs.Messages.{reader_of}
 use Rattle.wl_end.proofs.Displays.{ends-another}
 use Rattle.wl_end.proofs.Receivings.{is_received}
-use Rattle.wl_client.specs.Steps.{message_of}
+use Rattle.wl_objects.specs.Seen.{message_of}
 use Rattle.wl_client.proofs.reading.step_of.Goals as goal
 
 pub change_of-requires-clause-lasts : goal.change_of-requires-clause-lasts

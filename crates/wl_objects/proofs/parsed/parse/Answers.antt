@@ -1,6 +1,6 @@
-use Rattle.std.proofs.Common.{◌≡◌, ◌∙◌, sym, ap, length, arith, ◌<◌}
+use Rattle.std.proofs.Common.{◌∙◌, length, arith, ◌<◌}
 use Rattle.std.proofs.lemmas.List.{length-set}
-use Rattle.wl_objects.specs.Reading.{arguments_at, forgiving}
+use Rattle.wl_objects.specs.Reading.{forgiving}
 use Rattle.wl_objects.proofs.ParsedLemmas.{parsed-next, parsed-fault, behind-least}
 use Rattle.wl_objects.proofs.parsed.parse.Goals as goal
 

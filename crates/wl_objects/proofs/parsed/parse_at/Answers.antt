@@ -1,4 +1,4 @@
-use Rattle.std.proofs.Common.{◌≡◌, refl, sym, subst, drop, List, ℕ}
+use Rattle.std.proofs.Common.{◌≡◌, sym, subst, drop, List, ℕ}
 use Rattle.std.specs.declared.result.Result.TheVariants.{Ok}
 use Rattle.wl_wire.specs.Argument.{lent}
 use Rattle.wl_wire.specs.Reading.{reading}

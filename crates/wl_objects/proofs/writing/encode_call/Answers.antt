@@ -1,11 +1,8 @@
 use Rattle.std.proofs.Common.{◌≤◌, ◌+◌, drop, arith, pos}
 use Rattle.wl_objects.specs.declared.argument.Arg.TheVariants.{Int}
-use Rattle.wl_objects.specs.Writing.{on_wire, message_len, given}
-use Rattle.wl_objects.proofs.Calls.{len-at, len-least, len-any}
+use Rattle.wl_objects.specs.Writing.{on_wire, message_len}
+use Rattle.wl_objects.proofs.Calls.{len-at, len-least}
 use Rattle.wl_objects.proofs.writing.encode_call.Goals as goal
-
-pub len_of_call-len-requires : goal.len_of_call-len-requires
-len_of_call-len-requires g c = omega (arith, len-any c.args.new_id (given c.args.args.now), c.requires.len)
 
 pub append-requires-clause-room : goal.append-requires-clause-room
 append-requires-clause-room g c =

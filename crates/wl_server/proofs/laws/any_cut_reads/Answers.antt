@@ -1,5 +1,8 @@
-use Rattle.wl_server.proofs.Comings.{any_cut}
+use Rattle.wl_sigs.specs.declared.signature.Side.TheVariants.{Request as request_side}
+use Rattle.wl_end.proofs.AnyCut.{any_cut}
+use Rattle.wl_server.specs.Streams.{reading}
+use Rattle.wl_server.proofs.Comings.{is_reading}
 use Rattle.wl_server.proofs.laws.any_cut_reads.Goals as goal
 
 pub returns : goal.returns
-returns c = any_cut
+returns c = any_cut reading request_side is_reading

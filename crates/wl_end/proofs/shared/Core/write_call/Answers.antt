@@ -9,7 +9,7 @@ use Rattle.wl_end.proofs.shared.Core.write_call.Goals as goal
 pub add-requires-clause-whole : goal.add-requires-clause-whole
 add-requires-clause-whole g c =
     rw (c.deref.ensures.value, c.encode_call.ensures.message, c.id_of.ensures)
-    (whole c.args.target c.args.opcode (on_wire (id_of c.args.new) c.args.args.now) (omega (arith, c.ranges.opcode)) c.requires.len)
+    (whole c.args.target c.args.opcode (on_wire (id_of c.args.new) c.args.args.now) (omega (arith, c.ranges.opcode)) (omega (arith, c.requires.len, c.requires.short)))
 
 pub add-requires-clause-room : goal.add-requires-clause-room
 add-requires-clause-room g c =

@@ -16,64 +16,64 @@ use Rattle.wl_end.proofs.shared.Core.write_checked.Goals as goal
 
 pub returns-in_err-new-clause-answer : goal.returns-in_err-new-clause-answer
 returns-in_err-new-clause-answer g c =
-    let fit = fits-known c.args.self.now.outbox c.args.args.now c.message_len.result c.unwrap_or-len.result c.following_len.result (following_len c.args.side c.args.signature.now.destroys) c.tokens_of-count.result
-    c.tokens_of-count.new.tokens true c.message_len.ensures (c.requires.fits 0).1 c.unwrap_or-len.ensures (c.following_len.ensures ∙ ap (following_len c.args.side) c.destroys.ensures) c.tokens_of-count.ensures.tokens
+    let fit = fits-known c.args.self.now.outbox c.args.args.now c.args.call.len c.following_len.result (following_len c.args.side c.args.call.signature.now.destroys) c.tokens_of-count.result
+    c.tokens_of-count.new.tokens true (c.requires.len 0) (c.following_len.ensures ∙ ap (following_len c.args.side) c.destroys.ensures) c.tokens_of-count.ensures.tokens
     (omega (arith, c.tokens_of-count.array_long, c.tokens_of-count.ensures.few, c.requires.few)) c.if-not-fits.ensures in
-    let iface : c.call_makes.result ≡ call_makes c.args.signature.now.kinds = c.call_makes.ensures ∙ ap call_makes c.kinds.ensures in
+    let iface : c.call_makes.result ≡ call_makes c.args.call.signature.now.kinds = c.call_makes.ensures ∙ ap call_makes c.kinds.ensures in
     let p = err_from_is_err_and c.from_residual.result c.from_residual.ensures.1 in
     rw (p.1, p.2)
-    (answered c.args.self.now c.args.side c.args.target c.args.opcode c.args.args.now c.args.signature.now c.args.entry (Err c.in_err-new.field-0.0) c.requires.passes c.requires.entry (sym fit)
-    (subst (λ (i : Option Iface). Gives refusals.Memory (is_some i) (opening_answer c.args.self.now (next_object c.args.self.now.view c.args.entry.version i)) (Err c.in_err-new.field-0.0)) iface c.in_err-new.ensures.answer))
+    (answered c.args.self.now c.args.side c.args.target c.args.opcode c.args.args.now c.args.call.signature.now c.args.call.entry (Err c.in_err-new.field-0.0) c.requires.passes c.requires.entry (sym fit)
+    (subst (λ (i : Option Iface). Gives refusals.Memory (is_some i) (opening_answer c.args.self.now (next_object c.args.self.now.view c.args.call.entry.version i)) (Err c.in_err-new.field-0.0)) iface c.in_err-new.ensures.answer))
 
 pub write_call-requires-clause-room : goal.write_call-requires-clause-room
 write_call-requires-clause-room g c =
-    let fit = fits-known c.args.self.now.outbox c.args.args.now c.message_len.result c.unwrap_or-len.result c.following_len.result (following_len c.args.side c.args.signature.now.destroys) c.tokens_of-count.result
-    c.tokens_of-count.new.tokens true c.message_len.ensures (c.requires.fits 0).1 c.unwrap_or-len.ensures (c.following_len.ensures ∙ ap (following_len c.args.side) c.destroys.ensures) c.tokens_of-count.ensures.tokens
+    let fit = fits-known c.args.self.now.outbox c.args.args.now c.args.call.len c.following_len.result (following_len c.args.side c.args.call.signature.now.destroys) c.tokens_of-count.result
+    c.tokens_of-count.new.tokens true (c.requires.len 0) (c.following_len.ensures ∙ ap (following_len c.args.side) c.destroys.ensures) c.tokens_of-count.ensures.tokens
     (omega (arith, c.tokens_of-count.array_long, c.tokens_of-count.ensures.few, c.requires.few)) c.if-not-fits.ensures in
     let tokens : take c.tokens_of-count.result c.tokens_of-count.new.tokens ≡ tokens_of (given c.args.args.now) = c.tokens_of-count.ensures.tokens in
     subst (λ (core : Core). fits core.outbox (message_len (on_wire (id_of c.in_ok-new.new) c.args.args.now)) (length (take c.tokens_of-count.result c.tokens_of-count.new.tokens)) ≡ true) (sym c.in_ok-new.ensures.ok)
     (subst (λ (l : List ℕ). fits c.args.self.now.outbox (message_len (on_wire (id_of c.in_ok-new.new) c.args.args.now)) (length l) ≡ true) (sym tokens)
-    (fits-any c.args.self.now.outbox c.args.args.now (id_of c.in_ok-new.new) (following_len c.args.side c.args.signature.now.destroys) (length (tokens_of (given c.args.args.now))) (sym fit)))
+    (fits-any c.args.self.now.outbox c.args.args.now (id_of c.in_ok-new.new) (following_len c.args.side c.args.call.signature.now.destroys) (length (tokens_of (given c.args.args.now))) (sym fit)))
 
 pub end_target-requires-clause-live : goal.end_target-requires-clause-live
 end_target-requires-clause-live g c =
     ap (λ (core : Core). is_live core.view c.args.target.id) c.write_call.ensures
     ∙ (ap (λ (core : Core). is_live core.view c.args.target.id) c.in_ok-new.ensures.ok
-    ∙ target-live c.args.self.now c.args.side c.args.target c.args.opcode c.args.args.now c.args.signature.now c.call_makes.result c.args.entry.version c.requires.passes)
+    ∙ target-live c.args.self.now c.args.side c.args.target c.args.opcode c.args.args.now c.args.call.signature.now c.call_makes.result c.args.call.entry.version c.requires.passes)
 
 pub end_target-requires-clause-other : goal.end_target-requires-clause-other
 end_target-requires-clause-other g c =
-    λ target. ends-other c.args.self.now c.args.side c.args.target c.args.opcode c.args.args.now c.args.signature.now c.requires.valid c.requires.display c.requires.passes (sym c.destroys-2.ensures ∙ target)
+    λ target. ends-other c.args.self.now c.args.side c.args.target c.args.opcode c.args.args.now c.args.call.signature.now c.requires.valid c.requires.display c.requires.passes (sym c.destroys-2.ensures ∙ target)
 
 pub end_target-requires-clause-room : goal.end_target-requires-clause-room
 end_target-requires-clause-room g c =
-    let fit = fits-known c.args.self.now.outbox c.args.args.now c.message_len.result c.unwrap_or-len.result c.following_len.result (following_len c.args.side c.args.signature.now.destroys) c.tokens_of-count.result
-    c.tokens_of-count.new.tokens true c.message_len.ensures (c.requires.fits 0).1 c.unwrap_or-len.ensures (c.following_len.ensures ∙ ap (following_len c.args.side) c.destroys.ensures) c.tokens_of-count.ensures.tokens
+    let fit = fits-known c.args.self.now.outbox c.args.args.now c.args.call.len c.following_len.result (following_len c.args.side c.args.call.signature.now.destroys) c.tokens_of-count.result
+    c.tokens_of-count.new.tokens true (c.requires.len 0) (c.following_len.ensures ∙ ap (following_len c.args.side) c.destroys.ensures) c.tokens_of-count.ensures.tokens
     (omega (arith, c.tokens_of-count.array_long, c.tokens_of-count.ensures.few, c.requires.few)) c.if-not-fits.ensures in
     let tokens : take c.tokens_of-count.result c.tokens_of-count.new.tokens ≡ tokens_of (given c.args.args.now) = c.tokens_of-count.ensures.tokens in
-    let view = opens c.args.self.now.view (next_object c.args.self.now.view c.args.entry.version c.call_makes.result) in
+    let view = opens c.args.self.now.view (next_object c.args.self.now.view c.args.call.entry.version c.call_makes.result) in
     subst (λ (what : Destroys). fits c.write_call.new.self.outbox (following_len c.args.side what) 0 ≡ true) (sym c.destroys-2.ensures)
-    (fits-behind c.args.self.now c.write_call.new.self view c.args.args.now c.args.target.id c.args.opcode (id_of c.in_ok-new.new) (following_len c.args.side c.args.signature.now.destroys)
+    (fits-behind c.args.self.now c.write_call.new.self view c.args.args.now c.args.target.id c.args.opcode (id_of c.in_ok-new.new) (following_len c.args.side c.args.call.signature.now.destroys)
     (take c.tokens_of-count.result c.tokens_of-count.new.tokens)
-    (ap (λ (l : List ℕ). fits c.args.self.now.outbox (message_len (on_wire 0 c.args.args.now) + following_len c.args.side c.args.signature.now.destroys) (length l)) tokens ∙ sym fit)
+    (ap (λ (l : List ℕ). fits c.args.self.now.outbox (message_len (on_wire 0 c.args.args.now) + following_len c.args.side c.args.call.signature.now.destroys) (length l)) tokens ∙ sym fit)
     (c.write_call.ensures ∙ ap (λ (core : Core). with_sent core c.args.target.id c.args.opcode (on_wire (id_of c.in_ok-new.new) c.args.args.now) (take c.tokens_of-count.result c.tokens_of-count.new.tokens)) c.in_ok-new.ensures.ok))
 
 pub returns-clause-answer : goal.returns-clause-answer
 returns-clause-answer g c =
-    let fit = fits-known c.args.self.now.outbox c.args.args.now c.message_len.result c.unwrap_or-len.result c.following_len.result (following_len c.args.side c.args.signature.now.destroys) c.tokens_of-count.result
-    c.tokens_of-count.new.tokens true c.message_len.ensures (c.requires.fits 0).1 c.unwrap_or-len.ensures (c.following_len.ensures ∙ ap (following_len c.args.side) c.destroys.ensures) c.tokens_of-count.ensures.tokens
+    let fit = fits-known c.args.self.now.outbox c.args.args.now c.args.call.len c.following_len.result (following_len c.args.side c.args.call.signature.now.destroys) c.tokens_of-count.result
+    c.tokens_of-count.new.tokens true (c.requires.len 0) (c.following_len.ensures ∙ ap (following_len c.args.side) c.destroys.ensures) c.tokens_of-count.ensures.tokens
     (omega (arith, c.tokens_of-count.array_long, c.tokens_of-count.ensures.few, c.requires.few)) c.if-not-fits.ensures in
-    let iface : c.call_makes.result ≡ call_makes c.args.signature.now.kinds = c.call_makes.ensures ∙ ap call_makes c.kinds.ensures in
-    answered c.args.self.now c.args.side c.args.target c.args.opcode c.args.args.now c.args.signature.now c.args.entry (Ok c.in_ok-new.new) c.requires.passes c.requires.entry (sym fit)
-    (subst (λ (i : Option Iface). Gives refusals.Memory (is_some i) (opening_answer c.args.self.now (next_object c.args.self.now.view c.args.entry.version i)) (Ok c.in_ok-new.new)) iface c.in_ok-new.ensures.answer)
+    let iface : c.call_makes.result ≡ call_makes c.args.call.signature.now.kinds = c.call_makes.ensures ∙ ap call_makes c.kinds.ensures in
+    answered c.args.self.now c.args.side c.args.target c.args.opcode c.args.args.now c.args.call.signature.now c.args.call.entry (Ok c.in_ok-new.new) c.requires.passes c.requires.entry (sym fit)
+    (subst (λ (i : Option Iface). Gives refusals.Memory (is_some i) (opening_answer c.args.self.now (next_object c.args.self.now.view c.args.call.entry.version i)) (Ok c.in_ok-new.new)) iface c.in_ok-new.ensures.answer)
 
 pub returns-clause-ok : goal.returns-clause-ok
 returns-clause-ok g c =
-    let iface : c.call_makes.result ≡ call_makes c.args.signature.now.kinds = c.call_makes.ensures ∙ ap call_makes c.kinds.ensures in
+    let iface : c.call_makes.result ≡ call_makes c.args.call.signature.now.kinds = c.call_makes.ensures ∙ ap call_makes c.kinds.ensures in
     let tokens : take c.tokens_of-count.result c.tokens_of-count.new.tokens ≡ tokens_of (given c.args.args.now) = c.tokens_of-count.ensures.tokens in
-    let w = written-known c.args.self.now c.open_new.new.self c.write_call.new.self c.args.side c.args.target c.args.opcode c.args.args.now c.args.signature.now c.args.entry c.in_ok-new.new c.call_makes.result
+    let w = written-known c.args.self.now c.open_new.new.self c.write_call.new.self c.args.side c.args.target c.args.opcode c.args.args.now c.args.call.signature.now c.args.call.entry c.in_ok-new.new c.call_makes.result
     (take c.tokens_of-count.result c.tokens_of-count.new.tokens) c.requires.passes c.requires.entry iface c.in_ok-new.ensures.ok c.in_ok-new.ensures.id c.write_call.ensures tokens in
-    ended-known c.args.self.now c.write_call.new.self c.end_target.new.self c.args.side c.args.target c.args.opcode c.args.args.now c.args.signature.now c.destroys-2.result w c.end_target.ensures c.destroys-2.ensures
+    ended-known c.args.self.now c.write_call.new.self c.end_target.new.self c.args.side c.args.target c.args.opcode c.args.args.now c.args.call.signature.now c.destroys-2.result w c.end_target.ensures c.destroys-2.ensures
 
 pub returns-then-not-fits-clause-err : goal.returns-then-not-fits-clause-err
 returns-then-not-fits-clause-err g c = search rules

@@ -1,14 +1,12 @@
-use Rattle.std.proofs.Common.{◌≡◌, ℕ, ◌<◌, List, length, take, drop, sym, ap, subst, ◌∙◌, arith, get_or}
+use Rattle.std.proofs.Common.{◌≡◌, length, take, ap, subst, ◌∙◌, arith, get_or}
 use Rattle.std.specs.Prelude.{Option, IfOk}
 use Rattle.std.specs.declared.result.Result.TheVariants.{Ok as ok}
-use Rattle.wl_message.specs.Cut.{usual_limit, front}
 use Rattle.wl_message.specs.Arrived.{Arrived, Tells}
 use Rattle.wl_message.specs.declared.inbox.Frame.{Frame}
-use Rattle.wl_end.specs.Core.{Core}
 use Rattle.wl_server.specs.State.{State}
 use Rattle.wl_server.specs.Requests.{Report}
 use Rattle.wl_server.specs.Seen.{report_of}
-use Rattle.wl_server.specs.Steps.{pending_in, report_over}
+use Rattle.wl_server.specs.Steps.{report_over}
 use Rattle.wl_server.proofs.Taking.{body-front, first-taken}
 use Rattle.wl_server.proofs.server.Server.copy_report.Goals as goal
 

@@ -1,11 +1,11 @@
 use Rattle.std.proofs.Common.{◌≡◌, Some, inl, ap, ◌∙◌}
 use Rattle.std.specs.Prelude.{Option, Result}
-use Rattle.std.specs.declared.result.Result.TheVariants.{Ok as ok, Err as err}
+use Rattle.std.specs.declared.result.Result.TheVariants.{Ok as ok}
 use Rattle.wl_objects.specs.declared.error.NextError.{NextError}
 use Rattle.wl_objects.specs.Parsed.{reported_of}
 use Rattle.wl_server.specs.State.{State}
 use Rattle.wl_server.specs.Requests.{Report}
-use Rattle.wl_server.specs.Steps.{Step, pending_in, after_step, checked_front}
+use Rattle.wl_server.specs.Steps.{pending_in, after_step, checked_front}
 use Rattle.wl_server.proofs.Taking.{after-is, answer-is, leaves-err, memory-wanted, needs-some, some-args}
 use Rattle.wl_server.proofs.server.Server.next_owned.Goals as goal
 

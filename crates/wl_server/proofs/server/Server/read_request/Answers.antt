@@ -1,10 +1,10 @@
 use Rattle.std.proofs.Common.{◌≡◌, Some, inl, ap, ◌∙◌}
 use Rattle.std.specs.Prelude.{Option, Result}
-use Rattle.std.specs.declared.result.Result.TheVariants.{Ok as ok, Err as err}
+use Rattle.std.specs.declared.result.Result.TheVariants.{Ok as ok}
 use Rattle.wl_objects.specs.declared.error.NextError.{NextError}
 use Rattle.wl_server.specs.State.{State}
 use Rattle.wl_server.specs.Requests.{Report}
-use Rattle.wl_server.specs.Steps.{Step, pending_in, after_step, checked_front}
+use Rattle.wl_server.specs.Steps.{pending_in, after_step, checked_front}
 use Rattle.wl_server.proofs.Taking.{after-is, answer-is, leaves-err, opens-one, taken-is}
 use Rattle.wl_server.proofs.server.Server.read_request.Goals as goal
 

@@ -3,6 +3,7 @@ use Rattle.std.proofs.lemmas.List.{take_all}
 use Rattle.wl_world.specs.World.{Each}
 use Rattle.wl_world.specs.Runs.{DoesAll, IsMove}
 use Rattle.wl_world.proofs.Steps.{run_keeps}
+use Rattle.wl_link.proofs.Linking.{run_links}
 use Rattle.wl_session.specs.Meaning.{move_of, moves_of, reply_of, replies_of, arguments}
 use Rattle.wl_session.proofs.Lists.{at_index, done_more, each_next}
 use Rattle.wl_session.proofs.pair.Pair.run.Goals as goal
@@ -32,3 +33,10 @@ returns-clause-runs g c = λ world stands.
     let does = subst (λ moves. DoesAll c.args.self.now (moves_of moves) (replies_of c.moves.replies.items) c.moves.self) whole c.moves.invariant.0 in
     let ranges = subst (λ moves. Each IsMove (moves_of moves)) whole c.moves.invariant.1 in
     run_keeps c.args.self.now world (moves_of c.args.moves.now) (replies_of c.moves.replies.items) c.moves.self stands ranges does
+
+pub returns-clause-links : goal.returns-clause-links
+returns-clause-links g c = λ world linked.
+    let whole = take_all c.moves.action-index c.args.moves.now c.moves-test.false in
+    let does = subst (λ moves. DoesAll c.args.self.now (moves_of moves) (replies_of c.moves.replies.items) c.moves.self) whole c.moves.invariant.0 in
+    let ranges = subst (λ moves. Each IsMove (moves_of moves)) whole c.moves.invariant.1 in
+    run_links c.args.self.now world (moves_of c.args.moves.now) (replies_of c.moves.replies.items) c.moves.self linked ranges does

@@ -1,0 +1,43 @@
+# The library for C. `make` proves and builds it where it is not built yet, `make install` installs it.
+#
+#     make install PREFIX=/usr/local [DESTDIR=...]
+PREFIX ?= /usr/local
+DESTDIR ?=
+CC ?= cc
+CFLAGS ?= -O2
+# The folder of the toolchain: its C part gives the exports their memory.
+KIT ?= $(patsubst %/,%,$(dir $(shell rt doc)))
+VERSION := $(shell sed -n 's/^.define WAYWIRE_VERSION "\(.*\)"/\1/p' include/waywire.h)
+
+proved = crates/waywire_c/out/libwaywire_c.a
+archive = out/c/libwaywire.a
+
+all: $(archive) out/c/waywire.pc
+
+# Its own command decides whether it is up to date.
+$(proved):
+	cd crates/waywire_c && rt lib
+
+out/c/waywire.o: c/waywire.c include/waywire.h
+	@mkdir -p out/c
+	$(CC) $(CFLAGS) -std=c99 -Wall -Wextra -Wpedantic -fPIC -Iinclude -c $< -o $@
+
+$(archive): $(proved) out/c/waywire.o
+	@rm -f $@
+	printf 'create $@\naddlib $(proved)\naddlib $(KIT)/c/liblibc_c.a\naddmod out/c/waywire.o\nsave\nend\n' | ar -M
+
+out/c/waywire.pc: c/waywire.pc.in Makefile include/waywire.h
+	@mkdir -p out/c
+	sed 's|@PREFIX@|$(PREFIX)|; s|@VERSION@|$(VERSION)|' c/waywire.pc.in > $@
+
+install: all
+	install -d $(DESTDIR)$(PREFIX)/include $(DESTDIR)$(PREFIX)/lib/pkgconfig
+	install -m 644 include/waywire.h include/waywire-core.h $(DESTDIR)$(PREFIX)/include
+	install -m 644 $(archive) $(DESTDIR)$(PREFIX)/lib
+	sed 's|@PREFIX@|$(PREFIX)|; s|@VERSION@|$(VERSION)|' c/waywire.pc.in \
+		> $(DESTDIR)$(PREFIX)/lib/pkgconfig/waywire.pc
+
+clean:
+	rm -rf out/c
+
+.PHONY: all install clean

@@ -1,0 +1,390 @@
+/* The calls of include/waywire.h over the proved exports of the crate waywire_c.
+ *
+ * An export takes what its type says and tests none of it: a slice is a pointer that is not null and
+ * a length of at most PTRDIFF_MAX, and an out-parameter is never null. So each call here tests what C
+ * may pass wrongly, and puts the pointer of a handle where the export wants its address. */
+#include "waywire.h"
+
+/* A pointer to what the exports made. */
+struct handle {
+	void *at;
+};
+
+
+uint32_t waywire_c_tables_core(void **tables);
+uint32_t waywire_c_tables_interface(struct handle *, const void *name, size_t length,
+	uint16_t *interface);
+uint32_t waywire_c_tables_name(struct handle *, uint16_t interface, const void **name,
+	size_t *length);
+uint32_t waywire_c_tables_version(struct handle *, uint16_t interface, uint32_t *version);
+
+#define EXPORTS_OF_BOTH(end) \
+	uint32_t waywire_c_##end##_new(struct handle *tables, const waywire_sizes *, void **made); \
+	void waywire_c_##end##_free(struct handle); \
+	void waywire_c_##end##_display(struct handle *, waywire_object *display); \
+	uint32_t waywire_c_##end##_live(struct handle *, waywire_object, uint16_t *interface, \
+		uint32_t *version); \
+	void waywire_c_##end##_in_room(struct handle *, waywire_amounts *room); \
+	bool waywire_c_##end##_is_drained(struct handle *); \
+	void waywire_c_##end##_feed(struct handle *, const void *bytes, size_t length, \
+		const uint32_t *tokens, size_t token_count, waywire_amounts *fed); \
+	void waywire_c_##end##_goes(struct handle *, size_t bytes, size_t tokens, \
+		waywire_amounts *amounts); \
+	void waywire_c_##end##_take(struct handle *, void *bytes, size_t length, uint32_t *tokens, \
+		size_t token_count, waywire_amounts *taken); \
+	uint32_t waywire_c_##end##_send(struct handle *, waywire_object target, uint16_t opcode, \
+		const waywire_arg *args, size_t arg_count, waywire_object *made, size_t *place); \
+	uint32_t waywire_c_##end##_next(struct handle *, waywire_report *, waywire_arg *args, \
+		size_t arg_count)
+
+EXPORTS_OF_BOTH(client);
+EXPORTS_OF_BOTH(server);
+
+uint32_t waywire_c_client_bind(struct handle *, waywire_object registry, uint32_t name,
+	const void *interface, size_t length, uint32_t version, waywire_object *bound);
+uint32_t waywire_c_server_drop_object(struct handle *, waywire_object);
+uint32_t waywire_c_server_post_error(struct handle *, waywire_object, uint32_t code,
+	const void *text, size_t length);
+uint32_t waywire_c_server_add_global(struct handle *, uint16_t interface, uint32_t version,
+	uint32_t *name);
+uint32_t waywire_c_server_withdraw(struct handle *, uint32_t name);
+uint32_t waywire_c_server_announce(struct handle *, size_t *count);
+
+/* ---- what C may pass wrongly */
+
+/* One more than a message has, so that a call with too many is refused as such. */
+#define MAX_GIVEN (WAYWIRE_MAX_ARGS + 1)
+
+/* Memory that stands for an empty slice that is null. */
+static uint32_t nowhere[1];
+
+/* Tests a slice, and gives an empty one an address. */
+static waywire_status slice(const void **bytes, size_t length, size_t size)
+{
+	if (length > (size_t)PTRDIFF_MAX / size)
+		return WAYWIRE_TOO_LARGE;
+	if (*bytes)
+		return WAYWIRE_OK;
+	*bytes = nowhere;
+	return length ? WAYWIRE_NULL : WAYWIRE_OK;
+}
+
+/* Copies the arguments of a call, with an address for each slice. */
+static waywire_status copy_args(const waywire_arg *args, size_t *count, waywire_arg *copies)
+{
+	if (*count > MAX_GIVEN)
+		*count = MAX_GIVEN;
+	if (*count && !args)
+		return WAYWIRE_NULL;
+	for (size_t place = 0; place < *count; place++) {
+		waywire_arg *copy = &copies[place];
+		*copy = args[place];
+		if (copy->kind != WAYWIRE_STRING && copy->kind != WAYWIRE_ARRAY) {
+			copy->bytes = nowhere;
+			copy->length = 0;
+			continue;
+		}
+		waywire_status status = slice(&copy->bytes, copy->length, 1);
+		if (status)
+			return status;
+	}
+	return WAYWIRE_OK;
+}
+
+/* Gives the empty strings of a report an address. */
+static void finish(waywire_report *report)
+{
+	if (!report->text)
+		report->text = (const char *)nowhere;
+	for (size_t place = 0; place < report->arg_count; place++)
+		if (!report->args[place].bytes && (report->args[place].kind == WAYWIRE_STRING
+				|| report->args[place].kind == WAYWIRE_BOUND))
+			report->args[place].bytes = nowhere;
+}
+
+/* ---- tables */
+
+waywire_status waywire_tables_core(waywire_tables **tables)
+{
+	if (!tables)
+		return WAYWIRE_NULL;
+	void *made = NULL;
+	waywire_status status = waywire_c_tables_core(&made);
+	if (!status)
+		*tables = made;
+	return status;
+}
+
+waywire_status waywire_tables_interface(const waywire_tables *tables, const char *name,
+	uint16_t *interface)
+{
+	if (!tables || !name || !interface)
+		return WAYWIRE_NULL;
+	struct handle handle = { (void *)tables };
+	return waywire_c_tables_interface(&handle, name, strlen(name), interface);
+}
+
+waywire_status waywire_tables_name(const waywire_tables *tables, uint16_t interface,
+	const char **name, size_t *length)
+{
+	if (!tables || !name || !length)
+		return WAYWIRE_NULL;
+	struct handle handle = { (void *)tables };
+	const void *found = NULL;
+	waywire_status status = waywire_c_tables_name(&handle, interface, &found, length);
+	if (!status)
+		*name = found;
+	return status;
+}
+
+waywire_status waywire_tables_version(const waywire_tables *tables, uint16_t interface,
+	uint32_t *version)
+{
+	if (!tables || !version)
+		return WAYWIRE_NULL;
+	struct handle handle = { (void *)tables };
+	return waywire_c_tables_version(&handle, interface, version);
+}
+
+/* ---- what both ends have */
+
+#define CALLS_OF_BOTH(end) \
+	waywire_status waywire_##end##_new(const waywire_tables *tables, const waywire_sizes *sizes, \
+		waywire_##end **made) \
+	{ \
+		if (!tables || !sizes || !made) \
+			return WAYWIRE_NULL; \
+		struct handle handle = { (void *)tables }; \
+		void *address = NULL; \
+		waywire_status status = waywire_c_##end##_new(&handle, sizes, &address); \
+		if (!status) \
+			*made = address; \
+		return status; \
+	} \
+\
+	void waywire_##end##_free(waywire_##end *it) \
+	{ \
+		struct handle handle = { it }; \
+		if (it) \
+			waywire_c_##end##_free(handle); \
+	} \
+\
+	waywire_status waywire_##end##_display(const waywire_##end *it, waywire_object *display) \
+	{ \
+		struct handle handle = { (void *)it }; \
+		if (!it || !display) \
+			return WAYWIRE_NULL; \
+		waywire_c_##end##_display(&handle, display); \
+		return WAYWIRE_OK; \
+	} \
+\
+	waywire_status waywire_##end##_live(const waywire_##end *it, waywire_object object, \
+		uint16_t *interface, uint32_t *version) \
+	{ \
+		struct handle handle = { (void *)it }; \
+		uint16_t no_interface; \
+		uint32_t no_version; \
+		if (!it) \
+			return WAYWIRE_NULL; \
+		return waywire_c_##end##_live(&handle, object, interface ? interface : &no_interface, \
+			version ? version : &no_version); \
+	} \
+\
+	waywire_status waywire_##end##_in_room(const waywire_##end *it, waywire_amounts *room) \
+	{ \
+		struct handle handle = { (void *)it }; \
+		if (!it || !room) \
+			return WAYWIRE_NULL; \
+		waywire_c_##end##_in_room(&handle, room); \
+		return WAYWIRE_OK; \
+	} \
+\
+	waywire_status waywire_##end##_is_drained(const waywire_##end *it, bool *drained) \
+	{ \
+		struct handle handle = { (void *)it }; \
+		if (!it || !drained) \
+			return WAYWIRE_NULL; \
+		*drained = waywire_c_##end##_is_drained(&handle); \
+		return WAYWIRE_OK; \
+	} \
+\
+	waywire_status waywire_##end##_feed(waywire_##end *it, const void *bytes, size_t length, \
+		const uint32_t *tokens, size_t token_count, waywire_amounts *fed) \
+	{ \
+		struct handle handle = { it }; \
+		const void *from = tokens; \
+		if (!it || !fed) \
+			return WAYWIRE_NULL; \
+		waywire_status status = slice(&bytes, length, 1); \
+		if (!status) \
+			status = slice(&from, token_count, sizeof *tokens); \
+		if (!status) \
+			waywire_c_##end##_feed(&handle, bytes, length, from, token_count, fed); \
+		return status; \
+	} \
+\
+	waywire_status waywire_##end##_goes(const waywire_##end *it, size_t bytes, size_t tokens, \
+		waywire_amounts *amounts) \
+	{ \
+		struct handle handle = { (void *)it }; \
+		if (!it || !amounts) \
+			return WAYWIRE_NULL; \
+		waywire_c_##end##_goes(&handle, bytes, tokens, amounts); \
+		return WAYWIRE_OK; \
+	} \
+\
+	waywire_status waywire_##end##_take(waywire_##end *it, void *bytes, size_t length, \
+		uint32_t *tokens, size_t token_count, waywire_amounts *taken) \
+	{ \
+		struct handle handle = { it }; \
+		const void *to = bytes, *tokens_to = tokens; \
+		if (!it || !taken) \
+			return WAYWIRE_NULL; \
+		waywire_status status = slice(&to, length, 1); \
+		if (!status) \
+			status = slice(&tokens_to, token_count, sizeof *tokens); \
+		if (!status) \
+			waywire_c_##end##_take(&handle, (void *)to, length, (uint32_t *)tokens_to, \
+				token_count, taken); \
+		return status; \
+	} \
+\
+	waywire_status waywire_##end##_send(waywire_##end *it, waywire_object target, \
+		uint16_t opcode, const waywire_arg *args, size_t arg_count, waywire_object *made, \
+		size_t *place) \
+	{ \
+		struct handle handle = { it }; \
+		waywire_arg copies[MAX_GIVEN]; \
+		waywire_object no_object; \
+		size_t no_place; \
+		if (!it) \
+			return WAYWIRE_NULL; \
+		waywire_status status = copy_args(args, &arg_count, copies); \
+		if (status) \
+			return status; \
+		return waywire_c_##end##_send(&handle, target, opcode, copies, arg_count, \
+			made ? made : &no_object, place ? place : &no_place); \
+	} \
+\
+	waywire_status waywire_##end##_next(waywire_##end *it, waywire_report *report) \
+	{ \
+		struct handle handle = { it }; \
+		if (!it || !report) \
+			return WAYWIRE_NULL; \
+		waywire_status status = waywire_c_##end##_next(&handle, report, report->args, \
+			WAYWIRE_MAX_ARGS); \
+		finish(report); \
+		return status; \
+	}
+
+CALLS_OF_BOTH(client)
+CALLS_OF_BOTH(server)
+
+/* ---- what one end has */
+
+waywire_status waywire_client_bind(waywire_client *client, waywire_object registry, uint32_t name,
+	const char *interface, uint32_t version, waywire_object *bound)
+{
+	struct handle handle = { client };
+	waywire_object no_object;
+	if (!client || !interface)
+		return WAYWIRE_NULL;
+	return waywire_c_client_bind(&handle, registry, name, interface, strlen(interface), version,
+		bound ? bound : &no_object);
+}
+
+waywire_status waywire_server_drop_object(waywire_server *server, waywire_object object)
+{
+	struct handle handle = { server };
+	return server ? waywire_c_server_drop_object(&handle, object) : WAYWIRE_NULL;
+}
+
+waywire_status waywire_server_post_error(waywire_server *server, waywire_object object, uint32_t code,
+	const char *text)
+{
+	struct handle handle = { server };
+	if (!server || !text)
+		return WAYWIRE_NULL;
+	return waywire_c_server_post_error(&handle, object, code, text, strlen(text));
+}
+
+waywire_status waywire_server_add_global(waywire_server *server, uint16_t interface, uint32_t version,
+	uint32_t *name)
+{
+	struct handle handle = { server };
+	uint32_t no_name;
+	if (!server)
+		return WAYWIRE_NULL;
+	return waywire_c_server_add_global(&handle, interface, version, name ? name : &no_name);
+}
+
+waywire_status waywire_server_withdraw(waywire_server *server, uint32_t name)
+{
+	struct handle handle = { server };
+	return server ? waywire_c_server_withdraw(&handle, name) : WAYWIRE_NULL;
+}
+
+waywire_status waywire_server_announce(waywire_server *server, size_t *count)
+{
+	struct handle handle = { server };
+	size_t no_count;
+	return server ? waywire_c_server_announce(&handle, count ? count : &no_count) : WAYWIRE_NULL;
+}
+
+/* ---- texts */
+
+const char *waywire_strerror(waywire_status status)
+{
+	switch (status) {
+	case WAYWIRE_OK: return "no error";
+	case WAYWIRE_FAILED: return "this end has failed";
+	case WAYWIRE_STALE: return "target is not live";
+	case WAYWIRE_NO_SUCH_MESSAGE: return "no such message";
+	case WAYWIRE_TOO_OLD: return "message is newer than its target";
+	case WAYWIRE_WRONG_ARGS: return "argument does not fit the signature";
+	case WAYWIRE_BAD_OBJECT: return "argument is no live object of its interface";
+	case WAYWIRE_BAD_BIND: return "no such global at this version";
+	case WAYWIRE_TOO_LONG: return "message is too long";
+	case WAYWIRE_FULL: return "outbox is full";
+	case WAYWIRE_NO_IDS: return "no more objects can be opened";
+	case WAYWIRE_NO_MEMORY: return "out of memory";
+	case WAYWIRE_NOT_DROPPABLE: return "object does not end by an event";
+	case WAYWIRE_BAD_GLOBAL: return "no such interface to advertise at this version";
+	case WAYWIRE_TOO_MANY_GLOBALS: return "too many globals";
+	case WAYWIRE_NO_SUCH_GLOBAL: return "no such global";
+	case WAYWIRE_FAULT_BAD_SIZE: return "bad message size";
+	case WAYWIRE_FAULT_UNKNOWN_OBJECT: return "unknown object";
+	case WAYWIRE_FAULT_UNKNOWN_MESSAGE: return "unknown message";
+	case WAYWIRE_FAULT_BAD_ARGUMENT: return "malformed argument";
+	case WAYWIRE_FAULT_BAD_OBJECT: return "bad object";
+	case WAYWIRE_FAULT_BAD_NEW_ID: return "bad new id";
+	case WAYWIRE_FAULT_TRAILING_BYTES: return "trailing bytes";
+	case WAYWIRE_FAULT_MISSING_DESCRIPTOR: return "missing descriptor";
+	case WAYWIRE_FAULT_BAD_BIND: return "bad bind";
+	case WAYWIRE_FAULT_TOO_MANY_OBJECTS: return "too many objects";
+	case WAYWIRE_OUT_FULL: return "outbox has no room for delete_id";
+	case WAYWIRE_NULL: return "null where a pointer is needed";
+	case WAYWIRE_BAD_VALUE: return "argument of a kind that no call takes";
+	case WAYWIRE_BAD_SIZES: return "sizes that no end has";
+	case WAYWIRE_NOT_FOUND: return "not found";
+	case WAYWIRE_TOO_LARGE: return "length is too large";
+	}
+	return "unknown status";
+}
+
+const char *waywire_strspelling(uint32_t spelling)
+{
+	static const char *const texts[] = {
+		"no misspelling",
+		"the message ends before the argument does",
+		"null is not allowed here",
+		"the string has no ending NUL",
+		"the string has a NUL inside",
+	};
+	return spelling < sizeof texts / sizeof *texts ? texts[spelling] : "unknown misspelling";
+}
+
+const char *waywire_version(void)
+{
+	return WAYWIRE_VERSION;
+}

@@ -1,0 +1,29 @@
+-- What a handle leads to is lent, and the handle then leads to what was left there.
+use Rattle.std.specs.Borrow.{Lends, MutBor, Fml}
+use Rattle.waywire_c.specs.declared.tables_handle.TablesHandle.{TablesHandle}
+use Rattle.waywire_c.specs.contracts.tables_handle.TablesHandle.{the_row as tables_handle}
+use Rattle.waywire_c.specs.contracts.held.HeldTables.{the_row as held_tables}
+use Rattle.waywire_c.specs.declared.client_handle.ClientHandle.{ClientHandle}
+use Rattle.waywire_c.specs.contracts.client_handle.ClientHandle.{the_row as client_handle}
+use Rattle.waywire_c.specs.contracts.held.HeldClient.{the_row as held_client}
+use Rattle.waywire_c.specs.declared.server_handle.ServerHandle.{ServerHandle}
+use Rattle.waywire_c.specs.contracts.server_handle.ServerHandle.{the_row as server_handle}
+use Rattle.waywire_c.specs.contracts.held.HeldServer.{the_row as held_server}
+
+abbrev pub with_tables : TablesHandle → held_tables.Denot → TablesHandle
+with_tables h w = record { ptr = h.ptr; alloc = h.alloc; held = w }
+
+abbrev pub LendsTables : MutBor TablesHandle → MutBor held_tables.Denot → Fml
+LendsTables h r = Lends tables_handle held_tables h r (with_tables h.now)
+
+abbrev pub with_client : ClientHandle → held_client.Denot → ClientHandle
+with_client h w = record { ptr = h.ptr; alloc = h.alloc; held = w }
+
+abbrev pub LendsClient : MutBor ClientHandle → MutBor held_client.Denot → Fml
+LendsClient h r = Lends client_handle held_client h r (with_client h.now)
+
+abbrev pub with_server : ServerHandle → held_server.Denot → ServerHandle
+with_server h w = record { ptr = h.ptr; alloc = h.alloc; held = w }
+
+abbrev pub LendsServer : MutBor ServerHandle → MutBor held_server.Denot → Fml
+LendsServer h r = Lends server_handle held_server h r (with_server h.now)

@@ -1,0 +1,4 @@
+pub mod Owned
+pub mod Lending
+pub mod Statuses
+pub mod Values

@@ -1,0 +1,28 @@
+-- What a handle owns: the block of a box.
+use base.Fml.{Fml}
+use base.Stored.{Coded}
+use denote.RawPtr.{Ptr}
+use Rattle.std.specs.Box.Ownership.{box_owns}
+use Rattle.std.specs.Global.{Global}
+use Rattle.std_heap.specs.contracts.GlobalAllocator.TheImpl.{ghosts}
+use Rattle.waywire_c.specs.contracts.held.HeldTables as tables
+use Rattle.waywire_c.specs.contracts.held.HeldClient as client
+use Rattle.waywire_c.specs.contracts.held.HeldServer as server
+
+abbrev pub owns_tables : Global → Ptr → tables.the_row.Denot → Fml
+owns_tables alloc = box_owns (ghosts.dealloc_token alloc) tables.the_row
+
+abbrev pub held_tables_coded : Coded tables.the_row.Denot
+held_tables_coded = tables.the_row.coded
+
+abbrev pub owns_client : Global → Ptr → client.the_row.Denot → Fml
+owns_client alloc = box_owns (ghosts.dealloc_token alloc) client.the_row
+
+abbrev pub held_client_coded : Coded client.the_row.Denot
+held_client_coded = client.the_row.coded
+
+abbrev pub owns_server : Global → Ptr → server.the_row.Denot → Fml
+owns_server alloc = box_owns (ghosts.dealloc_token alloc) server.the_row
+
+abbrev pub held_server_coded : Coded server.the_row.Denot
+held_server_coded = server.the_row.coded

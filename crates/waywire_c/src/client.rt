@@ -1,0 +1,216 @@
+//! What C calls of a client.
+ghost use Rattle.std.specs.Prelude.{◌≡◌, ◌≢◌, ◌++◌, length, take, drop};
+ghost use Rattle.wl_message.specs.Outgoing.{goes, waiting_bytes, waiting_tokens};
+ghost use Rattle.wl_end.specs.Core.{in_room, is_drained, feeds, with_arrived, with_gone};
+ghost use Rattle.wl_client.specs.State.{with_core};
+ghost use Rattle.wl_client.specs.Calls.{after_bind};
+ghost use Rattle.wl_client.specs.Reports.{after_next, next_answer};
+ghost use Rattle.waywire_c.specs.Statuses.{read};
+ghost use Rattle.waywire_c.specs.Values.{object_of};
+
+use crate::client_handle::ClientHandle;
+use crate::making;
+use crate::parts::address;
+use crate::reading::read_event;
+use crate::reports::Report;
+use crate::statuses::{BAD_SIZES, BAD_VALUE, NO_MEMORY, NOT_FOUND, OK, send_place, send_status};
+use crate::tables_handle::TablesHandle;
+use crate::values::{CAmounts, CObject, CSizes, CallArg, ReportArg, put_args};
+use std::alloc::Global;
+use wl_objects::Arg;
+
+/// The most arguments of a call that are looked at: one more than any message has, so that a call
+/// with too many is refused as such.
+const MAX_GIVEN: usize = 21;
+
+#[unsafe(no_mangle)]
+pub extern "C" fn waywire_c_client_new(
+    alloc: Global,
+    tables: &mut TablesHandle,
+    sizes: &CSizes,
+    client: &mut *mut u8,
+) -> u32 {
+    let Some(sizes) = sizes.sizes() else {
+        return BAD_SIZES;
+    };
+    match making::client(alloc, tables.get_mut().tables, sizes) {
+        Ok(boxed) => {
+            *client = address(boxed);
+            OK
+        }
+        Err(_) => NO_MEMORY,
+    }
+}
+
+#[unsafe(no_mangle)]
+pub extern "C" fn waywire_c_client_free(client: ClientHandle) {
+    drop(client.opened());
+}
+
+#[unsafe(no_mangle)]
+pub extern "C" fn waywire_c_client_display(client: &mut ClientHandle, display: &mut CObject)
+    ensures unchanged { client.new.held ≡ client.old.held }
+{
+    *display = CObject::of(client.get_mut().client.display());
+}
+
+#[unsafe(no_mangle)]
+pub extern "C" fn waywire_c_client_live(
+    client: &mut ClientHandle,
+    object: CObject,
+    interface: &mut u16,
+    version: &mut u32,
+) -> u32
+    ensures unchanged { client.new.held ≡ client.old.held }
+{
+    match client.get_mut().client.live(object.object()) {
+        Some((iface, found)) => {
+            *interface = iface.0;
+            *version = found;
+            OK
+        }
+        None => NOT_FOUND,
+    }
+}
+
+#[unsafe(no_mangle)]
+pub extern "C" fn waywire_c_client_in_room(client: &mut ClientHandle, room: &mut CAmounts)
+    ensures bytes { room.new.bytes ≡ (in_room client.old.held.client.core).bytes }
+    ensures tokens { room.new.tokens ≡ (in_room client.old.held.client.core).tokens }
+    ensures unchanged { client.new.held ≡ client.old.held }
+{
+    *room = CAmounts::fed(client.get_mut().client.in_room());
+}
+
+#[unsafe(no_mangle)]
+pub extern "C" fn waywire_c_client_is_drained(client: &mut ClientHandle) -> bool
+    ensures answer { result ≡ is_drained client.old.held.client.core }
+    ensures unchanged { client.new.held ≡ client.old.held }
+{
+    client.get_mut().client.is_drained()
+}
+
+#[unsafe(no_mangle)]
+pub extern "C" fn waywire_c_client_feed(
+    client: &mut ClientHandle,
+    bytes: &[u8],
+    tokens: &[u32],
+    fed: &mut CAmounts,
+)
+    ensures bytes { fed.new.bytes ≡ (feeds client.old.held.client.core bytes.now tokens.now).bytes }
+    ensures tokens { fed.new.tokens ≡ (feeds client.old.held.client.core bytes.now tokens.now).tokens }
+    ensures state { client.new.held.client
+        ≡ with_core client.old.held.client
+        (with_arrived client.old.held.client.core (take fed.new.bytes bytes.now)
+        (take fed.new.tokens tokens.now)) }
+{
+    *fed = CAmounts::fed(client.get_mut().client.feed(bytes, tokens));
+}
+
+#[unsafe(no_mangle)]
+pub extern "C" fn waywire_c_client_goes(
+    client: &mut ClientHandle,
+    bytes: usize,
+    tokens: usize,
+    amounts: &mut CAmounts,
+)
+    ensures bytes { amounts.new.bytes ≡ (goes client.old.held.client.core.outbox bytes tokens).bytes }
+    ensures tokens { amounts.new.tokens ≡ (goes client.old.held.client.core.outbox bytes tokens).tokens }
+    ensures unchanged { client.new.held ≡ client.old.held }
+{
+    *amounts = CAmounts::taken(client.get_mut().client.goes(bytes, tokens));
+}
+
+#[unsafe(no_mangle)]
+pub extern "C" fn waywire_c_client_take(
+    client: &mut ClientHandle,
+    bytes: &mut [u8],
+    tokens: &mut [u32],
+    taken: &mut CAmounts,
+)
+    ensures count { taken.new.bytes
+        ≡ (goes client.old.held.client.core.outbox (length bytes.old) (length tokens.old)).bytes }
+    ensures token_count { taken.new.tokens
+        ≡ (goes client.old.held.client.core.outbox (length bytes.old) (length tokens.old)).tokens }
+    ensures bytes { bytes.new
+        ≡ take taken.new.bytes (waiting_bytes client.old.held.client.core.outbox)
+        ++ drop taken.new.bytes bytes.old }
+    ensures tokens { tokens.new
+        ≡ take taken.new.tokens (waiting_tokens client.old.held.client.core.outbox)
+        ++ drop taken.new.tokens tokens.old }
+    ensures state { client.new.held.client
+        ≡ with_core client.old.held.client (with_gone client.old.held.client.core taken.new.bytes) }
+{
+    *taken = CAmounts::taken(client.get_mut().client.take(bytes, tokens));
+}
+
+#[unsafe(no_mangle)]
+pub extern "C" fn waywire_c_client_send(
+    client: &mut ClientHandle,
+    target: CObject,
+    opcode: u16,
+    args: &[CallArg<'_>],
+    made: &mut CObject,
+    place: &mut usize,
+) -> u32
+    ensures unchanged { result ≢ 0 → client.new.held ≡ client.old.held }
+{
+    let mut slots = [Arg::New; MAX_GIVEN];
+    let Some(count) = put_args(args, &mut slots) else {
+        return BAD_VALUE;
+    };
+    match client
+        .get_mut()
+        .client
+        .send(target.object(), opcode, &slots[..count])
+    {
+        Ok(new) => {
+            *made = new.map_or(CObject::none(), CObject::of);
+            OK
+        }
+        Err(why) => {
+            *place = send_place(why);
+            send_status(why)
+        }
+    }
+}
+
+#[unsafe(no_mangle)]
+pub extern "C" fn waywire_c_client_next(
+    client: &mut ClientHandle,
+    report: &mut Report,
+    args: &mut [ReportArg],
+) -> u32
+    ensures answer { result ≡ read (next_answer client.old.held.client) }
+    ensures state { client.new.held.client ≡ after_next client.old.held.client }
+{
+    read_event(&mut client.get_mut().client, report, args)
+}
+
+#[unsafe(no_mangle)]
+pub extern "C" fn waywire_c_client_bind(
+    client: &mut ClientHandle,
+    registry: CObject,
+    name: u32,
+    interface: &[u8],
+    version: u32,
+    bound: &mut CObject,
+) -> u32
+    ensures state { result ≡ 0
+        → client.new.held.client
+        ≡ after_bind client.old.held.client (object_of registry) name interface.now version }
+    ensures unchanged { result ≢ 0 → client.new.held ≡ client.old.held }
+{
+    let registry = registry.object();
+    match client
+        .get_mut()
+        .client
+        .bind(registry, name, interface, version)
+    {
+        Ok(object) => {
+            *bound = CObject::of(object);
+            OK
+        }
+        Err(why) => send_status(why),
+    }
+}

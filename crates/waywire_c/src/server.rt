@@ -1,0 +1,280 @@
+//! What C calls of a server.
+ghost use Rattle.std.specs.Prelude.{◌≡◌, ◌≢◌, ◌++◌, length, take, drop};
+ghost use Rattle.wl_message.specs.Outgoing.{goes, waiting_bytes, waiting_tokens};
+ghost use Rattle.wl_end.specs.Core.{in_room, is_drained, feeds, with_arrived, with_gone};
+ghost use Rattle.wl_server.specs.State.{with_core};
+ghost use Rattle.wl_server.specs.Calls.{after_drop, after_error, after_withdraw, drop_refusal, error_refusal, with_global, withdraw_refusal};
+ghost use Rattle.wl_server.specs.Requests.{after_next};
+ghost use Rattle.waywire_c.specs.Statuses.{sent, settled};
+ghost use Rattle.waywire_c.specs.Values.{iface_at, object_of};
+
+use crate::making;
+use crate::parts::address;
+use crate::reading::read_request;
+use crate::reports::Report;
+use crate::server_handle::ServerHandle;
+use crate::statuses::{
+    BAD_SIZES, BAD_VALUE, NO_MEMORY, NOT_FOUND, OK, global_status, send_place, send_status,
+};
+use crate::tables_handle::TablesHandle;
+use crate::values::{CAmounts, CObject, CSizes, CallArg, ReportArg, put_args};
+use std::alloc::Global;
+use wl_objects::Arg;
+use wl_wire::Iface;
+
+/// The most arguments of a call that are looked at: one more than any message has, so that a call
+/// with too many is refused as such.
+const MAX_GIVEN: usize = 21;
+
+#[unsafe(no_mangle)]
+pub extern "C" fn waywire_c_server_new(
+    alloc: Global,
+    tables: &mut TablesHandle,
+    sizes: &CSizes,
+    server: &mut *mut u8,
+) -> u32 {
+    let Some(sizes) = sizes.sizes() else {
+        return BAD_SIZES;
+    };
+    match making::server(alloc, tables.get_mut().tables, sizes) {
+        Ok(boxed) => {
+            *server = address(boxed);
+            OK
+        }
+        Err(_) => NO_MEMORY,
+    }
+}
+
+#[unsafe(no_mangle)]
+pub extern "C" fn waywire_c_server_free(server: ServerHandle) {
+    drop(server.opened());
+}
+
+#[unsafe(no_mangle)]
+pub extern "C" fn waywire_c_server_display(server: &mut ServerHandle, display: &mut CObject)
+    ensures unchanged { server.new.held ≡ server.old.held }
+{
+    *display = CObject::of(server.get_mut().server.display());
+}
+
+#[unsafe(no_mangle)]
+pub extern "C" fn waywire_c_server_live(
+    server: &mut ServerHandle,
+    object: CObject,
+    interface: &mut u16,
+    version: &mut u32,
+) -> u32
+    ensures unchanged { server.new.held ≡ server.old.held }
+{
+    match server.get_mut().server.live(object.object()) {
+        Some((iface, found)) => {
+            *interface = iface.0;
+            *version = found;
+            OK
+        }
+        None => NOT_FOUND,
+    }
+}
+
+#[unsafe(no_mangle)]
+pub extern "C" fn waywire_c_server_in_room(server: &mut ServerHandle, room: &mut CAmounts)
+    ensures bytes { room.new.bytes ≡ (in_room server.old.held.server.core).bytes }
+    ensures tokens { room.new.tokens ≡ (in_room server.old.held.server.core).tokens }
+    ensures unchanged { server.new.held ≡ server.old.held }
+{
+    *room = CAmounts::fed(server.get_mut().server.in_room());
+}
+
+#[unsafe(no_mangle)]
+pub extern "C" fn waywire_c_server_is_drained(server: &mut ServerHandle) -> bool
+    ensures answer { result ≡ is_drained server.old.held.server.core }
+    ensures unchanged { server.new.held ≡ server.old.held }
+{
+    server.get_mut().server.is_drained()
+}
+
+#[unsafe(no_mangle)]
+pub extern "C" fn waywire_c_server_feed(
+    server: &mut ServerHandle,
+    bytes: &[u8],
+    tokens: &[u32],
+    fed: &mut CAmounts,
+)
+    ensures bytes { fed.new.bytes ≡ (feeds server.old.held.server.core bytes.now tokens.now).bytes }
+    ensures tokens { fed.new.tokens ≡ (feeds server.old.held.server.core bytes.now tokens.now).tokens }
+    ensures state { server.new.held.server
+        ≡ with_core server.old.held.server
+        (with_arrived server.old.held.server.core (take fed.new.bytes bytes.now)
+        (take fed.new.tokens tokens.now)) }
+{
+    *fed = CAmounts::fed(server.get_mut().server.feed(bytes, tokens));
+}
+
+#[unsafe(no_mangle)]
+pub extern "C" fn waywire_c_server_goes(
+    server: &mut ServerHandle,
+    bytes: usize,
+    tokens: usize,
+    amounts: &mut CAmounts,
+)
+    ensures bytes { amounts.new.bytes ≡ (goes server.old.held.server.core.outbox bytes tokens).bytes }
+    ensures tokens { amounts.new.tokens ≡ (goes server.old.held.server.core.outbox bytes tokens).tokens }
+    ensures unchanged { server.new.held ≡ server.old.held }
+{
+    *amounts = CAmounts::taken(server.get_mut().server.goes(bytes, tokens));
+}
+
+#[unsafe(no_mangle)]
+pub extern "C" fn waywire_c_server_take(
+    server: &mut ServerHandle,
+    bytes: &mut [u8],
+    tokens: &mut [u32],
+    taken: &mut CAmounts,
+)
+    ensures count { taken.new.bytes
+        ≡ (goes server.old.held.server.core.outbox (length bytes.old) (length tokens.old)).bytes }
+    ensures token_count { taken.new.tokens
+        ≡ (goes server.old.held.server.core.outbox (length bytes.old) (length tokens.old)).tokens }
+    ensures bytes { bytes.new
+        ≡ take taken.new.bytes (waiting_bytes server.old.held.server.core.outbox)
+        ++ drop taken.new.bytes bytes.old }
+    ensures tokens { tokens.new
+        ≡ take taken.new.tokens (waiting_tokens server.old.held.server.core.outbox)
+        ++ drop taken.new.tokens tokens.old }
+    ensures state { server.new.held.server
+        ≡ with_core server.old.held.server (with_gone server.old.held.server.core taken.new.bytes) }
+{
+    *taken = CAmounts::taken(server.get_mut().server.take(bytes, tokens));
+}
+
+#[unsafe(no_mangle)]
+pub extern "C" fn waywire_c_server_send(
+    server: &mut ServerHandle,
+    target: CObject,
+    opcode: u16,
+    args: &[CallArg<'_>],
+    made: &mut CObject,
+    place: &mut usize,
+) -> u32
+    ensures unchanged { result ≢ 0 → server.new.held ≡ server.old.held }
+{
+    let mut slots = [Arg::New; MAX_GIVEN];
+    let Some(count) = put_args(args, &mut slots) else {
+        return BAD_VALUE;
+    };
+    match server
+        .get_mut()
+        .server
+        .send(target.object(), opcode, &slots[..count])
+    {
+        Ok(new) => {
+            *made = new.map_or(CObject::none(), CObject::of);
+            OK
+        }
+        Err(why) => {
+            *place = send_place(why);
+            send_status(why)
+        }
+    }
+}
+
+#[unsafe(no_mangle)]
+pub extern "C" fn waywire_c_server_next(
+    server: &mut ServerHandle,
+    report: &mut Report,
+    args: &mut [ReportArg],
+) -> u32
+    ensures state { result ≡ 0
+        → server.new.held.server ≡ after_next server.old.held.server }
+{
+    read_request(&mut server.get_mut().server, report, args)
+}
+
+#[unsafe(no_mangle)]
+pub extern "C" fn waywire_c_server_drop_object(server: &mut ServerHandle, object: CObject) -> u32
+    ensures answer { result ≡ sent (drop_refusal server.old.held.server.core (object_of object)) }
+    ensures state { result ≡ 0
+        → server.new.held.server ≡ with_core server.old.held.server
+        (after_drop server.old.held.server.core (object_of object)) }
+    ensures unchanged { result ≢ 0 → server.new.held ≡ server.old.held }
+{
+    match server.get_mut().server.drop_object(object.object()) {
+        Ok(()) => OK,
+        Err(why) => send_status(why),
+    }
+}
+
+#[unsafe(no_mangle)]
+pub extern "C" fn waywire_c_server_post_error(
+    server: &mut ServerHandle,
+    object: CObject,
+    code: u32,
+    text: &[u8],
+) -> u32
+    ensures answer { result
+        ≡ sent (error_refusal server.old.held.server.core (object_of object) text.now) }
+    ensures state { result ≡ 0
+        → server.new.held.server ≡ with_core server.old.held.server
+        (after_error server.old.held.server.core (object_of object) code text.now) }
+    ensures unchanged { result ≢ 0 → server.new.held ≡ server.old.held }
+{
+    match server
+        .get_mut()
+        .server
+        .post_error(object.object(), code, text)
+    {
+        Ok(()) => OK,
+        Err(why) => send_status(why),
+    }
+}
+
+#[unsafe(no_mangle)]
+pub extern "C" fn waywire_c_server_add_global(
+    server: &mut ServerHandle,
+    interface: u16,
+    version: u32,
+    name: &mut u32,
+) -> u32
+    ensures state { result ≡ 0
+        → server.new.held.server
+        ≡ with_global server.old.held.server (iface_at interface) version }
+    ensures unchanged { result ≢ 0 → server.new.held ≡ server.old.held }
+{
+    match server
+        .get_mut()
+        .server
+        .add_global(Iface(interface), version)
+    {
+        Ok(given) => {
+            *name = given;
+            OK
+        }
+        Err(why) => global_status(why),
+    }
+}
+
+#[unsafe(no_mangle)]
+pub extern "C" fn waywire_c_server_withdraw(server: &mut ServerHandle, name: u32) -> u32
+    ensures answer { result ≡ settled (withdraw_refusal server.old.held.server name) }
+    ensures state { result ≡ 0
+        → server.new.held.server ≡ after_withdraw server.old.held.server name }
+    ensures unchanged { result ≢ 0 → server.new.held ≡ server.old.held }
+{
+    match server.get_mut().server.withdraw(name) {
+        Ok(()) => OK,
+        Err(why) => global_status(why),
+    }
+}
+
+#[unsafe(no_mangle)]
+pub extern "C" fn waywire_c_server_announce(server: &mut ServerHandle, count: &mut usize) -> u32
+    ensures unchanged { result ≢ 0 → server.new.held ≡ server.old.held }
+{
+    match server.get_mut().server.announce() {
+        Ok(written) => {
+            *count = written;
+            OK
+        }
+        Err(why) => send_status(why),
+    }
+}

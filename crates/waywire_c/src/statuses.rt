@@ -1,0 +1,117 @@
+//! What a call says of itself: a number for each refusal and each fault. The numbers of the
+//! refusals S1 to S12 are 1 to 12, those of G2, G3 and G5 are 22, 23 and 25, and those of the faults
+//! F1 to F10 are 31 to 40.
+ghost use Rattle.std.specs.Prelude.{◌≡◌};
+ghost use Rattle.waywire_c.specs.Statuses.{send_status, global_status, fault_status, next_status};
+
+use wl_objects::{Fault, NextError, SendError};
+use wl_server::GlobalError;
+use wl_wire::ArgFault;
+
+pub const OK: u32 = 0;
+
+/// S1, G1.
+pub const FAILED: u32 = 1;
+
+/// S11, G4.
+pub const NO_MEMORY: u32 = 11;
+
+/// There is no room for the delete_id that a request asks for.
+pub const OUT_FULL: u32 = 51;
+
+/// A value that the call does not take.
+pub const BAD_VALUE: u32 = 62;
+
+/// Sizes that no end has.
+pub const BAD_SIZES: u32 = 63;
+
+/// The tables have no such interface, or the object is not live.
+pub const NOT_FOUND: u32 = 64;
+
+/// The status of a refusal to send.
+pub fn send_status(error: SendError) -> u32
+    ensures { result ≡ send_status error }
+{
+    match error {
+        SendError::Failed => FAILED,
+        SendError::Stale => 2,
+        SendError::NoSuchMessage => 3,
+        SendError::TooOld => 4,
+        SendError::WrongArgs(_) => 5,
+        SendError::BadObject(_) => 6,
+        SendError::BadBind => 7,
+        SendError::TooLong => 8,
+        SendError::Full => 9,
+        SendError::NoIds => 10,
+        SendError::Memory => NO_MEMORY,
+        SendError::NotDroppable => 12,
+    }
+}
+
+/// The place of the argument that a refusal names; 0 where it names none.
+pub fn send_place(error: SendError) -> usize {
+    match error {
+        SendError::WrongArgs(place) | SendError::BadObject(place) => place,
+        _ => 0,
+    }
+}
+
+pub fn global_status(error: GlobalError) -> u32
+    ensures { result ≡ global_status error }
+{
+    match error {
+        GlobalError::Failed => FAILED,
+        GlobalError::BadGlobal => 22,
+        GlobalError::TooMany => 23,
+        GlobalError::Memory => NO_MEMORY,
+        GlobalError::NoSuchGlobal => 25,
+    }
+}
+
+fn fault_status(fault: Fault) -> u32
+    ensures { result ≡ fault_status fault }
+{
+    match fault {
+        Fault::BadSize => 31,
+        Fault::UnknownObject => 32,
+        Fault::UnknownMessage => 33,
+        Fault::BadArgument(..) => 34,
+        Fault::BadObject(_) => 35,
+        Fault::BadNewId(_) => 36,
+        Fault::TrailingBytes => 37,
+        Fault::MissingDescriptor => 38,
+        Fault::BadBind => 39,
+        Fault::TooManyObjects => 40,
+    }
+}
+
+/// The status of a `next` that read no message.
+pub fn next_status(error: NextError) -> u32
+    ensures { result ≡ next_status error }
+{
+    match error {
+        NextError::Fault { fault, .. } => fault_status(fault),
+        NextError::Failed => FAILED,
+        NextError::Memory => NO_MEMORY,
+        NextError::OutFull => OUT_FULL,
+    }
+}
+
+/// The place of the argument that a fault names; 0 where it names none.
+pub fn fault_place(fault: Fault) -> usize {
+    match fault {
+        Fault::BadArgument(place, _) | Fault::BadObject(place) | Fault::BadNewId(place) => place,
+        _ => 0,
+    }
+}
+
+/// The number in the names A1 to A4 of what is wrong with a spelling; 0 of the other faults.
+pub fn fault_spelling(fault: Fault) -> u32 {
+    match fault {
+        Fault::BadArgument(_, ArgFault::Short) => 1,
+        Fault::BadArgument(_, ArgFault::NullNotAllowed) => 2,
+        Fault::BadArgument(_, ArgFault::NoEndingNul) => 3,
+        Fault::BadArgument(_, ArgFault::InnerNul) => 4,
+        _ => 0,
+    }
+}

@@ -1,0 +1,282 @@
+//! Values as C has them: objects, arguments, numbers of bytes and tokens.
+ghost use Rattle.std.specs.Prelude.{◌≡◌, ◌≤◌, length, IfSome};
+ghost use Rattle.wl_message.specs.Arrived.{AreSizes};
+
+use std::ptr;
+use wl_message::{Fed, Sizes, Taken};
+use wl_objects::{Arg, GotRef, Named, Object};
+use wl_wire::Fixed;
+
+/// What an argument is. A call takes those up to `FD`; the others stand in reports alone, which
+/// have no `NEW` without an object. 0 is none of them.
+pub const INT: u32 = 1;
+
+pub const UINT: u32 = 2;
+
+pub const FIXED: u32 = 3;
+
+pub const STRING: u32 = 4;
+
+pub const NULL_STRING: u32 = 5;
+
+pub const OBJECT: u32 = 6;
+
+pub const NULL_OBJECT: u32 = 7;
+
+pub const NEW: u32 = 8;
+
+pub const ARRAY: u32 = 9;
+
+pub const FD: u32 = 10;
+
+pub const DEAD_OBJECT: u32 = 11;
+
+pub const BOUND: u32 = 12;
+
+/// An object: its id, and its birth, which tells it from every other object of that id.
+#[repr(C)]
+#[derive(Clone, Copy)]
+pub struct CObject {
+    pub birth: u64,
+    pub id: u32,
+}
+
+/// One argument of a call. Which fields count depends on its kind.
+#[repr(C)]
+#[derive(Clone, Copy)]
+pub struct CallArg<'a> {
+    pub kind: u32,
+    /// A signed number, and a fixed-point number in 256ths.
+    pub int: i32,
+    /// An unsigned number, and a token.
+    pub uint: u32,
+    pub object: CObject,
+    /// A string or an array.
+    pub bytes: &'a [u8],
+}
+
+/// One argument of a report, of the same layout. Its bytes lie in the end that read the message.
+#[repr(C)]
+#[derive(Clone, Copy)]
+pub struct ReportArg {
+    pub kind: u32,
+    pub int: i32,
+    /// An unsigned number, a token, and the version that a bind names.
+    pub uint: u32,
+    pub object: CObject,
+    /// A string, an array, and the interface that a bind names.
+    pub bytes: *const u8,
+    pub length: usize,
+}
+
+/// How large the boxes of an end are.
+#[repr(C)]
+#[derive(Clone, Copy)]
+pub struct CSizes {
+    pub out_bytes: usize,
+    pub out_tokens: usize,
+    pub in_bytes: usize,
+    pub in_tokens: usize,
+}
+
+/// Numbers of bytes and of tokens.
+#[repr(C)]
+#[derive(Clone, Copy)]
+pub struct CAmounts {
+    pub bytes: usize,
+    pub tokens: usize,
+}
+
+impl CObject {
+    ghost use Rattle.waywire_c.specs.Values.{object_of};
+
+    pub const fn none() -> CObject {
+        CObject { birth: 0, id: 0 }
+    }
+
+    pub fn of(object: Object) -> CObject
+        ensures { object_of result ≡ object }
+    {
+        CObject {
+            birth: object.birth,
+            id: object.id,
+        }
+    }
+
+    pub fn object(self) -> Object
+        ensures { result ≡ object_of self }
+    {
+        Object {
+            id: self.id,
+            birth: self.birth,
+        }
+    }
+}
+
+impl CSizes {
+    /// The sizes, where an end can have them.
+    pub fn sizes(&self) -> Option<Sizes>
+        ensures { IfSome result (λ sizes. AreSizes sizes) }
+    {
+        let in_range = self.out_bytes <= 16_777_216
+            && self.out_tokens <= 65_536
+            && 4096 <= self.in_bytes
+            && self.in_bytes <= 16_777_216
+            && 20 <= self.in_tokens
+            && self.in_tokens <= 65_536;
+        if !in_range {
+            return None;
+        }
+        Some(Sizes {
+            out_bytes: self.out_bytes,
+            out_tokens: self.out_tokens,
+            in_bytes: self.in_bytes,
+            in_tokens: self.in_tokens,
+        })
+    }
+}
+
+impl CAmounts {
+    pub fn fed(fed: Fed) -> CAmounts
+        ensures { (result.bytes ≡ fed.bytes) × (result.tokens ≡ fed.tokens) }
+    {
+        CAmounts {
+            bytes: fed.bytes,
+            tokens: fed.tokens,
+        }
+    }
+
+    pub fn taken(taken: Taken) -> CAmounts
+        ensures { (result.bytes ≡ taken.bytes) × (result.tokens ≡ taken.tokens) }
+    {
+        CAmounts {
+            bytes: taken.bytes,
+            tokens: taken.tokens,
+        }
+    }
+}
+
+/// Where a slice begins; null where it is empty.
+#[inline(always)]
+pub fn start_of(bytes: &[u8]) -> *const u8 {
+    match bytes.first() {
+        Some(first) => ptr::from_ref(first),
+        None => ptr::null(),
+    }
+}
+
+/// Where a slice of tokens begins; null where it is empty.
+pub fn start_of_tokens(tokens: &[u32]) -> *const u32 {
+    match tokens.first() {
+        Some(first) => ptr::from_ref(first),
+        None => ptr::null(),
+    }
+}
+
+/// The argument of a call, where its kind is one of those that a call takes.
+#[inline(always)]
+fn arg_of<'a>(arg: &CallArg<'a>) -> Option<Arg<'a>> {
+    match arg.kind {
+        INT => Some(Arg::Int(arg.int)),
+        UINT => Some(Arg::Uint(arg.uint)),
+        FIXED => Some(Arg::Fixed(Fixed::from_raw(arg.int))),
+        STRING => Some(Arg::Str(Some(arg.bytes))),
+        NULL_STRING => Some(Arg::Str(None)),
+        OBJECT => Some(Arg::Obj(Some(arg.object.object()))),
+        NULL_OBJECT => Some(Arg::Obj(None)),
+        NEW => Some(Arg::New),
+        ARRAY => Some(Arg::Array(arg.bytes)),
+        FD => Some(Arg::Fd(arg.uint)),
+        _ => None,
+    }
+}
+
+/// Puts the arguments of a call into the first slots, as many as there are slots, and returns their
+/// number. None where one is of a kind that no call takes.
+#[inline(always)]
+pub fn put_args<'a>(args: &[CallArg<'a>], slots: &mut [Arg<'a>]) -> Option<usize>
+    ensures { IfSome result (λ count. (count ≤ length slots.new) × (length slots.new ≡ length slots.old)) }
+{
+    let count = args.len().min(slots.len());
+    'places: for place in 0..count {
+        slots[place] = arg_of(&args[place])?;
+    }
+    Some(count)
+}
+
+/// An argument of this kind and no more.
+#[inline(always)]
+fn plain(kind: u32) -> ReportArg {
+    ReportArg {
+        kind,
+        int: 0,
+        uint: 0,
+        object: CObject::none(),
+        bytes: start_of(b""),
+        length: 0,
+    }
+}
+
+#[inline(always)]
+fn with_bytes(kind: u32, bytes: &[u8]) -> ReportArg {
+    ReportArg {
+        bytes: start_of(bytes),
+        length: bytes.len(),
+        ..plain(kind)
+    }
+}
+
+#[inline(always)]
+fn with_object(kind: u32, object: Object) -> ReportArg {
+    ReportArg {
+        object: CObject::of(object),
+        ..plain(kind)
+    }
+}
+
+#[inline(always)]
+fn with_uint(kind: u32, uint: u32) -> ReportArg {
+    ReportArg {
+        uint,
+        ..plain(kind)
+    }
+}
+
+#[inline(always)]
+fn with_int(kind: u32, int: i32) -> ReportArg {
+    ReportArg { int, ..plain(kind) }
+}
+
+/// An object that is named, as an argument.
+pub fn named(named: Named) -> ReportArg {
+    match named {
+        Named::Null => plain(NULL_OBJECT),
+        Named::Live(object) => with_object(OBJECT, object),
+        Named::Dead(object) => with_object(DEAD_OBJECT, object),
+    }
+}
+
+/// The argument of a report as C sees it.
+#[inline(always)]
+pub fn shown(got: GotRef<'_>) -> ReportArg {
+    match got {
+        GotRef::Int(number) => with_int(INT, number),
+        GotRef::Uint(number) => with_uint(UINT, number),
+        GotRef::Fixed(number) => with_int(FIXED, number.raw()),
+        GotRef::Str(Some(text)) => with_bytes(STRING, text),
+        GotRef::Str(None) => plain(NULL_STRING),
+        GotRef::Obj(object) => named(object),
+        GotRef::New(object) => with_object(NEW, object),
+        GotRef::Bound {
+            iface,
+            version,
+            object,
+        } => ReportArg {
+            uint: version,
+            object: CObject::of(object),
+            ..with_bytes(BOUND, iface)
+        },
+        GotRef::Array(bytes) => with_bytes(ARRAY, bytes),
+        GotRef::Fd(token) => with_uint(FD, token),
+    }
+}

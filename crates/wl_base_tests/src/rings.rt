@@ -1,0 +1,221 @@
+// What goes through the rings of the boxes, with their seam at each place of a message. What owns a
+// box drops it at each way out, so a test does all else behind a `&mut`.
+ghost use Rattle.std.specs.Prelude.{IsTrue};
+ghost use Rattle.wl_message.specs.Cut.{usual_limit, IsMessage};
+
+use std::alloc::Global;
+use std::test::Fail;
+use wl_message::{Fed, Inbox, Outbox, Taken};
+
+/// How many messages go in at a box. Beside those that wait at the end, more come out than the larger
+/// ring has places, 4163, so they begin at each place: neither 2 nor 3 divides the number of places.
+const ROUNDS: u16 = 4700;
+
+/// Messages that go through a box.
+#[derive(Clone, Copy)]
+struct Messages {
+    /// How many bytes each has, with its header.
+    size: u16,
+    /// How many tokens each has.
+    tokens: u8,
+    /// How many of them wait when the next one goes in.
+    waiting: u16,
+}
+
+/// They fill the bytes or the tokens of a ring of 4097 bytes and 23 tokens as far as they can.
+const CASES: [Messages; 5] = [
+    Messages {
+        size: 8,
+        tokens: 0,
+        waiting: 511,
+    },
+    Messages {
+        size: 8,
+        tokens: 1,
+        waiting: 22,
+    },
+    Messages {
+        size: 12,
+        tokens: 0,
+        waiting: 340,
+    },
+    Messages {
+        size: 12,
+        tokens: 3,
+        waiting: 6,
+    },
+    Messages {
+        size: 4096,
+        tokens: 20,
+        waiting: 0,
+    },
+];
+
+/// Writes the message of this number: its header, and then bytes that differ from place to place
+/// and from one message to the next.
+fn write_message(message: &mut [u8], number: u16) {
+    for (place, byte) in message.iter_mut().enumerate() {
+        *byte = ((place % 4096 + number as usize) % 251) as u8;
+    }
+    let size = message.len() % 65_536;
+    if let Some(header) = message.get_mut(..8) {
+        let low = (size % 256) as u8;
+        let high = (size / 256) as u8;
+        header.copy_from_slice(&[1, 0, 0, 0, 0, 0, low, high]);
+    }
+}
+
+/// Writes the tokens of the message of this number.
+fn write_tokens(tokens: &mut [u32], number: u16) {
+    for (place, token) in tokens.iter_mut().enumerate() {
+        *token = u32::from(number) * 32 + (place % 32) as u32;
+    }
+}
+
+/// Feeds the message of this number. Whether all of it is taken in.
+fn feeds(inbox: &mut Inbox<Global>, message: &mut [u8], tokens: &mut [u32], number: u16) -> bool {
+    write_message(message, number);
+    write_tokens(tokens, number);
+    let all = Fed {
+        bytes: message.len(),
+        tokens: tokens.len(),
+    };
+    inbox.feed(message, tokens) == all
+}
+
+/// Takes the message out that stands in front. Whether it and its tokens are these, and lent
+/// afterwards.
+fn pops(inbox: &mut Inbox<Global>, message: &[u8], tokens: &[u32]) -> bool {
+    let body = &message[message.len().min(8)..];
+    let mut popped = [0; 20];
+    let popped = &mut popped[..tokens.len().min(20)];
+    let is_there = match inbox.frame() {
+        Ok(Some(frame)) => frame.body == body && popped.len() <= frame.tokens,
+        _ => false,
+    };
+    if !is_there {
+        return false;
+    }
+    inbox.pop(popped);
+    &*popped == tokens && inbox.last() == body && inbox.last_tokens() == tokens
+}
+
+/// Whether messages that go through an inbox come out as they went in.
+fn pass_an_inbox(
+    inbox: &mut Inbox<Global>,
+    bytes: &mut [u8],
+    tokens: &mut [u32],
+    waiting: u16,
+) -> bool {
+    for number in 0..ROUNDS {
+        if !feeds(inbox, bytes, tokens, number) {
+            return false;
+        }
+        if let Some(first) = number.checked_sub(waiting) {
+            write_message(bytes, first);
+            write_tokens(tokens, first);
+            if !pops(inbox, bytes, tokens) {
+                return false;
+            }
+        }
+    }
+    true
+}
+
+#[test]
+fn messages_pass_an_inbox_with_its_seam_at_each_place(rt: HostRuntime) -> Result<(), Fail> {
+    let mut bytes = [0; 4096];
+    let mut tokens = [0; 20];
+    for messages in CASES {
+        let Messages {
+            size,
+            tokens: count,
+            waiting,
+        } = messages;
+        let bytes = &mut bytes[..size.min(4096) as usize];
+        let tokens = &mut tokens[..count.min(20) as usize];
+        let mut inbox = Inbox::new(rt.alloc(), 4097, 23)?;
+        assert!(rt; pass_an_inbox(&mut inbox, bytes, tokens, waiting));
+    }
+    Ok(())
+}
+
+/// Whether the bytes are a whole message.
+fn is_message(bytes: &[u8]) -> bool
+    ensures { IsTrue result → IsMessage usual_limit bytes.now }
+{
+    if bytes.len() < 8 {
+        return false;
+    }
+    let size = bytes[6] as usize + 256 * bytes[7] as usize;
+    size == bytes.len() && size % 4 == 0 && size <= 4096
+}
+
+/// Pushes the message of this number. Whether it fits.
+fn pushes(
+    outbox: &mut Outbox<Global>,
+    message: &mut [u8],
+    tokens: &mut [u32],
+    number: u16,
+) -> bool {
+    write_message(message, number);
+    write_tokens(tokens, number);
+    is_message(message) && outbox.push(message, tokens).is_ok()
+}
+
+/// Takes a message out, where there are as many places as it has bytes and tokens. Whether it and
+/// its tokens are these.
+fn takes(outbox: &mut Outbox<Global>, message: &[u8], tokens: &[u32]) -> bool {
+    let mut bytes_taken = [0; 4096];
+    let mut tokens_taken = [0; 20];
+    let bytes_taken = &mut bytes_taken[..message.len().min(4096)];
+    let tokens_taken = &mut tokens_taken[..tokens.len().min(20)];
+    let all = Taken {
+        bytes: message.len(),
+        tokens: tokens.len(),
+    };
+    outbox.take(bytes_taken, tokens_taken) == all
+        && &*bytes_taken == message
+        && &*tokens_taken == tokens
+}
+
+/// Whether messages that go through an outbox come out as they went in.
+fn pass_an_outbox(
+    outbox: &mut Outbox<Global>,
+    bytes: &mut [u8],
+    tokens: &mut [u32],
+    waiting: u16,
+) -> bool {
+    for number in 0..ROUNDS {
+        if !pushes(outbox, bytes, tokens, number) {
+            return false;
+        }
+        if let Some(first) = number.checked_sub(waiting) {
+            write_message(bytes, first);
+            write_tokens(tokens, first);
+            if !takes(outbox, bytes, tokens) {
+                return false;
+            }
+        }
+    }
+    true
+}
+
+// With the 64 bytes that are kept for an error event its ring has 4163 bytes.
+#[test]
+fn messages_pass_an_outbox_with_its_seam_at_each_place(rt: HostRuntime) -> Result<(), Fail> {
+    let mut bytes = [0; 4096];
+    let mut tokens = [0; 20];
+    for messages in CASES {
+        let Messages {
+            size,
+            tokens: count,
+            waiting,
+        } = messages;
+        let bytes = &mut bytes[..size.min(4096) as usize];
+        let tokens = &mut tokens[..count.min(20) as usize];
+        let mut outbox = Outbox::new(rt.alloc(), 4099, 23)?;
+        assert!(rt; pass_an_outbox(&mut outbox, bytes, tokens, waiting));
+    }
+    Ok(())
+}

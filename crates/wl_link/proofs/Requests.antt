@@ -1,0 +1,59 @@
+-- A request is recorded.
+use Rattle.std.proofs.Common.{◌≡◌, ℕ, ◌+◌, ◌≤◌, List, [], ◌∷◌, ◌++◌, length, map, drop, inl, refl, ap, ◌∙◌}
+use Rattle.std.specs.Prelude.{option_map}
+use Rattle.std.specs.declared.result.Result.TheVariants.{Ok}
+use Rattle.wl_sigs.specs.Tables.{Interface}
+use Rattle.wl_sigs.specs.Valid.{Valid}
+use Rattle.wl_objects.specs.Messages.{made}
+use Rattle.wl_client.specs.declared.globals.Global.{Global as Remembered}
+use Rattle.wl_server.specs.State.{Global}
+use Rattle.wl_recording.specs.declared.piece.Direction.TheVariants.{ToServer}
+use Rattle.wl_check.specs.Effects.{effect}
+use Rattle.wl_check.specs.Rules.{reader}
+use Rattle.wl_check.specs.Session.{Judged}
+use Rattle.wl_world.specs.Meant.{Known, Message, Coming, objects, made_in, wire, tokens, spelled}
+use Rattle.wl_world.specs.World.{Row, Each}
+use Rattle.wl_world.specs.Flight.{Rows}
+use Rattle.wl_world.specs.Stands.{AsksFitly, IsGlobal}
+use Rattle.wl_world.proofs.Wholes.{OpenRow, each_by, client_makes, client_ends}
+use Rattle.wl_world.proofs.Readings.{HasObject, made_of, made_read}
+use Rattle.wl_link.specs.Follows.{Follows, knowledge, places}
+use Rattle.wl_link.proofs.Joining.{ask_recorded}
+use Rattle.wl_link.proofs.Judging.{all_found, call_as, frame_called}
+use Rattle.wl_link.proofs.Reading.{open_known, news_free}
+use Rattle.wl_link.proofs.Globals.{no_bad_bind, remembers_on, tells_on, binds_on}
+use Rattle.wl_link.proofs.Calls.{One, go_on_more, goes_on_as, own_taken, other_taken, call_grows, known_call}
+
+pub ask_one : (tables : List Interface) (given : List Global) (told_seen : List (Coming Known)) (client : Rows Row) (remembered : List Remembered) (stream more : List ℕ) (t p : ℕ) (e : List Judged)
+    (m : Message Known) (ms : List (Message Known)) → Valid tables → Each (IsGlobal tables) given → Follows tables e (m ∷ ms) told_seen client remembered → AsksFitly tables given m
+    → drop p stream ≡ (spelled m).bytes ++ more → (knowledge tables e).taken ToServer + length (tokens m.args) ≤ t
+    → One tables ToServer stream t p (spelled m) e (λ e'. Follows tables e' ms told_seen client remembered)
+ask_one tables given told_seen client remembered stream more t p e m ms valid globals f fit bytes enough =
+    let k = knowledge tables e in
+    let a = f.known_as in
+    let r = ask_recorded m.target (objects m.args) (made_in m.args) m.destroys f.joins.leads in
+    let o = open_known k (places tables e) f.here m.target a r.target in
+    let names = each_by (OpenRow f.here) (HasObject (reader k ToServer)) (λ x h. open_known k (places tables e) f.here x a h) (objects m.args) r.args in
+    let args = all_found (reader k ToServer) m.args names (news_free k (places tables e) f.here m.args m.args a r.new fit.fits.new_is) in
+    let good = no_bad_bind tables given k m o.entry fit valid globals o.iface o.version f.binds.0 in
+    let call = call_as ToServer m o.entry fit.fits.signature in
+    let e' = e ++ Ok call ∷ [] in
+    let kinds = fit.fits.signature.kinds in
+    let made_is : (effect tables call).made ≡ option_map made_of (made_in m.args) =
+    ap (λ (n : ℕ). made tables n kinds (map wire m.args)) o.version ∙ made_read tables m.target.born.version kinds m.args fit.fits.args in
+    let grows = call_grows tables e call in
+    record {
+      call = call;
+      is = frame_called tables k ToServer m stream more p t o fit.fits bytes args enough good;
+      own = own_taken tables e ToServer m o.entry fit.fits;
+      other = λ x apart. other_taken tables e call x apart;
+      next = record {
+        passed = go_on_more e (Ok call) f.passed (goes_on_as tables ToServer m o.entry fit.fits o.iface);
+        here = client_ends m.destroys m.target (client_makes f.here (made_in m.args));
+        known_as = known_call tables e f.here ToServer m o.entry fit.fits (made_in m.args) a r.new (inl r.target) made_is refl;
+        joins = record { common = f.joins.common; leads = r.rest; reads = f.joins.reads };
+        remembers = remembers_on k (knowledge tables e') grows remembered f.remembers;
+        tells = tells_on tables k (knowledge tables e') grows told_seen f.tells;
+        binds = binds_on k (knowledge tables e') grows ms f.binds.1;
+      };
+    }

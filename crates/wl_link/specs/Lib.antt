@@ -1,0 +1,4 @@
+pub mod Leads
+pub mod Recorded
+pub mod Follows
+pub mod Linked

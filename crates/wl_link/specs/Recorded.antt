@@ -1,0 +1,18 @@
+-- What a recording has of the messages of one direction that are not yet read.
+use Rattle.std.specs.Prelude.{◌≡◌, ℕ, ◌+◌, false, List, ◌++◌, length, drop}
+use Rattle.wl_message.specs.Outgoing as boxes
+use Rattle.wl_message.specs.Outgoing.{all_bytes, all_tokens}
+use Rattle.wl_message.specs.Arrived.{Arrived}
+use Rattle.wl_recording.specs.declared.piece.Direction.{Direction}
+use Rattle.wl_recording.specs.Piece.{Piece}
+use Rattle.wl_check.specs.Merged.{cut, stream_of, tokens_of}
+
+-- These messages were recorded whole and wait in the inbox. Behind them both the inbox and the direction's stream end with the same part
+-- of the next message, which may be empty, and the stream has no bad size. The recorded messages took this many tokens, those of the
+-- messages that wait among them; so the tokens that the pieces brought beyond these are those that wait for later messages.
+pub record Recorded (direction : Direction) (pieces : List Piece) (inbox : Arrived) (taken : ℕ) (seen : List boxes.Message) : Type 0 where
+  pub part : List ℕ
+  pub sound : (cut (stream_of direction pieces)).is_bad ≡ false
+  pub rest : drop (cut (stream_of direction pieces)).place (stream_of direction pieces) ≡ part
+  pub waits : inbox.bytes ≡ all_bytes seen ++ part
+  pub tokens : tokens_of direction pieces + length (all_tokens seen) ≡ taken + length inbox.tokens

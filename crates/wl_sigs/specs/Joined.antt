@@ -1,0 +1,52 @@
+-- The tables of a text behind others, with the names of their arguments' interfaces looked up.
+use Rattle.std.specs.Prelude.{ℕ, List, ◌++◌, length, map, bytes_eq, position, Option, option_map, unwrap_or, Bool, true, false}
+use Rattle.wl_wire.specs.declared.kind.Kind.{Kind}
+use Rattle.wl_wire.specs.declared.kind.Kind.TheVariants as kinds
+use Rattle.wl_wire.specs.declared.kind.Iface.{Iface}
+use Rattle.wl_sigs.specs.declared.signature.Destroys.{Destroys}
+use Rattle.wl_sigs.specs.declared.signature.Destroys.TheVariants.{Nothing, Target}
+use Rattle.wl_sigs.specs.Tables.{Message, Interface}
+use Rattle.wl_written.specs.Text.{WrittenKind, WrittenMessage, WrittenInterface}
+
+-- the names of the interfaces of the tables, then those of the text
+abbrev pub all_names : List Interface → List WrittenInterface → List (List ℕ)
+all_names tables written = map (λ i. i.name) tables ++ map (λ i. i.name) written
+
+-- the place of the first of the names that is this
+abbrev pub first_place : List (List ℕ) → List ℕ → Option ℕ
+first_place names name = position (λ other. bytes_eq other name) names
+
+-- the interface at the first place of the name, or one past all names where there is none
+abbrev pub iface_named : (List ℕ → Option ℕ) → ℕ → List ℕ → Iface
+iface_named place past name = record { 0 = unwrap_or (place name) past }
+
+-- the kind with the place of its interface
+abbrev pub with_iface : Kind → Option Iface → Kind
+with_iface (kinds.Obj null _) iface = kinds.Obj null iface
+with_iface (kinds.New _) iface = kinds.New iface
+with_iface kind iface = kind
+
+abbrev pub kind_placed : (List ℕ → Option ℕ) → ℕ → WrittenKind → Kind
+kind_placed place past k = with_iface k.kind (option_map (iface_named place past) k.iface)
+
+-- what a message destroys: its target, or nothing
+abbrev pub destroys_of : Bool → Destroys
+destroys_of true = Target
+destroys_of false = Nothing
+
+abbrev pub message_placed : (List ℕ → Option ℕ) → ℕ → WrittenMessage → Message
+message_placed place past m = record { name = m.name; since = m.since; kinds = map (kind_placed place past) m.kinds; destroys = destroys_of m.destroys }
+
+abbrev pub interface_placed : (List ℕ → Option ℕ) → ℕ → WrittenInterface → Interface
+interface_placed place past i = record {
+  name = i.name;
+  version = i.version;
+  requests = map (message_placed place past) i.requests;
+  events = map (message_placed place past) i.events;
+}
+
+-- the tables followed by those of the text
+abbrev pub joined : List Interface → List WrittenInterface → List Interface
+joined tables written =
+    let names = all_names tables written in
+    tables ++ map (interface_placed (first_place names) (length names)) written

@@ -1,0 +1,23 @@
+-- What reading tables from a text gives.
+use Rattle.std.specs.Prelude.{ℕ, List, [], Option, Some, None, Result, Ok, Err}
+use Rattle.std.specs.Str.Lines.{lines}
+use Rattle.wl_written.specs.declared.fault.TableFault.{TableFault}
+use Rattle.wl_written.specs.declared.fault.TableFault.TheVariants.{BadLine, BadTable}
+use Rattle.wl_sigs.specs.Tables.{Interface}
+use Rattle.wl_written.specs.Text.{WrittenInterface, listed}
+use Rattle.wl_sigs.specs.Joined.{joined}
+use Rattle.wl_sigs.specs.Broken.{Broken, first_broken}
+
+-- the tables of a text's interfaces behind these, or the first line that breaks a rule
+abbrev pub joined_unless : List Interface → List WrittenInterface → Option Broken → Result (List Interface) TableFault
+joined_unless tables written None = Ok (joined tables written)
+joined_unless tables written (Some it) = Err (BadTable it.line it.rule)
+
+abbrev pub outcome_of : List Interface → Result (List WrittenInterface) ℕ → Result (List Interface) TableFault
+outcome_of tables (Err line) = Err (BadLine line)
+outcome_of tables (Ok written) = joined_unless tables written (first_broken tables written)
+
+-- The tables of a text behind these; else the first line that has no form or is a message before any interface; else the first
+-- line that breaks a rule, and the least rule there.
+abbrev pub outcome : List Interface → List ℕ → Result (List Interface) TableFault
+outcome tables text = outcome_of tables (listed 1 (lines text) [])

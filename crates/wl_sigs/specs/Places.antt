@@ -1,0 +1,17 @@
+-- Maps from names to places.
+use Rattle.std.specs.Prelude.{◌≡◌, ℕ, List, Option}
+use Rattle.std.specs.BTreeMap.{BTreeMap, get_by}
+use Rattle.std.specs.Cmp.Lexicographic.{slice_cmp}
+use Rattle.std.specs.Ordering.{nat_cmp}
+use denote.Ref.{Bor}
+use Rattle.wl_sigs.specs.Tables.{Interface}
+use Rattle.wl_written.specs.Text.{WrittenInterface}
+use Rattle.wl_sigs.specs.Joined.{all_names, first_place}
+
+-- the place that the map has for a name
+abbrev pub place_in : BTreeMap (Bor (List ℕ)) ℕ → List ℕ → Option ℕ
+place_in places name = get_by (λ k. slice_cmp nat_cmp name k.now) places
+
+-- these are the first places of the names of the tables and of a text
+abbrev pub ArePlaces : (List ℕ → Option ℕ) → List Interface → List WrittenInterface → Type 0
+ArePlaces place tables written = (name : List ℕ) → place name ≡ first_place (all_names tables written) name

@@ -1,0 +1,330 @@
+//! The rules of valid tables, at the lines of a text.
+ghost use Rattle.std.specs.Prelude.{◌≡◌, ℕ, ◌+◌, ◌<◌, ◌≤◌, not, List, map, length, Some, None, option_map, option_copied, is_some, IfOk};
+ghost use Rattle.std.specs.List.{list_all, list_any, count_by};
+ghost use Rattle.wl_sigs.specs.Broken.{is_first, is_object, makes_object, makes_unnamed, takes_any, takes_ended, names_missing, interface_rule, message_rule, names_objects, is_race_free, most_new, earlier, broken_at, messages_broken, side_broken, interface_broken, interfaces_broken, is_ended};
+ghost use Rattle.wl_sigs.specs.Places.{place_in};
+ghost use Rattle.wl_sigs.specs.BrokenLines.{broken};
+ghost use Rattle.wl_sigs.specs.Rules.{is_name, is_name_byte, is_empty};
+
+use crate::places::{place_in, places_of};
+use crate::signature::Side;
+use std::alloc::{AllocError, Allocator};
+use std::collections::BTreeMap;
+use wl_wire::Kind;
+use wl_written::{WrittenInterface, WrittenKind, WrittenMessage, takes_interface};
+
+/// A line that breaks a rule, and the least rule that it breaks.
+#[derive(Clone, Copy)]
+pub(crate) struct BrokenLine {
+    pub(crate) line: usize,
+    pub(crate) rule: u8,
+}
+
+fn is_name_byte(byte: u8) -> bool
+    ensures { result ≡ is_name_byte byte }
+{
+    (byte >= b'a' && byte <= b'z') || (byte >= b'0' && byte <= b'9') || byte == b'_'
+}
+
+fn are_name_bytes(name: &[u8]) -> bool
+    ensures { result ≡ list_all is_name_byte name.now }
+{
+    name.iter().all(|byte| is_name_byte(*byte))
+}
+
+fn is_name(name: &[u8]) -> bool
+    ensures { result ≡ is_name name.now }
+{
+    name.len() >= 1 && name.len() <= 256 && are_name_bytes(name)
+}
+
+// Whether a name stands first at a place.
+fn is_first<A: Allocator>(places: &BTreeMap<&[u8], usize, A>, name: &[u8], here: usize) -> bool
+    ensures { result ≡ is_first (place_in places.now) name.now here }
+{
+    match place_in(places, name) {
+        Some(first) => first == here,
+        None => false,
+    }
+}
+
+fn makes_object(k: &WrittenKind) -> bool
+    ensures { result ≡ makes_object k.now }
+{
+    matches!(k.kind, Kind::New(_))
+}
+
+fn is_object(kind: Kind) -> bool
+    ensures { result ≡ is_object kind }
+{
+    matches!(kind, Kind::Obj { .. })
+}
+
+fn makes_unnamed(k: &WrittenKind) -> bool
+    ensures { result ≡ makes_unnamed k.now }
+{
+    makes_object(k) && k.iface.is_none()
+}
+
+fn takes_any(k: &WrittenKind) -> bool
+    ensures { result ≡ takes_any k.now }
+{
+    is_object(k.kind) && k.iface.is_none()
+}
+
+fn is_ended(ended: &[bool], place: Option<usize>) -> bool
+    ensures { result ≡ is_ended ended.now place }
+{
+    match place {
+        Some(place) => ended.get(place).copied().unwrap_or(false),
+        None => false,
+    }
+}
+
+fn takes_ended<A: Allocator>(
+    places: &BTreeMap<&[u8], usize, A>,
+    ended: &[bool],
+    k: &WrittenKind,
+) -> bool
+    ensures { result ≡ takes_ended (place_in places.now) ended.now k.now }
+{
+    match k.iface {
+        Some(name) => is_object(k.kind) && is_ended(ended, place_in(places, name)),
+        None => false,
+    }
+}
+
+fn names_missing<A: Allocator>(places: &BTreeMap<&[u8], usize, A>, k: &WrittenKind) -> bool
+    ensures { result ≡ names_missing (place_in places.now) k.now }
+{
+    match k.iface {
+        Some(name) => takes_interface(k.kind) && place_in(places, name).is_none(),
+        None => false,
+    }
+}
+
+fn count_new(kinds: &[WrittenKind]) -> usize
+    ensures { result ≡ count_by makes_object kinds.now }
+{
+    kinds.iter().filter(|k| makes_object(*k)).count()
+}
+
+fn none_unnamed(kinds: &[WrittenKind]) -> bool
+    ensures { result ≡ list_all (λ k. not (makes_unnamed k)) kinds.now }
+{
+    kinds.iter().all(|k| !makes_unnamed(k))
+}
+
+fn none_any(kinds: &[WrittenKind]) -> bool
+    ensures { result ≡ list_all (λ k. not (takes_any k)) kinds.now }
+{
+    kinds.iter().all(|k| !takes_any(k))
+}
+
+fn none_ended<A: Allocator>(
+    places: &BTreeMap<&[u8], usize, A>,
+    ended: &[bool],
+    kinds: &[WrittenKind],
+) -> bool
+    ensures { result ≡ list_all (λ k. not (takes_ended (place_in places.now) ended.now k)) kinds.now }
+{
+    kinds.iter().all(|k| !takes_ended(places, ended, k))
+}
+
+fn none_missing<A: Allocator>(places: &BTreeMap<&[u8], usize, A>, kinds: &[WrittenKind]) -> bool
+    ensures { result ≡ list_all (λ k. not (names_missing (place_in places.now) k)) kinds.now }
+{
+    kinds.iter().all(|k| !names_missing(places, k))
+}
+
+// The least rule that an interface at a place breaks by itself.
+fn interface_rule<'t, A: Allocator>(
+    places: &BTreeMap<&[u8], usize, A>,
+    here: usize,
+    interface: &WrittenInterface<'t, A>,
+) -> Option<u8>
+    ensures { result ≡ interface_rule (place_in places.now) here interface.now }
+{
+    if !(is_name(interface.name) && is_first(places, interface.name, here)) {
+        Some(1)
+    } else if here >= 1024 {
+        Some(3)
+    } else if interface.version < 1 {
+        Some(8)
+    } else {
+        None
+    }
+}
+
+fn most_new(side: Side) -> usize
+    ensures { result ≡ most_new side }
+{
+    match side {
+        Side::Request => 1,
+        Side::Event => 0,
+    }
+}
+
+fn names_objects<'t, A: Allocator>(side: Side, message: &WrittenMessage<'t, A>) -> bool
+    ensures { result ≡ names_objects side message.now }
+{
+    match side {
+        Side::Request => none_any(message.kinds.as_slice()),
+        Side::Event => true,
+    }
+}
+
+fn is_race_free<'t, A: Allocator>(
+    places: &BTreeMap<&[u8], usize, A>,
+    ended: &[bool],
+    interface: &WrittenInterface<'t, A>,
+    side: Side,
+    message: &WrittenMessage<'t, A>,
+) -> bool
+    ensures { result ≡ is_race_free (place_in places.now) ended.now interface.now side message.now }
+{
+    match side {
+        Side::Request => none_ended(places, ended, message.kinds.as_slice()),
+        Side::Event => !message.destroys || interface.requests.is_empty(),
+    }
+}
+
+// The least rule that a message of an interface breaks.
+fn message_rule<'t, A: Allocator>(
+    places: &BTreeMap<&[u8], usize, A>,
+    ended: &[bool],
+    interface: &WrittenInterface<'t, A>,
+    side: Side,
+    opcodes: &BTreeMap<&[u8], usize, A>,
+    opcode: usize,
+    message: &WrittenMessage<'t, A>,
+) -> Option<u8>
+    ensures { result ≡ message_rule (place_in places.now) ended.now interface.now side
+        (place_in opcodes.now) opcode message.now }
+{
+    let kinds = message.kinds.as_slice();
+    if !(is_name(message.name) && is_first(opcodes, message.name, opcode)) {
+        Some(1)
+    } else if !(opcode < 256 && kinds.len() <= 20) {
+        Some(3)
+    } else if count_new(kinds) > most_new(side) {
+        Some(4)
+    } else if !none_unnamed(kinds) {
+        Some(5)
+    } else if !names_objects(side, message) {
+        Some(6)
+    } else if !is_race_free(places, ended, interface, side, message) {
+        Some(7)
+    } else if !(message.since >= 1 && message.since <= interface.version) {
+        Some(8)
+    } else if !none_missing(places, kinds) {
+        Some(9)
+    } else {
+        None
+    }
+}
+
+// The one of the earlier line.
+fn earlier(this: Option<BrokenLine>, other: Option<BrokenLine>) -> Option<BrokenLine>
+    ensures { option_map broken result ≡ earlier (option_map broken this) (option_map broken other) }
+{
+    match (this, other) {
+        (Some(this), Some(other)) if other.line < this.line => Some(other),
+        (None, other) => other,
+        (this, _) => this,
+    }
+}
+
+fn broken_at(line: usize, rule: Option<u8>) -> Option<BrokenLine>
+    ensures { option_map broken result ≡ broken_at line rule }
+{
+    let rule = rule?;
+    Some(BrokenLine { line, rule })
+}
+
+// The first message of one side of an interface that breaks a rule.
+fn side_broken<'n, A: Allocator + Clone + Drop>(
+    alloc: &A,
+    places: &BTreeMap<&'n [u8], usize, A>,
+    ended: &[bool],
+    interface: &WrittenInterface<'n, A>,
+    side: Side,
+    messages: &[WrittenMessage<'n, A>],
+) -> Result<Option<BrokenLine>, AllocError>
+    ensures { IfOk result (λ found. option_map broken found
+        ≡ side_broken (place_in places.now) ended.now interface.now side messages.now) }
+{
+    let names = message_names(alloc, messages)?;
+    let opcodes = places_of(alloc, names.as_slice())?;
+    let mut first = None;
+    for (opcode, message) in messages.iter().enumerate() {
+        let rule = message_rule(places, ended, interface, side, &opcodes, opcode, message);
+        first = earlier(first, broken_at(message.line, rule));
+    }
+    Ok(first)
+}
+
+fn message_names<'n, A: Allocator + Clone + Drop>(
+    alloc: &A,
+    messages: &[WrittenMessage<'n, A>],
+) -> Result<Vec<&'n [u8], A>, AllocError>
+    ensures { IfOk result (λ names. map (λ n. n.now) names.items
+        ≡ map (λ m. m.name) messages.now) }
+{
+    let mut names = Vec::with_capacity(alloc.clone()?, messages.len())?;
+    for message in messages {
+        names.push(message.name)?;
+    }
+    Ok(names)
+}
+
+// The first line of an interface and its messages that breaks a rule.
+fn interface_broken<'n, A: Allocator + Clone + Drop>(
+    alloc: &A,
+    places: &BTreeMap<&'n [u8], usize, A>,
+    ended: &[bool],
+    here: usize,
+    interface: &WrittenInterface<'n, A>,
+) -> Result<Option<BrokenLine>, AllocError>
+    ensures { IfOk result (λ found. option_map broken found
+        ≡ interface_broken (place_in places.now) ended.now here interface.now) }
+{
+    let requests = side_broken(
+        alloc,
+        places,
+        ended,
+        interface,
+        Side::Request,
+        interface.requests.as_slice(),
+    )?;
+    let events = side_broken(
+        alloc,
+        places,
+        ended,
+        interface,
+        Side::Event,
+        interface.events.as_slice(),
+    )?;
+    let rule = interface_rule(places, here, interface);
+    Ok(earlier(broken_at(interface.line, rule), earlier(requests, events)))
+}
+
+/// The first line of interfaces that breaks a rule, where the first interface stands at `from`.
+pub(crate) fn interfaces_broken<'n, A: Allocator + Clone + Drop>(
+    alloc: &A,
+    places: &BTreeMap<&'n [u8], usize, A>,
+    ended: &[bool],
+    from: usize,
+    interfaces: &[WrittenInterface<'n, A>],
+) -> Result<Option<BrokenLine>, AllocError>
+    requires { from ≤ 1024 }
+    ensures { IfOk result (λ found. option_map broken found
+        ≡ interfaces_broken (place_in places.now) ended.now from interfaces.now) }
+{
+    let mut first = None;
+    for (index, interface) in interfaces.iter().enumerate() {
+        let found = interface_broken(alloc, places, ended, from + index, interface)?;
+        first = earlier(first, found);
+    }
+    Ok(first)
+}

@@ -1,0 +1,46 @@
+/* A transport for the ends of waywire: a Unix socket, and descriptors as tokens.
+ *
+ * A link is an end and its socket. A token is the number of a descriptor of this process: what is sent
+ * is closed here once the socket has taken it, and what came belongs to whoever reads its token out of
+ * a report. Take this file, or write your own. */
+#ifndef TRANSPORT_H
+#define TRANSPORT_H
+
+#include <waywire.h>
+
+#define LINK_BYTES 4096
+/* The most descriptors that libwayland takes at once. */
+#define LINK_DESCRIPTORS 28
+
+struct link {
+	int socket;
+	waywire_client *client; /* one of the two is null */
+	waywire_server *server;
+	/* What was taken from the outbox and not yet from us by the socket. */
+	unsigned char bytes[LINK_BYTES];
+	size_t from, to;
+	uint32_t tokens[LINK_DESCRIPTORS];
+	size_t token_count;
+};
+
+/* A socket that is connected to the compositor of WAYLAND_DISPLAY; -1 with errno set. */
+int link_connect(void);
+
+/* A socket that listens at a path; -1 with errno set. */
+int link_listen(const char *path);
+
+/* Writes what waits in the outbox, as much as the socket takes. 0, or -1 with errno set. */
+int link_flush(struct link *link);
+
+/* Reads once from the socket into the inbox. 1 if something came, 0 if nothing is there yet, -1 at the
+ * end of the connection (errno 0) or an error. */
+int link_fill(struct link *link);
+
+/* Flushes, then waits until something came, and reads it. 1, 0 after so many milliseconds (-1: no
+ * limit), or -1 as link_fill. */
+int link_wait(struct link *link, int milliseconds);
+
+/* Closes the socket and the descriptors that were not sent. The end is the caller's to free. */
+void link_close(struct link *link);
+
+#endif

@@ -1,0 +1,195 @@
+/* Plays the demonstration's session over the C library, prints what each end reads, and writes what
+ * passed as a recording. Written from waywire.h and waywire-core.h alone.
+ *
+ *     session [BYTES A CARRY [RECORDING]] */
+#include "must.h"
+
+static waywire_tables *tables;
+static waywire_client *client;
+static waywire_server *server;
+static FILE *recording;
+
+/* A line of what one end read. */
+static void show(const char *arrow, const waywire_report *report)
+{
+	if (report->kind == WAYWIRE_DELETED) {
+		printf("%s deleted %u/%u\n", arrow, report->target.id, (unsigned)report->target.birth);
+		return;
+	}
+	MUST(report->kind == WAYWIRE_MESSAGE);
+	printf("%s %u/%u opcode %u", arrow, report->target.id, (unsigned)report->target.birth,
+		report->opcode);
+	for (size_t place = 0; place < report->arg_count; place++) {
+		const waywire_arg *arg = &report->args[place];
+		switch (arg->kind) {
+		case WAYWIRE_UINT:
+			printf(" %u", arg->u);
+			break;
+		case WAYWIRE_STRING:
+			MUST(strlen(arg->bytes) == arg->length);
+			printf(" \"%s\"", (const char *)arg->bytes);
+			break;
+		case WAYWIRE_NEW:
+			printf(" new %u/%u", arg->object.id, (unsigned)arg->object.birth);
+			break;
+		case WAYWIRE_BOUND:
+			printf(" bound %s %u %u/%u", (const char *)arg->bytes, arg->u, arg->object.id,
+				(unsigned)arg->object.birth);
+			break;
+		default:
+			MUST(!"an argument of this kind");
+		}
+	}
+	printf("\n");
+}
+
+static void record(char arrow, const unsigned char *bytes, size_t length)
+{
+	if (!recording)
+		return;
+	fprintf(recording, "%c ", arrow);
+	for (size_t place = 0; place < length; place++)
+		fprintf(recording, "%02x", bytes[place]);
+	fprintf(recording, "\n");
+}
+
+/* Carries what the client wrote to the server, at most `most` bytes a time. */
+static void to_server(size_t most)
+{
+	unsigned char bytes[4096];
+	waywire_amounts taken, fed;
+	for (;;) {
+		MUST(!waywire_client_take(client, bytes, most, NULL, 0, &taken));
+		if (!taken.bytes)
+			return;
+		record('>', bytes, taken.bytes);
+		MUST(!waywire_server_feed(server, bytes, taken.bytes, NULL, 0, &fed));
+		MUST(fed.bytes == taken.bytes);
+	}
+}
+
+static void to_client(size_t most)
+{
+	unsigned char bytes[4096];
+	waywire_amounts taken, fed;
+	for (;;) {
+		MUST(!waywire_server_take(server, bytes, most, NULL, 0, &taken));
+		if (!taken.bytes)
+			return;
+		record('<', bytes, taken.bytes);
+		MUST(!waywire_client_feed(client, bytes, taken.bytes, NULL, 0, &fed));
+		MUST(fed.bytes == taken.bytes);
+	}
+}
+
+/* The server reads all that came, and answers sync. */
+static void serve(void)
+{
+	waywire_report report;
+	waywire_object display;
+	MUST(!waywire_server_display(server, &display));
+	for (;;) {
+		MUST(!waywire_server_next(server, &report));
+		if (report.kind == WAYWIRE_NOTHING)
+			break;
+		show("->", &report);
+		if (waywire_object_equal(report.target, display)
+				&& report.opcode == WAYWIRE_WL_DISPLAY_REQUEST_SYNC) {
+			waywire_arg one = waywire_uint(1);
+			MUST(!waywire_server_send(server, report.args[0].object,
+				WAYWIRE_WL_CALLBACK_EVENT_DONE, &one, 1, NULL, NULL));
+		}
+	}
+	MUST(!waywire_server_announce(server, NULL));
+}
+
+static void hear(void)
+{
+	waywire_report report;
+	for (;;) {
+		MUST(!waywire_client_next(client, &report));
+		if (report.kind == WAYWIRE_NOTHING)
+			return;
+		show("<-", &report);
+	}
+}
+
+static void turn(size_t most)
+{
+	to_server(most);
+	serve();
+	to_client(most);
+	hear();
+}
+
+static waywire_object make(waywire_object target, uint16_t opcode)
+{
+	waywire_arg place = waywire_new();
+	waywire_object made;
+	MUST(!waywire_client_send(client, target, opcode, &place, 1, &made, NULL));
+	return made;
+}
+
+static void add(const char *name, uint32_t version)
+{
+	uint16_t interface;
+	MUST(!waywire_tables_interface(tables, name, &interface));
+	MUST(!waywire_server_add_global(server, interface, version, NULL));
+}
+
+static void play(size_t most)
+{
+	waywire_object display, registry, compositor, seat, surface;
+	add("wl_compositor", 6);
+	add("wl_seat", 9);
+	MUST(!waywire_client_display(client, &display));
+	registry = make(display, WAYWIRE_WL_DISPLAY_REQUEST_GET_REGISTRY);
+	turn(most);
+	MUST(!waywire_client_bind(client, registry, 1, "wl_compositor", 6, &compositor));
+	MUST(!waywire_client_bind(client, registry, 2, "wl_seat", 9, &seat));
+	make(display, WAYWIRE_WL_DISPLAY_REQUEST_SYNC);
+	turn(most);
+	surface = make(compositor, WAYWIRE_WL_COMPOSITOR_REQUEST_CREATE_SURFACE);
+	MUST(!waywire_client_send(client, surface, WAYWIRE_WL_SURFACE_REQUEST_COMMIT, NULL, 0, NULL,
+		NULL));
+	MUST(!waywire_client_send(client, surface, WAYWIRE_WL_SURFACE_REQUEST_DESTROY, NULL, 0, NULL,
+		NULL));
+	turn(most);
+	MUST(waywire_client_live(client, surface, NULL, NULL) == WAYWIRE_NOT_FOUND);
+	MUST(waywire_server_live(server, surface, NULL, NULL) == WAYWIRE_NOT_FOUND);
+}
+
+/* Nothing waits, and both ends have the same four objects. */
+static void agree(void)
+{
+	bool drained;
+	MUST(!waywire_client_is_drained(client, &drained) && drained);
+	MUST(!waywire_server_is_drained(server, &drained) && drained);
+	for (uint32_t id = 1; id <= 4; id++) {
+		waywire_object object = { id - 1, id };
+		uint16_t interface, its_interface;
+		uint32_t version, its_version;
+		MUST(!waywire_client_live(client, object, &interface, &version));
+		MUST(!waywire_server_live(server, object, &its_interface, &its_version));
+		MUST(interface == its_interface && version == its_version);
+	}
+	printf("agree: 4 objects\n");
+}
+
+int main(int argc, char **argv)
+{
+	waywire_sizes sizes = { 65536, 64, 65536, 64 };
+	size_t most = argc > 1 ? (size_t)atoi(argv[1]) : 4096;
+	if (argc > 2)
+		MUST(recording = fopen(argv[2], "w"));
+	MUST(!waywire_tables_core(&tables));
+	MUST(!waywire_client_new(tables, &sizes, &client));
+	MUST(!waywire_server_new(tables, &sizes, &server));
+	play(most);
+	agree();
+	waywire_client_free(client);
+	waywire_server_free(server);
+	if (recording)
+		fclose(recording);
+	return 0;
+}

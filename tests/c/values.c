@@ -1,0 +1,162 @@
+/* Wrong values are statuses: null, lengths, kinds, sizes, opcodes, places; and each status has a text. */
+#include "must.h"
+
+static const waywire_sizes sizes = { 65536, 64, 4096, 20 };
+static waywire_tables *tables;
+static waywire_client *client;
+static waywire_server *server;
+static waywire_object display = { 0, 1 };
+
+static void nulls(void)
+{
+	waywire_amounts amounts;
+	waywire_report report;
+	uint16_t interface;
+	MUST(waywire_tables_core(NULL) == WAYWIRE_NULL);
+	MUST(waywire_tables_interface(NULL, "wl_seat", &interface) == WAYWIRE_NULL);
+	MUST(waywire_tables_interface(tables, NULL, &interface) == WAYWIRE_NULL);
+	MUST(waywire_client_new(tables, NULL, &client) == WAYWIRE_NULL);
+	MUST(waywire_client_next(NULL, &report) == WAYWIRE_NULL);
+	MUST(waywire_server_next(server, NULL) == WAYWIRE_NULL);
+	MUST(waywire_client_take(client, NULL, 1, NULL, 0, &amounts) == WAYWIRE_NULL);
+	MUST(waywire_client_take(client, NULL, 0, NULL, 1, &amounts) == WAYWIRE_NULL);
+	MUST(waywire_client_take(client, NULL, 0, NULL, 0, &amounts) == WAYWIRE_OK);
+	MUST(waywire_server_feed(server, NULL, 4, NULL, 0, &amounts) == WAYWIRE_NULL);
+	MUST(waywire_server_feed(server, NULL, 0, NULL, 0, &amounts) == WAYWIRE_OK);
+	MUST(waywire_client_send(client, display, 0, NULL, 1, NULL, NULL) == WAYWIRE_NULL);
+	MUST(waywire_client_bind(client, display, 1, NULL, 1, NULL) == WAYWIRE_NULL);
+	MUST(waywire_server_post_error(server, display, 0, NULL) == WAYWIRE_NULL);
+	waywire_client_free(NULL);
+	waywire_server_free(NULL);
+}
+
+static void lengths(void)
+{
+	waywire_amounts amounts;
+	char byte = 0;
+	uint32_t token = 0;
+	waywire_arg args[21];
+	size_t place = 9;
+	MUST(waywire_client_feed(client, &byte, SIZE_MAX, NULL, 0, &amounts) == WAYWIRE_TOO_LARGE);
+	MUST(waywire_client_feed(client, &byte, 0, &token, SIZE_MAX / 4, &amounts)
+		== WAYWIRE_TOO_LARGE);
+	args[0] = waywire_array(&byte, (size_t)PTRDIFF_MAX + 1);
+	MUST(waywire_client_send(client, display, 0, args, 1, NULL, NULL) == WAYWIRE_TOO_LARGE);
+	args[0] = waywire_array(NULL, 1);
+	MUST(waywire_client_send(client, display, 0, args, 1, NULL, NULL) == WAYWIRE_NULL);
+	for (size_t each = 0; each < 21; each++)
+		args[each] = waywire_new();
+	MUST(waywire_client_send(client, display, 0, args, 21, NULL, &place) == WAYWIRE_WRONG_ARGS);
+	MUST(place == 1);
+	MUST(waywire_client_send(client, display, 0, args, SIZE_MAX, NULL, NULL) == WAYWIRE_WRONG_ARGS);
+	MUST(waywire_client_send(client, display, 0, NULL, 0, NULL, &place) == WAYWIRE_WRONG_ARGS);
+	MUST(place == 0);
+}
+
+static void kinds(void)
+{
+	waywire_arg arg = waywire_new();
+	for (uint32_t kind = 0; kind < 20; kind++)
+		if (kind < WAYWIRE_INT || kind > WAYWIRE_FD) {
+			arg.kind = kind;
+			MUST(waywire_client_send(client, display, 0, &arg, 1, NULL, NULL)
+				== WAYWIRE_BAD_VALUE);
+		}
+	arg = waywire_int(2); /* of another kind than the signature's */
+	MUST(waywire_client_send(client, display, 0, &arg, 1, NULL, NULL) == WAYWIRE_WRONG_ARGS);
+}
+
+static void calls(void)
+{
+	waywire_object stale = { 7, 1 }, object;
+	waywire_arg place = waywire_new();
+	waywire_sizes small = { 0, 0, 4095, 20 };
+	waywire_client *none = NULL;
+	uint16_t interface = 999;
+	uint32_t version, name;
+	size_t count = 9;
+	MUST(waywire_client_new(tables, &small, &none) == WAYWIRE_BAD_SIZES && !none);
+	MUST(waywire_client_send(client, stale, 0, &place, 1, NULL, NULL) == WAYWIRE_STALE);
+	MUST(waywire_client_send(client, display, 65535, &place, 1, NULL, NULL)
+		== WAYWIRE_NO_SUCH_MESSAGE);
+	MUST(waywire_client_bind(client, display, 1, "wl_seat", 1, NULL) == WAYWIRE_NO_SUCH_MESSAGE);
+	MUST(waywire_client_live(client, stale, NULL, NULL) == WAYWIRE_NOT_FOUND);
+	MUST(waywire_tables_interface(tables, "no_such", &interface) == WAYWIRE_NOT_FOUND);
+	MUST(interface == 999);
+	MUST(waywire_tables_version(tables, 999, &version) == WAYWIRE_NOT_FOUND);
+	MUST(waywire_server_add_global(server, 999, 1, &name) == WAYWIRE_BAD_GLOBAL);
+	MUST(waywire_server_withdraw(server, 1) == WAYWIRE_NO_SUCH_GLOBAL);
+	MUST(waywire_server_drop_object(server, display) == WAYWIRE_NOT_DROPPABLE);
+	MUST(waywire_server_drop_object(server, stale) == WAYWIRE_STALE);
+	MUST(!waywire_server_announce(server, &count) && count == 0);
+	MUST(!waywire_client_send(client, display, 0, &place, 1, &object, NULL));
+	MUST(object.id == 2 && object.birth == 1);
+}
+
+/* A message that breaks a rule: the fault, and the error that the server then writes. */
+static void faults(void)
+{
+	static const unsigned char bad_new_id[] = { 1, 0, 0, 0, 1, 0, 12, 0, 3, 0, 0, 0 };
+	unsigned char bytes[256];
+	waywire_report report;
+	waywire_amounts amounts;
+	MUST(!waywire_server_feed(server, bad_new_id, sizeof bad_new_id, NULL, 0, &amounts));
+	MUST(waywire_server_next(server, &report) == WAYWIRE_FAULT_BAD_NEW_ID);
+	MUST(report.kind == WAYWIRE_FAULT && report.place == 0 && report.offset == 0);
+	MUST(waywire_server_next(server, &report) == WAYWIRE_FAILED);
+	MUST(waywire_server_post_error(server, display, 1, "x") == WAYWIRE_FAILED);
+	MUST(!waywire_server_take(server, bytes, sizeof bytes, NULL, 0, &amounts));
+	MUST(amounts.bytes == 32);
+	MUST(!waywire_client_feed(client, bytes, amounts.bytes, NULL, 0, &amounts));
+	MUST(!waywire_client_next(client, &report));
+	MUST(report.kind == WAYWIRE_ERROR && report.id == 1 && report.code == 1);
+	MUST(report.named == WAYWIRE_OBJECT && waywire_object_equal(report.target, display));
+	MUST(!strcmp(report.text, "bad new id") && report.text_length == 10);
+	MUST(waywire_client_next(client, &report) == WAYWIRE_FAILED);
+}
+
+static void misspelled(void)
+{
+	static const unsigned char bind[] = { 1, 0, 0, 0, 1, 0, 12, 0, 2, 0, 0, 0, 2, 0, 0, 0, 0, 0, 24, 0,
+		1, 0, 0, 0, 0, 0, 0, 0, 1, 0, 0, 0, 3, 0, 0, 0 };
+	waywire_server *other;
+	waywire_report report;
+	waywire_amounts amounts;
+	MUST(!waywire_server_new(tables, &sizes, &other));
+	MUST(!waywire_server_feed(other, bind, sizeof bind, NULL, 0, &amounts));
+	MUST(!waywire_server_next(other, &report) && report.kind == WAYWIRE_MESSAGE);
+	MUST(waywire_server_next(other, &report) == WAYWIRE_FAULT_BAD_ARGUMENT);
+	MUST(report.place == 1 && report.spelling == 2 && report.offset == 12);
+	waywire_server_free(other);
+}
+
+static void texts(void)
+{
+	static const int all[] = { 0, 1, 2, 3, 4, 5, 6, 7, 8, 9, 10, 11, 12, 22, 23, 25, 31, 32, 33, 34,
+		35, 36, 37, 38, 39, 40, 51, 61, 62, 63, 64, 65 };
+	for (size_t each = 0; each < sizeof all / sizeof *all; each++) {
+		const char *text = waywire_strerror((waywire_status)all[each]);
+		MUST(*text && strcmp(text, "unknown status"));
+	}
+	MUST(!strcmp(waywire_strerror((waywire_status)99), "unknown status"));
+	MUST(!strcmp(waywire_strspelling(2), "null is not allowed here"));
+	MUST(!strcmp(waywire_version(), WAYWIRE_VERSION));
+}
+
+int main(void)
+{
+	MUST(!waywire_tables_core(&tables));
+	MUST(!waywire_client_new(tables, &sizes, &client));
+	MUST(!waywire_server_new(tables, &sizes, &server));
+	nulls();
+	lengths();
+	kinds();
+	calls();
+	faults();
+	misspelled();
+	texts();
+	waywire_client_free(client);
+	waywire_server_free(server);
+	printf("values: ok\n");
+	return 0;
+}
