@@ -3,7 +3,7 @@ ghost use Rattle.std.specs.Prelude.{◌≡◌, ◌≤◌, ◌⊎◌, ℕ, IfOk, 
 ghost use Rattle.wl_sigs.specs.Core.{core_tables};
 ghost use Rattle.wl_command.specs.declared.job.Job.{Job};
 ghost use Rattle.wl_jobs.specs.Failing.{IsReadFailure, IsRefusal};
-ghost use Rattle.wl_jobs.specs.Output.{Acted, BindsSocket, IsChecked, IsDone, IsRead, IsRefused, IsTraced, ReadsFile};
+ghost use Rattle.wl_jobs.specs.Output.{Acted, IsChecked, IsDone, IsRead, IsRefused, IsTraced, ReadsFile};
 ghost use Rattle.wl_recording.specs.Text.{IsFirstBad};
 
 use crate::failure::Failure;
@@ -96,7 +96,6 @@ fn output<'a, 'b, A: Allocator, R: Read>(
     job: &'b Job,
     file: &mut R,
 ) -> Result<Printed<&'a A>, Failure<'b>>
-    requires { BindsSocket job.now → ⊥ }
     ensures done { IfOk result (λ o. IsDone job.now (R.remaining file.old) o.text.items o.status) }
     ensures refused { IfErr result (IsRefused job.now (R.remaining file.old)) }
     ensures bad { (text : List ℕ) (n : ℕ) → R.remaining file.old ≡ Some text → IsFirstBad text n
@@ -115,7 +114,7 @@ fn output<'a, 'b, A: Allocator, R: Read>(
             let text = demo(alloc, &Tables::core(global)?, *piece)?;
             Ok(Printed { text, status: 0 })
         }
-        Job::Socket { .. } => unreachable!(),
+        Job::Socket { .. } => Err(Failure::SocketFailed),
     }
 }
 
@@ -144,12 +143,12 @@ pub(crate) fn finish<A: Allocator, O: Write, E: Write>(
     }
 }
 
-/// Does a job other than `Socket` and returns the exit status: 0 or 1 where `out` has taken the whole output, 1 where
+/// Does the job and returns the exit status: 0 or 1 where `out` has taken the whole output, 1 where
 /// it tells of a broken rule; else the status of a `Failure`, whose line goes to `err`.
 ///
 /// Nothing is written to `out` before the whole output is there. `file` is what the job's file
 /// has, if it reads one; at most 16,777,217 bytes of it are read. The signature tables lie in the
-/// global memory.
+/// global memory. A job that needs a socket fails here, since this binds none.
 pub fn act<A: Allocator, R: Read, O: Write, E: Write>(
     alloc: A,
     global: Global,
@@ -158,8 +157,6 @@ pub fn act<A: Allocator, R: Read, O: Write, E: Write>(
     out: &mut O,
     err: &mut E,
 ) -> u8
-    requires { BindsSocket job.now → ⊥ }
-
     // The output was written whole, and nothing to `err`: 0 stands for a lawful session or a
     // demonstration, 1 for a broken session; or no output was written; or writing it failed, and a
     // beginning of it was written. In the last two cases `err` was given the failure's line.
