@@ -1,4 +1,5 @@
-# The library for C. `make` proves and builds it where it is not built yet, `make install` installs it.
+# The library for C. `make` proves and builds it where it is not built yet, `make install` installs it,
+# and the program `waywire` with its manual page where that is built (./waywire --build).
 #
 #     make install PREFIX=/usr/local [DESTDIR=...]
 PREFIX ?= /usr/local
@@ -10,13 +11,16 @@ KIT ?= $(patsubst %/,%,$(dir $(shell rt doc)))
 VERSION := $(shell sed -n 's/^.define WAYWIRE_VERSION "\(.*\)"/\1/p' include/waywire.h)
 
 proved = crates/waywire_c/out/libwaywire_c.a
+crates := waywire_c $(shell sed -n 's/^waywire_c staticlib: //p' crates.txt)
+sources := $(wildcard $(crates:%=crates/%/src/*.rt))
 archive = out/c/libwaywire.a
+program ?= crates/waywire/out/waywire
 
 all: $(archive) out/c/waywire.pc
 
-# Its own command decides whether it is up to date.
-$(proved):
+$(proved): $(sources)
 	cd crates/waywire_c && rt lib
+	@touch $@
 
 out/c/waywire.o: c/waywire.c include/waywire.h
 	@mkdir -p out/c
@@ -36,6 +40,11 @@ install: all
 	install -m 644 $(archive) $(DESTDIR)$(PREFIX)/lib
 	sed 's|@PREFIX@|$(PREFIX)|; s|@VERSION@|$(VERSION)|' c/waywire.pc.in \
 		> $(DESTDIR)$(PREFIX)/lib/pkgconfig/waywire.pc
+	if [ -x $(program) ]; then \
+		install -d $(DESTDIR)$(PREFIX)/bin $(DESTDIR)$(PREFIX)/share/man/man1 && \
+		install -m 755 $(program) $(DESTDIR)$(PREFIX)/bin && \
+		tools/man-page $(program) > $(DESTDIR)$(PREFIX)/share/man/man1/waywire.1; \
+	fi
 
 clean:
 	rm -rf out/c

@@ -19,8 +19,8 @@
  * `realloc` and `free` are called, and nothing else of the system. After `new` an end takes memory
  * only where an object opens (`send`, `bind`, `next` of a server) and in `add_global`.
  *
- * Threads.  One call at a time for each end, and for each tables; different ends can be used by
- * different threads. A call of an end reads its tables too, which no call changes.
+ * Threads.  Tables, and the ends that are made of them, are used by one thread, the one that made them.
+ * Another thread makes its own. No call is made from a signal handler.
  *
  * Statuses.  Each call that can refuse returns a waywire_status. Unless its own text says otherwise,
  * with a status other than WAYWIRE_OK nothing has changed and nothing was written to what the caller
@@ -268,7 +268,7 @@ typedef struct waywire_report {
 typedef struct waywire_tables waywire_tables;
 
 /* Makes the tables of the core protocol (wayland.xml without data transfer). Tables are never freed
- * (some 10 KB): make them once, for all ends of the process. WAYWIRE_NO_MEMORY. */
+ * (some 10 KB): make them once, for all ends of a thread. WAYWIRE_NO_MEMORY. */
 waywire_status waywire_tables_core(waywire_tables **tables);
 
 /* The place of the interface of this name, which ends with a NUL. WAYWIRE_NOT_FOUND. */

@@ -45,8 +45,8 @@ pub fn read_request<'t>(
     ensures state { result ≡ 0 → server.new ≡ after_request server.old }
 {
     match server.next() {
-        Ok(Some(read)) => {
-            *report = request(read, args);
+        Ok(Some(mut read)) => {
+            *report = request(&mut read, args);
             OK
         }
         Ok(None) => {

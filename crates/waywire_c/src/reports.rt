@@ -74,7 +74,7 @@ pub fn nothing() -> Report {
 
 /// Puts arguments into the first slots, as many as there are slots, and returns their number.
 #[inline(always)]
-fn put_shown(mut args: Args<'_>, slots: &mut [ReportArg]) -> usize {
+fn put_shown(args: &mut Args<'_>, slots: &mut [ReportArg]) -> usize {
     let count = args.len().min(slots.len());
     'places: for place in 0..count {
         if let Some(got) = args.next() {
@@ -86,11 +86,11 @@ fn put_shown(mut args: Args<'_>, slots: &mut [ReportArg]) -> usize {
 
 /// The report of a request.
 #[inline(always)]
-pub fn request(read: Request<'_>, slots: &mut [ReportArg]) -> Report {
+pub fn request(read: &mut Request<'_>, slots: &mut [ReportArg]) -> Report {
     Report {
         opcode: u32::from(read.opcode),
         target: CObject::of(read.target),
-        arg_count: put_shown(read.args, slots),
+        arg_count: put_shown(&mut read.args, slots),
         ..plain(MESSAGE)
     }
 }
@@ -102,11 +102,11 @@ pub fn incoming(read: Incoming<'_>, slots: &mut [ReportArg]) -> Report {
         Incoming::Event {
             target,
             opcode,
-            args,
+            mut args,
         } => Report {
             opcode: u32::from(opcode),
             target: CObject::of(target),
-            arg_count: put_shown(args, slots),
+            arg_count: put_shown(&mut args, slots),
             ..plain(MESSAGE)
         },
         Incoming::Discarded {

@@ -9,7 +9,7 @@ use Rattle.wl_sigs.specs.Tables.{Message, Interface, interface_at, messages_of, 
 use Rattle.wl_written.specs.Text.{WrittenMessage, WrittenInterface}
 use Rattle.wl_sigs.specs.Joined.{all_names, first_place, message_placed, interface_placed, joined}
 use Rattle.wl_sigs.specs.Valid.{EachInterface, EachMessage}
-use Rattle.wl_sigs.proofs.Kept.{written_of}
+use Rattle.wl_sigs.specs.FirstBroken.{written_of}
 use Rattle.wl_sigs.proofs.Lookups.{found, signature_from}
 
 -- a place in the back of a list

@@ -23,7 +23,8 @@ use Rattle.wl_sigs.specs.Joined.{all_names, first_place, kind_placed, destroys_o
 use Rattle.wl_sigs.specs.Broken.{is_first, ended_of, first_broken}
 use Rattle.wl_sigs.proofs.RulesDecide.{decides_name}
 use Rattle.wl_sigs.proofs.Earlier.{each_interface_keeps}
-use Rattle.wl_sigs.proofs.Kept.{written_of, Keeps, MessageKeeps, kept}
+use Rattle.wl_sigs.specs.FirstBroken.{written_of}
+use Rattle.wl_sigs.proofs.Kept.{Keeps, MessageKeeps, kept}
 use Rattle.wl_sigs.proofs.JoinedLookup.{in_front, Brought, either_interface, placing, placing_message, each_interface, each_message, length_joined, length_names, placed_messages, either_message}
 use Rattle.wl_sigs.proofs.PlacedKinds.{all_placed, count_placed, not_unnamed, not_any, there, NotEndedIn, not_ended}
 

@@ -7,12 +7,8 @@ use Rattle.wl_sigs.specs.Rules.{is_name}
 use Rattle.wl_written.specs.Text.{WrittenMessage, WrittenInterface}
 use Rattle.wl_sigs.specs.Joined.{first_place}
 use Rattle.wl_sigs.specs.Broken.{is_first, makes_object, makes_unnamed, names_missing, most_new, names_objects, is_race_free, interface_rule, message_rule, broken_at, side_broken, interface_broken}
+use Rattle.wl_sigs.specs.FirstBroken.{written_of}
 use Rattle.wl_sigs.proofs.Earlier.{earlier_none, each_message_keeps}
-
--- the written messages of a side
-abbrev pub written_of : Side → WrittenInterface → List WrittenMessage
-written_of Request i = i.requests
-written_of Event i = i.events
 
 both : (a b : Bool) → a && b ≡ true → (a ≡ true) × (b ≡ true)
 both true true e = (refl, refl)

@@ -7,6 +7,7 @@ mod PlacedKinds
 pub mod JoinedValid
 mod KindsKept
 pub mod ValidKeeps
+pub mod FirstLine
 mod Deciding
 mod Distinct
 mod ByPlace

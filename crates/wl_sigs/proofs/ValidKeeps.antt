@@ -17,7 +17,8 @@ use Rattle.wl_sigs.specs.Joined.{all_names, first_place, kind_placed, joined}
 use Rattle.wl_sigs.specs.Broken.{is_first, makes_object, makes_unnamed, takes_any, takes_ended, names_missing, most_new, names_objects, is_race_free, interface_rule, message_rule, messages_broken, side_broken, interface_broken, interfaces_broken, ended_of, first_broken}
 use Rattle.wl_sigs.proofs.RulesDecide.{decides_name}
 use Rattle.wl_sigs.proofs.Lookups.{signature_from}
-use Rattle.wl_sigs.proofs.Kept.{written_of, InterfaceKeeps, MessageKeeps}
+use Rattle.wl_sigs.specs.FirstBroken.{written_of}
+use Rattle.wl_sigs.proofs.Kept.{InterfaceKeeps, MessageKeeps}
 use Rattle.wl_sigs.proofs.FirstPlaces.{first_place-of}
 use Rattle.wl_sigs.proofs.JoinedLookup.{mapped_at, placing, placing_message, placed_messages, length_joined, length_names, names_joined}
 use Rattle.wl_sigs.proofs.JoinedValid.{destroying, ended_joined}

@@ -10,3 +10,4 @@ pub mod Broken
 pub mod Places
 pub mod BrokenLines
 pub mod Outcome
+pub mod FirstBroken

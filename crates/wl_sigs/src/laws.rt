@@ -1,8 +1,9 @@
 //! Laws of valid tables. They do nothing: their contracts state facts about the definitions.
-ghost use Rattle.std.specs.Prelude.{◌≡◌, ◌↔◌, ℕ, List, None, true};
+ghost use Rattle.std.specs.Prelude.{◌≡◌, ◌↔◌, ℕ, List, Some, None, true};
 ghost use Rattle.wl_sigs.specs.declared.signature.Side.{Side};
-ghost use Rattle.wl_sigs.specs.Broken.{first_broken};
+ghost use Rattle.wl_sigs.specs.Broken.{Broken, first_broken};
 ghost use Rattle.wl_sigs.specs.Core.{core_tables};
+ghost use Rattle.wl_sigs.specs.FirstBroken.{IsFirstBroken};
 ghost use Rattle.wl_sigs.specs.Joined.{joined};
 ghost use Rattle.wl_sigs.specs.Opcodes.{opcodes, opcodes_in};
 ghost use Rattle.wl_sigs.specs.Rules.{keep_rules};
@@ -36,4 +37,11 @@ pub fn opcodes_are_of_their_names()
 pub fn unbroken_where_valid()
     ensures { (tables : List Interface) (written : List WrittenInterface) → Valid tables
         → (first_broken tables written ≡ None) ↔ Valid (joined tables written) }
+{}
+
+/// The broken line of a text that is found breaks its rule and no lesser one, and no earlier line breaks
+/// any.
+pub fn first_broken_is_first()
+    ensures { (tables : List Interface) (written : List WrittenInterface) (it : Broken)
+        → first_broken tables written ≡ Some it → IsFirstBroken tables written it }
 {}
