@@ -107,14 +107,14 @@ made_unless r place value None = Ok (both r place value)
 made_unless r place value (Some fault) = Err fault
 
 -- what was parsed, seen over its body, and the bytes behind it
-abbrev pub parsed_in : List ℕ → ℕ → Result (List ParsedArg × ℕ) Fault → Result (List Both × List ℕ) Fault
-parsed_in body birth (Err fault) = Err fault
-parsed_in body birth (Ok found) = Ok (all_parsed body birth found.0, drop found.1 body)
+abbrev pub parsed_in : List ℕ → ℕ → List ParsedArg → Result ℕ Fault → Result (List Both × List ℕ) Fault
+parsed_in body birth parsed (Err fault) = Err fault
+parsed_in body birth parsed (Ok end) = Ok (all_parsed body birth parsed, drop end body)
 
 -- what was parsed as it is spelled, and the bytes that were found behind it
-abbrev pub whole_in : List ℕ → Result (List ParsedArg × Bor (List ℕ)) Fault → Result (List Argument × List ℕ) Fault
-whole_in body (Err fault) = Err fault
-whole_in body (Ok found) = Ok (spelled_in body found.0, found.1.now)
+abbrev pub whole_in : List ℕ → List ParsedArg → Result (Bor (List ℕ)) Fault → Result (List Argument × List ℕ) Fault
+whole_in body parsed (Err fault) = Err fault
+whole_in body parsed (Ok rest) = Ok (spelled_in body parsed, rest.now)
 
 abbrev pub one_in : List ℕ → ℕ → Result (ParsedArg × ℕ) Fault → Result (Both × ℕ) Fault
 one_in body birth (Err fault) = Err fault

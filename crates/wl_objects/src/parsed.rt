@@ -1,5 +1,5 @@
 //! The arguments of a message, parsed once.
-ghost use Rattle.std.specs.Prelude.{◌≡◌, ◌≤◌, ◌+◌, ℕ, List, IfOk, drop, length, option_map, slice_get};
+ghost use Rattle.std.specs.Prelude.{◌≡◌, ◌≤◌, ◌+◌, ℕ, List, IfOk, drop, length, option_map, slice_get, take};
 ghost use Rattle.wl_wire.specs.Argument.{Obj, lent};
 ghost use Rattle.wl_wire.specs.Reading.{reading};
 ghost use Rattle.wl_objects.specs.Reading.{arguments_at, forgiving, judged, kind_at, named, object_fault, value_fault};
@@ -141,40 +141,44 @@ pub(crate) fn part(bytes: &[u8], start: usize, len: usize) -> &[u8]
     &rest[..len.min(rest.len())]
 }
 
-/// Parses the arguments at the front of a message's body, and returns with them the bytes behind
-/// them; or the first fault. Each object is looked up once.
+/// Parses the arguments at the front of a message's body, one of each kind, into the front of an
+/// array, and returns the bytes behind them; or the first fault. Each object is looked up once.
 pub(crate) fn parse_body<'a, L: Lookup>(
     lookup: &L,
     forgives: bool,
     kinds: &[Kind],
     body: &'a [u8],
-) -> Result<(ParsedArgs, &'a [u8]), Fault>
+    items: &mut [ParsedArg; MAX_ARGS],
+) -> Result<&'a [u8], Fault>
     requires few { length kinds.now ≤ 20 }
-    ensures answer { whole_in body.now result
+    ensures answer { whole_in body.now (take (length kinds.now) items.new) result
         ≡ arguments_at (forgiving forgives (L.reader lookup.now)) 0 kinds.now body.now }
-    ensures args { IfOk result (λ x. AreParsed (L.reader lookup.now) body.now x.0
-        (spelled_in body.now x.0)) }
+    ensures args { IfOk result (λ _. AreParsed (L.reader lookup.now) body.now
+        (take (length kinds.now) items.new)
+        (spelled_in body.now (take (length kinds.now) items.new))) }
 {
-    match parse(lookup, forgives, kinds, body) {
-        Ok((args, end)) => Ok((args, bytes_from(body, end))),
+    match parse(lookup, forgives, kinds, body, items) {
+        Ok(end) => Ok(bytes_from(body, end)),
         Err(fault) => Err(fault),
     }
 }
 
-/// Parses the arguments at the front of a message's body, and returns with them where they end.
+/// Parses the arguments at the front of a message's body into the front of an array, and returns
+/// where they end.
 fn parse<L: Lookup>(
     lookup: &L,
     forgives: bool,
     kinds: &[Kind],
     body: &[u8],
-) -> Result<(ParsedArgs, usize), Fault>
+    items: &mut [ParsedArg; MAX_ARGS],
+) -> Result<usize, Fault>
     requires few { length kinds.now ≤ 20 }
-    ensures end { IfOk result (λ x. x.1 ≤ length body.now) }
-    ensures parsed { parsed_in body.now (L.reader lookup.now).birth result
+    ensures end { IfOk result (λ end. end ≤ length body.now) }
+    ensures parsed { parsed_in body.now (L.reader lookup.now).birth
+        (take (length kinds.now) items.new) result
         ≡ made_of (L.reader lookup.now) 0
         (arguments_at (forgiving forgives (L.reader lookup.now)) 0 kinds.now body.now) }
 {
-    let mut items = [ParsedArg::Null; MAX_ARGS];
     let mut end = 0;
     let mut descriptors = 0;
     'kinds: for (place, kind) in kinds.iter().enumerate() {
@@ -187,8 +191,7 @@ fn parse<L: Lookup>(
             Err(fault) => return Err(fault),
         }
     }
-    let count = kinds.len();
-    Ok((ParsedArgs { items, count }, end))
+    Ok(end)
 }
 
 /// How many descriptors stand before what follows an argument.

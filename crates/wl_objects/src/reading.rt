@@ -11,7 +11,7 @@ ghost use Rattle.wl_objects.specs.Parsed.{AreParsed};
 use crate::error::Fault;
 use crate::lookup::{Held, Lookup, NewId};
 use crate::messages::is_error;
-use crate::parsed::{ParsedArgs, parse_body};
+use crate::parsed::{MAX_ARGS, ParsedArg, ParsedArgs, parse_body};
 use crate::values::Values;
 use wl_sigs::{Side, Signature, Tables};
 use wl_table::{Entry, Object, Table};
@@ -94,7 +94,8 @@ pub fn receive_by<'t: 'a, 'a, L: Lookup>(
     }
     let forgives = is_error(side, entry.iface, header.opcode);
     let kinds = signature.kinds();
-    let (args, rest) = parse_body(lookup, forgives, kinds, body)?;
+    let mut items = [ParsedArg::Null; MAX_ARGS];
+    let rest = parse_body(lookup, forgives, kinds, body, &mut items)?;
     if !rest.is_empty() {
         return Err(Fault::TrailingBytes);
     }
@@ -109,7 +110,10 @@ pub fn receive_by<'t: 'a, 'a, L: Lookup>(
         entry,
         signature,
         body,
-        args,
+        args: ParsedArgs {
+            items,
+            count: kinds.len(),
+        },
     })
 }
 
