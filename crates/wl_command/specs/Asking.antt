@@ -1,5 +1,5 @@
 -- The command line of the program, and what its words ask for.
-use Rattle.std.specs.Prelude.{◌≡◌, ◌≢◌, ◌⊎◌, ◌<◌, ◌^◌, ℕ, List, [], ◌∷◌, Option, Some, None, String, codes, map, true, pos, string_bytes}
+use Rattle.std.specs.Prelude.{◌≡◌, ◌≢◌, ◌⊎◌, ◌<◌, ◌^◌, ℕ, List, [], ◌∷◌, Option, Some, None, String, codes, map, option_map, true, pos, string_bytes}
 use Rattle.std.specs.Str.Parse.{IsNumeral, digits_value, without_leading_plus}
 use Rattle.clap.specs.Words.{App, IsAmong, Row, Rule, Shape, Text, fault_of, first_of, new_app, new_rule, one_of, subcommand_of, with_rule, with_subcommand}
 use Rattle.clap.specs.Simple.{on_top}
@@ -9,6 +9,13 @@ use Rattle.clap.specs.declared.error.kind.ErrorKind.TheVariants.{DisplayHelp, Di
 use Rattle.wl_command.specs.declared.job.Job.{Job}
 use Rattle.wl_command.specs.declared.job.Job.TheVariants.{Trace, Check, Demo, Socket}
 use Rattle.wl_command.specs.declared.job.Stop.{Stop}
+
+-- `--tables FILE`, which may be missing
+abbrev pub tables_argument : Rule
+tables_argument = record (new_rule (codes "tables")) {
+  long = Some (codes "tables");
+  value_names = 1;
+}
 
 -- the argument that names a recording: one word, which has to be there
 abbrev pub file_argument : Rule
@@ -29,10 +36,10 @@ piece_argument = record (new_rule (codes "piece")) {
 
 -- the commands `trace`, `check`, `demo` and `socket`
 abbrev pub trace_command : App
-trace_command = with_rule (new_app (codes "trace")) file_argument
+trace_command = with_rule (with_rule (new_app (codes "trace")) tables_argument) file_argument
 
 abbrev pub check_command : App
-check_command = with_rule (new_app (codes "check")) file_argument
+check_command = with_rule (with_rule (new_app (codes "check")) tables_argument) file_argument
 
 abbrev pub demo_command : App
 demo_command = with_rule (new_app (codes "demo")) piece_argument
@@ -61,11 +68,16 @@ abbrev pub IsPiece : List Row → Option ℕ → Type 0
 IsPiece arguments (Some piece) = (digits : Text) × (one_of (codes "piece") arguments ≡ Some digits) × Spells digits piece
 IsPiece arguments None = (digits : Text) (piece : ℕ) → one_of (codes "piece") arguments ≡ Some digits → Spells digits piece → ⊥
 
+-- the words that were given for the file of tables, if any was, and for the recording, unchanged
+abbrev pub NamesFiles : {A : Type 0} → List Row → Option (String A) → String A → Type 0
+NamesFiles arguments tables file =
+    (first_of (codes "tables") arguments ≡ option_map string_bytes tables) × (first_of (codes "FILE") arguments ≡ Some (string_bytes file))
+
 -- What a command and its arguments ask for. A file has the name of the word that was given for it, unchanged, and so has a path; a number is the one
 -- that was given.
 abbrev pub IsGiven : Text → List Row → Job → Type 0
-IsGiven name arguments (Trace file) = (name ≡ codes "trace") × (first_of (codes "FILE") arguments ≡ Some (string_bytes file))
-IsGiven name arguments (Check file) = (name ≡ codes "check") × (first_of (codes "FILE") arguments ≡ Some (string_bytes file))
+IsGiven name arguments (Trace tables file) = (name ≡ codes "trace") × NamesFiles arguments tables file
+IsGiven name arguments (Check tables file) = (name ≡ codes "check") × NamesFiles arguments tables file
 IsGiven name arguments (Demo piece) = (name ≡ codes "demo") × IsPiece arguments (Some piece)
 IsGiven name arguments (Socket path) = (name ≡ codes "socket") × (first_of (codes "PATH") arguments ≡ Some (string_bytes path))
 

@@ -1,7 +1,7 @@
 //! What the words of a command line ask for.
 ghost use Rattle.std.specs.Prelude.{◌≡◌, List, [], IfOk, IfErr, false, option_map, string_bytes};
 ghost use Rattle.clap.specs.Words.{HasKind, app_of, fault_of, first_of, found_of, kind_of, rows_of, rule_of, subcommand_of, subcommand_rows_of};
-ghost use Rattle.wl_command.specs.Asking.{Asks, Gives, IsPiece, IsStop, Names, Stops, StopsFor, check_command, command_line, demo_command, file_argument, path_argument, piece_argument, socket_command, texts_of, trace_command};
+ghost use Rattle.wl_command.specs.Asking.{Asks, Gives, IsPiece, IsStop, Names, Stops, StopsFor, check_command, command_line, demo_command, file_argument, path_argument, piece_argument, socket_command, tables_argument, texts_of, trace_command};
 
 use clap::error::ErrorKind;
 use clap::{Arg, ArgMatches, Command, Error};
@@ -17,15 +17,26 @@ const USAGE: &str = "error: no command of this program\n\nUsage: waywire <COMMAN
 #[derive(Debug, Drop)]
 pub enum Job {
     /// Print each message of the recording in the file of this name, and where a rule is broken
-    /// which.
-    Trace { file: String },
-    /// Print whether the recording in the file of this name is lawful.
-    Check { file: String },
+    /// which. A file of tables, where one is named, is read before and adds its interfaces to the
+    /// core ones.
+    Trace {
+        tables: Option<String>,
+        file: String,
+    },
+    /// Print whether the recording in the file of this name is lawful, by the same tables.
+    Check {
+        tables: Option<String>,
+        file: String,
+    },
     /// Print a session of both ends, in which at most so many bytes are carried at once: 1 to 4096.
-    Demo { piece: u32 },
+    Demo {
+        piece: u32,
+    },
     /// Print the same session, played over a Unix socket that is bound at this path and removed at
     /// the end.
-    Socket { path: String },
+    Socket {
+        path: String,
+    },
 }
 
 /// Why there is no job.
@@ -57,6 +68,7 @@ fn trace<'a>(alloc: Global) -> Result<Command<'a>, AllocError>
 {
     Command::new(alloc, "trace")
         .about("Prints each message of a recording, one a line")
+        .arg(tables(alloc))?
         .arg(file(alloc))
 }
 
@@ -65,6 +77,7 @@ fn check<'a>(alloc: Global) -> Result<Command<'a>, AllocError>
 {
     Command::new(alloc, "check")
         .about("Prints whether a recording is a lawful session")
+        .arg(tables(alloc))?
         .arg(file(alloc))
 }
 
@@ -82,6 +95,17 @@ fn socket<'a>(alloc: Global) -> Result<Command<'a>, AllocError>
     Command::new(alloc, "socket")
         .about("Prints the same session, played over a Unix socket")
         .arg(path(alloc))
+}
+
+/// The argument that names a text of tables.
+fn tables<'a>(alloc: Global) -> Arg<'a>
+    ensures rule { rule_of result ≡ tables_argument }
+    ensures local { result.global ≡ false }
+{
+    Arg::new(alloc, "tables")
+        .long("tables")
+        .value_name("FILE")
+        .help("A text of tables: further interfaces, with their messages")
 }
 
 /// The argument that names a recording.
@@ -144,8 +168,14 @@ fn named(alloc: Global, name: &str, given: &ArgMatches<'_>) -> Result<Option<Job
     ensures { IfOk result (Gives name.now (rows_of (found_of given.now))) }
 {
     match name {
-        "trace" => Ok(word_of(alloc, given, "FILE")?.map(|file| Job::Trace { file })),
-        "check" => Ok(word_of(alloc, given, "FILE")?.map(|file| Job::Check { file })),
+        "trace" => {
+            let tables = word_of(alloc, given, "tables")?;
+            Ok(word_of(alloc, given, "FILE")?.map(|file| Job::Trace { tables, file }))
+        }
+        "check" => {
+            let tables = word_of(alloc, given, "tables")?;
+            Ok(word_of(alloc, given, "FILE")?.map(|file| Job::Check { tables, file }))
+        }
         "demo" => Ok(piece_of(given).map(|piece| Job::Demo { piece })),
         "socket" => Ok(word_of(alloc, given, "PATH")?.map(|path| Job::Socket { path })),
         _ => Ok(None),
