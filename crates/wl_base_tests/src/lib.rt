@@ -8,6 +8,8 @@ mod rings;
 #[cfg(test)]
 mod sigs;
 #[cfg(test)]
+mod sigs_text;
+#[cfg(test)]
 mod streams;
 #[cfg(test)]
 mod table;

@@ -137,7 +137,12 @@ fn put_row<A: Allocator>(
 }
 
 /// Whether this is the row of the interface at this place.
-fn has_row<A: Allocator>(alloc: Global, tables: &Tables<A>, place: u16, wanted: &str) -> bool {
+pub(crate) fn has_row<A: Allocator>(
+    alloc: Global,
+    tables: &Tables<A>,
+    place: u16,
+    wanted: &str,
+) -> bool {
     let mut row = String::new(alloc);
     put_row(&mut row, tables, Iface(place)).is_ok() && row.as_str() == wanted
 }
