@@ -5,9 +5,9 @@ use crate::stage::Stage;
 use std::alloc::{AllocError, Allocator, Global};
 use std::fmt::Write;
 use wl_objects::Table;
-use wl_recording::{Direction, Passed, Recording};
-use wl_scenes::{Actor, Trouble, Words, write_verdict};
-use wl_session::{Pair, check};
+use wl_recording::{Direction, Passed};
+use wl_scenes::{Actor, Trouble, Words, begin_of, own_verdict, write_verdict};
+use wl_session::{Pair, Verdict, check};
 use wl_sigs::Tables;
 
 /// A pair, and what a scene has seen of it.
@@ -41,6 +41,17 @@ impl<'a, 't, T: Table + Drop> Stage for AtPair<'a, 't, T> {
 }
 
 impl<'a, 't, T: Table + Drop> AtPair<'a, 't, T> {
+    /// Appends what is wrong with what the pair recorded, up to the first error that was posted;
+    /// nothing where it is lawful.
+    pub fn judge(&self, wrong: &mut String) -> Result<(), AllocError> {
+        let verdict = own_verdict(&self.granting, self.tables, &self.pair)?;
+        if matches!(verdict, Verdict::Lawful { .. }) {
+            return Ok(());
+        }
+        wrong.push_str("what the pair recorded is ")?;
+        write_verdict(wrong, &verdict)
+    }
+
     /// Makes one call.
     fn play_one(&mut self, call: &str, reply: &mut String) -> Result<(), Trouble> {
         if self.actor.run(&mut self.pair, &self.granting, call, reply)? {
@@ -92,20 +103,6 @@ impl<'a, 't, T: Table + Drop> AtPair<'a, 't, T> {
         }
         Ok(())
     }
-}
-
-/// The first pieces of a recording.
-fn begin_of<A: Allocator + Clone + Drop>(
-    alloc: &A,
-    whole: &Recording<A>,
-    count: usize,
-) -> Result<Recording<A>, AllocError> {
-    let mut begin = Recording::new(alloc.clone()?);
-    for piece in whole.pieces().iter().take(count) {
-        let tokens = piece.tokens.min(65_535);
-        begin.add(piece.direction, piece.bytes.as_slice(), tokens)?;
-    }
-    Ok(begin)
 }
 
 /// Appends how many pieces were recorded when an error was posted.

@@ -195,6 +195,7 @@ fn at_pair(
     Ok(with_pair(props, pair, scene, refusal)?)
 }
 
+/// Plays a scene at this pair, and checks what it recorded.
 fn with_pair<T: Table<Alloc = RefusingAllocator> + Drop>(
     props: Props<'_>,
     pair: Pair<'_, T>,
@@ -208,7 +209,11 @@ fn with_pair<T: Table<Alloc = RefusingAllocator> + Drop>(
         actor: Actor::new(props.alloc, props.tables)?,
         granting: RefusingAllocator::new(props.alloc)?,
     };
-    play(props, &mut stage, &scene.rows, refusal)
+    let mut played = play(props, &mut stage, &scene.rows, refusal)?;
+    if played.wrong.is_empty() {
+        stage.judge(&mut played.wrong)?;
+    }
+    Ok(played)
 }
 
 /// Plays a scene at a recording of nothing.
