@@ -1,0 +1,47 @@
+// What a new server reads of a stream whose read fails in the middle of a message.
+use std::io::ErrorKind;
+use std::test::Fail;
+use wl_message::{FillError, ScriptReader, Sizes, Step};
+use wl_objects::{GotRef, Object, SlotTable, Table};
+use wl_server::Server;
+use wl_sigs::{Tables, request};
+
+/// wl_display.get_registry with new id 2.
+const GET_REGISTRY: [u8; 12] = [1, 0, 0, 0, 1, 0, 12, 0, 2, 0, 0, 0];
+
+const SIZES: Sizes = Sizes {
+    out_bytes: 65_536,
+    out_tokens: 64,
+    in_bytes: 65_536,
+    in_tokens: 64,
+};
+
+/// Whether the next report is that get_registry made the registry 2/1.
+fn reports_the_registry<T: Table>(server: &mut Server<'_, T>) -> bool {
+    let registry = Object { id: 2, birth: 1 };
+    let Ok(Some(mut report)) = server.next() else {
+        return false;
+    };
+    report.target == Object { id: 1, birth: 0 }
+        && report.opcode == request::wl_display::GET_REGISTRY
+        && matches!(report.args.next(), Some(GotRef::New(made)) if made == registry)
+        && report.args.next().is_none()
+}
+
+/// Whether the message is read whole, though a read fails within it.
+fn reads_after_a_failure<T: Table>(server: &mut Server<'_, T>) -> bool {
+    let script = [Step::Pass(3), Step::Fail(ErrorKind::Interrupted)];
+    let mut reader = ScriptReader::new(&GET_REGISTRY, &script);
+    server.fill(&mut reader) == Ok(3)
+        && server.fill(&mut reader) == Err(FillError::Io)
+        && server.fill(&mut reader) == Ok(9)
+        && reports_the_registry(server)
+}
+
+#[test]
+fn a_server_reads_on_after_a_failure(rt: HostRuntime) -> Result<(), Fail> {
+    let tables = Tables::core(rt.alloc())?;
+    let mut server: Server<'_, SlotTable> = Server::new(rt.alloc(), &tables, SIZES)?;
+    assert!(rt; reads_after_a_failure(&mut server));
+    Ok(())
+}
