@@ -24,8 +24,8 @@ use Rattle.wl_objects.specs.Reading.{descriptors, is_descriptor_kind}
 use Rattle.wl_objects.specs.Messages.{Received, received, reader_of}
 use Rattle.wl_end.specs.Core.{Core}
 use Rattle.wl_end.specs.Receiving.{Found, found, found_at, found_in, takes, own_tokens, header_of}
-use Rattle.wl_client.specs.declared.reading.Step.{Step}
-use Rattle.wl_client.specs.declared.reading.Stop.TheVariants as stops
+use Rattle.wl_client.specs.declared.receive.Step.{Step}
+use Rattle.wl_client.specs.declared.receive.Stop.TheVariants as stops
 use Rattle.wl_client.specs.Reports.{Report, report, Event, Discarded, needs_memory, is_error_event, is_delete_event, deleted_id, error_report, delete_report, plain_report}
 use Rattle.wl_client.specs.Steps.{end_with, report_by}
 use Rattle.wl_client.proofs.Firsts.{reports_first}
@@ -33,7 +33,7 @@ use Rattle.wl_end.proofs.Receivings.{is_received}
 use Rattle.wl_client.specs.Reading.{IsStep, IsStepOf, IsAhead, IsFront, IsOwnedFront, body_of, headed}
 use Rattle.wl_client.specs.Outlines.{outlined}
 use Rattle.wl_client.specs.Seen.{report_of}
-use Rattle.wl_client.specs.declared.reading.OwnedStep.{OwnedStep}
+use Rattle.wl_client.specs.declared.receive.OwnedStep.{OwnedStep}
 use Rattle.wl_end.proofs.Coming.{IsFound, is_found, reported_own}
 
 -- a frame as it is told

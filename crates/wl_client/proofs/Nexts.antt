@@ -9,28 +9,28 @@ use Rattle.wl_end.specs.Core.{Core}
 use Rattle.wl_end.specs.Outcomes.{left}
 use Rattle.wl_client.specs.State.{Global}
 use Rattle.wl_client.specs.Reports.{after_next}
-use Rattle.wl_client.specs.Steps.{state_of, learnt}
-use Rattle.wl_client.specs.declared.reading.Step.{Step}
-use Rattle.wl_client.specs.declared.reading.OwnedStep.{OwnedStep}
-use Rattle.wl_client.specs.Reading.{owned_in, taught, taught_by_owned}
+use Rattle.wl_client.specs.Steps.{state_of, with_global_change}
+use Rattle.wl_client.specs.declared.receive.Step.{Step}
+use Rattle.wl_client.specs.declared.receive.OwnedStep.{OwnedStep}
+use Rattle.wl_client.specs.Reading.{owned_in, globals_left, globals_left_by_owned}
 
 -- an end is this after its step, whatever globals the client has
 abbrev pub Leaves : Core → Core → Result (Option Step) NextError → Type 0
-Leaves before after result = (globals : List Global) → state_of after (taught globals result) ≡ after_next (state_of before globals)
+Leaves before after result = (globals : List Global) → state_of after (globals_left globals result) ≡ after_next (state_of before globals)
 
 pub after_none : (o : Option Step) (before after : Core) (globals : List Global) → o ≡ None → Leaves before after (Ok o) → state_of after globals ≡ after_next (state_of before globals)
 after_none o before after globals e h = let k = rw e at h in k globals
 
-pub after_some : (o : Option Step) (step : Step) (before after : Core) (globals learned : List Global) → o ≡ Some step → learned ≡ learnt globals step.lesson → Leaves before after (Ok o)
-    → state_of after learned ≡ after_next (state_of before globals)
-after_some o step before after globals learned e l h = let k = rw e at h in ap (state_of after) l ∙ k globals
+pub after_some : (o : Option Step) (step : Step) (before after : Core) (globals later : List Global) → o ≡ Some step → later ≡ with_global_change globals step.global_change → Leaves before after (Ok o)
+    → state_of after later ≡ after_next (state_of before globals)
+after_some o step before after globals later e l h = let k = rw e at h in ap (state_of after) l ∙ k globals
 
 abbrev pub OwnedLeaves : {A : Type 0} → Core → Core → Result (Option (OwnedStep A)) NextError → Type 0
-OwnedLeaves before after result = (globals : List Global) → state_of after (taught_by_owned globals result) ≡ left (state_of before globals) (after_next (state_of before globals)) (owned_in result)
+OwnedLeaves before after result = (globals : List Global) → state_of after (globals_left_by_owned globals result) ≡ left (state_of before globals) (after_next (state_of before globals)) (owned_in result)
 
 pub after_owned_none : {A : Type 0} (o : Option (OwnedStep A)) (before after : Core) (globals : List Global) → o ≡ None → OwnedLeaves before after (Ok o) → state_of after globals ≡ after_next (state_of before globals)
 after_owned_none o before after globals e h = let k = rw e at h in k globals
 
-pub after_owned : {A : Type 0} (o : Option (OwnedStep A)) (owned : OwnedStep A) (before after : Core) (globals learned : List Global) → o ≡ Some owned → learned ≡ learnt globals owned.step.lesson → OwnedLeaves before after (Ok o)
-    → state_of after learned ≡ after_next (state_of before globals)
-after_owned o owned before after globals learned e l h = let k = rw e at h in ap (state_of after) l ∙ k globals
+pub after_owned : {A : Type 0} (o : Option (OwnedStep A)) (owned : OwnedStep A) (before after : Core) (globals later : List Global) → o ≡ Some owned → later ≡ with_global_change globals owned.step.global_change → OwnedLeaves before after (Ok o)
+    → state_of after later ≡ after_next (state_of before globals)
+after_owned o owned before after globals later e l h = let k = rw e at h in ap (state_of after) l ∙ k globals

@@ -16,10 +16,13 @@ pub record FitsBind (iface : List ℕ) : Type 0 where
   pub fits : (name version id : ℕ) → EachFits (bind_values name iface version id)
   pub len : (name version id : ℕ) → message_len (bind_values name iface version id) ≤ 4096
 
--- A bind that is accepted is a spelling, by the tables' signature, of its values: the new object by the next id.
+-- A bind that is accepted is a spelling, by the tables' signature, of its values: the new object by
+-- the next id.
 abbrev pub BindSpells : State → Object → ℕ → List ℕ → ℕ → Type 0
 BindSpells state target name iface version =
     Valid state.core.tables → Sound state.core.view → name < 2 ^ 32 → version < 2 ^ 32
     → (new : Option Object) → bind_answer state target name iface version ≡ Ok new
     → (signature : Message) → signature_at state.core.tables 1 Request 0 ≡ Some signature
-    → MessageSpells signature.kinds target.id 0 (bind_values name iface version (next_id state.core.view)) (message_bytes target.id 0 (bind_values name iface version (next_id state.core.view)))
+    → MessageSpells signature.kinds target.id 0
+    (bind_values name iface version (next_id state.core.view))
+    (message_bytes target.id 0 (bind_values name iface version (next_id state.core.view)))

@@ -1,5 +1,6 @@
--- What a client's binding of a global answers and writes.
-use Rattle.std.specs.Prelude.{ℕ, Bool, false, ◌&&◌, not, nat_le, bytes_eq, if◌then◌else◌, List, [], ◌∷◌, Option, Some, None}
+-- What a client's bind of a global returns and writes.
+use Rattle.std.specs.Prelude.{ℕ, Bool, false, ◌&&◌, not, nat_le, bytes_eq, if◌then◌else◌, List, []}
+use Rattle.std.specs.Prelude.{◌∷◌, Option, Some, None}
 use Rattle.std.specs.declared.result.Result.{Result}
 use Rattle.std.specs.declared.result.Result.TheVariants.{Err}
 use Rattle.wl_wire.specs.declared.kind.Iface.{Iface}
@@ -19,12 +20,16 @@ use Rattle.wl_client.specs.State.{State, Global, global_of}
 
 abbrev pub version_fits : ℕ → ℕ → Option Interface → List ℕ → Bool
 version_fits version advertised None name = false
-version_fits version advertised (Some i) name = bytes_eq i.name name && (nat_le 1 version && (nat_le version advertised && nat_le version i.version))
+version_fits version advertised (Some i) name =
+    bytes_eq i.name name
+    && (nat_le 1 version && (nat_le version advertised && nat_le version i.version))
 
--- whether a global that is remembered is of this interface, and was advertised with at least this version, which the tables know
+-- whether a global that is remembered is of this interface, and was advertised with at least this
+-- version, which the tables know
 abbrev pub can_bind : List Interface → List ℕ → ℕ → Option Global → Bool
 can_bind tables iface version None = false
-can_bind tables iface version (Some global) = version_fits version global.version (interface_at tables global.iface.0) iface
+can_bind tables iface version (Some global) =
+    version_fits version global.version (interface_at tables global.iface.0) iface
 
 -- the arguments of wl_registry.bind
 abbrev pub bind_values : ℕ → List ℕ → ℕ → ℕ → List Argument
@@ -36,24 +41,33 @@ iface_or (Some global) = global.iface
 
 -- the object that a bind makes, at the next id
 abbrev pub bound : State → ℕ → ℕ → Made
-bound state name version = record { id = next_id state.core.view; iface = iface_or (global_of state.globals name); version = version }
+bound state name version = record {
+  id = next_id state.core.view;
+  iface = iface_or (global_of state.globals name);
+  version = version;
+}
 
 abbrev pub bind_at : State → ℕ → List ℕ → ℕ → Option Entry → Result (Option Object) SendError
 bind_at state name iface version None = Err refusals.Stale
 bind_at state name iface version (Some entry) =
     if not (same_iface entry.iface registry) then Err refusals.NoSuchMessage
-    else if not (can_bind state.core.tables iface version (global_of state.globals name)) then Err refusals.BadBind
-    else if fits state.core.outbox (message_len (bind_values name iface version 0)) 0 then opening_answer state.core (Some (bound state name version))
+    else if not (can_bind state.core.tables iface version (global_of state.globals name))
+    then Err refusals.BadBind
+    else if fits state.core.outbox (message_len (bind_values name iface version 0)) 0
+    then opening_answer state.core (Some (bound state name version))
     else Err refusals.Full
 
--- The answer of `bind`, where memory is not wanted: S1, S2, S3, S7, S9, S10; else the new object.
+-- What `bind` returns, where no memory is needed: S1, S2, S3, S7, S9, S10; else the new object.
 abbrev pub bind_answer : State → Object → ℕ → List ℕ → ℕ → Result (Option Object) SendError
 bind_answer state target name iface version =
-    if state.core.failed then Err refusals.Failed else bind_at state name iface version (live_row state.core.view target)
+    if state.core.failed then Err refusals.Failed
+    else bind_at state name iface version (live_row state.core.view target)
 
 -- The client after a bind that was answered Ok.
 abbrev pub after_bind : State → Object → ℕ → List ℕ → ℕ → State
 after_bind state target name iface version = record state {
-  core = with_view (with_sent state.core target.id 0 (bind_values name iface version (next_id state.core.view)) [])
+  core =
+      with_view (with_sent state.core target.id 0
+      (bind_values name iface version (next_id state.core.view)) [])
       (opened state.core.view (bound state name version).iface version);
 }

@@ -14,7 +14,8 @@ use Rattle.wl_client.specs.declared.incoming.Incoming.{Incoming}
 use Rattle.wl_client.specs.declared.incoming.Incoming.TheVariants as incoming
 use Rattle.wl_client.specs.declared.incoming.Outline.{Outline}
 use Rattle.wl_client.specs.declared.incoming.Outline.TheVariants as outlines
-use Rattle.wl_client.specs.Reports.{Report, Event, Discarded, Deleted, Stray, Error, argument, text_in}
+use Rattle.wl_client.specs.Reports.{Report, Event, Discarded, Deleted, Stray, Error, argument}
+use Rattle.wl_client.specs.Reports.{text_in}
 use Rattle.wl_client.specs.contracts.client.Client.{the_row}
 
 -- what a lent report is
@@ -33,18 +34,23 @@ lent_in (Ok (Some read)) = Ok (Some (lent_report read))
 
 -- what an outline is with a message's body and tokens
 abbrev pub outlined : List ℕ → List ℕ → Outline → Report
-outlined body tokens (outlines.Event target opcode args birth) = Event target opcode (reported_in body birth tokens args)
-outlined body tokens (outlines.Discarded target opcode count) = Discarded target opcode (take count tokens)
+outlined body tokens (outlines.Event target opcode args birth) =
+    Event target opcode (reported_in body birth tokens args)
+outlined body tokens (outlines.Discarded target opcode count) =
+    Discarded target opcode (take count tokens)
 outlined body tokens (outlines.Deleted object) = Deleted object
 outlined body tokens (outlines.Stray id) = Stray id
-outlined body tokens (outlines.Error id object code args) = Error id object code (text_in (argument (spelled_in body args) 2))
+outlined body tokens (outlines.Error id object code args) =
+    Error id object code (text_in (argument (spelled_in body args) 2))
 
 -- what an outline is with the message that was taken out of an inbox last
-abbrev pub outline_in : Arrived → Result (Option Outline) NextError → Result (Option Report) NextError
+abbrev pub outline_in : Arrived → Result (Option Outline) NextError
+    → Result (Option Report) NextError
 outline_in inbox (Err why) = Err why
 outline_in inbox (Ok None) = Ok None
 outline_in inbox (Ok (Some outline)) = Ok (Some (outlined inbox.last inbox.last_tokens outline))
 
 -- The client's type as the logic holds it: `named 0` is the place of its lifetime in a signature.
-abbrev pub client_row : (T : RattleType) (A : RattleType) → table.Ghosts T.Denot A.Denot → allocator.Ghosts A.Denot → clone.Ghosts A.Denot → RattleType
+abbrev pub client_row : (T : RattleType) (A : RattleType) → table.Ghosts T.Denot A.Denot
+    → allocator.Ghosts A.Denot → clone.Ghosts A.Denot → RattleType
 client_row T A t a c = the_row (record { mir = named 0; lft = [] }) T A t a c

@@ -151,14 +151,14 @@ core_after core f = record (with_view (past_found core f) (view_after core f)) {
 abbrev pub state_past : State → Found → State
 state_past state f = record { core = core_after state.core f; globals = globals_after state f }
 
--- ---- reading the next message, where memory is not wanted
+-- ---- reading the next message, where no memory is needed
 
 abbrev pub answer_found : Core → Result (Option Found) Fault → Result (Option Report) NextError
 answer_found core (Err fault) = Err (errors.Fault fault core.read)
 answer_found core (Ok None) = Ok None
 answer_found core (Ok (Some f)) = Ok (Some (report core f))
 
--- What `next` answers: what the first message is, nothing where none is whole, or why it cannot be read.
+-- What `next` returns: what the first message is, nothing where none is whole, or why it cannot be read.
 abbrev pub next_answer : State → Result (Option Report) NextError
 next_answer state = if state.core.failed then Err errors.Failed else answer_found state.core (found state.core event_side)
 
@@ -171,6 +171,6 @@ state_found state (Ok (Some f)) = state_past state f
 abbrev pub after_next : State → State
 after_next state = if state.core.failed then state else state_found state (found state.core event_side)
 
--- What `next` answers where memory can be refused: no memory stands only in place of a report that needs some.
+-- What `next_owned` returns where memory can be refused: out of memory stands only in place of a report that needs some.
 abbrev pub IsNext : State → Result (Option Report) NextError → Type 0
 IsNext state result = Gives errors.Memory (answers_with needs_memory (next_answer state)) (next_answer state) result

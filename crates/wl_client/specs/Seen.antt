@@ -18,7 +18,8 @@ report_of (incoming.Stray id) = Stray id
 report_of (incoming.Error id named code text) = Error id named code text
 
 -- what `next_owned` returned
-abbrev pub report_in : {A : Type 0} → Result (Option (OwnedIncoming A)) NextError → Result (Option Report) NextError
+abbrev pub report_in : {A : Type 0} → Result (Option (OwnedIncoming A)) NextError
+    → Result (Option Report) NextError
 report_in (Err why) = Err why
 report_in (Ok None) = Ok None
 report_in (Ok (Some read)) = Ok (Some (report_of read))

@@ -6,7 +6,8 @@ use Rattle.wl_message.specs.declared.amounts.Sizes.{Sizes}
 use Rattle.wl_end.specs.Core.{Core, new_core}
 pub use Rattle.wl_client.specs.declared.globals.Global.{Global}
 
--- The globals that the client remembers, no name twice, in the order in which their names were told.
+-- The globals that the client remembers, no name twice, in the order in which their names were
+-- told.
 pub record State : Type 0 where
   pub core : Core
   pub globals : List Global

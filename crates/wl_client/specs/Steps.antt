@@ -8,19 +8,27 @@ use Rattle.wl_table.specs.View.{View, opening, is_held, is_live, closed, zombied
 use Rattle.wl_objects.specs.Seen.{message_of}
 use Rattle.wl_end.specs.Core.{Core, past, with_view}
 use Rattle.wl_end.specs.Receiving.{Found}
-use Rattle.wl_client.specs.declared.steps.Change.{Change}
-use Rattle.wl_client.specs.declared.steps.Change.TheVariants as changes
-use Rattle.wl_client.specs.declared.steps.Lesson.{Lesson}
-use Rattle.wl_client.specs.declared.steps.Lesson.TheVariants as lessons
+use Rattle.wl_client.specs.declared.changes.ObjectChange.{ObjectChange}
+use Rattle.wl_client.specs.declared.changes.ObjectChange.TheVariants as object_changes
+use Rattle.wl_client.specs.declared.changes.GlobalChange.{GlobalChange}
+use Rattle.wl_client.specs.declared.changes.GlobalChange.TheVariants as global_changes
 use Rattle.wl_client.specs.State.{State, Global}
-use Rattle.wl_client.specs.Reports.{Report, report, view_after, globals_after, forgotten, remembered}
+use Rattle.wl_client.specs.Reports.{Report, report, view_after, globals_after, forgotten}
+use Rattle.wl_client.specs.Reports.{remembered}
 
 -- an end with these tables and objects, at which these tokens wait
 abbrev pub end_with : List Interface → View → List ℕ → Core
 end_with tables view tokens = record {
   tables = tables;
   view = view;
-  inbox = record { bytes = []; tokens = tokens; capacity = 0; token_capacity = 0; last = []; last_tokens = [] };
+  inbox = record {
+    bytes = [];
+    tokens = tokens;
+    capacity = 0;
+    token_capacity = 0;
+    last = [];
+    last_tokens = [];
+  };
   outbox = no_messages 0 0;
   failed = false;
   read = 0;
@@ -43,26 +51,28 @@ view_by view f = view_after (end_with [] view []) f
 
 -- the globals after a message
 abbrev pub globals_by : List Interface → List Global → Found → List Global
-globals_by tables globals f = globals_after (state_of (end_with tables (opening display) []) globals) f
+globals_by tables globals f =
+    globals_after (state_of (end_with tables (opening display) []) globals) f
 
 -- the objects after a change
-abbrev pub changed : View → Change → View
-changed view changes.Nothing = view
-changed view (changes.Zombie id) = zombied view id
-changed view (changes.Close id) = closed view id
+abbrev pub changed : View → ObjectChange → View
+changed view object_changes.Nothing = view
+changed view (object_changes.Zombie id) = zombied view id
+changed view (object_changes.Close id) = closed view id
 
--- the end after the message in front was taken, of so many bytes and tokens; it fails with the last
-abbrev pub stepped : Core → Change → ℕ → ℕ → Bool → Core
-stepped core change bytes tokens last = record (with_view (past core bytes tokens) (changed core.view change)) { failed = last }
+-- the end after the message in front was taken, with its bytes and tokens; it fails with the last
+abbrev pub stepped : Core → ObjectChange → ℕ → ℕ → Bool → Core
+stepped core change bytes tokens last =
+    record (with_view (past core bytes tokens) (changed core.view change)) { failed = last }
 
 -- the change can be made: of an object that is there, and is not wl_display
-abbrev pub CanChange : View → Change → Type 0
-CanChange view changes.Nothing = Unit {0}
-CanChange view (changes.Zombie id) = IsTrue (is_live view id) × (id ≢ 1)
-CanChange view (changes.Close id) = IsTrue (is_held view id) × (id ≢ 1)
+abbrev pub CanChange : View → ObjectChange → Type 0
+CanChange view object_changes.Nothing = Unit {0}
+CanChange view (object_changes.Zombie id) = IsTrue (is_live view id) × (id ≢ 1)
+CanChange view (object_changes.Close id) = IsTrue (is_held view id) × (id ≢ 1)
 
--- the globals after a lesson
-abbrev pub learnt : List Global → Lesson → List Global
-learnt globals lessons.Nothing = globals
-learnt globals (lessons.Forget name) = forgotten name globals
-learnt globals (lessons.Remember global) = remembered global globals
+-- the globals after a change of them
+abbrev pub with_global_change : List Global → GlobalChange → List Global
+with_global_change globals global_changes.Nothing = globals
+with_global_change globals (global_changes.Forget name) = forgotten name globals
+with_global_change globals (global_changes.Remember global) = remembered global globals

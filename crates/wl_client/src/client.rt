@@ -60,7 +60,7 @@ impl<'t, T: Table> Client<'t, T> {
         self.core.display()
     }
 
-    /// The interface and version of an object that is live. Answers at a failed client too.
+    /// The interface and version of an object that is live. At a failed client too.
     pub fn live(&self, object: Object) -> Option<(Iface, u32)>
         ensures { result ≡ live self.now.core object }
     {
@@ -105,11 +105,11 @@ impl<'t, T: Table> Client<'t, T> {
     pub fn goes(&self, bytes: usize, tokens: usize) -> Taken
         ensures { result ≡ goes self.now.core.outbox bytes tokens }
     {
-        self.core.goes(bytes, tokens)
+        self.core.outbox.goes(bytes, tokens)
     }
 
-    /// Hands out what waits to go, as much as the slices hold. The tokens of a message go with its
-    /// first byte.
+    /// Moves out what waits to be sent, as much as the slices hold. The tokens of a message go with
+    /// its first byte.
     pub fn take(&mut self, bytes: &mut [u8], tokens: &mut [u32]) -> Taken
         ensures taken { result ≡ goes self.old.core.outbox (length bytes.old) (length tokens.old) }
         ensures bytes { bytes.new ≡ take result.bytes (waiting_bytes self.old.core.outbox)
@@ -118,6 +118,6 @@ impl<'t, T: Table> Client<'t, T> {
             ++ drop result.tokens tokens.old }
         ensures state { self.new ≡ with_core self.old (with_gone self.old.core result.bytes) }
     {
-        self.core.take(bytes, tokens)
+        self.core.outbox.take(bytes, tokens)
     }
 }

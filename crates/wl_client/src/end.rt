@@ -1,7 +1,7 @@
 //! The client, as whoever carries bytes to it and from it sees it.
 use crate::client::Client;
 use crate::incoming::OwnedIncoming;
-use crate::reading::step_in_front;
+use crate::receive::step_in_front;
 use wl_end::{End, Receiver};
 use wl_message::{Fed, Taken};
 use wl_objects::{NextError, Table};

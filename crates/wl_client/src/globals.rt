@@ -2,9 +2,9 @@
 ghost use Rattle.std.specs.Prelude.{◌≡◌, ◌<◌, ◌≤◌, [], ◌∷◌, ◌++◌, IfOk, length, map, if◌then◌else◌};
 ghost use Rattle.wl_client.specs.State.{global_of, is_named, max_globals};
 ghost use Rattle.wl_client.specs.Reports.{forgotten, replaced, remembered};
-ghost use Rattle.wl_client.specs.Steps.{learnt};
+ghost use Rattle.wl_client.specs.Steps.{with_global_change};
 
-use crate::steps::Lesson;
+use crate::changes::GlobalChange;
 use std::alloc::{AllocError, Allocator};
 use std::marker::Model;
 use wl_wire::Iface;
@@ -67,14 +67,14 @@ impl<A: Allocator> Remembered<A> {
         self.items.retain(|global| global.name != name);
     }
 
-    /// Learns what an event teaches.
-    pub(crate) fn learn(&mut self, lesson: Lesson)
-        ensures { self.new ≡ learnt self.old lesson }
+    /// Changes what is remembered, as an event says.
+    pub(crate) fn apply(&mut self, global_change: GlobalChange)
+        ensures { self.new ≡ with_global_change self.old global_change }
     {
-        match lesson {
-            Lesson::Nothing => {}
-            Lesson::Forget(name) => self.forget(name),
-            Lesson::Remember(global) => self.remember(global),
+        match global_change {
+            GlobalChange::Nothing => {}
+            GlobalChange::Forget(name) => self.forget(name),
+            GlobalChange::Remember(global) => self.remember(global),
         }
     }
 

@@ -4,8 +4,8 @@ ghost use Rattle.wl_client.specs.Reports.{needs_memory};
 ghost use Rattle.wl_client.specs.Seen.{report_of};
 ghost use Rattle.wl_client.specs.Outlines.{lent_report, outlined};
 
+use crate::arguments::text_at;
 use crate::tokens::Tokens;
-use crate::values::text_at;
 use std::alloc::{AllocError, Allocator, Global};
 use wl_objects::{Args, Gots, Named, Object, ParsedArgs};
 use wl_wire::Bytes;

@@ -1,19 +1,20 @@
 //! The client's end of a Wayland connection.
 #![tactic(auto)]
 
-mod binding;
+mod arguments;
+mod bind;
+mod changes;
 mod client;
 mod end;
 mod globals;
 mod incoming;
 mod laws;
+mod outline;
 mod read_all;
-mod reading;
-mod sending;
-mod steps;
+mod receive;
+mod send;
 mod tokens;
 mod transport;
-mod values;
 
 pub use client::Client;
 pub use globals::Global;

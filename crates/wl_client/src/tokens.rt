@@ -4,10 +4,8 @@ ghost use Rattle.std.specs.Prelude.{◌≡◌, ◌≤◌, length, take};
 use std::alloc::Allocator;
 use std::fmt::{self, Debug, Formatter};
 use std::marker::Model;
+use wl_end::MAX_TOKENS;
 use wl_message::Inbox;
-
-/// The most tokens that a message has, one for each argument.
-pub(crate) const MAX_TOKENS: usize = 20;
 
 /// Tokens of a message, in order. They take no memory.
 #[derive(Drop)]
@@ -56,7 +54,7 @@ impl Tokens {
     }
 }
 
-/// Copies the tokens that wait first into the front of a slice, and answers how many there are.
+/// Copies the tokens that wait first into the front of a slice, and returns how many there are.
 fn copy_waiting<A: Allocator>(inbox: &Inbox<A>, items: &mut [u32]) -> usize
     ensures within { result ≤ length items.old }
     ensures items { take result items.new ≡ take (length items.old) inbox.now.tokens }

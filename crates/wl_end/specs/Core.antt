@@ -1,12 +1,16 @@
--- What both ends have: signature tables, objects, what came in, what goes out, whether the end has failed, and how many bytes it read.
-use Rattle.std.specs.Prelude.{◌≡◌, ℕ, ◌+◌, ◌≤◌, Bool, true, false, ◌&&◌, min, List, if◌then◌else◌, Option, Some, option_map}
+-- What both ends have: signature tables, objects, what came in, what goes out, whether the end has
+-- failed, and how many bytes it read.
+use Rattle.std.specs.Prelude.{◌≡◌, ℕ, ◌+◌, ◌≤◌, Bool, true, false, ◌&&◌, min, List, if◌then◌else◌}
+use Rattle.std.specs.Prelude.{Option, Some, option_map}
 use Rattle.wl_wire.specs.declared.kind.Iface.{Iface}
 use Rattle.wl_sigs.specs.Tables.{Interface}
 use Rattle.wl_sigs.specs.Fixed.{display}
 use Rattle.wl_message.specs.declared.amounts.Fed.{Fed}
 use Rattle.wl_message.specs.declared.amounts.Sizes.{Sizes}
-use Rattle.wl_message.specs.Arrived.{Arrived, nothing_arrived, free_bytes, free_tokens, fed, with_more, without_first}
-use Rattle.wl_message.specs.Outgoing.{Outgoing, no_messages, waiting_bytes, waiting_tokens, after_taking}
+use Rattle.wl_message.specs.Arrived.{Arrived, nothing_arrived, free_bytes, free_tokens, fed}
+use Rattle.wl_message.specs.Arrived.{with_more, without_first}
+use Rattle.wl_message.specs.Outgoing.{Outgoing, no_messages, waiting_bytes, waiting_tokens}
+use Rattle.wl_message.specs.Outgoing.{after_taking}
 use Rattle.wl_table.specs.declared.object.Object.{Object}
 use Rattle.wl_table.specs.declared.object.Entry.{Entry}
 use Rattle.wl_table.specs.declared.object.State.TheVariants.{Live}
@@ -42,11 +46,14 @@ display_object = record { id = 1; birth = 0 }
 
 -- its row, which stays as it is for good
 abbrev pub HasDisplay : View → Type 0
-HasDisplay view = look view 1 ≡ Some (record { birth = 0; iface = display; version = 1; state = Live })
+HasDisplay view =
+    look view 1 ≡ Some (record { birth = 0; iface = display; version = 1; state = Live })
 
--- The outbox of an end that has not failed: no error event was added to it, and its size is one that an end has.
+-- The outbox of an end that has not failed: no error event was added to it, and its size is one
+-- that an end has.
 abbrev pub IsOrdinary : Outgoing → Type 0
-IsOrdinary outbox = (outbox.has_error ≡ false) × (outbox.error_to ≡ 0) × (outbox.capacity ≤ 16777216)
+IsOrdinary outbox =
+    (outbox.has_error ≡ false) × (outbox.error_to ≡ 0) × (outbox.capacity ≤ 16777216)
 
 abbrev pub kind_and_version : Entry → Iface × ℕ
 kind_and_version entry = (entry.iface, entry.version)
@@ -60,7 +67,9 @@ no_room = record { bytes = 0; tokens = 0 }
 
 -- how much the inbox takes; a failed end takes nothing
 abbrev pub in_room : Core → Fed
-in_room core = if core.failed then no_room else record { bytes = free_bytes core.inbox; tokens = free_tokens core.inbox }
+in_room core =
+    if core.failed then no_room
+    else record { bytes = free_bytes core.inbox; tokens = free_tokens core.inbox }
 
 -- how much of a piece is taken in
 abbrev pub feeds : Core → List ℕ → List ℕ → Fed
@@ -70,17 +79,22 @@ feeds core bytes tokens = if core.failed then no_room else fed core.inbox bytes 
 abbrev pub with_arrived : Core → List ℕ → List ℕ → Core
 with_arrived core bytes tokens = record core { inbox = with_more core.inbox bytes tokens }
 
--- the end with so many bytes gone out, and the tokens that go with them
+-- the end after this number of bytes has gone out, and the tokens that go with them
 abbrev pub with_gone : Core → ℕ → Core
 with_gone core bytes = record core { outbox = after_taking core.outbox bytes }
 
 -- nothing waits in either box
 abbrev pub is_drained : Core → Bool
-is_drained core = (is_empty core.inbox.bytes && is_empty core.inbox.tokens) && (is_empty (waiting_bytes core.outbox) && is_empty (waiting_tokens core.outbox))
+is_drained core =
+    (is_empty core.inbox.bytes && is_empty core.inbox.tokens)
+    && (is_empty (waiting_bytes core.outbox) && is_empty (waiting_tokens core.outbox))
 
--- the end without the first message, of so many bytes and tokens, which was read
+-- the end without the first message, which was read and had these numbers of bytes and tokens
 abbrev pub past : Core → ℕ → ℕ → Core
-past core bytes tokens = record core { inbox = without_first core.inbox bytes tokens; read = min (core.read + bytes) max_read }
+past core bytes tokens = record core {
+  inbox = without_first core.inbox bytes tokens;
+  read = min (core.read + bytes) max_read;
+}
 
 -- the end with other objects
 abbrev pub with_view : Core → View → Core

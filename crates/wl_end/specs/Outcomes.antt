@@ -1,20 +1,22 @@
--- What a call answers and leaves where memory can be wanted.
+-- What a call returns and leaves where it may allocate.
 use Rattle.std.specs.Prelude.{◌≡◌, ◌⊎◌, Bool, true, false, IsOk, Option, Some, None}
 use Rattle.std.specs.declared.result.Result.{Result}
 use Rattle.std.specs.declared.result.Result.TheVariants.{Ok, Err}
 use Rattle.wl_objects.specs.declared.error.NextError.{NextError}
 use Rattle.wl_objects.specs.declared.error.NextError.TheVariants as errors
 
--- A call answers as it should; or, where that is an acceptance and memory can be wanted for it, that there is no memory.
+-- A call returns what it should; or, where that is an acceptance for which memory may be needed,
+-- out of memory.
 abbrev pub Gives : {X E : Type 0} → E → Bool → Result X E → Result X E → Type 0
-Gives memory wants answer result = (result ≡ answer) ⊎ ((result ≡ Err memory) × (wants ≡ true) × IsOk answer)
+Gives memory wants answer result =
+    (result ≡ answer) ⊎ ((result ≡ Err memory) × (wants ≡ true) × IsOk answer)
 
--- whether a read answers a report, and one of this kind
+-- whether a read returns a report, and one of this kind
 abbrev pub answers_with : {R : Type 0} → (R → Bool) → Result (Option R) NextError → Bool
 answers_with is (Ok (Some report)) = is report
 answers_with is _ = false
 
--- what a read leaves: want of memory changes nothing
+-- what a read leaves: out of memory, nothing has changed
 abbrev pub left : {S R : Type 0} → S → S → Result R NextError → S
 left before after (Err errors.Memory) = before
 left before after result = after

@@ -1,5 +1,6 @@
 -- How an end reads a stream, however it is cut into pieces, and whichever end it is.
-use Rattle.std.specs.Prelude.{◌≡◌, ℕ, ◌<◌, Bool, true, false, List, [], ◌∷◌, length, map, take, drop, Option, Some, None}
+use Rattle.std.specs.Prelude.{◌≡◌, ℕ, ◌<◌, Bool, true, false, List, [], ◌∷◌, length, map, take}
+use Rattle.std.specs.Prelude.{drop, Option, Some, None}
 use Rattle.std.specs.declared.result.Result.{Result}
 use Rattle.std.specs.declared.result.Result.TheVariants.{Ok, Err}
 use Rattle.wl_sigs.specs.declared.signature.Side.{Side}
@@ -17,7 +18,8 @@ use Rattle.wl_end.specs.Streams.{Wants, IsTaken, taken_bytes, taken_tokens, None
 abbrev pub Answer : Type 0 → Type 0
 Answer R = Result (Option R) NextError
 
--- How an end reads: what `next_owned` returns and leaves where memory is not refused, and after which report nothing more is read.
+-- How an end reads: what `next_owned` returns and leaves where memory is not refused, and after
+-- which report nothing more is read.
 pub record Reading (S R : Type 0) : Type 0 where
   pub core : S → Core
   pub with_core : S → Core → S
@@ -40,21 +42,24 @@ pub record IsCoreOf {S : Type 0} (core : S → Core) (with_core : S → Core →
 abbrev pub arrived : {S R : Type 0} → Reading S R → S → List ℕ → List ℕ → S
 arrived e state bytes tokens = e.with_core state (with_arrived (e.core state) bytes tokens)
 
--- All that waits is read: these are the reports of the messages, in order, why the reading stopped, if it did, and the state
--- that is left. Without a stop and without a last report no whole message and no bad header is left. At a server whose outbox
--- is too full for a delete_id the request stays.
+-- All that waits is read: these are the reports of the messages, in order, why the reading stopped,
+-- if it did, and the state that is left. Without a stop and without a last report no whole message
+-- and no bad header is left. At a server whose outbox is too full for a delete_id the request
+-- stays.
 pub data Reads {S R : Type 0} (e : Reading S R) : S → List R → Option NextError → S → Type 0 where
   none : {state : S} → e.answer state ≡ Ok None → Reads e state [] None state
   fault : {state : S} {what : Fault} {offset : ℕ} → e.answer state ≡ Err (errors.Fault what offset)
       → Reads e state [] (Some (errors.Fault what offset)) (e.after state)
-  full : {state : S} → e.answer state ≡ Err errors.OutFull → Reads e state [] (Some errors.OutFull) state
+  full : {state : S} → e.answer state ≡ Err errors.OutFull
+      → Reads e state [] (Some errors.OutFull) state
   last : {state : S} {report : R} → e.answer state ≡ Ok (Some report) → e.is_last report ≡ true
       → Reads e state (report ∷ []) None (e.after state)
   next : {state end : S} {report : R} {reports : List R} {stop : Option NextError}
       → e.answer state ≡ Ok (Some report) → e.is_last report ≡ false
       → Reads e (e.after state) reports stop end → Reads e state (report ∷ reports) stop end
 
--- Some of what waits is read, from the first message on: these are the reports, none of them a last one, and the state that is left.
+-- Some of what waits is read, from the first message on: these are the reports, none of them a last
+-- one, and the state that is left.
 pub data ReadsSome {S R : Type 0} (e : Reading S R) : S → List R → S → Type 0 where
   nothing : {state : S} → ReadsSome e state [] state
   more : {state end : S} {report : R} {reports : List R}
@@ -65,14 +70,17 @@ pub data ReadsSome {S R : Type 0} (e : Reading S R) : S → List R → S → Typ
 abbrev pub HasReport : {S R : Type 0} → Reading S R → S → Type 0
 HasReport {R = R} e state = (report : R) × (e.answer state ≡ Ok (Some report))
 
--- Where memory was refused some of what waits is read, up to a message that can be read; else all of it.
+-- Where memory was refused some of what waits is read, up to a message that can be read; else all
+-- of it.
 abbrev pub ReadsUntil : {S R : Type 0} → Reading S R → S → List R → Option NextError → S → Type 0
-ReadsUntil e state reports (Some errors.Memory) end = ReadsSome e state reports end × HasReport e end
+ReadsUntil e state reports (Some errors.Memory) end =
+    ReadsSome e state reports end × HasReport e end
 ReadsUntil e state reports stop end = Reads e state reports stop end
 
--- Pieces are read, as far as the answer says: as if all that was taken of them had come at once.
+-- Pieces are read, as far as the result says: as if all that was taken of them had come at once.
 -- Nothing but a stop and a last report ends it before a piece whose tokens find room.
-pub record ReadsAll {S R : Type 0} (e : Reading S R) (state : S) (pieces : List Part) (reports : List R) (answer : ReadAll) (end : S) : Type 0 where
+pub record ReadsAll {S R : Type 0} (e : Reading S R) (state : S) (pieces : List Part)
+    (reports : List R) (answer : ReadAll) (end : S) : Type 0 where
   pub taken : IsTaken pieces answer.pieces answer.part
   pub reads : ReadsUntil e (arrived e state (taken_bytes pieces answer.pieces answer.part)
       (taken_tokens pieces answer.pieces answer.part)) reports answer.stop end
@@ -86,11 +94,13 @@ appended seen before after = map seen (drop (length before) after)
 -- ---- one reading
 
 -- A message is read, and would be read so with more behind it, which would stay behind.
-pub record ReadsReport {S R : Type 0} (e : Reading S R) (state : S) (report : R) (end : S) : Type 0 where
+pub record ReadsReport {S R : Type 0} (e : Reading S R) (state : S) (report : R) (end : S)
+    : Type 0 where
   pub is : e.answer state ≡ Ok (Some report)
   pub leaves : end ≡ e.after state
   pub stays : (bytes tokens : List ℕ) → e.answer (arrived e state bytes tokens) ≡ Ok (Some report)
-  pub leaves_more : (bytes tokens : List ℕ) → e.after (arrived e state bytes tokens) ≡ arrived e end bytes tokens
+  pub leaves_more : (bytes tokens : List ℕ)
+      → e.after (arrived e state bytes tokens) ≡ arrived e end bytes tokens
   pub fewer : length (e.core end).inbox.bytes < length (e.core state).inbox.bytes
   pub ends : (e.core end).failed ≡ e.is_last report
 
@@ -113,24 +123,32 @@ abbrev pub ReadsOn : {S R : Type 0} → Reading S R → S → List R → S → T
 ReadsOn e state reports end = (bytes tokens : List ℕ)
     → ReadsSome e (arrived e state bytes tokens) reports (arrived e end bytes tokens)
 
--- What waits is read: all of it, with nothing left to read; or up to a stop, or to a last report, where there is none.
-abbrev pub WaitingIsRead : {S R X : Type 0} → Reading S R → S → List R → Result X (Option NextError) → S → Type 0
+-- What waits is read: all of it, with nothing left to read; or up to a stop, or to a last report,
+-- where there is none.
+abbrev pub WaitingIsRead : {S R X : Type 0} → Reading S R → S → List R → Result X (Option NextError)
+    → S → Type 0
 WaitingIsRead e state reports (Ok _) end = ReadsOn e state reports end × ReadsNothing e end
 WaitingIsRead e state reports (Err stop) end =
     ReadsUntil e state reports stop end × (stop ≡ None → (e.core end).failed ≡ true)
 
--- A piece is read, whose tokens find room: it is taken whole; or part of it, where the reading stopped.
-abbrev pub PieceIsRead : {S R X : Type 0} → Reading S R → S → Part → List R → Result X ReadAll → S → Type 0
+-- A piece is read, whose tokens find room: it is taken whole; or part of it, where the reading
+-- stopped.
+abbrev pub PieceIsRead : {S R X : Type 0} → Reading S R → S → Part → List R → Result X ReadAll → S
+    → Type 0
 PieceIsRead e state piece reports (Ok _) end =
     ReadsOn e (arrived e state piece.bytes piece.tokens) reports end × ((e.core end).failed ≡ false)
 PieceIsRead e state piece reports (Err ended) end =
-    ReadsUntil e (arrived e state (take ended.part.bytes piece.bytes) (take ended.part.tokens piece.tokens)) reports ended.stop end
+    ReadsUntil e
+    (arrived e state (take ended.part.bytes piece.bytes) (take ended.part.tokens piece.tokens))
+    reports ended.stop end
     × (ended.stop ≡ None → (e.core end).failed ≡ true)
-    × (ended.part.bytes < length piece.bytes) × (ended.part.tokens ≡ length piece.tokens) × (ended.pieces ≡ 0)
+    × (ended.part.bytes < length piece.bytes) × (ended.part.tokens ≡ length piece.tokens)
+    × (ended.pieces ≡ 0)
 
 -- ---- pieces that come in step
 
--- What waits begins with messages that need so much: each is read before the next stands in front. Messages of this side come in.
+-- What waits begins with messages that need so much: each is read before the next stands in front.
+-- Messages of this side come in.
 pub data Begins {S R : Type 0} (e : Reading S R) (side : Side) : S → List Need → Type 0 where
   here : {state : S} → Begins e side state []
   ends : {state : S} {need : Need} → (e.core state).failed ≡ false → Wants (e.core state) side need
@@ -141,4 +159,5 @@ pub data Begins {S R : Type 0} (e : Reading S R) (side : Side) : S → List Need
 
 -- the pieces bring the messages in step, with which what waits begins
 abbrev pub ComeInStep : {S R : Type 0} → Reading S R → Side → S → List Part → Type 0
-ComeInStep e side state pieces = (needs : List Need) → Begins e side state needs → InStep needs pieces
+ComeInStep e side state pieces =
+    (needs : List Need) → Begins e side state needs → InStep needs pieces

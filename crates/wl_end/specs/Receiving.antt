@@ -1,5 +1,6 @@
 -- What an end finds in front of its waiting bytes.
-use Rattle.std.specs.Prelude.{ℕ, ◌%◌, ◌/◌, Bool, true, false, List, [], ◌∷◌, take, drop, length, Option, Some, None}
+use Rattle.std.specs.Prelude.{ℕ, ◌%◌, ◌/◌, Bool, true, false, List, [], ◌∷◌, take, drop, length}
+use Rattle.std.specs.Prelude.{Option, Some, None}
 use Rattle.std.specs.declared.result.Result.{Result}
 use Rattle.std.specs.declared.result.Result.TheVariants.{Ok, Err}
 use Rattle.wl_wire.specs.declared.header.Header.{Header}
@@ -14,7 +15,11 @@ use Rattle.wl_end.specs.Core.{Core, past}
 
 -- the header that the first eight bytes are
 abbrev pub header_of : List ℕ → Header
-header_of bytes = record { object = number_at bytes; size = number_at (drop 4 bytes) / 65536; opcode = number_at (drop 4 bytes) % 65536 }
+header_of bytes = record {
+  object = number_at bytes;
+  size = number_at (drop 4 bytes) / 65536;
+  opcode = number_at (drop 4 bytes) % 65536;
+}
 
 -- a message that stands in front: its number of bytes, its opcode, and what was read
 pub record Found : Type 0 where
@@ -23,7 +28,8 @@ pub record Found : Type 0 where
   pub message : Received
 
 abbrev pub found_in : ℕ → ℕ → Result Received Fault → Result (Option Found) Fault
-found_in size opcode (Ok message) = Ok (Some (record { size = size; opcode = opcode; message = message }))
+found_in size opcode (Ok message) =
+    Ok (Some (record { size = size; opcode = opcode; message = message }))
 found_in size opcode (Err fault) = Err fault
 
 abbrev pub found_at : Core → Side → Front → Result (Option Found) Fault
@@ -31,13 +37,16 @@ found_at core side More = Ok None
 found_at core side (Bad size) = Err faults.BadSize
 found_at core side (Whole size) =
     found_in size (header_of core.inbox.bytes).opcode
-    (received core.tables side (reader_of core.view) (header_of core.inbox.bytes) (drop 8 (take size core.inbox.bytes)) (length core.inbox.tokens))
+    (received core.tables side (reader_of core.view) (header_of core.inbox.bytes)
+    (drop 8 (take size core.inbox.bytes)) (length core.inbox.tokens))
 
--- What stands in front of the waiting bytes: no whole message yet, a message, or a fault; messages of this side come in.
+-- What stands in front of the waiting bytes: no whole message yet, a message, or a fault; messages
+-- of this side come in.
 abbrev pub found : Core → Side → Result (Option Found) Fault
 found core side = found_at core side (front usual_limit core.inbox.bytes)
 
--- the arguments of a message as they are reported: objects by the rows before the message, descriptors as the first tokens that wait
+-- the arguments of a message as they are reported: objects by the rows before the message,
+-- descriptors as the first tokens that wait
 abbrev pub reported : Core → Received → List Reported
 reported core message = reports_of (reader_of core.view) core.inbox.tokens message.values
 

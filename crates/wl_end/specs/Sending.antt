@@ -18,7 +18,7 @@ use Rattle.wl_objects.specs.Writing.{Given, wired, message_len, message_bytes, t
 use Rattle.wl_objects.specs.Messages.{Made, made, checked, End, Client, Server, after}
 use Rattle.wl_end.specs.Core.{Core, with_view}
 
--- whether so many bytes and tokens are free in the outbox
+-- whether this number of bytes and tokens is free in the outbox
 abbrev pub fits : Outgoing → ℕ → ℕ → Bool
 fits outbox bytes tokens = if nat_lt (room_of outbox) bytes || nat_lt (token_room_of outbox) tokens then false else true
 
@@ -48,7 +48,7 @@ next_object view version iface = option_map (λ i. record { id = next_id view; i
 abbrev pub made_by_call : Core → ℕ → Message → List Given → Option Made
 made_by_call core version signature given = made core.tables version signature.kinds (map (wired (next_id core.view)) given)
 
--- the answer of a call that has room and makes this: its new object, or S10 where no more can be opened
+-- what a call returns that has room and makes this: its new object, or S10 where no more can be opened
 abbrev pub opening_answer : Core → Option Made → Result (Option Object) SendError
 opening_answer core None = Ok None
 opening_answer core (Some m) = if can_open core.view then Ok (Some (record { id = next_id core.view; birth = core.view.births })) else Err refusals.NoIds
@@ -85,7 +85,7 @@ answer_of core side target given (Ok signature) =
     then opening_answer core (made_at core target signature given)
     else Err refusals.Full
 
--- The answer of `send` at the end that writes this side, where memory is not wanted: S1; S2, S3, S4, S5, S6, S8; S9; S10; else the
+-- What `send` returns at the end that writes this side, where no memory is needed: S1; S2, S3, S4, S5, S6, S8; S9; S10; else the
 -- new object, if the message makes one.
 abbrev pub send_answer : Core → Side → Object → ℕ → List Given → Result (Option Object) SendError
 send_answer core side target opcode given =

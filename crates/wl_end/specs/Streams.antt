@@ -1,5 +1,6 @@
 -- Pieces of a stream that come to an end.
-use Rattle.std.specs.Prelude.{◌≡◌, ℕ, zero, suc, ◌<◌, ◌⊎◌, List, [], ◌∷◌, ◌++◌, length, take, drop, Some}
+use Rattle.std.specs.Prelude.{◌≡◌, ℕ, zero, suc, ◌<◌, ◌⊎◌, List, [], ◌∷◌, ◌++◌, length, take, drop}
+use Rattle.std.specs.Prelude.{Some}
 use Rattle.std.specs.List.{concat, AllByRecursion}
 use Rattle.std.specs.declared.result.Result.TheVariants.{Ok}
 use Rattle.wl_sigs.specs.declared.signature.Side.{Side}
@@ -17,19 +18,21 @@ waiting core = record { bytes = core.inbox.bytes; tokens = core.inbox.tokens }
 abbrev pub need_of : Found → Need
 need_of f = record { size = f.size; tokens = takes f.message }
 
--- A message stands in front which needs so much: it is found there, or would be, if only some more tokens waited.
+-- A message stands in front which needs so much: it is found there, or would be, if only some more
+-- tokens waited.
 pub record Wants (core : Core) (side : Side) (need : Need) : Type 0 where
   pub more : List ℕ
   pub message : Found
   pub there : found (with_arrived core [] more) side ≡ Ok (Some message)
   pub needed : need ≡ need_of message
 
--- ---- what was taken of pieces: so many of them whole, and some of the next
+-- ---- what was taken of pieces: a number of them whole, and some of the next
 
 -- Of the next piece nothing was taken, or all of its tokens and not all of its bytes.
 abbrev pub IsTaken : List Part → ℕ → Fed → Type 0
 IsTaken [] count some = (count ≡ 0) × (some ≡ no_room)
-IsTaken (p ∷ ps) zero some = (some ≡ no_room) ⊎ ((some.bytes < length p.bytes) × (some.tokens ≡ length p.tokens))
+IsTaken (p ∷ ps) zero some =
+    (some ≡ no_room) ⊎ ((some.bytes < length p.bytes) × (some.tokens ≡ length p.tokens))
 IsTaken (p ∷ ps) (suc count) some = IsTaken ps count some
 
 abbrev pub taken_bytes : List Part → ℕ → Fed → List ℕ
@@ -45,7 +48,8 @@ taken_tokens (p ∷ ps) (suc count) some = p.tokens ++ taken_tokens ps count som
 -- what was not taken
 abbrev pub untaken : List Part → ℕ → Fed → List Part
 untaken [] count some = []
-untaken (p ∷ ps) zero some = record { bytes = drop some.bytes p.bytes; tokens = drop some.tokens p.tokens } ∷ ps
+untaken (p ∷ ps) zero some =
+    record { bytes = drop some.bytes p.bytes; tokens = drop some.tokens p.tokens } ∷ ps
 untaken (p ∷ ps) (suc count) some = untaken ps count some
 
 -- a piece with more behind it
@@ -58,7 +62,8 @@ NoneFits room [] count = Unit {0}
 NoneFits room (p ∷ ps) zero = room < length p.tokens
 NoneFits room (p ∷ ps) (suc count) = NoneFits room ps count
 
--- The bytes begin with so many whole messages, by the sizes in their headers, and this is left behind them.
+-- The bytes begin with this number of whole messages, by the sizes in their headers, and this is
+-- left behind them.
 pub record BeginWith (bytes : List ℕ) (count : ℕ) (rest : List ℕ) : Type 0 where
   pub messages : List (List ℕ)
   pub as_many : length messages ≡ count

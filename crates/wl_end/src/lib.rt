@@ -2,7 +2,7 @@
 //! the two boxes, and what is written and read through them.
 //!
 //! Requests are what a client writes and a server reads, events the other way round; so a side
-//! tells which end is meant.
+//! says which end is meant.
 #![tactic(auto)]
 
 mod end;
@@ -17,6 +17,7 @@ mod transport;
 pub use end::End;
 pub use laws::{found_stays, taking_keeps_pieces};
 pub use receiver::Receiver;
+pub use sending::DELETE_ID_LEN;
 pub use shared::Core;
 pub use streams::{ReadAll, read_all};
 pub use taking::MAX_TOKENS;

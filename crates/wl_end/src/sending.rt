@@ -12,6 +12,7 @@ ghost use Rattle.wl_end.specs.Outcomes.{Gives};
 ghost use Rattle.wl_end.specs.Sending.{after_send, answer_of, delete_id_len, fits, following, following_len, next_object, opening_answer, opens_object, send_answer, sent, with_delete_id, with_error_event, with_following, with_sent, writer};
 
 use crate::shared::Core;
+use crate::taking::MAX_TOKENS;
 use std::alloc::Allocator;
 use wl_message::Outbox;
 use wl_objects::{
@@ -24,10 +25,7 @@ use wl_table::DISPLAY_ID;
 use wl_wire::Iface;
 
 /// The number of bytes of wl_display.delete_id.
-const DELETE_ID_LEN: usize = 12;
-
-/// The most arguments that a message has.
-const MOST_ARGUMENTS: usize = 20;
+pub const DELETE_ID_LEN: usize = 12;
 
 /// How many bytes directly follow a message of this side: a delete_id follows a destroying event.
 fn following_len(side: Side, destroys: Destroys) -> usize
@@ -56,7 +54,7 @@ fn add<A: Allocator>(outbox: &mut Outbox<A>, message: &[u8], tokens: &[u32])
 }
 
 impl<'t, T: Table> Core<'t, T> {
-    /// Whether so many bytes and tokens are free in the outbox.
+    /// Whether this number of bytes and tokens is free in the outbox.
     pub fn fits(&self, bytes: usize, tokens: usize) -> bool
         ensures { result ≡ fits self.now.outbox bytes tokens }
     {
@@ -197,7 +195,7 @@ impl<'t, T: Table> Core<'t, T> {
             signature,
             len,
         } = call;
-        let mut tokens = [0; MOST_ARGUMENTS];
+        let mut tokens = [0; MAX_TOKENS];
         let count = tokens_of(args, &mut tokens);
         if !self.fits(len + following_len(side, signature.destroys()), count) {
             return Err(SendError::Full);
@@ -209,7 +207,7 @@ impl<'t, T: Table> Core<'t, T> {
     }
 
     /// Writes a message with these arguments, `New` standing for the object that it makes, and
-    /// answers that object. What the message destroys is ended at once; after an event that
+    /// returns that object. What the message destroys is ended at once; after an event that
     /// destroys, delete_id is written too.
     ///
     /// The refusals are tested in the order of their numbers: S1, S2, S3, S4, S5, S6, S8, S9, S10,

@@ -1,22 +1,16 @@
 //! One end of a connection, whichever.
-ghost use Rattle.std.specs.Prelude.{◌≡◌, ◌≤◌, ◌↔◌, IfOk, IsTrue, length, take, drop, ◌++◌};
+ghost use Rattle.std.specs.Prelude.{◌≡◌, ◌≤◌, ◌↔◌, IfOk, IsTrue, length, take};
 ghost use Rattle.wl_message.specs.Arrived.{AreSizes};
 ghost use Rattle.wl_message.specs.Cut.{usual_limit};
-ghost use Rattle.wl_message.specs.Outgoing.{goes, waiting_bytes, waiting_tokens};
-ghost use Rattle.wl_end.specs.Core.{new_core, display_object, live, in_room, feeds, with_arrived, with_gone, is_drained};
+ghost use Rattle.wl_end.specs.Core.{new_core, display_object, live, in_room, feeds, with_arrived, is_drained};
 
 use std::alloc::AllocError;
 use std::marker::Model;
-use wl_message::{Fed, Inbox, Outbox, Sizes, Taken};
-use wl_objects::{Object, State, Table};
+use wl_message::{Fed, Inbox, Outbox, Sizes};
+use wl_objects::{DISPLAY, Object, State, Table};
 use wl_sigs::Tables;
-use wl_wire::Iface;
-
-/// The interface wl_display, which stands first in all tables.
-const DISPLAY: Iface = Iface(0);
-
-/// The most bytes that a message has.
-const LIMIT: usize = 4096;
+use wl_table::DISPLAY_ID;
+use wl_wire::{Iface, MAX_MESSAGE_LEN};
 
 /// An end: its tables, its objects and its two boxes.
 ///
@@ -64,7 +58,7 @@ impl<'t, T: Table> Core<'t, T> {
     {
         let inbox = Inbox::new(alloc.clone()?, sizes.in_bytes, sizes.in_tokens)?;
         let outbox = Outbox::new(alloc.clone()?, sizes.out_bytes, sizes.out_tokens)?;
-        let store = Vec::with_capacity(alloc.clone()?, LIMIT)?;
+        let store = Vec::with_capacity(alloc.clone()?, MAX_MESSAGE_LEN as usize)?;
         let table = T::new(alloc, DISPLAY)?;
         Ok(Core {
             tables,
@@ -81,10 +75,13 @@ impl<'t, T: Table> Core<'t, T> {
     pub fn display(&self) -> Object
         ensures { result ≡ display_object }
     {
-        Object { id: 1, birth: 0 }
+        Object {
+            id: DISPLAY_ID,
+            birth: 0,
+        }
     }
 
-    /// The interface and version of an object that is live. Answers at a failed end too.
+    /// The interface and version of an object that is live. At a failed end too.
     pub fn live(&self, object: Object) -> Option<(Iface, u32)>
         ensures { result ≡ live self.now object }
     {
@@ -134,25 +131,5 @@ impl<'t, T: Table> Core<'t, T> {
             };
         }
         self.inbox.feed(bytes, tokens)
-    }
-
-    /// How much `take` into slices of these lengths would take.
-    pub fn goes(&self, bytes: usize, tokens: usize) -> Taken
-        ensures { result ≡ goes self.now.outbox bytes tokens }
-    {
-        self.outbox.goes(bytes, tokens)
-    }
-
-    /// Hands out what waits to go, as much as the slices hold. The tokens of a message go with its
-    /// first byte.
-    pub fn take(&mut self, bytes: &mut [u8], tokens: &mut [u32]) -> Taken
-        ensures taken { result ≡ goes self.old.outbox (length bytes.old) (length tokens.old) }
-        ensures bytes { bytes.new ≡ take result.bytes (waiting_bytes self.old.outbox)
-            ++ drop result.bytes bytes.old }
-        ensures tokens { tokens.new ≡ take result.tokens (waiting_tokens self.old.outbox)
-            ++ drop result.tokens tokens.old }
-        ensures state { self.new ≡ with_gone self.old result.bytes }
-    {
-        self.outbox.take(bytes, tokens)
     }
 }

@@ -5,10 +5,10 @@ ghost use Rattle.wl_table.specs.View.{free_or_next, has_room, is_held, is_live, 
 ghost use Rattle.wl_end.specs.Core.{past, with_view};
 
 use crate::shared::Core;
-use wl_objects::{Made, Object, Table, TableError};
+use wl_objects::{MAX_ARGS, Made, Object, Table, TableError};
 
-/// The most descriptors that a message has.
-pub const MAX_TOKENS: usize = 20;
+/// The most tokens that a message has, one for each argument.
+pub const MAX_TOKENS: usize = MAX_ARGS;
 
 impl<'t, T: Table> Core<'t, T> {
     /// The tokens that wait first, as many as a message can take, and zeros where fewer wait.
@@ -23,7 +23,7 @@ impl<'t, T: Table> Core<'t, T> {
         tokens
     }
 
-    /// Takes out the message in front, of so many bytes, and as many of the first tokens as the slice
+    /// Takes out the message in front, of `size` bytes, and as many of the first tokens as the slice
     /// has places, in order.
     pub fn pass(&mut self, size: u16, tokens: &mut [u32])
         requires message { front usual_limit self.old.inbox.bytes ≡ Whole size }

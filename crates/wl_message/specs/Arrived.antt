@@ -1,5 +1,6 @@
 -- Bytes and tokens that came in and wait.
-use Rattle.std.specs.Prelude.{◌≡◌, ℕ, ◌-◌, ◌≤◌, nat_le, min, if◌then◌else◌, List, [], ◌++◌, length, take, drop, Result, Ok, Err, Option, Some, None}
+use Rattle.std.specs.Prelude.{◌≡◌, ℕ, ◌-◌, ◌≤◌, nat_le, min, if◌then◌else◌, List, [], ◌++◌, length}
+use Rattle.std.specs.Prelude.{take, drop, Result, Ok, Err, Option, Some, None}
 use Rattle.wl_wire.specs.Word.{header_bytes}
 use Rattle.wl_wire.specs.declared.header.Header.{Header}
 use Rattle.wl_message.specs.declared.amounts.Fed.{Fed}
@@ -8,8 +9,8 @@ use Rattle.wl_message.specs.declared.inbox.BadSize.{BadSize}
 use Rattle.wl_message.specs.declared.inbox.Frame.{Frame}
 use Rattle.wl_message.specs.Cut.{usual_limit, front, More, Bad, Whole}
 
--- An inbox: the bytes and the tokens that wait, how many of each may wait, the body of the message that was taken out last, and the
--- tokens that were taken with it.
+-- An inbox: the bytes and the tokens that wait, how many of each may wait, the body of the message
+-- that was taken out last, and the tokens that were taken with it.
 pub record Arrived : Type 0 where
   pub bytes : List ℕ
   pub tokens : List ℕ
@@ -20,7 +21,14 @@ pub record Arrived : Type 0 where
 
 -- nothing waits, and no message was taken out
 abbrev pub nothing_arrived : ℕ → ℕ → Arrived
-nothing_arrived bytes tokens = record { bytes = []; tokens = []; capacity = bytes; token_capacity = tokens; last = []; last_tokens = [] }
+nothing_arrived bytes tokens = record {
+  bytes = [];
+  tokens = [];
+  capacity = bytes;
+  token_capacity = tokens;
+  last = [];
+  last_tokens = [];
+}
 
 -- how many bytes are free
 abbrev pub free_bytes : Arrived → ℕ
@@ -30,7 +38,8 @@ free_bytes a = a.capacity - length a.bytes
 abbrev pub free_tokens : Arrived → ℕ
 free_tokens a = a.token_capacity - length a.tokens
 
--- How much is taken in of these bytes and tokens: as many tokens as fit, and where these are all, as many bytes as fit.
+-- How much is taken in of these bytes and tokens: as many tokens as fit, and where these are all,
+-- as many bytes as fit.
 abbrev pub fed : Arrived → List ℕ → List ℕ → Fed
 fed a bytes tokens = record {
   bytes = if nat_le (length tokens) (free_tokens a) then min (length bytes) (free_bytes a) else 0;
@@ -55,10 +64,12 @@ pub record IsCopy (bytes copy : List ℕ) : Type 0 where
   pub whole : front usual_limit bytes ≡ Whole (length copy)
   pub same : copy ≡ take (length copy) bytes
 
--- The header of the message in front, a bad size there, or nothing as long as more bytes are needed.
+-- The header of the message in front, a bad size there, or nothing as long as more bytes are
+-- needed.
 abbrev pub TellsHeader : List ℕ → Result (Option Header) BadSize → Type 0
 TellsHeader bytes (Ok None) = front usual_limit bytes ≡ More
-TellsHeader bytes (Ok (Some h)) = (front usual_limit bytes ≡ Whole h.size) × (take 8 bytes ≡ header_bytes h)
+TellsHeader bytes (Ok (Some h)) =
+    (front usual_limit bytes ≡ Whole h.size) × (take 8 bytes ≡ header_bytes h)
 TellsHeader bytes (Err e) = front usual_limit bytes ≡ Bad e.size
 
 -- so many bytes as the header tells are there: the header, and what stands behind it
@@ -67,8 +78,8 @@ pub record HasParts (bytes : List ℕ) (h : Header) : Type 0 where
   pub there : h.size ≤ length bytes
   pub parts : take h.size bytes ≡ header_bytes h ++ take (h.size - 8) (drop 8 bytes)
 
--- What is told of the message in front: its header, the bytes behind that, and how many tokens wait; a bad size;
--- or nothing, as long as more bytes are needed.
+-- What is told of the message in front: its header, the bytes behind that, and how many tokens
+-- wait; a bad size; or nothing, as long as more bytes are needed.
 abbrev pub Tells : Arrived → Result (Option Frame) BadSize → Type 0
 Tells a (Ok None) = front usual_limit a.bytes ≡ More
 Tells a (Ok (Some f)) =

@@ -1,5 +1,7 @@
 -- A stream cut into messages, by the sizes in their headers alone.
-use Rattle.std.specs.Prelude.{◌≡◌, ◌≢◌, ℕ, zero, suc, ◌+◌, ◌*◌, ◌%◌, ◌≤◌, Bool, ◌&&◌, ◌==◌, nat_lt, nat_le, if◌then◌else◌, List, [], ◌∷◌, ◌++◌, length, take, drop, slice_index}
+use Rattle.std.specs.Prelude.{◌≡◌, ◌≢◌, ℕ, zero, suc, ◌+◌, ◌*◌, ◌%◌, ◌≤◌, Bool, ◌&&◌, ◌==◌, nat_lt}
+use Rattle.std.specs.Prelude.{nat_le, if◌then◌else◌, List, [], ◌∷◌, ◌++◌, length, take, drop}
+use Rattle.std.specs.Prelude.{slice_index}
 use Rattle.std.specs.List.{concat, AllByRecursion}
 
 -- the most bytes that a message has
@@ -38,7 +40,9 @@ pub data Front : Type 0 where
 unfoldable pub front : ℕ → List ℕ → Front
 front limit bytes =
     if nat_lt (length bytes) 8 then More else
-    (if is_size limit (told_size bytes) then (if nat_lt (length bytes) (told_size bytes) then More else Whole (told_size bytes)) else Bad (told_size bytes))
+    (if is_size limit (told_size bytes)
+    then (if nat_lt (length bytes) (told_size bytes) then More else Whole (told_size bytes))
+    else Bad (told_size bytes))
 
 -- a whole message stands in front
 abbrev pub HasMessage : Front → Type 0
@@ -52,7 +56,8 @@ message_size _ = 0
 
 -- The stream is cut into these messages and this rest: it is the messages joined and then the rest,
 -- each message is whole, and no whole message stands in front of the rest.
-pub record IsCut (limit : ℕ) (stream : List ℕ) (messages : List (List ℕ)) (rest : List ℕ) : Type 0 where
+pub record IsCut (limit : ℕ) (stream : List ℕ) (messages : List (List ℕ)) (rest : List ℕ)
+    : Type 0 where
   pub joined : stream ≡ concat messages ++ rest
   pub whole : AllByRecursion (IsMessage limit) messages
   pub last : (n : ℕ) → front limit rest ≢ Whole n

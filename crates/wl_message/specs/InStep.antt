@@ -2,7 +2,9 @@
 use Rattle.std.specs.Prelude.{◌≡◌, ℕ, ◌+◌, ◌<◌, ◌≤◌, ◌⊎◌, List, [], ◌∷◌, ◌++◌, length, take}
 use Rattle.wl_message.specs.declared.amounts.Piece.{Piece}
 use Rattle.wl_message.specs.declared.amounts.Taken.{Taken}
-use Rattle.wl_message.specs.Outgoing.{Message, Outgoing, all_bytes, all_tokens, waiting_bytes, waiting_tokens, newly_begun, Goes, after_taking, no_messages, with_message, with_error}
+use Rattle.wl_message.specs.Outgoing.{Message, Outgoing, all_bytes, all_tokens, waiting_bytes}
+use Rattle.wl_message.specs.Outgoing.{waiting_tokens, newly_begun, Goes, after_taking, no_messages}
+use Rattle.wl_message.specs.Outgoing.{with_message, with_error}
 
 -- what came, or went, at one time
 pub record Part : Type 0 where
@@ -38,36 +40,48 @@ abbrev pub total_need : List Need → ℕ
 total_need [] = 0
 total_need (n ∷ ns) = n.tokens + total_need ns
 
--- The pieces bring the messages in step. For each message, let the piece with its first byte be the one between these earlier and
--- these later ones: then the tokens of the earlier pieces and this one are enough for it and all messages before it,
--- or no token comes later at all.
+-- The pieces bring the messages in step. For each message, let the piece with its first byte be the
+-- one between these earlier and these later ones: then the tokens of the earlier pieces and this
+-- one are enough for it and all messages before it, or no token comes later at all.
 abbrev pub InStep : List Need → List Part → Type 0
 InStep needs parts =
     (before : List Need) (this : Need) (after : List Need) → needs ≡ before ++ this ∷ after
     → (earlier : List Part) (here : Part) (later : List Part) → parts ≡ earlier ++ here ∷ later
-    → length (part_bytes earlier) ≤ total_size before → total_size before < length (part_bytes earlier) + length here.bytes
-    → (total_need before + this.tokens ≤ length (part_tokens earlier) + length here.tokens) ⊎ (part_tokens later ≡ [])
+    → length (part_bytes earlier) ≤ total_size before
+    → total_size before < length (part_bytes earlier) + length here.bytes
+    → (total_need before + this.tokens ≤ length (part_tokens earlier) + length here.tokens)
+    ⊎ (part_tokens later ≡ [])
 
 -- what was taken out of an outbox
 abbrev pub part_taken : Outgoing → Taken → Part
-part_taken o taken = record { bytes = take taken.bytes (waiting_bytes o); tokens = take taken.tokens (waiting_tokens o) }
+part_taken o taken = record {
+  bytes = take taken.bytes (waiting_bytes o);
+  tokens = take taken.tokens (waiting_tokens o);
+}
 
--- What goes takes the messages newly begun out of those not begun, their tokens, and as many bytes of what was left and of these.
+-- What goes takes the messages newly begun out of those not begun, their tokens, and as many bytes
+-- of what was left and of these.
 pub record Passes (o : Outgoing) (taken : Taken) : Type 0 where
   pub rest : o.messages ≡ newly_begun o taken.bytes ++ (after_taking o taken.bytes).messages
-  pub gone : o.left ++ all_bytes (newly_begun o taken.bytes) ≡ (part_taken o taken).bytes ++ (after_taking o taken.bytes).left
+  pub gone : o.left ++ all_bytes (newly_begun o taken.bytes)
+      ≡ (part_taken o taken).bytes ++ (after_taking o taken.bytes).left
   pub with_tokens : (part_taken o taken).tokens ≡ all_tokens (newly_begun o taken.bytes)
 
--- The pieces so far have all of the messages that were begun, but for what is left of the last, and their tokens.
+-- The pieces so far have all of the messages that were begun, but for what is left of the last, and
+-- their tokens.
 pub record Carried (sent : List Message) (left : List ℕ) (parts : List Part) : Type 0 where
   pub bytes : part_bytes parts ++ left ≡ all_bytes sent
   pub tokens : part_tokens parts ≡ all_tokens sent
 
--- What an outbox gave since it was new: the messages that were begun, and the pieces that were taken, one after another,
--- while messages were added in between.
+-- What an outbox gave since it was new: the messages that were begun, and the pieces that were
+-- taken, one after another, while messages were added in between.
 pub data Gave : List Message → List Part → Outgoing → Type 0 where
   starts : {bytes tokens : ℕ} → Gave [] [] (no_messages bytes tokens)
-  adds : {sent : List Message} {parts : List Part} {o : Outgoing} (bytes tokens : List ℕ) → Gave sent parts o → Gave sent parts (with_message o bytes tokens)
-  adds_error : {sent : List Message} {parts : List Part} {o : Outgoing} (bytes : List ℕ) → Gave sent parts o → Gave sent parts (with_error o bytes)
-  takes : {sent : List Message} {parts : List Part} {o : Outgoing} {b t : ℕ} {taken : Taken} → Goes o b t taken → Gave sent parts o
-      → Gave (sent ++ newly_begun o taken.bytes) (parts ++ part_taken o taken ∷ []) (after_taking o taken.bytes)
+  adds : {sent : List Message} {parts : List Part} {o : Outgoing} (bytes tokens : List ℕ)
+      → Gave sent parts o → Gave sent parts (with_message o bytes tokens)
+  adds_error : {sent : List Message} {parts : List Part} {o : Outgoing} (bytes : List ℕ)
+      → Gave sent parts o → Gave sent parts (with_error o bytes)
+  takes : {sent : List Message} {parts : List Part} {o : Outgoing} {b t : ℕ} {taken : Taken}
+      → Goes o b t taken → Gave sent parts o
+      → Gave (sent ++ newly_begun o taken.bytes) (parts ++ part_taken o taken ∷ [])
+      (after_taking o taken.bytes)

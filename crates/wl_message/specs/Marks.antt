@@ -1,14 +1,19 @@
--- How an outbox keeps its messages: their bytes and tokens one after another, and marks that part them.
-use Rattle.std.specs.Prelude.{◌≡◌, ℕ, ◌+◌, ◌-◌, ◌≤◌, Bool, false, nat_lt, ◌==◌, if◌then◌else◌, List, [], ◌∷◌, ◌++◌, length, take, drop}
+-- How an outbox keeps its messages: their bytes and tokens one after another, and marks that part
+-- them.
+use Rattle.std.specs.Prelude.{◌≡◌, ℕ, ◌+◌, ◌-◌, ◌≤◌, Bool, false, nat_lt, ◌==◌, if◌then◌else◌, List}
+use Rattle.std.specs.Prelude.{[], ◌∷◌, ◌++◌, length, take, drop}
 use Rattle.std.specs.List.{AllByRecursion}
 use Rattle.wl_message.specs.declared.marks.Mark.{Mark}
 use Rattle.wl_message.specs.declared.marks.Reach.{Reach}
-use Rattle.wl_message.specs.Outgoing.{Message, message, Outgoing, all_bytes, all_tokens, newly_begun, going_bytes}
+use Rattle.wl_message.specs.Outgoing.{Message, message, Outgoing, all_bytes, all_tokens}
+use Rattle.wl_message.specs.Outgoing.{newly_begun, going_bytes}
 
 -- bytes and tokens, parted into the messages that the marks tell
 abbrev pub parted : List Mark → List ℕ → List ℕ → List Message
 parted [] bytes tokens = []
-parted (k ∷ ks) bytes tokens = message (take k.len bytes) (take k.tokens tokens) ∷ parted ks (drop k.len bytes) (drop k.tokens tokens)
+parted (k ∷ ks) bytes tokens =
+    message (take k.len bytes) (take k.tokens tokens)
+    ∷ parted ks (drop k.len bytes) (drop k.tokens tokens)
 
 abbrev pub lens : List Mark → ℕ
 lens [] = 0
@@ -41,7 +46,8 @@ outgoing h = record {
   error_to = h.error_to;
 }
 
--- the marks tell of all bytes and tokens, the error event is among the bytes, and all others are within the capacity
+-- the marks tell of all bytes and tokens, the error event is among the bytes, and all others are
+-- within the capacity
 pub record IsKept (h : Kept) : Type 0 where
   pub bytes : h.left + lens h.marks ≡ length h.bytes
   pub tokens : token_counts h.marks ≡ length h.tokens
@@ -53,18 +59,21 @@ pub record IsKept (h : Kept) : Type 0 where
   pub error_len : h.error_to ≤ h.error_from + 64
   pub no_error : h.has_error ≡ false → h.error_to ≤ h.error_from
 
--- How far messages go into a room for b bytes and t tokens, after n others that began: what is left of the room, how many began,
--- and how many bytes are left of the last.
+-- How far messages go into a room for b bytes and t tokens, after n others that began: what is left
+-- of the room, how many began, and how many bytes are left of the last.
 abbrev pub reach : ℕ → ℕ → ℕ → List Mark → Reach
 reach b t n [] = record { bytes = b; tokens = t; begun = n; left = 0 }
 reach b t n (k ∷ ks) =
     if b == 0 then record { bytes = b; tokens = t; begun = n; left = 0 } else
     (if nat_lt t k.tokens then record { bytes = b; tokens = t; begun = n; left = 0 } else
-    (if nat_lt b k.len then record { bytes = 0; tokens = t - k.tokens; begun = n + 1; left = k.len - b } else reach (b - k.len) (t - k.tokens) (n + 1) ks))
+    (if nat_lt b k.len
+    then record { bytes = 0; tokens = t - k.tokens; begun = n + 1; left = k.len - b }
+    else reach (b - k.len) (t - k.tokens) (n + 1) ks))
 
 -- what goes into a room for b bytes and t tokens, told by what is left of it
 pub record Reaches (o : Outgoing) (b t : ℕ) (r : Reach) : Type 0 where
   pub bytes : r.bytes + going_bytes o b t ≡ b
   pub tokens : r.tokens + length (all_tokens (newly_begun o (going_bytes o b t))) ≡ t
   pub begun : r.begun ≡ length (newly_begun o (going_bytes o b t))
-  pub left : r.left + going_bytes o b t ≡ length (o.left ++ all_bytes (newly_begun o (going_bytes o b t)))
+  pub left : r.left + going_bytes o b t
+      ≡ length (o.left ++ all_bytes (newly_begun o (going_bytes o b t)))

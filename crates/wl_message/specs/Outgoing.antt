@@ -1,5 +1,6 @@
 -- Messages that wait to go out, with their tokens.
-use Rattle.std.specs.Prelude.{◌≡◌, ℕ, zero, suc, ◌+◌, ◌-◌, ◌≤◌, Bool, true, false, ◌||◌, ◌==◌, nat_lt, if◌then◌else◌, min, List, [], ◌∷◌, ◌++◌, length, drop}
+use Rattle.std.specs.Prelude.{◌≡◌, ℕ, zero, suc, ◌+◌, ◌-◌, ◌≤◌, Bool, true, false, ◌||◌, ◌==◌}
+use Rattle.std.specs.Prelude.{nat_lt, if◌then◌else◌, min, List, [], ◌∷◌, ◌++◌, length, drop}
 use Rattle.wl_message.specs.declared.amounts.Taken.{Taken}
 
 -- a message: its bytes, and the tokens that go with the first of them
@@ -18,10 +19,11 @@ abbrev pub all_tokens : List Message → List ℕ
 all_tokens [] = []
 all_tokens (m ∷ ms) = m.tokens ++ all_tokens ms
 
--- An outbox: what has not gone of the message that was begun last, whose tokens are gone; the messages that
--- are not begun; and how many bytes and tokens of ordinary messages may wait.
--- One error event may stand among the messages, beyond these numbers. Its bytes are those of the waiting ones
--- from the place error_from up to error_to, counted from 0; where both are 0 none of it waits.
+-- An outbox: what has not gone of the message that was begun last, whose tokens are gone; the
+-- messages that are not begun; and how many bytes and tokens of ordinary messages may wait. One
+-- error event may stand among the messages, beyond these numbers. Its bytes are those of the
+-- waiting ones from the place error_from up to error_to, counted from 0; where both are 0 none of
+-- it waits.
 pub record Outgoing : Type 0 where
   pub left : List ℕ
   pub messages : List Message
@@ -33,7 +35,15 @@ pub record Outgoing : Type 0 where
 
 -- nothing waits, and no error event was added
 abbrev pub no_messages : ℕ → ℕ → Outgoing
-no_messages bytes tokens = record { left = []; messages = []; capacity = bytes; token_capacity = tokens; has_error = false; error_from = 0; error_to = 0 }
+no_messages bytes tokens = record {
+  left = [];
+  messages = [];
+  capacity = bytes;
+  token_capacity = tokens;
+  has_error = false;
+  error_from = 0;
+  error_to = 0;
+}
 
 -- the bytes that wait, in order
 abbrev pub waiting_bytes : Outgoing → List ℕ
@@ -85,8 +95,9 @@ pub record MayGo (o : Outgoing) (b t n : ℕ) : Type 0 where
   -- the messages newly begun have at most so many tokens together
   pub tokens_within : length (all_tokens (newly_begun o n)) ≤ t
 
--- What goes where there is room for b bytes and t tokens: the longest beginning of the waiting bytes that may go,
--- and with it exactly the tokens of the messages which it newly begins. These are the first of the waiting tokens.
+-- What goes where there is room for b bytes and t tokens: the longest beginning of the waiting
+-- bytes that may go, and with it exactly the tokens of the messages which it newly begins. These
+-- are the first of the waiting tokens.
 pub record Goes (o : Outgoing) (b t : ℕ) (taken : Taken) : Type 0 where
   pub may : MayGo o b t taken.bytes
   pub longest : (n : ℕ) → MayGo o b t n → n ≤ taken.bytes
@@ -97,7 +108,8 @@ abbrev pub going : ℕ → ℕ → List Message → ℕ
 going b t [] = 0
 going b t (m ∷ ms) =
     if b == 0 || nat_lt t (length m.tokens) then 0 else
-    (if nat_lt b (length m.bytes) then b else length m.bytes + going (b - length m.bytes) (t - length m.tokens) ms)
+    (if nat_lt b (length m.bytes) then b
+    else length m.bytes + going (b - length m.bytes) (t - length m.tokens) ms)
 
 -- how many of the waiting bytes go
 abbrev pub going_bytes : Outgoing → ℕ → ℕ → ℕ
@@ -105,9 +117,13 @@ going_bytes o b t = min b (length o.left) + going (b - length o.left) t o.messag
 
 -- what goes, computed
 unfoldable pub goes : Outgoing → ℕ → ℕ → Taken
-goes o b t = record { bytes = going_bytes o b t; tokens = length (all_tokens (newly_begun o (going_bytes o b t))) }
+goes o b t = record {
+  bytes = going_bytes o b t;
+  tokens = length (all_tokens (newly_begun o (going_bytes o b t)));
+}
 
--- the outbox once the first n of the waiting bytes are gone, with the tokens of the messages newly begun
+-- the outbox once the first n of the waiting bytes are gone, with the tokens of the messages newly
+-- begun
 abbrev pub after_taking : Outgoing → ℕ → Outgoing
 after_taking o n = record o {
   left = drop n (o.left ++ all_bytes (newly_begun o n));

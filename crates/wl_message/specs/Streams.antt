@@ -1,5 +1,6 @@
 -- What passes between the boxes and a stream.
-use Rattle.std.specs.Prelude.{◌≡◌, ℕ, ◌<◌, ◌≤◌, ◌↔◌, List, [], ◌∷◌, ◌++◌, length, take, Option, Result, Ok, Err, IsOk, codes}
+use Rattle.std.specs.Prelude.{◌≡◌, ℕ, ◌<◌, ◌≤◌, ◌↔◌, List, [], ◌∷◌, ◌++◌, length, take, Option}
+use Rattle.std.specs.Prelude.{Result, Ok, Err, IsOk, codes}
 use Rattle.std.specs.Fmt.{decimal}
 use Rattle.std.specs.Io.KnownBytes.{Appends, Consumes, IsAtEnd, Keeps}
 use Rattle.wl_message.specs.declared.streams.FlushError.{FlushError}
@@ -7,7 +8,8 @@ use Rattle.wl_message.specs.declared.streams.FlushError.TheVariants as flush_err
 use Rattle.wl_message.specs.declared.streams.FillError.{FillError}
 use Rattle.wl_message.specs.declared.streams.FillError.TheVariants as fill_error
 use Rattle.wl_message.specs.Arrived.{Arrived, free_bytes, with_more}
-use Rattle.wl_message.specs.Outgoing.{Message, Outgoing, waiting_bytes, all_tokens, newly_begun, after_taking}
+use Rattle.wl_message.specs.Outgoing.{Message, Outgoing, waiting_bytes, all_tokens, newly_begun}
+use Rattle.wl_message.specs.Outgoing.{after_taking}
 
 -- the first of these messages has tokens
 abbrev pub FirstHasTokens : List Message → Type 0
@@ -29,8 +31,10 @@ abbrev pub IsNeedsTokens : Result ℕ FlushError → Type 0
 IsNeedsTokens (Err (flush_error.NeedsTokens n)) = Unit {0}
 IsNeedsTokens _ = ⊥
 
--- A flush of an outbox to a writer, which holds bytes that are known or not: what it returns, and what both are then.
-pub record Flushes (o : Outgoing) (held : Option (List ℕ)) (result : Result ℕ FlushError) (o' : Outgoing) (holds : Option (List ℕ)) : Type 0 where
+-- A flush of an outbox to a writer, which holds bytes that are known or not: what it returns, and
+-- what both are then.
+pub record Flushes (o : Outgoing) (held : Option (List ℕ)) (result : Result ℕ FlushError)
+    (o' : Outgoing) (holds : Option (List ℕ)) : Type 0 where
   -- the bytes written are the first of those that waited, and these alone are gone
   pub there : written_of result ≤ length (waiting_bytes o)
   pub written : Appends held holds (take (written_of result) (waiting_bytes o))
@@ -46,8 +50,10 @@ pub record Flushes (o : Outgoing) (held : Option (List ℕ)) (result : Result �
 abbrev pub most_filled : ℕ
 most_filled = 4096
 
--- A read gave the reader's next n bytes, for which there was room. It gave none only at the end of the input.
-pub record Gives (a : Arrived) (had : Option (List ℕ)) (n : ℕ) (a' : Arrived) (has : Option (List ℕ)) : Type 0 where
+-- A read gave the reader's next n bytes, for which there was room. It gave none only at the end of
+-- the input.
+pub record Gives (a : Arrived) (had : Option (List ℕ)) (n : ℕ) (a' : Arrived)
+    (has : Option (List ℕ)) : Type 0 where
   pub bytes : List ℕ
   pub count : length bytes ≡ n
   pub most : n ≤ most_filled
@@ -56,9 +62,10 @@ pub record Gives (a : Arrived) (had : Option (List ℕ)) (n : ℕ) (a' : Arrived
   pub added : a' ≡ with_more a bytes []
   pub end : n ≡ 0 → IsAtEnd has
 
--- A fill of an inbox from a reader, which has bytes left that are known or not: what it returns, and what both are then.
--- There is no room exactly where no byte is free.
-abbrev pub Fills : Arrived → Option (List ℕ) → Result ℕ FillError → Arrived → Option (List ℕ) → Type 0
+-- A fill of an inbox from a reader, which has bytes left that are known or not: what it returns,
+-- and what both are then. There is no room exactly where no byte is free.
+abbrev pub Fills : Arrived → Option (List ℕ) → Result ℕ FillError → Arrived → Option (List ℕ)
+    → Type 0
 Fills a had (Ok n) a' has = (0 < free_bytes a) × Gives a had n a' has
 Fills a had (Err fill_error.Io) a' has = (0 < free_bytes a) × (a' ≡ a) × Keeps had has
 Fills a had (Err fill_error.NoRoom) a' has = (free_bytes a ≡ 0) × (a' ≡ a) × Keeps had has
@@ -66,7 +73,8 @@ Fills a had (Err fill_error.NoRoom) a' has = (free_bytes a ≡ 0) × (a' ≡ a) 
 -- how the errors print
 abbrev pub flush_error_text : FlushError → List ℕ
 flush_error_text (flush_error.Io n) = codes "writing failed after " ++ decimal n ++ codes " bytes"
-flush_error_text (flush_error.NeedsTokens n) = codes "the next message needs its tokens, after " ++ decimal n ++ codes " bytes"
+flush_error_text (flush_error.NeedsTokens n) =
+    codes "the next message needs its tokens, after " ++ decimal n ++ codes " bytes"
 
 abbrev pub fill_error_text : FillError → List ℕ
 fill_error_text fill_error.Io = codes "reading failed"

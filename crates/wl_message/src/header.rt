@@ -8,10 +8,7 @@ use crate::front::copy_front;
 use crate::inbox::BadSize;
 use circular_buffer::HeapCircularBuffer;
 use std::alloc::Allocator;
-use wl_wire::Header;
-
-/// The most bytes that a message has.
-pub(crate) const LIMIT: u16 = 4096;
+use wl_wire::{Header, MAX_MESSAGE_LEN};
 
 /// The header that the first 8 bytes are, which are copied into the store.
 pub(crate) fn header_of<A: Allocator>(
@@ -34,7 +31,7 @@ pub(crate) fn header_of<A: Allocator>(
 pub fn is_size(size: u16) -> bool
     ensures { result ≡ is_size usual_limit size }
 {
-    size >= 8 && size % 4 == 0 && size <= LIMIT
+    size >= 8 && size % 4 == 0 && size <= MAX_MESSAGE_LEN
 }
 
 #[tactic(auto, using(crate::proofs::Fronts::size_is, crate::proofs::Fronts::parts_of), unfolding(crate::specs::Cut::front))]

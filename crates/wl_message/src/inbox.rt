@@ -10,7 +10,7 @@ ghost use Rattle.wl_message.specs.contracts.inbox.Inbox.{the_row};
 
 use crate::amounts::Fed;
 use crate::front::{append, copy_front, remove_first, take_first};
-use crate::header::{LIMIT, copy_message, header_in_front};
+use crate::header::{copy_message, header_in_front};
 use circular_buffer::HeapCircularBuffer;
 use std::alloc::{AllocError, Allocator, Global};
 use std::error::Error;
@@ -18,7 +18,7 @@ use std::fmt::{self, Display, Formatter};
 use std::io::{self, Read};
 use std::marker::Model;
 use std::mem;
-use wl_wire::Header;
+use wl_wire::{Header, MAX_MESSAGE_LEN};
 
 /// A whole message in front of an inbox.
 #[derive(Clone, Copy, Debug)]
@@ -30,7 +30,7 @@ pub struct Frame<'a> {
     pub tokens: usize,
 }
 
-/// A header tells a size that no message has: below 8, no multiple of 4, or above 4096.
+/// A header has a size that no message has: below 8, no multiple of 4, or above 4096.
 #[derive(Clone, Copy, Debug, PartialEq, Eq)]
 pub struct BadSize {
     /// The size in the header, in bytes.
@@ -91,7 +91,7 @@ impl<A: Allocator> Model for Inbox<A> {
 }
 
 impl<A: Allocator + Clone + Drop> Inbox<A> {
-    /// An inbox for so many bytes and tokens, in which nothing waits.
+    /// An inbox with room for this number of bytes and tokens, in which nothing waits.
     pub fn new(alloc: A, bytes: usize, tokens: usize) -> Result<Inbox<A>, AllocError>
         requires bytes { (4096 ≤ bytes) × (bytes ≤ 16777216) }
         requires tokens { (20 ≤ tokens) × (tokens ≤ 65536) }
@@ -100,9 +100,9 @@ impl<A: Allocator + Clone + Drop> Inbox<A> {
         Ok(Inbox {
             bytes: HeapCircularBuffer::with_capacity(alloc.clone()?, bytes)?,
             tokens: HeapCircularBuffer::with_capacity(alloc.clone()?, tokens)?,
-            message: Vec::with_capacity(alloc.clone()?, LIMIT as usize)?,
+            message: Vec::with_capacity(alloc.clone()?, MAX_MESSAGE_LEN as usize)?,
             is_copied: false,
-            last: Vec::with_capacity(alloc.clone()?, LIMIT as usize)?,
+            last: Vec::with_capacity(alloc.clone()?, MAX_MESSAGE_LEN as usize)?,
             last_tokens: Vec::with_capacity(alloc, tokens)?,
         })
     }
@@ -159,7 +159,7 @@ impl<A: Allocator> Inbox<A> {
         ensures err { OnErr result
             ((self.new ≡ self.old) × Keeps (R.remaining reader.old) (R.remaining reader.new)) }
     {
-        let most = self.room().min(LIMIT as usize);
+        let most = self.room().min(MAX_MESSAGE_LEN as usize);
         self.is_copied = false;
         self.message.clear();
         let _ = self.message.resize(most, 0);

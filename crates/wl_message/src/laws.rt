@@ -9,8 +9,8 @@ ghost use Rattle.wl_message.specs.Cut.{front, Bad, Whole, IsSize, IsMessage, IsC
 ghost use Rattle.wl_message.specs.Outgoing.{Message, Outgoing, Goes, goes, newly_begun, after_taking};
 ghost use Rattle.wl_message.specs.InStep.{Part, Need, need, part_tokens, InStep, Passes, Carried, part_taken, Gave};
 
-/// A header that tells as many bytes as there are makes a whole message, where a message may have
-/// so many.
+/// A header whose size is the number of bytes makes a whole message, if a message may have that
+/// size.
 pub fn headed_message()
     ensures { (limit : ℕ) (header : Header) (arguments : List ℕ)
         → header.size ≡ length (header_bytes header ++ arguments) → header.size < 2 ^ 16

@@ -1,6 +1,6 @@
 //! Queues of messages: bytes and tokens that come in and go out, in any cut.
 //!
-//! A message is a header of two words and its arguments; the header tells its size. File
+//! A message is a header of two words and its arguments; the header has its size. File
 //! descriptors do not stand among the bytes: each is a token in a queue of its own, and the
 //! caller's transport carries it. (Chapter "Wayland Protocol and Model of Operation", section
 //! "Wire Format".)

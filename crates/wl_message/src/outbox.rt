@@ -77,7 +77,7 @@ impl<A: Allocator> Model for Outbox<A> {
 }
 
 impl<A: Allocator + Clone + Drop> Outbox<A> {
-    /// An outbox with room for so many bytes and tokens, and for an error event beyond these. Nothing
+    /// An outbox with room for this number of bytes and tokens, and for an error event beyond these. Nothing
     /// waits in it.
     pub fn new(alloc: A, bytes: usize, tokens: usize) -> Result<Outbox<A>, AllocError>
         requires bytes { bytes ≤ 16777216 }
@@ -212,7 +212,7 @@ impl<A: Allocator> Outbox<A> {
     }
 
     /// Takes bytes and tokens out, from the front of the messages on, into the fronts of these
-    /// slices, and answers how many of each.
+    /// slices, and returns how many of each.
     ///
     /// The tokens of a message go out with its first byte. It stops where the byte slice is full, or
     /// before a message not yet begun whose tokens do not all fit in the rest of the token slice.

@@ -1,10 +1,12 @@
 -- What an argument that one end writes is to the end that reads it.
-use Rattle.std.specs.Prelude.{◌≡◌, ◌≢◌, ℕ, ◌+◌, ◌<◌, ◌≤◌, ◌^◌, true, false, List, ◌++◌, length, map, Option, Some, None, FitsSigned}
+use Rattle.std.specs.Prelude.{◌≡◌, ◌≢◌, ℕ, ◌+◌, ◌<◌, ◌≤◌, ◌^◌, true, false, List, ◌++◌, length, map}
+use Rattle.std.specs.Prelude.{Option, Some, None, FitsSigned}
 use Rattle.std.specs.List.{All}
 use Rattle.std.specs.Int.{w32}
 use Rattle.std.specs.declared.result.Result.TheVariants.{Ok}
 use Rattle.wl_wire.specs.declared.kind.Kind.{Kind}
-use Rattle.wl_wire.specs.Argument.{Argument, reshaped, Int, Uint, Fixed, Str, Obj, New, NewNamed, Array, Fd}
+use Rattle.wl_wire.specs.Argument.{Argument, reshaped, Int, Uint, Fixed, Str, Obj, New, NewNamed}
+use Rattle.wl_wire.specs.Argument.{Array, Fd}
 use Rattle.wl_sigs.specs.declared.signature.Side.{Side}
 use Rattle.wl_sigs.specs.Tables.{Message, Interface, signature_at}
 use Rattle.wl_table.specs.declared.object.Object.{Object}
@@ -12,9 +14,11 @@ use Rattle.wl_table.specs.declared.object.Entry.{Entry}
 use Rattle.wl_objects.specs.declared.argument.Named.{Named}
 use Rattle.wl_objects.specs.declared.argument.Named.TheVariants as named_as
 use Rattle.wl_objects.specs.declared.lookup.NewId.TheVariants.{Free}
-use Rattle.wl_objects.specs.Reading.{Reader, Reported, in_state, arguments_at, reports_of, descriptors}
+use Rattle.wl_objects.specs.Reading.{Reader, Reported, in_state, arguments_at, reports_of}
+use Rattle.wl_objects.specs.Reading.{descriptors}
 use Rattle.wl_table.specs.View.{View, look}
-use Rattle.wl_objects.specs.Writing.{Given, wired, spelled, message_len, tokens_of, wrong_place, lost_place, is_live}
+use Rattle.wl_objects.specs.Writing.{Given, wired, spelled, message_len, tokens_of, wrong_place}
+use Rattle.wl_objects.specs.Writing.{lost_place, is_live}
 use Rattle.wl_objects.specs.Messages.{Received, is_hidden}
 
 -- The numbers of an argument are those of the code's types, whatever its lengths.
@@ -40,7 +44,8 @@ InRange (NewNamed iface version x) = (length iface + 1 < 2 ^ 32) × (version < 2
 InRange (Array bytes) = length bytes < 2 ^ 32
 InRange (Fd token) = Unit {0}
 
--- The reader holds a writer's object: under the same id, with the same birth and of the same interface, live or a zombie.
+-- The reader holds a writer's object: under the same id, with the same birth and of the same
+-- interface, live or a zombie.
 pub record IsHeld (writer : ℕ → Option Entry) (reader : Reader) (object : Object) : Type 0 where
   pub row : Entry
   pub held : reader.object object.id ≡ Some row
@@ -48,7 +53,8 @@ pub record IsHeld (writer : ℕ → Option Entry) (reader : Reader) (object : Ob
   pub iface : (entry : Entry) → writer object.id ≡ Some entry → row.iface ≡ entry.iface
   pub not_null : object.id ≢ 0
 
--- The reader expects an argument, where a new object gets the id n: it holds an object that is named, and the new id is free.
+-- The reader expects an argument, where a new object gets the id n: it holds an object that is
+-- named, and the new id is free.
 abbrev pub IsExpected : (ℕ → Option Entry) → Reader → ℕ → Given → Type 0
 IsExpected writer reader n (Obj (Some object)) = IsHeld writer reader object
 IsExpected writer reader n (New x) = reader.new_id n ≡ Free
@@ -64,20 +70,28 @@ abbrev pub arrived_object : Reader → Option Object → Named
 arrived_object reader None = named_as.Null
 arrived_object reader (Some object) = as_row object (reader.object object.id)
 
--- What an argument arrives as: the same value, the object that the writer meant, the new object with the reader's next birth, the
--- same token.
+-- What an argument arrives as: the same value, the object that the writer meant, the new object
+-- with the reader's next birth, the same token.
 abbrev pub arrived : Reader → ℕ → Given → Reported
-arrived reader n x = reshaped (arrived_object reader) (λ _. record { id = n; birth = reader.birth }) (λ token. token) x
+arrived reader n x =
+    reshaped (arrived_object reader) (λ _. record { id = n; birth = reader.birth }) (λ token. token)
+    x
 
--- The arguments arrive: whatever stands behind them, they are read as they were written, they are reported as the writer meant
--- them, whatever tokens wait behind theirs, and as many tokens are taken as were given.
+-- The arguments arrive: whatever stands behind them, they are read as they were written, they are
+-- reported as the writer meant them, whatever tokens wait behind theirs, and as many tokens are
+-- taken as were given.
 pub record Arrive (reader : Reader) (ks : List Kind) (n : ℕ) (list : List Given) : Type 0 where
-  pub read : (rest : List ℕ) → arguments_at reader 0 ks (spelled (map (wired n) list) ++ rest) ≡ Ok (map (wired n) list, rest)
-  pub reported : (more : List ℕ) → reports_of reader (tokens_of list ++ more) (map (wired n) list) ≡ map (arrived reader n) list
+  pub read : (rest : List ℕ)
+      → arguments_at reader 0 ks (spelled (map (wired n) list) ++ rest)
+      ≡ Ok (map (wired n) list, rest)
+  pub reported : (more : List ℕ)
+      → reports_of reader (tokens_of list ++ more) (map (wired n) list)
+      ≡ map (arrived reader n) list
   pub taken : descriptors ks ≡ length (tokens_of list)
 
 -- The arguments of a call that suit the message's kinds and name live objects of the writer.
-pub record AreWritten (writer : ℕ → Option Entry) (ks : List Kind) (list : List Given) : Type 0 where
+pub record AreWritten (writer : ℕ → Option Entry) (ks : List Kind) (list : List Given)
+    : Type 0 where
   pub suit : wrong_place 0 ks list ≡ None
   pub live : lost_place writer 0 ks list ≡ None
   pub in_range : All InRange list
@@ -92,11 +106,18 @@ pub record IsTarget (entry : Entry) (reader : Reader) (object : Object) : Type 0
 
 -- a message as its reader has it, where the target has this row
 abbrev pub received_by : Object → Entry → Message → List Argument → Received
-received_by target row signature values = record { target = target; entry = row; signature = signature; values = values }
+received_by target row signature values = record {
+  target = target;
+  entry = row;
+  signature = signature;
+  values = values;
+}
 
--- Nothing stands against a call: its target is live with this birth, the message is one that `send` writes and exists at the
--- target's version, its arguments suit and name live objects of the right interfaces, and it is not too long.
-pub record Passes (tables : List Interface) (side : Side) (view : View) (target : Object) (opcode : ℕ) (list : List Given) (signature : Message) : Type 0 where
+-- Nothing stands against a call: its target is live with this birth, the message is one that `send`
+-- writes and exists at the target's version, its arguments suit and name live objects of the right
+-- interfaces, and it is not too long.
+pub record Passes (tables : List Interface) (side : Side) (view : View) (target : Object)
+    (opcode : ℕ) (list : List Given) (signature : Message) : Type 0 where
   pub entry : Entry
   pub row : look view target.id ≡ Some entry
   pub birth : entry.birth ≡ target.birth

@@ -1,9 +1,13 @@
--- The arguments of a message as they were parsed, once: records that lend nothing, over the body that they lie in.
-use Rattle.std.specs.Prelude.{◌≡◌, ℕ, ◌+◌, ◌<◌, ◌^◌, Bool, true, false, if◌then◌else◌, List, [], ◌∷◌, ◌++◌, length, map, take, drop, slice_index_or, Option, Some, None}
+-- The arguments of a message as they were parsed, once: records that lend nothing, over the body
+-- that they lie in.
+use Rattle.std.specs.Prelude.{◌≡◌, ℕ, ◌+◌, ◌<◌, ◌^◌, Bool, true, false, if◌then◌else◌, List, []}
+use Rattle.std.specs.Prelude.{◌∷◌, ◌++◌, length, map, take, drop, slice_index_or, Option, Some}
+use Rattle.std.specs.Prelude.{None}
 use Rattle.std.specs.Borrow.{Bor}
 use Rattle.std.specs.declared.result.Result.{Result}
 use Rattle.std.specs.declared.result.Result.TheVariants.{Ok, Err}
-use Rattle.wl_wire.specs.Argument.{Argument, units, reshaped, Int, Uint, Fixed, Str, Obj, New, NewNamed, Array, Fd}
+use Rattle.wl_wire.specs.Argument.{Argument, units, reshaped, Int, Uint, Fixed, Str, Obj, New}
+use Rattle.wl_wire.specs.Argument.{NewNamed, Array, Fd}
 use Rattle.wl_objects.specs.declared.error.Fault.{Fault}
 use Rattle.wl_objects.specs.declared.argument.Named.TheVariants as named_as
 use Rattle.wl_objects.specs.declared.argument.GotRef.{GotRef}
@@ -11,7 +15,8 @@ use Rattle.wl_objects.specs.declared.argument.GotRef.TheVariants as refs
 use Rattle.wl_objects.specs.declared.parsed.ParsedArg.{ParsedArg}
 use Rattle.wl_objects.specs.declared.parsed.ParsedArg.TheVariants as parsed_as
 use Rattle.wl_objects.specs.declared.args.Args.{Args}
-use Rattle.wl_objects.specs.Reading.{Reader, Reported, in_state, is_descriptor, report_of, reports_of}
+use Rattle.wl_objects.specs.Reading.{Reader, Reported, in_state, is_descriptor, report_of}
+use Rattle.wl_objects.specs.Reading.{reports_of}
 
 -- so many bytes from a place on, as far as there are such
 abbrev pub part : List ℕ → ℕ → ℕ → List ℕ
@@ -31,7 +36,8 @@ argument_of body (parsed_as.Bound start len version id) = NewNamed (part body st
 argument_of body (parsed_as.Array start len) = Array (part body start len)
 argument_of body (parsed_as.Fd place) = Fd tt
 
--- An argument as it is reported, where a new object gets this birth; of a descriptor the place of its token among the message's.
+-- An argument as it is reported, where a new object gets this birth; of a descriptor the place of
+-- its token among the message's.
 abbrev pub placed_of : List ℕ → ℕ → ParsedArg → Reported
 placed_of body birth parsed_as.Null = Str None
 placed_of body birth (parsed_as.Int z) = Int z
@@ -39,9 +45,11 @@ placed_of body birth (parsed_as.Uint n) = Uint n
 placed_of body birth (parsed_as.Fixed z) = Fixed (units z)
 placed_of body birth (parsed_as.Str start len) = Str (Some (part body start len))
 placed_of body birth (parsed_as.NoObject id) = Obj named_as.Null
-placed_of body birth (parsed_as.Object id held state) = Obj (in_state state (record { id = id; birth = held }))
+placed_of body birth (parsed_as.Object id held state) =
+    Obj (in_state state (record { id = id; birth = held }))
 placed_of body birth (parsed_as.New id) = New (record { id = id; birth = birth })
-placed_of body birth (parsed_as.Bound start len version id) = NewNamed (part body start len) version (record { id = id; birth = birth })
+placed_of body birth (parsed_as.Bound start len version id) =
+    NewNamed (part body start len) version (record { id = id; birth = birth })
 placed_of body birth (parsed_as.Array start len) = Array (part body start len)
 placed_of body birth (parsed_as.Fd place) = Fd place
 
@@ -64,10 +72,13 @@ spelled_in body parsed = map (argument_of body) parsed
 abbrev pub reported_in : List ℕ → ℕ → List ℕ → List ParsedArg → List Reported
 reported_in body birth tokens parsed = map (reported_of body birth tokens) parsed
 
--- What was parsed is these values: they are spelled so, and reported so, whatever tokens the message has.
-pub record AreParsed (r : Reader) (body : List ℕ) (parsed : List ParsedArg) (values : List Argument) : Type 0 where
+-- What was parsed is these values: they are spelled so, and reported so, whatever tokens the
+-- message has.
+pub record AreParsed (r : Reader) (body : List ℕ) (parsed : List ParsedArg) (values : List Argument)
+    : Type 0 where
   pub spelled : spelled_in body parsed ≡ values
-  pub reported : (tokens : List ℕ) → reported_in body r.birth tokens parsed ≡ reports_of r tokens values
+  pub reported : (tokens : List ℕ)
+      → reported_in body r.birth tokens parsed ≡ reports_of r tokens values
 
 -- ---- what parsing comes to
 
@@ -94,7 +105,8 @@ all_of r place [] = []
 all_of r place (value ∷ values) = both r place value ∷ all_of r (place_after value place) values
 
 -- what the reader makes of arguments that were read, and the bytes behind them
-abbrev pub made_of : Reader → ℕ → Result (List Argument × List ℕ) Fault → Result (List Both × List ℕ) Fault
+abbrev pub made_of : Reader → ℕ → Result (List Argument × List ℕ) Fault
+    → Result (List Both × List ℕ) Fault
 made_of r place (Err fault) = Err fault
 made_of r place (Ok found) = Ok (all_of r place found.0, found.1)
 
@@ -107,12 +119,14 @@ made_unless r place value None = Ok (both r place value)
 made_unless r place value (Some fault) = Err fault
 
 -- what was parsed, seen over its body, and the bytes behind it
-abbrev pub parsed_in : List ℕ → ℕ → List ParsedArg → Result ℕ Fault → Result (List Both × List ℕ) Fault
+abbrev pub parsed_in : List ℕ → ℕ → List ParsedArg → Result ℕ Fault
+    → Result (List Both × List ℕ) Fault
 parsed_in body birth parsed (Err fault) = Err fault
 parsed_in body birth parsed (Ok end) = Ok (all_parsed body birth parsed, drop end body)
 
 -- what was parsed as it is spelled, and the bytes that were found behind it
-abbrev pub whole_in : List ℕ → List ParsedArg → Result (Bor (List ℕ)) Fault → Result (List Argument × List ℕ) Fault
+abbrev pub whole_in : List ℕ → List ParsedArg → Result (Bor (List ℕ)) Fault
+    → Result (List Argument × List ℕ) Fault
 whole_in body parsed (Err fault) = Err fault
 whole_in body parsed (Ok rest) = Ok (spelled_in body parsed, rest.now)
 
@@ -125,7 +139,8 @@ parsed_one body birth (Err fault) = Err fault
 parsed_one body birth (Ok parsed) = Ok (both_of body birth parsed)
 
 -- the arguments behind others
-abbrev pub behind_those : List Both → Result (List Both × List ℕ) Fault → Result (List Both × List ℕ) Fault
+abbrev pub behind_those : List Both → Result (List Both × List ℕ) Fault
+    → Result (List Both × List ℕ) Fault
 behind_those front (Err fault) = Err fault
 behind_those front (Ok found) = Ok (front ++ found.0, found.1)
 

@@ -1,5 +1,6 @@
 -- What the arguments of a message mean to the end that reads it.
-use Rattle.std.specs.Prelude.{ℕ, suc, Bool, true, false, List, [], ◌∷◌, drop, nat_eq, if◌then◌else◌, Option, Some, None, count_by}
+use Rattle.std.specs.Prelude.{ℕ, suc, Bool, true, false, List, [], ◌∷◌, drop, nat_eq, if◌then◌else◌}
+use Rattle.std.specs.Prelude.{Option, Some, None, count_by}
 use Rattle.std.specs.declared.result.Result.{Result}
 use Rattle.std.specs.declared.result.Result.TheVariants.{Ok, Err}
 use Rattle.wl_wire.specs.declared.kind.Kind.{Kind}
@@ -19,8 +20,9 @@ use Rattle.wl_objects.specs.declared.argument.Named.TheVariants as named_as
 use Rattle.wl_objects.specs.declared.error.Fault.{Fault}
 use Rattle.wl_objects.specs.declared.error.Fault.TheVariants as faults
 
--- What a reader knows when a message comes: the object that each id names, what each id is as a new one, and the birth
--- that a new object gets. Where it forgives, an object argument may be null, unknown and of any interface.
+-- What a reader knows when a message comes: the object that each id names, what each id is as a new
+-- one, and the birth that a new object gets. Where it forgives, an object argument may be null,
+-- unknown and of any interface.
 pub record Reader : Type 0 where
   pub object : ℕ → Option Entry
   pub new_id : ℕ → NewId
@@ -44,16 +46,20 @@ is_of (Some iface) entry = nat_eq iface.0 entry.iface.0
 
 abbrev pub object_fault : ℕ → Option Iface → Option Entry → Option Fault
 object_fault place iface None = Some (faults.BadObject place)
-object_fault place iface (Some entry) = if is_of iface entry then None else Some (faults.BadObject place)
+object_fault place iface (Some entry) =
+    if is_of iface entry then None else Some (faults.BadObject place)
 
 abbrev pub new_fault : ℕ → NewId → Option Fault
 new_fault place Free = None
 new_fault place Wrong = Some (faults.BadNewId place)
 new_fault place TooMany = Some faults.TooManyObjects
 
--- what is wrong with a value that its bytes spell: an object that is unknown or of another interface, a new id that is not free
+-- what is wrong with a value that its bytes spell: an object that is unknown or of another
+-- interface, a new id that is not free
 abbrev pub value_fault : Reader → ℕ → Kind → Argument → Option Fault
-value_fault r place kind (Obj id) = if r.forgives then None else (if nat_eq id 0 then None else object_fault place (iface_of kind) (r.object id))
+value_fault r place kind (Obj id) =
+    if r.forgives then None
+    else (if nat_eq id 0 then None else object_fault place (iface_of kind) (r.object id))
 value_fault r place kind (New id) = new_fault place (r.new_id id)
 value_fault r place kind (NewNamed iface version id) = new_fault place (r.new_id id)
 value_fault r place kind _ = None
@@ -68,19 +74,23 @@ judged r place kind (Err fault) = Err (faults.BadArgument place fault)
 judged r place kind (Ok value) = unless (value_fault r place kind value.0) value
 
 -- a value before those that were read behind it
-abbrev pub before : Argument → Result (List Argument × List ℕ) Fault → Result (List Argument × List ℕ) Fault
+abbrev pub before : Argument → Result (List Argument × List ℕ) Fault
+    → Result (List Argument × List ℕ) Fault
 before value (Err fault) = Err fault
 before value (Ok more) = Ok (value ∷ more.0, more.1)
 
-abbrev pub and_those : (List ℕ → Result (List Argument × List ℕ) Fault) → List ℕ → Result (Argument × ℕ) Fault → Result (List Argument × List ℕ) Fault
+abbrev pub and_those : (List ℕ → Result (List Argument × List ℕ) Fault) → List ℕ
+    → Result (Argument × ℕ) Fault → Result (List Argument × List ℕ) Fault
 and_those others bytes (Err fault) = Err fault
 and_those others bytes (Ok value) = before value.0 (others (drop value.1 bytes))
 
--- The arguments that stand at the front of bytes, one of each kind, and the bytes behind them; or the first fault, from the
--- left. The place is that of the first kind.
+-- The arguments that stand at the front of bytes, one of each kind, and the bytes behind them; or
+-- the first fault, from the left. The place is that of the first kind.
 abbrev pub arguments_at : Reader → ℕ → List Kind → List ℕ → Result (List Argument × List ℕ) Fault
 arguments_at r place [] bytes = Ok ([], bytes)
-arguments_at r place (kind ∷ ks) bytes = and_those (arguments_at r (suc place) ks) bytes (judged r place kind (reading (kind_at r.forgives kind) bytes))
+arguments_at r place (kind ∷ ks) bytes =
+    and_those (arguments_at r (suc place) ks) bytes
+    (judged r place kind (reading (kind_at r.forgives kind) bytes))
 
 -- a reader that forgives, or does not
 abbrev pub forgiving : Bool → Reader → Reader
@@ -88,7 +98,8 @@ forgiving forgives r = record r { forgives = forgives }
 
 -- ---- what is reported
 
--- an argument of a report: objects as the reader has them, a new object with its birth, a descriptor's token
+-- an argument of a report: objects as the reader has them, a new object with its birth, a
+-- descriptor's token
 abbrev pub Reported : Type 0
 Reported = Shape Named Object ℕ
 
@@ -122,7 +133,8 @@ first_or (x ∷ xs) d = x
 
 -- One argument as it is reported, where the token is the next that waits.
 abbrev pub report_of : Reader → ℕ → Argument → Reported
-report_of r token value = reshaped (named_at r) (λ id. record { id = id; birth = r.birth }) (λ _. token) value
+report_of r token value =
+    reshaped (named_at r) (λ id. record { id = id; birth = r.birth }) (λ _. token) value
 
 -- the tokens behind those that an argument takes
 abbrev pub tokens_after : Argument → List ℕ → List ℕ
@@ -131,4 +143,5 @@ tokens_after value tokens = if is_descriptor value then drop 1 tokens else token
 -- The arguments as they are reported: the descriptors are the first tokens that wait, in order.
 abbrev pub reports_of : Reader → List ℕ → List Argument → List Reported
 reports_of r tokens [] = []
-reports_of r tokens (value ∷ values) = report_of r (first_or tokens 0) value ∷ reports_of r (tokens_after value tokens) values
+reports_of r tokens (value ∷ values) =
+    report_of r (first_or tokens 0) value ∷ reports_of r (tokens_after value tokens) values

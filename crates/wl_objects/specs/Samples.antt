@@ -1,5 +1,6 @@
 -- Messages worked out by hand, and what they mean.
-use Rattle.std.specs.Prelude.{ℕ, zero, suc, ◌+◌, true, false, List, [], ◌∷◌, length, nat_eq, slice_get, Option, None, option_map}
+use Rattle.std.specs.Prelude.{ℕ, zero, suc, ◌+◌, true, false, List, [], ◌∷◌, length, nat_eq}
+use Rattle.std.specs.Prelude.{slice_get, Option, None, option_map}
 use Rattle.std.specs.declared.result.Result.{Result}
 use Rattle.std.specs.declared.result.Result.TheVariants.{Ok, Err}
 use Rattle.wl_wire.specs.declared.kind.Iface.{Iface}
@@ -18,10 +19,13 @@ abbrev pub values_in : Result Received Fault → Result (List Argument) Fault
 values_in (Ok message) = Ok message.values
 values_in (Err fault) = Err fault
 
--- the row of an id, where objects of these interfaces were made one after another, and none has ended
+-- the row of an id, where objects of these interfaces were made one after another, and none has
+-- ended
 abbrev pub row_at : List Iface → ℕ → Option Entry
 row_at ifaces zero = None
-row_at ifaces (suc n) = option_map (λ iface. record { birth = n; iface = iface; version = 1; state = Live }) (slice_get ifaces n)
+row_at ifaces (suc n) =
+    option_map (λ iface. record { birth = n; iface = iface; version = 1; state = Live })
+    (slice_get ifaces n)
 
 -- a reader that holds these
 abbrev pub holding : List Iface → Reader
@@ -34,11 +38,15 @@ holding ifaces = record {
 
 -- the same, where the connection has no room for a new object
 abbrev pub full : List Iface → Reader
-full ifaces = record (holding ifaces) { new_id = λ id. new_id_of (nat_eq id (length ifaces + 1)) false }
+full ifaces = record (holding ifaces) {
+  new_id = λ id. new_id_of (nat_eq id (length ifaces + 1)) false;
+}
 
 -- a request in front of a reader, where no token waits
 abbrev pub request_to : Reader → ℕ → ℕ → List ℕ → Result (List Argument) Fault
-request_to reader object opcode body = values_in (received core_tables Request reader (record { object = object; size = 8; opcode = opcode }) body 0)
+request_to reader object opcode body =
+    values_in (received core_tables Request reader
+    (record { object = object; size = 8; opcode = opcode }) body 0)
 
 -- a request in front of a server that holds these
 abbrev pub request : List Iface → ℕ → ℕ → List ℕ → Result (List Argument) Fault

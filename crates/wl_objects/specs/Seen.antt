@@ -31,7 +31,12 @@ gots list = map got list
 
 -- a message that was read, without where it lies in memory
 abbrev pub message_of : Read → Received
-message_of read = record { target = read.target; entry = read.entry; signature = read.signature.now; values = spelled_in read.body.now read.args }
+message_of read = record {
+  target = read.target;
+  entry = read.entry;
+  signature = read.signature.now;
+  values = spelled_in read.body.now read.args;
+}
 
 abbrev pub received_in : Result Read Fault → Result Received Fault
 received_in (Err fault) = Err fault

@@ -12,23 +12,33 @@ use Rattle.wl_objects.specs.Reading.{Reader, kind_at, value_fault}
 -- The bytes are a joining of spellings of these kinds, in order, with nothing left.
 pub data SpellsAll : List Kind → List Argument → List ℕ → Type 0 where
   none : {bytes : List ℕ} → bytes ≡ [] → SpellsAll [] [] bytes
-  more : {kind : Kind} {ks : List Kind} {value : Argument} {values : List Argument} {front rest bytes : List ℕ}
-      → Spells kind value front → SpellsAll ks values rest → bytes ≡ front ++ rest → SpellsAll (kind ∷ ks) (value ∷ values) bytes
+  more : {kind : Kind} {ks : List Kind} {value : Argument} {values : List Argument}
+      {front rest bytes : List ℕ}
+      → Spells kind value front → SpellsAll ks values rest → bytes ≡ front ++ rest
+      → SpellsAll (kind ∷ ks) (value ∷ values) bytes
 
--- The bytes begin with arguments of these kinds, and nothing is wrong with any of them; the rest lies behind them.
+-- The bytes begin with arguments of these kinds, and nothing is wrong with any of them; the rest
+-- lies behind them.
 pub data Meets (r : Reader) : ℕ → List Kind → List ℕ → List Argument → List ℕ → Type 0 where
   none : {place : ℕ} {bytes : List ℕ} → Meets r place [] bytes [] bytes
-  more : {place : ℕ} {kind : Kind} {ks : List Kind} {value : Argument} {values : List Argument} {front behind bytes rest : List ℕ}
-      → Spells (kind_at r.forgives kind) value front → value_fault r place kind value ≡ None → Meets r (suc place) ks behind values rest
+  more : {place : ℕ} {kind : Kind} {ks : List Kind} {value : Argument} {values : List Argument}
+      {front behind bytes rest : List ℕ}
+      → Spells (kind_at r.forgives kind) value front → value_fault r place kind value ≡ None
+      → Meets r (suc place) ks behind values rest
       → bytes ≡ front ++ behind → Meets r place (kind ∷ ks) bytes (value ∷ values) rest
 
--- The first argument at fault: it is no spelling of its kind, or its value is at fault; and all before it are right.
+-- The first argument at fault: it is no spelling of its kind, or its value is at fault; and all
+-- before it are right.
 pub data FirstFault (r : Reader) : ℕ → List Kind → List ℕ → Fault → Type 0 where
   spelling : {place : ℕ} {kind : Kind} {ks : List Kind} {bytes : List ℕ} {fault : ArgFault}
-      → IsFirstFault (kind_at r.forgives kind) bytes fault → FirstFault r place (kind ∷ ks) bytes (faults.BadArgument place fault)
-  meaning : {place : ℕ} {kind : Kind} {ks : List Kind} {value : Argument} {front bytes : List ℕ} {fault : Fault} (behind : List ℕ)
+      → IsFirstFault (kind_at r.forgives kind) bytes fault
+      → FirstFault r place (kind ∷ ks) bytes (faults.BadArgument place fault)
+  meaning : {place : ℕ} {kind : Kind} {ks : List Kind} {value : Argument} {front bytes : List ℕ}
+      {fault : Fault} (behind : List ℕ)
       → Spells (kind_at r.forgives kind) value front → value_fault r place kind value ≡ Some fault
       → bytes ≡ front ++ behind → FirstFault r place (kind ∷ ks) bytes fault
-  later : {place : ℕ} {kind : Kind} {ks : List Kind} {value : Argument} {front behind bytes : List ℕ} {fault : Fault}
-      → Spells (kind_at r.forgives kind) value front → value_fault r place kind value ≡ None → FirstFault r (suc place) ks behind fault
+  later : {place : ℕ} {kind : Kind} {ks : List Kind} {value : Argument}
+      {front behind bytes : List ℕ} {fault : Fault}
+      → Spells (kind_at r.forgives kind) value front → value_fault r place kind value ≡ None
+      → FirstFault r (suc place) ks behind fault
       → bytes ≡ front ++ behind → FirstFault r place (kind ∷ ks) bytes fault

@@ -1,10 +1,12 @@
 -- What a call's arguments must be, and the message that they become.
-use Rattle.std.specs.Prelude.{ℕ, suc, ◌+◌, Bool, true, false, ◌&&◌, not, List, [], ◌∷◌, ◌++◌, map, nat_eq, nat_lt, if◌then◌else◌, Option, Some, None}
+use Rattle.std.specs.Prelude.{ℕ, suc, ◌+◌, Bool, true, false, ◌&&◌, not, List, [], ◌∷◌, ◌++◌, map}
+use Rattle.std.specs.Prelude.{nat_eq, nat_lt, if◌then◌else◌, Option, Some, None}
 use Rattle.std.specs.List.{list_any}
 use Rattle.wl_wire.specs.declared.kind.Kind.{Kind}
 use Rattle.wl_wire.specs.declared.kind.Kind.TheVariants as kinds
 use Rattle.wl_wire.specs.declared.kind.Iface.{Iface}
-use Rattle.wl_wire.specs.Argument.{Argument, Shape, reshaped, units, Int, Uint, Fixed, Str, Obj, New, NewNamed, Array, Fd}
+use Rattle.wl_wire.specs.Argument.{Argument, Shape, reshaped, units, Int, Uint, Fixed, Str, Obj}
+use Rattle.wl_wire.specs.Argument.{New, NewNamed, Array, Fd}
 use Rattle.wl_wire.specs.Word.{header_bytes}
 use Rattle.wl_wire.specs.Spelling.{canonical, spelled_len, Fits}
 use Rattle.wl_objects.specs.declared.argument.Arg.{Arg}
@@ -44,12 +46,14 @@ suits kinds.Array (Array bytes) = true
 suits kinds.Fd (Fd token) = true
 suits _ _ = false
 
--- The place of the first argument of the wrong kind; where the numbers differ and all before suit, the smaller number.
+-- The place of the first argument of the wrong kind; where the numbers differ and all before suit,
+-- the smaller number.
 abbrev pub wrong_place : ℕ → List Kind → List Given → Option ℕ
 wrong_place place [] [] = None
 wrong_place place [] (given ∷ others) = Some place
 wrong_place place (kind ∷ ks) [] = Some place
-wrong_place place (kind ∷ ks) (given ∷ others) = if suits kind given then wrong_place (suc place) ks others else Some place
+wrong_place place (kind ∷ ks) (given ∷ others) =
+    if suits kind given then wrong_place (suc place) ks others else Some place
 
 abbrev pub is_live : State → Bool
 is_live states.Live = true
@@ -75,7 +79,8 @@ can_name rows kind _ = true
 
 -- The place of the first object that is not live or of another interface.
 abbrev pub lost_place : (ℕ → Option Entry) → ℕ → List Kind → List Given → Option ℕ
-lost_place rows place (kind ∷ ks) (given ∷ others) = if can_name rows kind given then lost_place rows (suc place) ks others else Some place
+lost_place rows place (kind ∷ ks) (given ∷ others) =
+    if can_name rows kind given then lost_place rows (suc place) ks others else Some place
 lost_place rows place _ _ = None
 
 -- ---- the message
@@ -99,7 +104,9 @@ message_len (value ∷ values) = spelled_len value + message_len values
 
 -- the message with these arguments, each in its canonical spelling
 abbrev pub message_bytes : ℕ → ℕ → List Argument → List ℕ
-message_bytes object opcode values = header_bytes (record { object = object; size = message_len values; opcode = opcode }) ++ spelled values
+message_bytes object opcode values =
+    header_bytes (record { object = object; size = message_len values; opcode = opcode })
+    ++ spelled values
 
 -- each value has a spelling
 abbrev pub EachFits : List Argument → Type 0

@@ -75,7 +75,7 @@ pub enum NextError {
     Failed,
     /// There is no memory for the report. The message stays and can be read again.
     Memory,
-    /// The outbox has no room for the answer to a request that destroys an object. The message
+    /// The outbox has no room for the delete_id that follows a request that destroys an object. The message
     /// stays and can be read again.
     OutFull,
 }

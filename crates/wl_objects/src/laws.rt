@@ -45,7 +45,7 @@ pub fn first_fault()
         ↔ FirstFault reader place kinds bytes fault }
 {}
 
-/// The object that a call makes is the one that its signature tells.
+/// The object that a call makes is the one that its signature says.
 pub fn call_makes_its_object()
     ensures { (tables : List Interface) (version id : ℕ) (kinds : List SpecKind)
         (list : List SpecArg)
@@ -77,7 +77,7 @@ pub fn a_message_arrives()
         ≡ Ok (received_by target held.row signature (map (wired n) list)) }
 {}
 
-/// A message is a row of whole words, as many bytes as its header tells.
+/// A message is a row of whole words, as many bytes as its header says.
 pub fn a_message_has_its_size()
     ensures len { (object opcode : ℕ) (values : List Argument)
         → length (message_bytes object opcode values) ≡ message_len values }

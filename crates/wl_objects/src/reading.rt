@@ -41,7 +41,7 @@ impl<'t, 'a> Received<'t, 'a> {
     }
 }
 
-/// Reads one whole message, where so many tokens wait. Takes no memory.
+/// Reads one whole message, where this number of tokens waits. Allocates nothing.
 ///
 /// The first fault is answered: F2; F3; for each argument from the left F4, F5, F6, F10; then F7
 /// and F8. An object may be a zombie. In wl_display.error the object may be null or unknown.

@@ -11,10 +11,7 @@ use wl_sigs::event::wl_display::ERROR;
 use wl_sigs::event::wl_registry::GLOBAL;
 use wl_sigs::request::wl_registry::BIND;
 use wl_table::DISPLAY_ID;
-use wl_wire::{ValueRef, encode_value};
-
-/// The most bytes that a message has.
-const LIMIT: usize = 4096;
+use wl_wire::{MAX_MESSAGE_LEN, ValueRef, encode_value};
 
 /// The argument as it stands on the wire, where the new object gets this id.
 pub(crate) fn wired<'a>(arg: &Arg<'a>, new_id: u32) -> ValueRef<'a>
@@ -35,7 +32,7 @@ pub(crate) fn wired<'a>(arg: &Arg<'a>, new_id: u32) -> ValueRef<'a>
 
 /// How many bytes spell the argument; none where these are more than a message has.
 fn len_of(arg: &Arg<'_>) -> Option<usize>
-    ensures { MatchOption result (LIMIT < spelled_len (wired 0 (given_of arg.now)))
+    ensures { MatchOption result (MAX_MESSAGE_LEN < spelled_len (wired 0 (given_of arg.now)))
         (λ n. (n ≡ spelled_len (wired 0 (given_of arg.now))) × (n ≤ 8192)) }
 {
     match arg {
@@ -46,13 +43,13 @@ fn len_of(arg: &Arg<'_>) -> Option<usize>
     }
 }
 
-/// How many bytes are a length, so many bytes and so many more, and their padding; none where the
-/// bytes alone are more than a message has.
+/// How many bytes a length, `len` bytes with `more` behind them, and their padding have; none where
+/// the bytes alone are more than a message has.
 fn counted_len(len: usize, more: usize) -> Option<usize>
     requires { more ≤ 1 }
-    ensures { MatchOption result (LIMIT < len) (λ n. (n ≡ 4 + padded (len + more)) × (n ≤ 8192)) }
+    ensures { MatchOption result (MAX_MESSAGE_LEN < len) (λ n. (n ≡ 4 + padded (len + more)) × (n ≤ 8192)) }
 {
-    if len > LIMIT {
+    if len > MAX_MESSAGE_LEN as usize {
         return None;
     }
     Some(4 + (len + more + 3) / 4 * 4)
@@ -65,14 +62,14 @@ pub fn message_len(args: &[Arg<'_>]) -> Option<usize>
     let mut len = 8;
     'arguments: for arg in args {
         match len_of(arg) {
-            Some(more) if len + more <= LIMIT => len += more,
+            Some(more) if len + more <= MAX_MESSAGE_LEN as usize => len += more,
             _ => return None,
         }
     }
     Some(len)
 }
 
-/// Writes the tokens of a call's arguments, in order, and answers how many there are.
+/// Writes the tokens of a call's arguments, in order, and returns how many there are.
 pub fn tokens_of(args: &[Arg<'_>], tokens: &mut [u32; 20]) -> usize
     requires { length args.now ≤ 20 }
     ensures tokens { take result tokens.new ≡ tokens_of (given args.now) }

@@ -1,5 +1,6 @@
 -- What the open registries are owed.
-use Rattle.std.specs.Prelude.{ℕ, suc, ◌+◌, ◌≤◌, Bool, not, ◌&&◌, nat_eq, if◌then◌else◌, List, [], ◌∷◌, ◌++◌, length, take, map, Some}
+use Rattle.std.specs.Prelude.{ℕ, suc, ◌+◌, ◌≤◌, Bool, not, ◌&&◌, nat_eq, if◌then◌else◌, List, []}
+use Rattle.std.specs.Prelude.{◌∷◌, ◌++◌, length, take, map, Some}
 use Rattle.std.specs.Option.{option_map_or}
 use Rattle.wl_wire.specs.declared.kind.Iface.{Iface}
 use Rattle.wl_wire.specs.Argument.{Argument, Uint, Str}
@@ -18,9 +19,11 @@ pub data Owing : Type 0 where
   -- global of a name
   Telling : (name : ℕ) → Global → Owing
 
--- a registry is owed global_remove of each name that it was told, that is withdrawn and not yet removed
+-- a registry is owed global_remove of each name that it was told, that is withdrawn and not yet
+-- removed
 abbrev pub owes_removal : Registry → ℕ → Global → Bool
-owes_removal registry name global = (mark_of registry.told name && not global.present) && not (mark_of registry.removed name)
+owes_removal registry name global =
+    (mark_of registry.told name && not global.present) && not (mark_of registry.removed name)
 
 -- and global of each present name that it was not told
 abbrev pub owes_telling : Registry → ℕ → Global → Bool
@@ -30,12 +33,14 @@ owes_telling registry name global = global.present && not (mark_of registry.told
 abbrev pub owings : (ℕ → Global → Bool) → (ℕ → Global → Owing) → ℕ → List Global → List Owing
 owings test owing name [] = []
 owings test owing name (global ∷ globals) =
-    if test name global then owing name global ∷ owings test owing (suc name) globals else owings test owing (suc name) globals
+    if test name global then owing name global ∷ owings test owing (suc name) globals
+    else owings test owing (suc name) globals
 
 -- what one registry is owed: the removals by rising name, then the globals by rising name
 abbrev pub owed_to : List Global → Registry → List Owing
 owed_to globals registry =
-    owings (owes_removal registry) (λ name _. Removal name) 1 globals ++ owings (owes_telling registry) Telling 1 globals
+    owings (owes_removal registry) (λ name _. Removal name) 1 globals
+    ++ owings (owes_telling registry) Telling 1 globals
 
 -- an owed event, and the registry that it is for
 pub record Due : Type 0 where
@@ -43,7 +48,8 @@ pub record Due : Type 0 where
   pub owing : Owing
 
 abbrev pub due_to : List Global → Registry → List Due
-due_to globals registry = map (λ owing. record { object = registry.object; owing = owing }) (owed_to globals registry)
+due_to globals registry =
+    map (λ owing. record { object = registry.object; owing = owing }) (owed_to globals registry)
 
 abbrev pub owed_in : List Global → List Registry → List Due
 owed_in globals [] = []
@@ -62,7 +68,8 @@ opcode_of (Telling name global) = 0
 
 abbrev pub values_of : List Interface → Owing → List Argument
 values_of tables (Removal name) = Uint name ∷ []
-values_of tables (Telling name global) = Uint name ∷ Str (Some (name_at tables global.iface)) ∷ Uint global.version ∷ []
+values_of tables (Telling name global) =
+    Uint name ∷ Str (Some (name_at tables global.iface)) ∷ Uint global.version ∷ []
 
 -- how many bytes these events have
 abbrev pub due_len : List Interface → List Due → ℕ
@@ -73,12 +80,16 @@ due_len tables (due ∷ dues) = message_len (values_of tables due.owing) + due_l
 pub record Fitting (state : State) (count : ℕ) : Type 0 where
   pub there : count ≤ length (owed state)
   pub fits : due_len state.core.tables (take count (owed state)) ≤ room_of state.core.outbox
-  pub most : (more : ℕ) → more ≤ length (owed state) → due_len state.core.tables (take more (owed state)) ≤ room_of state.core.outbox → more ≤ count
+  pub most : (more : ℕ) → more ≤ length (owed state)
+      → due_len state.core.tables (take more (owed state)) ≤ room_of state.core.outbox
+      → more ≤ count
 
 -- the end with these events written
 abbrev pub with_dues : Core → List Due → Core
 with_dues core [] = core
-with_dues core (due ∷ dues) = with_dues (with_sent core due.object.id (opcode_of due.owing) (values_of core.tables due.owing) []) dues
+with_dues core (due ∷ dues) =
+    with_dues
+    (with_sent core due.object.id (opcode_of due.owing) (values_of core.tables due.owing) []) dues
 
 -- a registry with the mark of an event that it was sent
 abbrev pub marked : Owing → Registry → Registry
@@ -88,7 +99,8 @@ marked (Telling name global) registry = record registry { told = with_mark regis
 abbrev pub marked_in : Due → List Registry → List Registry
 marked_in due [] = []
 marked_in due (registry ∷ registries) =
-    (if nat_eq registry.object.birth due.object.birth then marked due.owing registry else registry) ∷ marked_in due registries
+    (if nat_eq registry.object.birth due.object.birth then marked due.owing registry else registry)
+    ∷ marked_in due registries
 
 abbrev pub all_marked : List Due → List Registry → List Registry
 all_marked [] registries = registries

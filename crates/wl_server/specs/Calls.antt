@@ -1,5 +1,7 @@
--- What a server's other calls answer and write.
-use Rattle.std.specs.Prelude.{ℕ, ◌+◌, ◌-◌, Bool, true, false, ◌&&◌, ◌||◌, not, nat_eq, nat_lt, nat_le, if◌then◌else◌, List, [], ◌∷◌, ◌++◌, length, slice_set, Option, Some, None}
+-- What a server's other calls return and write.
+use Rattle.std.specs.Prelude.{ℕ, ◌+◌, ◌-◌, Bool, true, false, ◌&&◌, ◌||◌, not, nat_eq, nat_lt}
+use Rattle.std.specs.Prelude.{nat_le, if◌then◌else◌, List, [], ◌∷◌, ◌++◌, length, slice_set, Option}
+use Rattle.std.specs.Prelude.{Some, None}
 use Rattle.std.specs.List.{list_any}
 use Rattle.std.specs.declared.result.Result.{Result}
 use Rattle.std.specs.declared.result.Result.TheVariants.{Ok, Err}
@@ -33,7 +35,8 @@ drop_at core (Some entry) =
 
 -- Why `drop_object` is refused: S1, S2, S12, S9.
 abbrev pub drop_refusal : Core → Object → Option SendError
-drop_refusal core object = if core.failed then Some refusals.Failed else drop_at core (live_row core.view object)
+drop_refusal core object =
+    if core.failed then Some refusals.Failed else drop_at core (live_row core.view object)
 
 -- The end after an object was dropped: delete_id is written, and the object is closed.
 abbrev pub after_drop : Core → Object → Core
@@ -54,7 +57,8 @@ error_at text (Some entry) = if is_error_text text then None else Some (refusals
 
 -- Why `post_error` is refused: S1, S2, S5(2).
 abbrev pub error_refusal : Core → Object → List ℕ → Option SendError
-error_refusal core object text = if core.failed then Some refusals.Failed else error_at text (live_row core.view object)
+error_refusal core object text =
+    if core.failed then Some refusals.Failed else error_at text (live_row core.view object)
 
 -- The end after an error was posted: the event stands last, and the end has failed.
 abbrev pub after_error : Core → Object → ℕ → List ℕ → Core
@@ -66,13 +70,18 @@ abbrev pub version_in : ℕ → Option Interface → Bool
 version_in version None = false
 version_in version (Some i) = nat_le 1 version && nat_le version i.version
 
--- what can be advertised: any interface of the tables other than wl_display and wl_registry, at one of its versions
+-- what can be advertised: any interface of the tables other than wl_display and wl_registry, at one
+-- of its versions
 abbrev pub can_be_global : List Interface → Iface → ℕ → Bool
-can_be_global tables iface version = not (same_iface iface display || same_iface iface registry) && version_in version (interface_at tables iface.0)
+can_be_global tables iface version =
+    not (same_iface iface display || same_iface iface registry)
+    && version_in version (interface_at tables iface.0)
 
 -- the server with one global more, of the next name
 abbrev pub with_global : State → Iface → ℕ → State
-with_global state iface version = record state { globals = state.globals ++ record { iface = iface; version = version; present = true } ∷ [] }
+with_global state iface version = record state {
+  globals = state.globals ++ record { iface = iface; version = version; present = true } ∷ [];
+}
 
 abbrev pub next_name : State → ℕ
 next_name state = length state.globals + 1
@@ -91,9 +100,11 @@ without_at globals name (Some global) = slice_set globals (name - 1) (withdrawn 
 
 -- the server with a name withdrawn
 abbrev pub after_withdraw : State → ℕ → State
-after_withdraw state name = record state { globals = without_at state.globals name (global_of state.globals name) }
+after_withdraw state name = record state {
+  globals = without_at state.globals name (global_of state.globals name);
+}
 
--- Why `add_global` is refused, where memory is not wanted: G1, G2, G3.
+-- Why `add_global` is refused, where no memory is needed: G1, G2, G3.
 abbrev pub add_refusal : State → Iface → ℕ → Option GlobalError
 add_refusal state iface version =
     if state.core.failed then Some global_errors.Failed
@@ -104,13 +115,14 @@ add_refusal state iface version =
 -- Why `withdraw` is refused: G1, G5.
 abbrev pub withdraw_refusal : State → ℕ → Option GlobalError
 withdraw_refusal state name =
-    if state.core.failed then Some global_errors.Failed else if is_present (global_of state.globals name) then None else Some global_errors.NoSuchGlobal
+    if state.core.failed then Some global_errors.Failed
+    else if is_present (global_of state.globals name) then None else Some global_errors.NoSuchGlobal
 
--- an answer where nothing refuses it
+-- a result where nothing refuses it
 abbrev pub ok_unless : {X E : Type 0} → Option E → X → Result X E
 ok_unless None x = Ok x
 ok_unless (Some why) x = Err why
 
--- What `add_global` answers, where memory is not wanted: the name, or why it is refused.
+-- What `add_global` returns, where no memory is needed: the name, or why it is refused.
 abbrev pub add_answer : State → Iface → ℕ → Result ℕ GlobalError
 add_answer state iface version = ok_unless (add_refusal state iface version) (next_name state)

@@ -8,5 +8,6 @@ use Rattle.wl_table.specs.declared.table.Table as table
 use Rattle.wl_server.specs.contracts.server.Server.{the_row}
 
 -- `named 0` is the place of the server's lifetime in the signature
-abbrev pub server_row : (T A : RattleType) → table.Ghosts T.Denot A.Denot → allocator.Ghosts A.Denot → clone.Ghosts A.Denot → RattleType
+abbrev pub server_row : (T A : RattleType) → table.Ghosts T.Denot A.Denot → allocator.Ghosts A.Denot
+    → clone.Ghosts A.Denot → RattleType
 server_row T A t a c = the_row (record { mir = named 0; lft = [] }) T A t a c

@@ -1,5 +1,6 @@
 -- The open registries, in the order of their births, whatever is kept of each.
-use Rattle.std.specs.Prelude.{◌≡◌, ◌⊎◌, ℕ, ◌<◌, Bool, true, false, nat_eq, if◌then◌else◌, List, [], ◌∷◌, ◌++◌, Option, Some, None}
+use Rattle.std.specs.Prelude.{◌≡◌, ◌⊎◌, ℕ, ◌<◌, Bool, true, false, nat_eq, if◌then◌else◌, List, []}
+use Rattle.std.specs.Prelude.{◌∷◌, ◌++◌, Option, Some, None}
 use Rattle.wl_wire.specs.declared.kind.Iface.{Iface}
 use Rattle.wl_sigs.specs.Fixed.{registry}
 use Rattle.wl_table.specs.declared.object.Object.{Object}
@@ -10,14 +11,17 @@ use Rattle.wl_server.specs.State.{Registry, RiseFrom}
 
 -- The registries after an object of this interface was opened: a new registry stands last.
 abbrev pub with_registry : {R : Type 0} → Iface → R → List R → List R
-with_registry iface new registries = if same_iface iface registry then registries ++ new ∷ [] else registries
+with_registry iface new registries =
+    if same_iface iface registry then registries ++ new ∷ [] else registries
 
--- The registries after the object of this birth ended, where it did: one that ends is owed nothing any more.
+-- The registries after the object of this birth ended, where it did: one that ends is owed nothing
+-- any more.
 abbrev pub without_registry : {R : Type 0} → (R → ℕ) → Bool → ℕ → List R → List R
 without_registry birth_in false birth registries = registries
 without_registry birth_in true birth [] = []
 without_registry birth_in true birth (r ∷ registries) =
-    if nat_eq (birth_in r) birth then without_registry birth_in true birth registries else r ∷ without_registry birth_in true birth registries
+    if nat_eq (birth_in r) birth then without_registry birth_in true birth registries
+    else r ∷ without_registry birth_in true birth registries
 
 abbrev pub registry_birth : Registry → ℕ
 registry_birth r = r.object.birth
@@ -39,7 +43,8 @@ pub record IsRegistry (view : View) (object : Object) : Type 0 where
 -- These are the open objects of interface wl_registry: all of them, no other, and by rising births.
 pub record HasRegistries (view : View) (registries : List Registry) : Type 0 where
   pub rising : RiseFrom 0 view.births registries
-  pub all : (id : ℕ) (e : Entry) → look view id ≡ Some e → e.iface ≡ registry → IsAmong (record { id = id; birth = e.birth }) registries
+  pub all : (id : ℕ) (e : Entry) → look view id ≡ Some e → e.iface ≡ registry
+      → IsAmong (record { id = id; birth = e.birth }) registries
   pub only : (object : Object) → IsAmong object registries → IsRegistry view object
 
 -- the id at which an object is to be opened has no row
@@ -50,4 +55,5 @@ IsFresh view (Some m) = look view m.id ≡ None
 -- Each birth in a table was counted, and is that of one id.
 pub record BirthsAreOnce (view : View) : Type 0 where
   pub counted : (id : ℕ) (e : Entry) → look view id ≡ Some e → e.birth < view.births
-  pub one : (id other : ℕ) (e d : Entry) → look view id ≡ Some e → look view other ≡ Some d → e.birth ≡ d.birth → id ≡ other
+  pub one : (id other : ℕ) (e d : Entry) → look view id ≡ Some e → look view other ≡ Some d
+      → e.birth ≡ d.birth → id ≡ other

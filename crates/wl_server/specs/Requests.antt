@@ -105,7 +105,7 @@ state_past state f = record state {
   registries = without_registry registry_birth (destroys_it f.message) f.message.target.birth (registries_after state.core state.registries (made_in state.core f.message));
 }
 
--- ---- reading the next message, where memory is not wanted
+-- ---- reading the next message, where no memory is needed
 
 abbrev pub report : Core → Found → Report
 report core f = record { target = f.message.target; opcode = f.opcode; args = reported core f.message }
@@ -123,7 +123,7 @@ answer_found core (Err fault) = Err (errors.Fault fault core.read)
 answer_found core (Ok None) = Ok None
 answer_found core (Ok (Some f)) = if is_out_full core f then Err errors.OutFull else Ok (Some (report core f))
 
--- What `next` answers: what the first message is, nothing where none is whole, or why it cannot be read.
+-- What `next` returns: what the first message is, nothing where none is whole, or why it cannot be read.
 abbrev pub next_answer : State → Result (Option Report) NextError
 next_answer state = if state.core.failed then Err errors.Failed else answer_found state.core (request state)
 
@@ -136,7 +136,7 @@ state_found state (Ok (Some f)) = if is_out_full state.core f then state else st
 abbrev pub after_next : State → State
 after_next state = if state.core.failed then state else state_found state (request state)
 
--- What `next` answers where memory can be refused: no memory stands only in place of a report that needs some.
+-- What `next_owned` returns where memory can be refused: out of memory stands only in place of a report that needs some.
 abbrev pub IsNext : State → Result (Option Report) NextError → Type 0
 IsNext state result = Gives errors.Memory (answers_with needs_memory (next_answer state)) (next_answer state) result
 

@@ -13,7 +13,8 @@ abbrev pub report_of : {A : Type 0} → OwnedRequest A → Report
 report_of read = record { target = read.target; opcode = read.opcode; args = read.args }
 
 -- what `next_owned` answered
-abbrev pub report_in : {A : Type 0} → Result (Option (OwnedRequest A)) NextError → Result (Option Report) NextError
+abbrev pub report_in : {A : Type 0} → Result (Option (OwnedRequest A)) NextError
+    → Result (Option Report) NextError
 report_in (Err why) = Err why
 report_in (Ok None) = Ok None
 report_in (Ok (Some read)) = Ok (Some (report_of read))

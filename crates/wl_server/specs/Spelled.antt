@@ -9,7 +9,8 @@ use Rattle.wl_end.specs.Spelled.{MessageSpells}
 use Rattle.wl_server.specs.Calls.{is_error_text}
 use Rattle.wl_server.specs.Announcing.{Due, Owing, Removal, Telling, opcode_of, values_of}
 
--- A message for this object, with these values, is a spelling of them by the signature that valid tables have for it.
+-- A message for this object, with these values, is a spelling of them by the signature that valid
+-- tables have for it.
 abbrev pub IsSpelled : List Interface → (place object opcode : ℕ) → List Argument → Type 0
 IsSpelled tables place object opcode values =
     Valid tables → (signature : Message) → signature_at tables place Event opcode ≡ Some signature
@@ -21,7 +22,9 @@ DeleteSpells tables id = id < 2 ^ 32 → IsSpelled tables 0 1 1 (Uint id ∷ [])
 
 -- wl_display.error, about an object
 abbrev pub ErrorSpells : List Interface → ℕ → ℕ → List ℕ → Type 0
-ErrorSpells tables object code text = 0 < object → object < 2 ^ 32 → code < 2 ^ 32 → is_error_text text ≡ true → IsSpelled tables 0 1 0 (error_values object code text)
+ErrorSpells tables object code text =
+    0 < object → object < 2 ^ 32 → code < 2 ^ 32 → is_error_text text ≡ true
+    → IsSpelled tables 0 1 0 (error_values object code text)
 
 -- the numbers of an event that a registry is owed are words
 abbrev pub InWords : Owing → Type 0
@@ -30,4 +33,6 @@ InWords (Telling name global) = (name < 2 ^ 32) × (global.version < 2 ^ 32)
 
 -- wl_registry.global and global_remove
 abbrev pub DueSpells : List Interface → Due → Type 0
-DueSpells tables due = InWords due.owing → IsSpelled tables 1 due.object.id (opcode_of due.owing) (values_of tables due.owing)
+DueSpells tables due =
+    InWords due.owing
+    → IsSpelled tables 1 due.object.id (opcode_of due.owing) (values_of tables due.owing)

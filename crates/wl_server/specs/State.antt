@@ -1,5 +1,6 @@
 -- What a server is: an end, the globals that it has given, and what each open registry was told.
-use Rattle.std.specs.Prelude.{ℕ, zero, suc, ◌-◌, ◌≤◌, Bool, true, false, List, [], ◌∷◌, slice_get, slice_set, unwrap_or, replicate, Option, None}
+use Rattle.std.specs.Prelude.{ℕ, zero, suc, ◌-◌, ◌≤◌, Bool, true, false, List, [], ◌∷◌, slice_get}
+use Rattle.std.specs.Prelude.{slice_set, unwrap_or, replicate, Option, None}
 use Rattle.wl_wire.specs.declared.kind.Iface.{Iface}
 use Rattle.wl_sigs.specs.Tables.{Interface}
 use Rattle.wl_message.specs.declared.amounts.Sizes.{Sizes}
@@ -12,13 +13,15 @@ pub record Global : Type 0 where
   pub version : ℕ
   pub present : Bool
 
--- an open registry, with a mark for each name that it was told, and for each that it was told to be removed
+-- an open registry, with a mark for each name that it was told, and for each that it was told to be
+-- removed
 pub record Registry : Type 0 where
   pub object : Object
   pub told : List Bool
   pub removed : List Bool
 
--- The globals in the order of their names, which are 1, 2, 3, ..; the open registries in the order of their births.
+-- The globals in the order of their names, which are 1, 2, 3, ..; the open registries in the order
+-- of their births.
 pub record State : Type 0 where
   pub core : Core
   pub globals : List Global
@@ -49,9 +52,14 @@ with_mark marks name = slice_set marks (name - 1) true
 
 -- a registry that was told nothing yet
 abbrev pub untold : Object → Registry
-untold object = record { object = object; told = replicate max_globals false; removed = replicate max_globals false }
+untold object = record {
+  object = object;
+  told = replicate max_globals false;
+  removed = replicate max_globals false;
+}
 
 -- the births of these registries rise, from the first number on and below the last
 abbrev pub RiseFrom : ℕ → ℕ → List Registry → Type 0
 RiseFrom low high [] = low ≤ high
-RiseFrom low high (r ∷ registries) = (low ≤ r.object.birth) × RiseFrom (suc r.object.birth) high registries
+RiseFrom low high (r ∷ registries) =
+    (low ≤ r.object.birth) × RiseFrom (suc r.object.birth) high registries

@@ -138,13 +138,13 @@ after_front state (Ok None) = state
 after_front state (Ok (Some step)) = after_step state step
 after_front state (Err why) = with_core state (core_told state.core why)
 
--- what a read answers, by the step in front
+-- what a read returns, by the step in front
 abbrev pub report_by : Result (Option Step) NextError → Result (Option Report) NextError
 report_by (Ok None) = Ok None
 report_by (Ok (Some step)) = Ok (Some step.report)
 report_by (Err why) = Err why
 
--- what a read answers, by the request that was taken
+-- what a read returns, by the request that was taken
 abbrev pub taken_in : Core → Result (Option PendingRequest) NextError → Result (Option Report) NextError
 taken_in core (Err why) = Err why
 taken_in core (Ok None) = Ok None

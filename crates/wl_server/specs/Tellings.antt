@@ -8,14 +8,16 @@ use Rattle.wl_end.specs.Core.{Core}
 use Rattle.wl_end.specs.Sending.{with_sent}
 use Rattle.wl_server.specs.declared.announce.Announced.{Announced}
 use Rattle.wl_server.specs.State.{Registry}
-use Rattle.wl_server.specs.Announcing.{Due, Owing, due_len, opcode_of, values_of, with_dues, all_marked}
+use Rattle.wl_server.specs.Announcing.{Due, Owing, due_len, opcode_of, values_of, with_dues}
+use Rattle.wl_server.specs.Announcing.{all_marked}
 
 -- these events, for this registry
 abbrev pub dues_for : Object → List Owing → List Due
 dues_for object list = map (λ owing. record { object = object; owing = owing }) list
 
 -- Of all that was owed so many events are written and marked, and these are left.
-pub record Progress (core : Core) (registries : List Registry) (all : List Due) (count : ℕ) (now : Core) (marked : List Registry) (rest : List Due) : Type 0 where
+pub record Progress (core : Core) (registries : List Registry) (all : List Due) (count : ℕ)
+    (now : Core) (marked : List Registry) (rest : List Due) : Type 0 where
   pub done : List Due
   pub whole : all ≡ done ++ rest
   pub number : length done ≡ count
@@ -26,7 +28,8 @@ pub record Progress (core : Core) (registries : List Registry) (all : List Due) 
 -- an event for the registry of this id was written where it fits, and else nothing
 abbrev pub IsWritten : Core → ℕ → Owing → Bool → Core → Type 0
 IsWritten core registry owing written now = MatchBool written
-    ((message_len (values_of core.tables owing) ≤ room_of core.outbox) × (now ≡ with_sent core registry (opcode_of owing) (values_of core.tables owing) []))
+    ((message_len (values_of core.tables owing) ≤ room_of core.outbox)
+    × (now ≡ with_sent core registry (opcode_of owing) (values_of core.tables owing) []))
     ((room_of core.outbox < message_len (values_of core.tables owing)) × (now ≡ core))
 
 -- the first of these events does not fit
@@ -35,7 +38,8 @@ IsBlocked core [] = ⊥
 IsBlocked core (due ∷ dues) = room_of core.outbox < message_len (values_of core.tables due.owing)
 
 -- All that was owed is told, or as much as fits.
-pub record IsTold (core : Core) (registries : List Registry) (all : List Due) (told : Announced) (now : Core) (marked : List Registry) : Type 0 where
+pub record IsTold (core : Core) (registries : List Registry) (all : List Due) (told : Announced)
+    (now : Core) (marked : List Registry) : Type 0 where
   pub rest : List Due
   pub progress : Progress core registries all told.count now marked rest
   pub end : MatchBool told.all (rest ≡ []) (IsBlocked now rest)

@@ -41,7 +41,7 @@ impl<'t, T: Table> Server<'t, T> {
         }
     }
 
-    /// Withdraws a global. G1 is tested before G5. It can still be bound, and `announce` tells the
+    /// Withdraws a global. G1 is tested before G5. It can still be bound, and `announce` sends the
     /// registries that were told of it. Never returns out of memory.
     pub fn withdraw(&mut self, name: u32) -> Result<(), GlobalError>
         ensures answer { refusal_in result ≡ withdraw_refusal self.old name }

@@ -24,19 +24,14 @@ use crate::pending::PendingRequest;
 use crate::request::{OwnedRequest, Request};
 use crate::server::Server;
 use std::alloc::{AllocError, Allocator};
-use wl_end::{Core, MAX_TOKENS};
+use wl_end::{Core, DELETE_ID_LEN, MAX_TOKENS};
 use wl_objects::{
     Args, Fault, Made, NextError, Object, REGISTRY, Received, Table, descriptors, is_bind,
     made_by_message, receive,
 };
 use wl_sigs::{Destroys, Side, Tables};
+use wl_table::DISPLAY_ID;
 use wl_wire::Header;
-
-/// The id of wl_display.
-const DISPLAY_ID: u32 = 1;
-
-/// How many bytes wl_display.delete_id has.
-const DELETE_ID_LEN: usize = 12;
 
 impl<'t, T: Table> Server<'t, T> {
     /// Reads the next request once it is whole, and lends its report: strings, arrays and tokens

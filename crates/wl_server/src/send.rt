@@ -10,12 +10,9 @@ ghost use Rattle.wl_server.specs.State.{with_core};
 ghost use Rattle.wl_server.specs.Calls.{after_drop, after_error, drop_refusal, error_refusal, is_error_text};
 
 use crate::server::Server;
-use wl_end::Core;
+use wl_end::{Core, DELETE_ID_LEN};
 use wl_objects::{Arg, Object, SendError, Table};
 use wl_sigs::Side;
-
-/// How many bytes wl_display.delete_id has.
-const DELETE_ID_LEN: usize = 12;
 
 /// The most bytes that the text of an error has.
 const MAX_ERROR_TEXT: usize = 40;

@@ -117,7 +117,7 @@ impl<'t, T: Table> Server<'t, T> {
     pub fn goes(&self, bytes: usize, tokens: usize) -> Taken
         ensures { result ≡ goes self.now.core.outbox bytes tokens }
     {
-        self.core.goes(bytes, tokens)
+        self.core.outbox.goes(bytes, tokens)
     }
 
     /// Moves out what waits to be sent, as much as the slices hold. The tokens of a message go with
@@ -130,6 +130,6 @@ impl<'t, T: Table> Server<'t, T> {
             ++ drop result.tokens tokens.old }
         ensures state { self.new ≡ with_core self.old (with_gone self.old.core result.bytes) }
     {
-        self.core.take(bytes, tokens)
+        self.core.outbox.take(bytes, tokens)
     }
 }

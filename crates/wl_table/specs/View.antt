@@ -1,5 +1,7 @@
 -- What one end's table of objects holds, and what opening, closing and zombie-making make of it.
-use Rattle.std.specs.Prelude.{◌≡◌, ℕ, ◌+◌, ◌<◌, ◌≤◌, max, Bool, true, false, cond, ltb, leb, eqb, not, ◌&&◌, ◌||◌, List, [], ◌∷◌, length, refl, Option, Some, None, is_some}
+use Rattle.std.specs.Prelude.{◌≡◌, ℕ, ◌+◌, ◌<◌, ◌≤◌, max, Bool, true, false, cond, ltb, leb, eqb}
+use Rattle.std.specs.Prelude.{not, ◌&&◌, ◌||◌, List, [], ◌∷◌, length, refl, Option, Some, None}
+use Rattle.std.specs.Prelude.{is_some}
 use Rattle.std.specs.List.{filter}
 use Rattle.std.specs.Ordering.{nat_cmp}
 use Rattle.std.specs.FinMap.{FinMap, get, insert, remove, empty, code, len}
@@ -53,12 +55,13 @@ times id (x ∷ xs) = cond (eqb x id) 1 0 + times id xs
 abbrev pub places : View → ℕ → ℕ
 places view id = cond (is_held view id) 1 0 + times id view.freed
 
--- The ids used are those that births were given: each birth that was counted got one of them, each of them was given to such a birth, and
--- a row has the id of its birth.
+-- The ids used are those that births were given: each birth that was counted got one of them, each
+-- of them was given to such a birth, and a row has the id of its birth.
 pub record IdsOfBirths (view : View) : Type 0 where
   pub id_of : ℕ → ℕ
   pub used : (birth : ℕ) → birth < view.births → (0 < id_of birth) × (id_of birth ≤ view.used)
-  pub given : (id : ℕ) → 0 < id → id ≤ view.used → (birth : ℕ) × ((birth < view.births) × (id_of birth ≡ id))
+  pub given : (id : ℕ) → 0 < id → id ≤ view.used
+      → (birth : ℕ) × ((birth < view.births) × (id_of birth ≡ id))
   pub rows : (id : ℕ) (e : Entry) → look view id ≡ Some e → id_of e.birth ≡ id
 
 -- What always holds of a table.
@@ -71,12 +74,14 @@ pub record Sound (view : View) : Type 0 where
   -- so the rows and the freed ids are together as many as the ids used
   pub count : len view.rows + length view.freed ≡ view.used
   -- no birth stands twice, and each is below the number of births
-  pub one_birth : (id other : ℕ) (e d : Entry) → look view id ≡ Some e → look view other ≡ Some d → e.birth ≡ d.birth → id ≡ other
+  pub one_birth : (id other : ℕ) (e d : Entry) → look view id ≡ Some e → look view other ≡ Some d
+      → e.birth ≡ d.birth → id ≡ other
   pub born : (id : ℕ) (e : Entry) → look view id ≡ Some e → e.birth < view.births
   -- the ids used are those that these births were given
   pub ids : IdsOfBirths view
   -- id 1 is wl_display, the first object, for good
-  pub display : (iface : Iface) × (look view 1 ≡ Some (record { birth = 0; iface = iface; version = 1; state = Live }))
+  pub display : (iface : Iface)
+      × (look view 1 ≡ Some (record { birth = 0; iface = iface; version = 1; state = Live }))
   -- the limits
   pub ids_end : view.used ≤ max_ids
   pub births_end : view.births ≤ max_births
@@ -97,7 +102,8 @@ next_id view = first_or (view.used + 1) view.freed
 abbrev pub free_or_next : View → ℕ → Bool
 free_or_next view id = ltb 0 (times id view.freed) || eqb id (view.used + 1)
 
--- whether the limits leave room for an object at an id: the id is not above the last one, and a birth is left to count
+-- whether the limits leave room for an object at an id: the id is not above the last one, and a
+-- birth is left to count
 abbrev pub has_room : View → ℕ → Bool
 has_room view id = leb id max_ids && ltb view.births max_births
 
@@ -117,7 +123,9 @@ opening display = record {
 -- after an object was opened at an id, with the next birth
 abbrev pub opened_at : View → ℕ → Iface → ℕ → View
 opened_at view id iface version = record {
-  rows = insert view.rows id (record { birth = view.births; iface = iface; version = version; state = Live });
+  rows =
+      insert view.rows id
+      (record { birth = view.births; iface = iface; version = version; state = Live });
   freed = without id view.freed;
   used = max view.used id;
   births = view.births + 1;
@@ -129,7 +137,12 @@ opened view iface version = opened_at view (next_id view) iface version
 
 -- after an object's row is gone and its id freed
 abbrev pub closed : View → ℕ → View
-closed view id = record { rows = remove view.rows id; freed = id ∷ view.freed; used = view.used; births = view.births }
+closed view id = record {
+  rows = remove view.rows id;
+  freed = id ∷ view.freed;
+  used = view.used;
+  births = view.births;
+}
 
 -- the row of an object that has ended
 abbrev pub zombie : Entry → Entry
@@ -153,17 +166,29 @@ pub bit_state-lives : (s : State) → bit_state (lives s) ≡ s
 bit_state-lives Live = refl
 bit_state-lives Zombie = refl
 
-pub entry_back : (e : Entry) → record { birth = e.birth; iface = record { 0 = e.iface.0 }; version = e.version; state = bit_state (lives e.state) } ≡ e
-entry_back e = λ i. record { birth = e.birth; iface = e.iface; version = e.version; state = bit_state-lives e.state i }
+pub entry_back : (e : Entry)
+    → record {
+      birth = e.birth;
+      iface = record { 0 = e.iface.0 };
+      version = e.version;
+      state = bit_state (lives e.state);
+    } ≡ e
+entry_back e =
+    λ i. record
+    { birth = e.birth; iface = e.iface; version = e.version; state = bit_state-lives e.state i }
 
 abbrev pub entry_code : Coded Entry
-entry_code = code_by (ℕ × (ℕ × (ℕ × Bool))) (coded× coded_ℕ (coded× coded_ℕ (coded× coded_ℕ coded_bool)))
+entry_code =
+    code_by (ℕ × (ℕ × (ℕ × Bool))) (coded× coded_ℕ (coded× coded_ℕ (coded× coded_ℕ coded_bool)))
     (λ e. (e.birth, (e.iface.0, (e.version, lives e.state))))
-    (λ p. record { birth = p.0; iface = record { 0 = p.1.0 }; version = p.1.1.0; state = bit_state p.1.1.1 })
+    (λ p. record
+    { birth = p.0; iface = record { 0 = p.1.0 }; version = p.1.1.0; state = bit_state p.1.1.1 })
     entry_back
 
 abbrev pub view_code : Coded View
-view_code = code_by (FinMap nat_cmp Entry × (List ℕ × (ℕ × ℕ))) (coded× (code coded_ℕ entry_code) (coded× (coded_list coded_ℕ) (coded× coded_ℕ coded_ℕ)))
+view_code =
+    code_by (FinMap nat_cmp Entry × (List ℕ × (ℕ × ℕ)))
+    (coded× (code coded_ℕ entry_code) (coded× (coded_list coded_ℕ) (coded× coded_ℕ coded_ℕ)))
     (λ v. (v.rows, (v.freed, (v.used, v.births))))
     (λ p. record { rows = p.0; freed = p.1.0; used = p.1.1.0; births = p.1.1.1 })
     (λ _. refl)

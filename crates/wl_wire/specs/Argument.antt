@@ -6,8 +6,8 @@ use Rattle.wl_wire.specs.declared.value.Value.TheVariants as values
 use Rattle.wl_wire.specs.declared.value.ValueRef.{ValueRef}
 use Rattle.wl_wire.specs.declared.value.ValueRef.TheVariants as refs
 
--- One argument: O is what names an object, N what names a new object, F what stands for a descriptor.
--- On the wire, in a call, in a report and in what was meant only these three differ.
+-- One argument: O is what names an object, N what names a new object, F what stands for a
+-- descriptor. On the wire, in a call, in a report and in what was meant only these three differ.
 pub data Shape (O N F : Type 0) : Type 0 where
   Int : ℤ → Shape O N F
   Uint : ℕ → Shape O N F
@@ -20,7 +20,8 @@ pub data Shape (O N F : Type 0) : Type 0 where
   Fd : F → Shape O N F
 
 -- the same argument with objects, new objects and descriptors named otherwise
-abbrev pub reshaped : {O N F O' N' F' : Type 0} → (O → O') → (N → N') → (F → F') → Shape O N F → Shape O' N' F'
+abbrev pub reshaped : {O N F O' N' F' : Type 0} → (O → O') → (N → N') → (F → F') → Shape O N F
+    → Shape O' N' F'
 reshaped o n f (Int z) = Int z
 reshaped o n f (Uint m) = Uint m
 reshaped o n f (Fixed z) = Fixed z
@@ -31,7 +32,8 @@ reshaped o n f (NewNamed iface version x) = NewNamed iface version (n x)
 reshaped o n f (Array bytes) = Array bytes
 reshaped o n f (Fd x) = Fd (f x)
 
--- an argument on the wire: objects and new objects by their ids, where 0 is the null object, and a descriptor by nothing
+-- an argument on the wire: objects and new objects by their ids, where 0 is the null object, and a
+-- descriptor by nothing
 abbrev pub Argument : Type 0
 Argument = Shape ℕ ℕ (Unit {0})
 

@@ -1,7 +1,8 @@
 -- How errors are printed.
 use Rattle.std.specs.Prelude.{ℕ, List, codes}
 use Rattle.wl_wire.specs.declared.kind.ArgFault.{ArgFault}
-use Rattle.wl_wire.specs.declared.kind.ArgFault.TheVariants.{Short, NullNotAllowed, NoEndingNul, InnerNul}
+use Rattle.wl_wire.specs.declared.kind.ArgFault.TheVariants.{Short, NullNotAllowed, NoEndingNul}
+use Rattle.wl_wire.specs.declared.kind.ArgFault.TheVariants.{InnerNul}
 use Rattle.wl_wire.specs.declared.kind.ReadError.{ReadError}
 use Rattle.wl_wire.specs.declared.kind.ReadError.TheVariants.{Arg, Memory}
 

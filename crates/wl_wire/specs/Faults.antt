@@ -1,9 +1,11 @@
 -- Why bytes begin with no spelling of a kind, in the order in which the faults are tested.
-use Rattle.std.specs.Prelude.{◌≡◌, ◌≢◌, ◌≤◌, ℕ, ◌+◌, ◌-◌, ◌<◌, ◌^◌, ◌⊎◌, false, None, List, length, take, drop, slice_index, Contains}
+use Rattle.std.specs.Prelude.{◌≡◌, ◌≢◌, ◌≤◌, ℕ, ◌+◌, ◌-◌, ◌<◌, ◌^◌, ◌⊎◌, false, None, List, length}
+use Rattle.std.specs.Prelude.{take, drop, slice_index, Contains}
 use Rattle.wl_wire.specs.declared.kind.Kind.{Kind}
 use Rattle.wl_wire.specs.declared.kind.Kind.TheVariants as kinds
 use Rattle.wl_wire.specs.declared.kind.ArgFault.{ArgFault}
-use Rattle.wl_wire.specs.declared.kind.ArgFault.TheVariants.{Short, NullNotAllowed, NoEndingNul, InnerNul}
+use Rattle.wl_wire.specs.declared.kind.ArgFault.TheVariants.{Short, NullNotAllowed, NoEndingNul}
+use Rattle.wl_wire.specs.declared.kind.ArgFault.TheVariants.{InnerNul}
 use Rattle.wl_wire.specs.declared.kind.ReadError.{ReadError}
 use Rattle.wl_wire.specs.declared.kind.ReadError.TheVariants as errors
 use Rattle.wl_wire.specs.Word.{word}
@@ -13,7 +15,8 @@ use Rattle.wl_wire.specs.Spelling.{padded}
 abbrev pub Begins : ℕ → List ℕ → Type 0
 Begins n bytes = (n < 2 ^ 32) × (take 4 bytes ≡ word n)
 
--- They begin with the word n, and the n bytes after it, their padding, and `more` bytes behind that are not all there.
+-- They begin with the word n, and the n bytes after it, their padding, and `more` bytes behind that
+-- are not all there.
 abbrev pub Lacks : (more n : ℕ) → List ℕ → Type 0
 Lacks more n bytes = Begins n bytes × (length bytes < 4 + padded n + more)
 
@@ -31,9 +34,12 @@ LacksEndingNul more bytes = (n : ℕ) × (0 < n) × Holds more n bytes × (slice
 
 -- that byte is 0, and one before it is too
 abbrev pub HasInnerNul : ℕ → List ℕ → Type 0
-HasInnerNul more bytes = (n : ℕ) × (0 < n) × Holds more n bytes × (slice_index bytes (n + 3) ≡ 0) × Contains (take (n - 1) (drop 4 bytes)) 0
+HasInnerNul more bytes =
+    (n : ℕ) × (0 < n) × Holds more n bytes × (slice_index bytes (n + 3) ≡ 0)
+    × Contains (take (n - 1) (drop 4 bytes)) 0
 
--- A1: what the argument asks for is not all there; behind a name that is the version and the id, of 8 bytes
+-- A1: what the argument asks for is not all there; behind a name that is the version and the id, of
+-- 8 bytes
 abbrev pub IsShort : Kind → List ℕ → Type 0
 IsShort (kinds.Str null) bytes = LacksCounted 0 bytes
 IsShort kinds.Array bytes = LacksCounted 0 bytes

@@ -1,15 +1,19 @@
--- What stands at the front of bytes, for an argument of a kind: the answer of a reader, as a function of the bytes.
-use Rattle.std.specs.Prelude.{◌≡◌, ℕ, ◌+◌, ◌-◌, ◌==◌, ◌&&◌, nat_lt, if◌then◌else◌, List, take, drop, length, slice_index, Some, None, Result, Ok, Err}
+-- What stands at the front of bytes, for an argument of a kind: the answer of a reader, as a
+-- function of the bytes.
+use Rattle.std.specs.Prelude.{◌≡◌, ℕ, ◌+◌, ◌-◌, ◌==◌, ◌&&◌, nat_lt, if◌then◌else◌, List, take, drop}
+use Rattle.std.specs.Prelude.{length, slice_index, Some, None, Result, Ok, Err}
 use Rattle.std.specs.List.{list_any}
 use Rattle.wl_wire.specs.declared.kind.Kind.{Kind}
 use Rattle.wl_wire.specs.declared.kind.Kind.TheVariants as kinds
 use Rattle.wl_wire.specs.declared.kind.ArgFault.{ArgFault}
-use Rattle.wl_wire.specs.declared.kind.ArgFault.TheVariants.{Short, NullNotAllowed, NoEndingNul, InnerNul}
+use Rattle.wl_wire.specs.declared.kind.ArgFault.TheVariants.{Short, NullNotAllowed, NoEndingNul}
+use Rattle.wl_wire.specs.declared.kind.ArgFault.TheVariants.{InnerNul}
 use Rattle.wl_wire.specs.declared.kind.ReadError.{ReadError}
 use Rattle.wl_wire.specs.declared.kind.ReadError.TheVariants as errors
 use Rattle.wl_wire.specs.declared.value.Value.{Value}
 use Rattle.wl_wire.specs.declared.value.ValueRef.{ValueRef}
-use Rattle.wl_wire.specs.Argument.{Argument, Int, Uint, Fixed, Str, Obj, New, NewNamed, Array, Fd, plain, lent}
+use Rattle.wl_wire.specs.Argument.{Argument, Int, Uint, Fixed, Str, Obj, New, NewNamed, Array, Fd}
+use Rattle.wl_wire.specs.Argument.{plain, lent}
 use Rattle.wl_wire.specs.Spelling.{padded}
 pub use Rattle.wl_wire.specs.Word.{number_at, signed}
 
@@ -33,7 +37,9 @@ counted n bytes = take n (drop 4 bytes)
 abbrev pub text_of : ℕ → List ℕ → Result (List ℕ) ArgFault
 text_of n bytes =
     if n == 0 then Err NullNotAllowed
-    else if slice_index bytes (n + 3) == 0 then (if list_any (λ b. b == 0) (counted (n - 1) bytes) then Err InnerNul else Ok (counted (n - 1) bytes))
+    else if slice_index bytes (n + 3) == 0
+    then (if list_any (λ b. b == 0) (counted (n - 1) bytes)
+    then Err InnerNul else Ok (counted (n - 1) bytes))
     else Err NoEndingNul
 
 -- the same fault, or this function of what was found
@@ -46,18 +52,26 @@ abbrev pub argument_of : Kind → List ℕ → Result Argument ArgFault
 argument_of kinds.Int bytes = Ok (Int (signed (number_at bytes)))
 argument_of kinds.Uint bytes = Ok (Uint (number_at bytes))
 argument_of kinds.Fixed bytes = Ok (Fixed (signed (number_at bytes)))
-argument_of (kinds.Str null) bytes = if (number_at bytes == 0) && null then Ok (Str None) else on_found (λ text. Str (Some text)) (text_of (number_at bytes) bytes)
-argument_of (kinds.Obj null iface) bytes = if number_at bytes == 0 then (if null then Ok (Obj 0) else Err NullNotAllowed) else Ok (Obj (number_at bytes))
+argument_of (kinds.Str null) bytes =
+    if (number_at bytes == 0) && null then Ok (Str None)
+    else on_found (λ text. Str (Some text)) (text_of (number_at bytes) bytes)
+argument_of (kinds.Obj null iface) bytes =
+    if number_at bytes == 0 then (if null then Ok (Obj 0) else Err NullNotAllowed)
+    else Ok (Obj (number_at bytes))
 argument_of (kinds.New (Some iface)) bytes = Ok (New (number_at bytes))
 argument_of (kinds.New None) bytes =
     let after = drop (4 + padded (number_at bytes)) bytes in
-    on_found (λ name. NewNamed name (number_at after) (number_at (drop 4 after))) (text_of (number_at bytes) bytes)
+    on_found (λ name. NewNamed name (number_at after) (number_at (drop 4 after)))
+    (text_of (number_at bytes) bytes)
 argument_of kinds.Array bytes = Ok (Array (counted (number_at bytes) bytes))
 argument_of kinds.Fd bytes = Ok (Fd tt)
 
--- What stands at the front of the bytes for an argument of the kind, and how many bytes it takes; or the first fault.
+-- What stands at the front of the bytes for an argument of the kind, and how many bytes it takes;
+-- or the first fault.
 abbrev pub reading : Kind → List ℕ → Result (Argument × ℕ) ArgFault
-reading kind bytes = if nat_lt (length bytes) (asked kind bytes) then Err Short else on_found (λ value. (value, asked kind bytes)) (argument_of kind bytes)
+reading kind bytes =
+    if nat_lt (length bytes) (asked kind bytes) then Err Short
+    else on_found (λ value. (value, asked kind bytes)) (argument_of kind bytes)
 
 -- the value holds bytes of its own, if it is owned
 abbrev pub HoldsBytes : Argument → Type 0
@@ -71,8 +85,10 @@ abbrev pub seen : Result (ValueRef × ℕ) ArgFault → Result (Argument × ℕ)
 seen (Ok found) = Ok (lent found.0, found.1)
 seen (Err fault) = Err fault
 
--- This is the answer of a reader that makes a value of its own: as `reading`, or want of memory, which only a value with bytes meets.
+-- This is the answer of a reader that makes a value of its own: as `reading`, or want of memory,
+-- which only a value with bytes meets.
 abbrev pub IsRead : {A : Type 0} → Kind → List ℕ → Result (Value A × ℕ) ReadError → Type 0
 IsRead kind bytes (Ok found) = reading kind bytes ≡ Ok (plain found.0, found.1)
 IsRead kind bytes (Err (errors.Arg fault)) = reading kind bytes ≡ Err fault
-IsRead kind bytes (Err errors.Memory) = (value : Argument) × (len : ℕ) × (reading kind bytes ≡ Ok (value, len)) × HoldsBytes value
+IsRead kind bytes (Err errors.Memory) =
+    (value : Argument) × (len : ℕ) × (reading kind bytes ≡ Ok (value, len)) × HoldsBytes value

@@ -1,5 +1,6 @@
 -- How the values of a message's arguments stand on the wire.
-use Rattle.std.specs.Prelude.{◌≡◌, ◌≢◌, ℕ, ℤ, ◌+◌, ◌*◌, ◌/◌, ◌-◌, ◌<◌, ◌^◌, Bool, true, List, [], ◌∷◌, ◌++◌, length, replicate, Option, Some, None, FitsSigned}
+use Rattle.std.specs.Prelude.{◌≡◌, ◌≢◌, ℕ, ℤ, ◌+◌, ◌*◌, ◌/◌, ◌-◌, ◌<◌, ◌^◌, Bool, true, List, []}
+use Rattle.std.specs.Prelude.{◌∷◌, ◌++◌, length, replicate, Option, Some, None, FitsSigned}
 use Rattle.std.specs.List.{All}
 use Rattle.std.specs.Int.{w32}
 use Rattle.wl_wire.specs.declared.kind.Kind.{Kind}
@@ -23,7 +24,8 @@ pub record IsText (text : List ℕ) : Type 0 where
   pub no_nul : All (λ b. b ≢ 0) text
   pub len : length text + 1 < 2 ^ 32
 
--- The bytes spell a string that is not null: its length with the ending NUL, the string, the NUL, padding.
+-- The bytes spell a string that is not null: its length with the ending NUL, the string, the NUL,
+-- padding.
 pub record SpellsText (text bytes : List ℕ) : Type 0 where
   pub text_fits : IsText text
   pub rest : List ℕ
@@ -32,18 +34,28 @@ pub record SpellsText (text bytes : List ℕ) : Type 0 where
 
 -- The bytes spell the value, for an argument of the kind.
 pub data Spells : Kind → Argument → List ℕ → Type 0 where
-  is_int : {z : ℤ} {bytes : List ℕ} → FitsSigned w32 z → bytes ≡ int_word z → Spells kinds.Int (Int z) bytes
-  is_uint : {n : ℕ} {bytes : List ℕ} → n < 2 ^ 32 → bytes ≡ word n → Spells kinds.Uint (Uint n) bytes
-  is_fixed : {z : ℤ} {bytes : List ℕ} → FitsSigned w32 z → bytes ≡ int_word z → Spells kinds.Fixed (Fixed z) bytes
+  is_int : {z : ℤ} {bytes : List ℕ} → FitsSigned w32 z → bytes ≡ int_word z
+      → Spells kinds.Int (Int z) bytes
+  is_uint : {n : ℕ} {bytes : List ℕ} → n < 2 ^ 32 → bytes ≡ word n
+      → Spells kinds.Uint (Uint n) bytes
+  is_fixed : {z : ℤ} {bytes : List ℕ} → FitsSigned w32 z → bytes ≡ int_word z
+      → Spells kinds.Fixed (Fixed z) bytes
   -- the null string is a length of 0
-  is_null : {null : Bool} {bytes : List ℕ} → null ≡ true → bytes ≡ word 0 → Spells (kinds.Str null) (Str None) bytes
-  is_text : {null : Bool} {text bytes : List ℕ} → SpellsText text bytes → Spells (kinds.Str null) (Str (Some text)) bytes
+  is_null : {null : Bool} {bytes : List ℕ} → null ≡ true → bytes ≡ word 0
+      → Spells (kinds.Str null) (Str None) bytes
+  is_text : {null : Bool} {text bytes : List ℕ} → SpellsText text bytes
+      → Spells (kinds.Str null) (Str (Some text)) bytes
   -- the null object is the id 0
-  is_object : {null : Bool} {iface : Option Iface} {id : ℕ} {bytes : List ℕ} → id < 2 ^ 32 → (id ≡ 0 → null ≡ true) → bytes ≡ word id → Spells (kinds.Obj null iface) (Obj id) bytes
-  is_new : {iface : Iface} {id : ℕ} {bytes : List ℕ} → id < 2 ^ 32 → bytes ≡ word id → Spells (kinds.New (Some iface)) (New id) bytes
+  is_object : {null : Bool} {iface : Option Iface} {id : ℕ} {bytes : List ℕ} → id < 2 ^ 32
+      → (id ≡ 0 → null ≡ true) → bytes ≡ word id → Spells (kinds.Obj null iface) (Obj id) bytes
+  is_new : {iface : Iface} {id : ℕ} {bytes : List ℕ} → id < 2 ^ 32 → bytes ≡ word id
+      → Spells (kinds.New (Some iface)) (New id) bytes
   -- without an interface: its name, the version, the id
-  is_named : {iface front bytes : List ℕ} {version id : ℕ} → SpellsText iface front → version < 2 ^ 32 → id < 2 ^ 32 → bytes ≡ front ++ word version ++ word id → Spells (kinds.New None) (NewNamed iface version id) bytes
-  is_array : {array rest bytes : List ℕ} → length array < 2 ^ 32 → Padded array rest → bytes ≡ word (length array) ++ rest → Spells kinds.Array (Array array) bytes
+  is_named : {iface front bytes : List ℕ} {version id : ℕ} → SpellsText iface front
+      → version < 2 ^ 32 → id < 2 ^ 32 → bytes ≡ front ++ word version ++ word id
+      → Spells (kinds.New None) (NewNamed iface version id) bytes
+  is_array : {array rest bytes : List ℕ} → length array < 2 ^ 32 → Padded array rest
+      → bytes ≡ word (length array) ++ rest → Spells kinds.Array (Array array) bytes
   -- a descriptor has no bytes
   is_descriptor : {bytes : List ℕ} → bytes ≡ [] → Spells kinds.Fd (Fd tt) bytes
 
@@ -64,7 +76,8 @@ canonical (Str (Some text)) = text_bytes text
 canonical (Obj id) = word id
 canonical (New id) = word id
 canonical (NewNamed iface version id) = text_bytes iface ++ word version ++ word id
-canonical (Array bytes) = word (length bytes) ++ bytes ++ zeros (padded (length bytes) - length bytes)
+canonical (Array bytes) =
+    word (length bytes) ++ bytes ++ zeros (padded (length bytes) - length bytes)
 canonical (Fd _) = []
 
 -- the value has a spelling, as far as its strings and arrays go
@@ -91,7 +104,8 @@ Suits (kinds.Str null) (Str None) = null ≡ true
 Suits (kinds.Str null) (Str (Some text)) = IsText text
 Suits (kinds.Obj null iface) (Obj id) = (id < 2 ^ 32) × (id ≡ 0 → null ≡ true)
 Suits (kinds.New (Some iface)) (New id) = id < 2 ^ 32
-Suits (kinds.New None) (NewNamed iface version id) = IsText iface × (version < 2 ^ 32) × (id < 2 ^ 32)
+Suits (kinds.New None) (NewNamed iface version id) =
+    IsText iface × (version < 2 ^ 32) × (id < 2 ^ 32)
 Suits kinds.Array (Array bytes) = length bytes < 2 ^ 32
 Suits kinds.Fd (Fd _) = Unit {0}
 Suits _ _ = ⊥

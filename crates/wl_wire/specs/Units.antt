@@ -1,5 +1,6 @@
 -- Fixed-point numbers, by how many 256ths they are.
-use Rattle.std.specs.Prelude.{ℕ, ℤ, pos, negsuc, ◌-◌, ◌*◌, ◌/◌, ◌%◌, ◌+ℤ◌, ◌*ℤ◌, ◌≤ℤ◌, ◌<ℤ◌, List, [], ◌∷◌, ◌++◌, length, replicate, nat_abs, decimal}
+use Rattle.std.specs.Prelude.{ℕ, ℤ, pos, negsuc, ◌-◌, ◌*◌, ◌/◌, ◌%◌, ◌+ℤ◌, ◌*ℤ◌, ◌≤ℤ◌, ◌<ℤ◌, List}
+use Rattle.std.specs.Prelude.{[], ◌∷◌, ◌++◌, length, replicate, nat_abs, decimal}
 
 -- the whole numbers that have a fixed-point number: -8,388,608 to 8,388,607
 abbrev pub HasFixed : ℤ → Type 0
@@ -18,7 +19,9 @@ sign_of (negsuc n) = 45 ∷ []
 abbrev pub decimal_to : ℕ → ℕ → List ℕ
 decimal_to width n = replicate (width - length (decimal n)) 48 ++ decimal n
 
--- What is printed of this many 256ths: the sign, the whole part of the size, a point, and the rest in 8 digits,
--- of which a 256th has 390,625 in units of the last.
+-- What is printed of this many 256ths: the sign, the whole part of the size, a point, and the rest
+-- in 8 digits, of which a 256th has 390,625 in units of the last.
 abbrev pub fixed_text : ℤ → List ℕ
-fixed_text units = sign_of units ++ (decimal (nat_abs units / 256) ++ 46 ∷ decimal_to 8 (nat_abs units % 256 * 390625))
+fixed_text units =
+    sign_of units
+    ++ (decimal (nat_abs units / 256) ++ 46 ∷ decimal_to 8 (nat_abs units % 256 * 390625))

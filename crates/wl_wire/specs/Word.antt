@@ -1,5 +1,6 @@
 -- Words: the four bytes of a number on the wire.
-use Rattle.std.specs.Prelude.{nat_lt, if◌then◌else◌, slice_index, drop, ℕ, ◌/◌, ◌%◌, ◌+◌, ◌-◌, ◌*◌, ◌^◌, ◌<◌, List, [], ◌∷◌, ◌++◌, ℤ, pos, negsuc}
+use Rattle.std.specs.Prelude.{nat_lt, if◌then◌else◌, slice_index, drop, ℕ, ◌/◌, ◌%◌, ◌+◌, ◌-◌, ◌*◌}
+use Rattle.std.specs.Prelude.{◌^◌, ◌<◌, List, [], ◌∷◌, ◌++◌, ℤ, pos, negsuc}
 use Rattle.wl_wire.specs.declared.header.Header.{Header}
 
 -- the word of a number below 2 ^ 32: its four bytes, the lowest first
@@ -17,13 +18,16 @@ int_word z = word (complement z)
 
 -- the number that the first four bytes are, the lowest byte first
 abbrev pub number_at : List ℕ → ℕ
-number_at bytes = slice_index bytes 0 % 256 + slice_index bytes 1 % 256 * 256 + slice_index bytes 2 % 256 * 65536 + slice_index bytes 3 % 256 * 16777216
+number_at bytes =
+    slice_index bytes 0 % 256 + slice_index bytes 1 % 256 * 256 + slice_index bytes 2 % 256 * 65536
+    + slice_index bytes 3 % 256 * 16777216
 
 -- the signed number that this number is in two's complement of 32 bits
 abbrev pub signed : ℕ → ℤ
 signed n = if nat_lt n (2 ^ 31) then pos n else negsuc (2 ^ 32 - 1 - n)
 
--- a header: the object's word, and a word with the size in its upper half and the opcode in its lower
+-- a header: the object's word, and a word with the size in its upper half and the opcode in its
+-- lower
 abbrev pub header_bytes : Header → List ℕ
 header_bytes h = word h.object ++ word (h.size * 65536 + h.opcode)
 
@@ -35,4 +39,8 @@ pub record IsHeader (h : Header) : Type 0 where
 
 -- the header that the first eight bytes are
 abbrev pub header_at : List ℕ → Header
-header_at bytes = record { object = number_at bytes; size = number_at (drop 4 bytes) / 65536; opcode = number_at (drop 4 bytes) % 65536 }
+header_at bytes = record {
+  object = number_at bytes;
+  size = number_at (drop 4 bytes) / 65536;
+  opcode = number_at (drop 4 bytes) % 65536;
+}

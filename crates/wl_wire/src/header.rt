@@ -4,6 +4,9 @@ ghost use Rattle.wl_wire.specs.Word.{word};
 
 use byteorder::{ByteOrder, LittleEndian};
 
+/// The most bytes that a message has, its header counted.
+pub const MAX_MESSAGE_LEN: u16 = 4096;
+
 /// The first eight bytes of a message. (Section "Wire Format".)
 #[derive(Clone, Copy, Debug, PartialEq, Eq)]
 pub struct Header {

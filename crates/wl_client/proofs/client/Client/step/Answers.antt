@@ -9,4 +9,4 @@ returns-in-None-clause-state g c =
 
 pub returns-in-Some-clause-state : goal.returns-in-Some-clause-state
 returns-in-Some-clause-state g c =
-    after_some c.in_ok-read.field-0 c.in-Some.step c.self.inside.core c.read.new.core c.self.inside.globals c.learn.new.self c.in-Some.is c.learn.ensures c.in_ok-read.ensures.state ∙ ap after_next c.self.view_is
+    after_some c.in_ok-read.field-0 c.in-Some.step c.self.inside.core c.read.new.core c.self.inside.globals c.apply.new.self c.in-Some.is c.apply.ensures c.in_ok-read.ensures.state ∙ ap after_next c.self.view_is

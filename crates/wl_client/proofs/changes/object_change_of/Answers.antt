@@ -1,6 +1,6 @@
 use Rattle.std.proofs.Common.{sym, ◌∙◌, rules}
 use Rattle.wl_client.proofs.Zombies.{zombied_same}
-use Rattle.wl_client.proofs.steps.change_of.Goals as goal
+use Rattle.wl_client.proofs.changes.object_change_of.Goals as goal
 
 pub returns-in-Target-Zombie-clause-changed : goal.returns-in-Target-Zombie-clause-changed
 returns-in-Target-Zombie-clause-changed g c =

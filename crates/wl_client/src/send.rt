@@ -13,7 +13,7 @@ use wl_sigs::Side;
 
 impl<'t, T: Table> Client<'t, T> {
     /// Writes a request with these arguments, `New` standing for the object that it makes, and
-    /// answers that object. An object that the request destroys is a zombie afterwards.
+    /// returns that object. An object that the request destroys is a zombie afterwards.
     ///
     /// The refusals are tested in the order of their numbers: S1, S2, S3, S4, S5, S6, S8, S9, S10,
     /// S11. wl_registry.bind is S3.

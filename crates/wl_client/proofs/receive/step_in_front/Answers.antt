@@ -1,7 +1,7 @@
 use Rattle.wl_end.specs.Core.{Core}
 use Rattle.wl_client.proofs.Fronts.{step_told, fault_told}
-use Rattle.wl_client.proofs.reading.step_in_front.Goals.{in-Ok, in-Err-step_of}
-use Rattle.wl_client.proofs.reading.step_in_front.Goals as goal
+use Rattle.wl_client.proofs.receive.step_in_front.Goals.{in-Ok, in-Err-step_of}
+use Rattle.wl_client.proofs.receive.step_in_front.Goals as goal
 
 pub returns-clause-comes : goal.returns-clause-comes
 returns-clause-comes g c =

@@ -1,5 +1,5 @@
 use Rattle.std.proofs.Common.{rules}
-use Rattle.wl_client.proofs.steps.delete_outline.Goals as goal
+use Rattle.wl_client.proofs.outline.delete_outline.Goals as goal
 
 pub returns-in-Some : goal.returns-in-Some
 returns-in-Some g c body tokens = search rules

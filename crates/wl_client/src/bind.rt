@@ -12,7 +12,7 @@ use wl_sigs::Tables;
 use wl_wire::ValueRef;
 
 impl<'t, T: Table> Client<'t, T> {
-    /// Binds a global that the client was told, of this name and interface, and answers the new
+    /// Binds a global that the client was told, of this name and interface, and returns the new
     /// object, of this version.
     ///
     /// The refusals are tested in the order of their numbers: S1, S2, S3 where `registry` is no

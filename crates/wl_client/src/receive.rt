@@ -15,14 +15,17 @@ ghost use Rattle.wl_client.specs.Reports.{IsNext, after_next, next_answer};
 ghost use Rattle.wl_client.specs.Outlines.{client_row, lent_in, lent_report, outline_in, outlined};
 ghost use Rattle.wl_client.specs.Seen.{report_in};
 ghost use Rattle.wl_client.specs.Steps.{CanChange, state_of, stepped};
-ghost use Rattle.wl_client.specs.Reading.{IsFront, IsOwnedFront, IsStepOf, owned_in, step_in, taught, taught_by_owned};
+ghost use Rattle.wl_client.specs.Reading.{IsFront, IsOwnedFront, IsStepOf, owned_in, step_in, globals_left, globals_left_by_owned};
 
+use crate::changes::{
+    GlobalChange, ObjectChange, apply_object_change, global_change_of, object_change_of,
+};
 use crate::client::Client;
 use crate::incoming::{Incoming, Outline, OwnedIncoming};
-use crate::steps::{Change, Lesson, change_of, lesson_of, make, outline_of};
-use crate::tokens::{MAX_TOKENS, Tokens};
+use crate::outline::outline_of;
+use crate::tokens::Tokens;
 use std::alloc::Allocator;
-use wl_end::Core;
+use wl_end::{Core, MAX_TOKENS};
 use wl_message::Frame;
 use wl_objects::{DISPLAY, Fault, NextError, Table, descriptors, is_error, receive};
 use wl_sigs::{Side, Tables};
@@ -31,8 +34,8 @@ use wl_sigs::{Side, Tables};
 #[derive(Drop)]
 pub(crate) struct Step {
     outline: Outline,
-    change: Change,
-    lesson: Lesson,
+    change: ObjectChange,
+    global_change: GlobalChange,
     /// How many bytes the message has.
     bytes: u16,
     /// How many tokens it takes.
@@ -84,7 +87,7 @@ impl<'t, T: Table> Client<'t, T> {
         match read_owned(&self.alloc, &mut self.core)? {
             None => Ok(None),
             Some(owned) => {
-                self.globals.learn(owned.step.lesson);
+                self.globals.apply(owned.step.global_change);
                 Ok(Some(owned.report))
             }
         }
@@ -98,7 +101,7 @@ impl<'t, T: Table> Client<'t, T> {
         match read(&mut self.core)? {
             None => Ok(None),
             Some(step) => {
-                self.globals.learn(step.lesson);
+                self.globals.apply(step.global_change);
                 Ok(Some(step.outline))
             }
         }
@@ -117,7 +120,7 @@ impl<'t, T: Table> Client<'t, T> {
 fn read<T: Table>(core: &mut Core<'_, T>) -> Result<Option<Step>, NextError>
     ensures answer { step_in core.new.inbox result ≡ next_answer (state_of core.old []) }
     ensures state { (globals : List Told)
-        → state_of core.new (taught globals result) ≡ after_next (state_of core.old globals) }
+        → state_of core.new (globals_left globals result) ≡ after_next (state_of core.old globals) }
 {
     if core.failed {
         return Err(NextError::Failed);
@@ -139,7 +142,7 @@ fn read_owned<T: Table>(
 ) -> Result<Option<OwnedStep<T::Alloc>>, NextError>
     ensures answer { IsNext (state_of core.old []) (owned_in result) }
     ensures state { (globals : List Told)
-        → state_of core.new (taught_by_owned globals result)
+        → state_of core.new (globals_left_by_owned globals result)
         ≡ left (state_of core.old globals) (after_next (state_of core.old globals))
         (owned_in result) }
 {
@@ -230,8 +233,8 @@ fn step_of<T: Table>(tables: &Tables, table: &T, frame: Frame<'_>) -> Result<Ste
         Err(fault) => return Err(fault),
     };
     Ok(Step {
-        change: change_of(table, opcode, &message),
-        lesson: lesson_of(tables, opcode, &message),
+        change: object_change_of(table, opcode, &message),
+        global_change: global_change_of(tables, opcode, &message),
         bytes: header.size,
         tokens: descriptors(message.signature.kinds()),
         last: is_error(Side::Event, message.entry.iface, opcode),
@@ -239,9 +242,15 @@ fn step_of<T: Table>(tables: &Tables, table: &T, frame: Frame<'_>) -> Result<Ste
     })
 }
 
-/// Takes the message in front, of so many bytes, with its tokens, and makes its change among the
+/// Takes the message in front, of `bytes` bytes, with its tokens, and makes its change among the
 /// objects. The end fails with the last message.
-fn take<T: Table>(core: &mut Core<'_, T>, change: Change, bytes: u16, tokens: usize, last: bool)
+fn take<T: Table>(
+    core: &mut Core<'_, T>,
+    change: ObjectChange,
+    bytes: u16,
+    tokens: usize,
+    last: bool,
+)
     requires message { front usual_limit core.old.inbox.bytes ≡ Whole bytes }
     requires few { tokens ≤ MAX_TOKENS }
     requires waiting { tokens ≤ length core.old.inbox.tokens }
@@ -251,7 +260,7 @@ fn take<T: Table>(core: &mut Core<'_, T>, change: Change, bytes: u16, tokens: us
 {
     let mut taken = [0; MAX_TOKENS];
     core.pass(bytes, &mut taken[..tokens]);
-    make(core, change);
+    apply_object_change(core, change);
     core.failed = last;
 }
 

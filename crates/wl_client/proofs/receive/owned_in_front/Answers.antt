@@ -1,8 +1,8 @@
 use Rattle.std.proofs.Common.{◌∙◌}
 use Rattle.wl_end.specs.Core.{Core}
 use Rattle.wl_client.proofs.Fronts.{fault_told, owned_told, memory_told}
-use Rattle.wl_client.proofs.reading.owned_in_front.Goals.{in-Ok-to_owned, in-Err-to_owned}
-use Rattle.wl_client.proofs.reading.owned_in_front.Goals as goal
+use Rattle.wl_client.proofs.receive.owned_in_front.Goals.{in-Ok-to_owned, in-Err-to_owned}
+use Rattle.wl_client.proofs.receive.owned_in_front.Goals as goal
 
 pub returns-in-Err-step_of-clause-comes : goal.returns-in-Err-step_of-clause-comes
 returns-in-Err-step_of-clause-comes g c =
