@@ -28,7 +28,6 @@ use Rattle.wl_client.specs.declared.receive.Step.{Step}
 use Rattle.wl_client.specs.declared.receive.Stop.TheVariants as stops
 use Rattle.wl_client.specs.Reports.{Report, report, Event, Discarded, needs_memory, is_error_event, is_delete_event, deleted_id, error_report, delete_report, plain_report}
 use Rattle.wl_client.specs.Steps.{end_with, report_by}
-use Rattle.wl_client.proofs.Firsts.{reports_first}
 use Rattle.wl_end.proofs.Receivings.{is_received}
 use Rattle.wl_client.specs.Reading.{IsStep, IsStepOf, IsAhead, IsFront, IsOwnedFront, body_of, headed}
 use Rattle.wl_client.specs.Outlines.{outlined}
@@ -55,18 +54,6 @@ found_frame core side h body waiting f =
     ∙ ap (λ (k : Header). found_in h.size k.opcode (received core.tables side (reader_of core.view) k (drop 8 (take h.size bytes)) (length core.inbox.tokens))) head
     ∙ ap (λ (x : List ℕ). found_in h.size h.opcode (received core.tables side (reader_of core.view) h x (length core.inbox.tokens))) (ap (drop 8) f.parts)
     ∙ ap (λ (n : ℕ). found_in h.size h.opcode (received core.tables side (reader_of core.view) h body n)) (sym f.tokens)
-
--- ---- the first tokens are enough for the report
-
-plain_first : (view : View) (n : ℕ) (tokens : List ℕ) (opcode : ℕ) (m : Received) (s : ObjectState) → length m.values ≤ n → takes m ≤ n
-    → plain_report (end_with [] view (take n tokens)) opcode m s ≡ plain_report (end_with [] view tokens) opcode m s
-plain_first view n tokens opcode m Live v t = ap (λ l. Event m.target opcode l) (reports_first (reader_of view) n tokens m.values v)
-plain_first view n tokens opcode m Zombie v t = ap (λ (l : List ℕ). Discarded m.target opcode l) (take-take (takes m) n tokens t)
-
-report_first : (view : View) (n : ℕ) (tokens : List ℕ) (f : Found) → length f.message.values ≤ n → takes f.message ≤ n → report_by view (take n tokens) f ≡ report_by view tokens f
-report_first view n tokens f v t =
-    ap (λ (x : Report). if is_error_event f then error_report (end_with [] view tokens) f.message.values else if is_delete_event f then delete_report (end_with [] view tokens) (deleted_id f) else x)
-    (plain_first view n tokens f.opcode f.message f.message.entry.state v t)
 
 -- ---- what comes of a frame
 
@@ -97,6 +84,13 @@ report_own core f h =
 
 -- ---- what comes of a frame
 
+-- what is reported by the tokens that the message takes
+own_reported : (core : Core) (h : Header) (body : List ℕ) (step : Step) (m : Received) → found core event_side ≡ Ok (Some (headed h m)) → IsStep core.tables core.view body (headed h m) step
+    → outlined body (take step.tokens core.inbox.tokens) step.outline ≡ report core (headed h m)
+own_reported core h body step m found_it s =
+    ap (λ (k : ℕ). outlined body (take k core.inbox.tokens) step.outline) s.tokens_taken
+    ∙ (s.report (own_tokens core m) ∙ report_own core (headed h m) (is_found core event_side (headed h m) found_it))
+
 ahead : (core : Core) (h : Header) (body : List ℕ) (waiting : ℕ) (step : Step) (m : Received) → Valid core.tables → IsFrame core h body waiting
     → received core.tables event_side (reader_of core.view) h body waiting ≡ Ok m → found core event_side ≡ Ok (Some (headed h m)) → IsStep core.tables core.view body (headed h m) step
     → IsAhead core (headed h m) step
@@ -113,9 +107,7 @@ ahead core h body waiting step m v f e found_it s =
       is_step = subst (λ (l : List ℕ). IsStep core.tables core.view l (headed h m) step) (sym behind) s;
       is_reported =
           ap (λ (k : ℕ). outlined (body_of core k) (take step.tokens core.inbox.tokens) step.outline) s.bytes
-          ∙ (ap (λ (k : ℕ). outlined (body_of core h.size) (take k core.inbox.tokens) step.outline) s.tokens_taken
-          ∙ (ap (λ (l : List ℕ). outlined l (own_tokens core m) step.outline) behind
-          ∙ (s.report (own_tokens core m) ∙ report_own core (headed h m) (is_found core event_side (headed h m) found_it))));
+          ∙ (ap (λ (l : List ℕ). outlined l (take step.tokens core.inbox.tokens) step.outline) behind ∙ own_reported core h body step m found_it s);
     }
 
 pub found_headed : (core : Core) (h : Header) (body : List ℕ) (waiting : ℕ) (m : Received) → IsFrame core h body waiting
@@ -132,14 +124,6 @@ step_is core h body waiting step v f s =
 fault_is : (core : Core) (h : Header) (body : List ℕ) (waiting : ℕ) (fault : Fault) → IsFrame core h body waiting
     → received core.tables event_side (reader_of core.view) h body waiting ≡ Err fault → found core event_side ≡ Err fault
 fault_is core h body waiting fault f s = found_frame core event_side h body waiting f ∙ ap (found_in h.size h.opcode) s
-
--- what is reported by the tokens that wait first
-by_first : (core : Core) (h : Header) (body : List ℕ) (waiting : ℕ) (step : Step) (m : Received) → Valid core.tables
-    → received core.tables event_side (reader_of core.view) h body waiting ≡ Ok m → IsStep core.tables core.view body (headed h m) step
-    → outlined body (take 20 core.inbox.tokens) step.outline ≡ report core (headed h m)
-by_first core h body waiting step m v e s =
-    let b = few_of core h body waiting m v e in
-    s.report (take 20 core.inbox.tokens) ∙ report_first core.view 20 core.inbox.tokens (headed h m) b.values b.taken
 
 -- ---- as the code has it
 
@@ -159,30 +143,41 @@ fault_told core before o f fault same e t h s =
     subst (λ (c : Core). found c event_side ≡ Err fault) same
     (fault_is core f.header f.body.now f.tokens fault (framed core o f e t h) s)
 
-pub owned_told : {A : Type 0} (core before : Core) (o : Option Frame) (f : Frame) (owned : OwnedStep A) (first : List ℕ) → core ≡ before → o ≡ Some f → Tells core.inbox (Ok o) → IsHeader f.header → Valid core.tables
-    → first ≡ take 20 core.inbox.tokens
+-- a step takes no more tokens than a message can have, and these wait
+pub step_tokens : (core : Core) (o : Option Frame) (f : Frame) (step : Step) → o ≡ Some f → Tells core.inbox (Ok o) → Valid core.tables
+    → IsStepOf core.tables core.view f.header f.body.now (received core.tables event_side (reader_of core.view) f.header f.body.now f.tokens) (Ok step)
+    → (step.tokens ≤ 20) × (step.tokens ≤ length core.inbox.tokens)
+step_tokens core o f step e t v s =
+    let p = is_received core.tables event_side (reader_of core.view) f.header f.body.now f.tokens s.0 s.1 in
+    let b = few_of core f.header f.body.now f.tokens s.0 v s.1 in
+    let k = rw e at t in
+    (omega (arith, s.2.tokens_taken, b.taken), omega (arith, s.2.tokens_taken, p.tokens, k.2))
+
+pub owned_told : {A : Type 0} (core before : Core) (o : Option Frame) (f : Frame) (owned : OwnedStep A) (own : List ℕ) → core ≡ before → o ≡ Some f → Tells core.inbox (Ok o) → IsHeader f.header → Valid core.tables
+    → own ≡ take owned.step.tokens core.inbox.tokens
     → IsStepOf core.tables core.view f.header f.body.now (received core.tables event_side (reader_of core.view) f.header f.body.now f.tokens) (Ok owned.step)
-    → report_of owned.report ≡ outlined f.body.now first owned.step.outline
+    → report_of owned.report ≡ outlined f.body.now own owned.step.outline
     → IsOwnedFront before (found before event_side) (Ok (Some owned))
-owned_told core before o f owned first same e t h v w s r =
+owned_told core before o f owned own same e t h v w s r =
     let fr = framed core o f e t h in
     let there = found_headed core f.header f.body.now f.tokens s.0 fr s.1 in
     subst (λ (c : Core). IsOwnedFront c (found c event_side) (Ok (Some owned))) same (
       headed f.header s.0,
       there,
       ahead core f.header f.body.now f.tokens owned.step s.0 v fr s.1 there s.2,
-      r ∙ (ap (λ (l : List ℕ). outlined f.body.now l owned.step.outline) w ∙ by_first core f.header f.body.now f.tokens owned.step s.0 v s.1 s.2),
+      r ∙ (ap (λ (l : List ℕ). outlined f.body.now l owned.step.outline) w ∙ own_reported core f.header f.body.now owned.step s.0 there s.2),
     )
 
-pub memory_told : (A : Type 0) (core before : Core) (o : Option Frame) (f : Frame) (step : Step) (first : List ℕ) → core ≡ before → o ≡ Some f → Tells core.inbox (Ok o) → IsHeader f.header → Valid core.tables
-    → first ≡ take 20 core.inbox.tokens
+pub memory_told : (A : Type 0) (core before : Core) (o : Option Frame) (f : Frame) (step : Step) (own : List ℕ) → core ≡ before → o ≡ Some f → Tells core.inbox (Ok o) → IsHeader f.header
+    → own ≡ take step.tokens core.inbox.tokens
     → IsStepOf core.tables core.view f.header f.body.now (received core.tables event_side (reader_of core.view) f.header f.body.now f.tokens) (Ok step)
-    → needs_memory (outlined f.body.now first step.outline) ≡ true
+    → needs_memory (outlined f.body.now own step.outline) ≡ true
     → IsOwnedFront {A = A} before (found before event_side) (Err stops.Memory)
-memory_told A core before o f step first same e t h v w s n =
+memory_told A core before o f step own same e t h w s n =
     let fr = framed core o f e t h in
+    let there = found_headed core f.header f.body.now f.tokens s.0 fr s.1 in
     subst (λ (c : Core). IsOwnedFront {A = A} c (found c event_side) (Err stops.Memory)) same (
       headed f.header s.0,
-      found_headed core f.header f.body.now f.tokens s.0 fr s.1,
-      ap needs_memory (sym (ap (λ (l : List ℕ). outlined f.body.now l step.outline) w ∙ by_first core f.header f.body.now f.tokens step s.0 v s.1 s.2)) ∙ n,
+      there,
+      ap needs_memory (sym (ap (λ (l : List ℕ). outlined f.body.now l step.outline) w ∙ own_reported core f.header f.body.now step s.0 there s.2)) ∙ n,
     )

@@ -4,11 +4,14 @@ use Rattle.std.proofs.lemmas.Bool.{eqb-true}
 use Rattle.std.specs.Ordering.{nat_cmp}
 use Rattle.std.specs.Cmp.{nat_cmp_total}
 use Rattle.std.specs.FinMap.{FinMap, get, insert, same_map, nat_cmp-IsAntisymmetric}
-use Rattle.std.specs.declared.option.Option.TheVariants.{Some}
+use Rattle.std.specs.declared.option.Option.TheVariants.{Some, None}
+use Rattle.wl_sigs.specs.declared.signature.Destroys.{Destroys}
+use Rattle.wl_sigs.specs.declared.signature.Destroys.TheVariants.{Nothing, Target}
 use Rattle.wl_table.specs.declared.object.Entry.{Entry}
 use Rattle.wl_table.specs.declared.object.State.TheVariants.{Zombie}
 use Rattle.wl_table.specs.View.{View, look, zombie, with_zombie, zombied}
 use Rattle.wl_table.specs.Views.{get_put}
+use Rattle.wl_objects.specs.Messages.{Client as client, after}
 
 at_key : (rows : FinMap nat_cmp Entry) (id q : ℕ) (e : Entry) (b : Bool) → eqb q id ≡ b → get rows id ≡ Some e → cond b (Some e) (get rows q) ≡ get rows q
 at_key rows id q e false t h = refl
@@ -25,3 +28,8 @@ pub zombied_same : (view : View) (id : ℕ) (e : Entry) → look view id ≡ Som
 zombied_same view id e l z =
     ap (λ (r : FinMap nat_cmp Entry). record view { rows = r })
     (ap (with_zombie view.rows id) l ∙ ap (insert view.rows id) (zombie_same e z) ∙ put_same view.rows id e l)
+
+-- an event for a zombie changes no object
+pub after_zombie : (view : View) (what : Destroys) (id : ℕ) (e : Entry) → look view id ≡ Some e → e.state ≡ Zombie → after client view None what id ≡ view
+after_zombie view Nothing id e l z = refl
+after_zombie view Target id e l z = zombied_same view id e l z

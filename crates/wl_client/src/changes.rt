@@ -1,15 +1,15 @@
-//! What a message changes at a client: among its objects, and of the globals that it remembers.
-ghost use Rattle.std.specs.Prelude.{◌≡◌, ◌≢◌, List, Some};
-ghost use Rattle.wl_table.specs.View.{look};
-ghost use Rattle.wl_end.specs.Core.{HasDisplay, with_view};
+//! The changes that a message makes at a client: among its objects, and of the globals that it
+//! remembers.
+ghost use Rattle.std.specs.Prelude.{◌≡◌, List};
+ghost use Rattle.wl_end.specs.Core.{with_view};
 ghost use Rattle.wl_client.specs.State.{Global as Told};
-ghost use Rattle.wl_client.specs.Steps.{CanChange, changed, found_as, globals_by, view_by, with_global_change};
+ghost use Rattle.wl_client.specs.Steps.{CanChange, changed, found_as, globals_by, with_global_change};
 
 use crate::arguments::{number_at, text_at};
 use crate::globals::Global;
 use wl_end::Core;
-use wl_objects::{REGISTRY, Received, State, Table, is_delete_id, is_error};
-use wl_sigs::{Destroys, Side, Tables};
+use wl_objects::{REGISTRY, Received, State, Table};
+use wl_sigs::Tables;
 
 /// What a message does to the objects.
 #[derive(Clone, Copy, Debug)]
@@ -28,37 +28,6 @@ pub(crate) enum GlobalChange {
     /// The global of this name is gone, or of an interface that is not in the tables.
     Forget(u32),
     Remember(Global),
-}
-
-/// What a message changes among the objects.
-pub(crate) fn object_change_of<T: Table>(
-    table: &T,
-    opcode: u16,
-    message: &Received<'_, '_>,
-) -> ObjectChange
-    requires display { HasDisplay (T.view table.now) }
-    requires row { look (T.view table.now) message.now.target.id ≡ Some message.now.entry }
-    requires lasts { message.now.target.id ≡ 1
-        → message.now.signature.now.destroys ≢ Destroys.Target }
-    ensures changed { changed (T.view table.now) result
-        ≡ view_by (T.view table.now) (found_as opcode message.now) }
-    ensures can { CanChange (T.view table.now) result }
-{
-    if is_error(Side::Event, message.entry.iface, opcode) {
-        return ObjectChange::Nothing;
-    }
-    if is_delete_id(Side::Event, message.entry.iface, opcode) {
-        let id = number_at(&message.args, message.body, 0);
-        return match table.look(id) {
-            Some(_) if id != 1 => ObjectChange::Close(id),
-            _ => ObjectChange::Nothing,
-        };
-    }
-    match (message.signature.destroys(), message.entry.state) {
-        (Destroys::Nothing, _) => ObjectChange::Nothing,
-        (Destroys::Target, State::Live) => ObjectChange::Zombie(message.target.id),
-        (Destroys::Target, State::Zombie) => ObjectChange::Nothing,
-    }
 }
 
 /// Changes the objects. Allocates nothing.

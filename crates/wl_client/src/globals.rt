@@ -7,10 +7,8 @@ ghost use Rattle.wl_client.specs.Steps.{with_global_change};
 use crate::changes::GlobalChange;
 use std::alloc::{AllocError, Allocator};
 use std::marker::Model;
+use wl_end::MAX_GLOBALS;
 use wl_wire::Iface;
-
-/// The most globals that a client remembers.
-const MAX_GLOBALS: usize = 1024;
 
 /// A global as it was advertised.
 #[derive(Clone, Copy, Debug, PartialEq, Eq)]

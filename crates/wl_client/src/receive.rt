@@ -17,17 +17,14 @@ ghost use Rattle.wl_client.specs.Seen.{report_in};
 ghost use Rattle.wl_client.specs.Steps.{CanChange, state_of, stepped};
 ghost use Rattle.wl_client.specs.Reading.{IsFront, IsOwnedFront, IsStepOf, owned_in, step_in, globals_left, globals_left_by_owned};
 
-use crate::changes::{
-    GlobalChange, ObjectChange, apply_object_change, global_change_of, object_change_of,
-};
+use crate::changes::{GlobalChange, ObjectChange, apply_object_change, global_change_of};
 use crate::client::Client;
 use crate::incoming::{Incoming, Outline, OwnedIncoming};
-use crate::outline::outline_of;
-use crate::tokens::Tokens;
+use crate::outline::{Meaning, meaning_of};
 use std::alloc::Allocator;
 use wl_end::{Core, MAX_TOKENS};
 use wl_message::Frame;
-use wl_objects::{DISPLAY, Fault, NextError, Table, descriptors, is_error, receive};
+use wl_objects::{DISPLAY, Fault, NextError, Table, descriptors, receive};
 use wl_sigs::{Side, Tables};
 
 /// What the reading of a message comes to, before the message is taken.
@@ -199,7 +196,7 @@ fn owned_in_front<T: Table>(
     ensures comes { IsOwnedFront core.old (found core.old event_side) result }
 {
     valid(core.tables);
-    let waiting = Tokens::waiting(&core.inbox);
+    let tokens = core.first_tokens();
     let frame = match core.inbox.frame() {
         Ok(Some(frame)) => frame,
         Ok(None) => return Ok(None),
@@ -209,7 +206,10 @@ fn owned_in_front<T: Table>(
         Ok(step) => step,
         Err(fault) => return Err(Stop::Fault(fault)),
     };
-    match step.outline.to_owned(alloc, frame.body, waiting.as_slice()) {
+    match step
+        .outline
+        .to_owned(alloc, frame.body, &tokens[..step.tokens])
+    {
         Ok(report) => Ok(Some(OwnedStep { step, report })),
         Err(_) => Err(Stop::Memory),
     }
@@ -232,13 +232,20 @@ fn step_of<T: Table>(tables: &Tables, table: &T, frame: Frame<'_>) -> Result<Ste
         Ok(message) => message,
         Err(fault) => return Err(fault),
     };
+    let global_change = global_change_of(tables, opcode, &message);
+    let tokens = descriptors(message.signature.kinds());
+    let Meaning {
+        outline,
+        change,
+        last,
+    } = meaning_of(table, opcode, message, tokens);
     Ok(Step {
-        change: object_change_of(table, opcode, &message),
-        global_change: global_change_of(tables, opcode, &message),
+        outline,
+        change,
+        global_change,
         bytes: header.size,
-        tokens: descriptors(message.signature.kinds()),
-        last: is_error(Side::Event, message.entry.iface, opcode),
-        outline: outline_of(table, opcode, message),
+        tokens,
+        last,
     })
 }
 

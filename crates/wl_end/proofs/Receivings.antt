@@ -1,5 +1,5 @@
 -- What is known of a message that was received.
-use Rattle.std.proofs.Common.{◌≡◌, ◌≢◌, ℕ, zero, suc, ◌<◌, ◌≤◌, Bool, true, false, List, [], ◌∷◌, length, drop, get_or, Some, None, refl, sym, ap, subst, ◌∙◌, arith}
+use Rattle.std.proofs.Common.{◌≡◌, ◌≢◌, ℕ, zero, suc, ◌<◌, ◌≤◌, Bool, true, false, List, [], ◌∷◌, length, take, drop, get_or, Some, None, refl, sym, ap, subst, ◌∙◌, arith}
 use Rattle.std.specs.Prelude.{Option, not, nat_lt, if◌then◌else◌}
 use Rattle.std.specs.declared.result.Result.{Result}
 use Rattle.std.specs.declared.result.Result.TheVariants.{Ok, Err}
@@ -150,6 +150,16 @@ reports-same r zero a b (value ∷ values) l h = absurd (omega arith)
 reports-same r (suc n) a b (value ∷ values) l h =
     let one : report_of r (first_or a 0) value ≡ report_of r (first_or b 0) value = ap (λ t. report_of r t value) (first-at a ∙ (h 0 (omega arith) ∙ sym (first-at b))) in
     let more = reports-same r n (tokens_after value a) (tokens_after value b) values (omega arith) (lefts n a b value h) in
+    λ i. one i ∷ more i
+
+-- the first tokens of lists that agree so far
+pub first-tokens : (n : ℕ) (a b : List ℕ) → n ≤ length a → n ≤ length b → SameFirst n a b → take n a ≡ take n b
+first-tokens zero a b p q f = refl
+first-tokens (suc n) [] b p q f = absurd (omega (arith, p))
+first-tokens (suc n) (x ∷ a) [] p q f = absurd (omega (arith, q))
+first-tokens (suc n) (x ∷ a) (y ∷ b) p q f =
+    let one : x ≡ y = f 0 (omega arith) in
+    let more = first-tokens n a b (omega (arith, p)) (omega (arith, q)) (λ k l. f (suc k) (omega (arith, l))) in
     λ i. one i ∷ more i
 
 -- ---- a message with arguments is reported with some

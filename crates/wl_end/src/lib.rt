@@ -18,6 +18,6 @@ pub use end::End;
 pub use laws::{found_stays, taking_keeps_pieces};
 pub use receiver::Receiver;
 pub use sending::DELETE_ID_LEN;
-pub use shared::Core;
+pub use shared::{Core, MAX_GLOBALS};
 pub use streams::{ReadAll, read_all};
 pub use taking::MAX_TOKENS;

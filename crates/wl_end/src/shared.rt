@@ -12,6 +12,9 @@ use wl_sigs::Tables;
 use wl_table::DISPLAY_ID;
 use wl_wire::{Iface, MAX_MESSAGE_LEN};
 
+/// The most globals that a server advertises in its life, and the most that a client remembers.
+pub const MAX_GLOBALS: usize = 1024;
+
 /// An end: its tables, its objects and its two boxes.
 ///
 /// The fields are for the two ends built on it.

@@ -1,6 +1,7 @@
-use Rattle.std.proofs.Common.{◌∙◌}
+use Rattle.std.proofs.Common.{◌≡◌, take, length, ap, sym, ◌∙◌, arith, get_or}
 use Rattle.wl_end.specs.Core.{Core}
-use Rattle.wl_client.proofs.Fronts.{fault_told, owned_told, memory_told}
+use Rattle.wl_end.proofs.Receivings.{first-tokens}
+use Rattle.wl_client.proofs.Fronts.{fault_told, owned_told, memory_told, step_tokens}
 use Rattle.wl_client.proofs.receive.owned_in_front.Goals.{in-Ok-to_owned, in-Err-to_owned}
 use Rattle.wl_client.proofs.receive.owned_in_front.Goals as goal
 
@@ -12,12 +13,17 @@ returns-in-Err-step_of-clause-comes g c =
 pub returns-clause-comes : goal.returns-clause-comes
 returns-clause-comes g c =
     let core : Core = record { tables = c.core.inside.tables.now; view = g.T.Table.view c.core.inside.table; inbox = c.core.inside.inbox; outbox = c.core.inside.outbox; failed = c.core.inside.failed; read = c.core.inside.read } in
-    let waiting = c.as_slice.ensures.tokens ∙ c.waiting-waiting.ensures in
+    let step = c.in-Ok.step in
+    let few = step_tokens core c.in-Ok-Some.field-0 c.in-Ok-Some.frame step c.in-Ok-Some.field-0-is c.in-Ok-Some.ensures.tells c.valid.ensures c.in-Ok.ensures.comes in
+    let all : length c.first_tokens-tokens.result ≡ 20 = omega (arith, c.first_tokens-tokens.type_inv) in
+    let own : take step.tokens c.first_tokens-tokens.result ≡ take step.tokens core.inbox.tokens =
+    first-tokens step.tokens c.first_tokens-tokens.result core.inbox.tokens (omega (arith, few.0, all)) few.1
+    (λ k less. c.first_tokens-tokens.ensures k (omega (arith, less, few.0)) ∙ ap (λ (b : Core). get_or b.inbox.tokens k 0) (sym c.core.view_is)) in
     elim c.match-to_owned.branch [
       | in-Ok-to_owned w ↦ rw w.result-is
-          (owned_told core c.args.core.now c.in-Ok-Some.field-0 c.in-Ok-Some.frame (record { step = c.in-Ok.step; report = w.in-Ok-to_owned.report }) c.as_slice.result.now c.core.view_is c.in-Ok-Some.field-0-is c.in-Ok-Some.ensures.tells
-          c.step_of.ensures.header c.valid.ensures waiting c.in-Ok.ensures.comes w.in-Ok-to_owned.ensures.ok)
+          (owned_told core c.args.core.now c.in-Ok-Some.field-0 c.in-Ok-Some.frame (record { step = step; report = w.in-Ok-to_owned.report }) (take step.tokens c.first_tokens-tokens.result) c.core.view_is c.in-Ok-Some.field-0-is c.in-Ok-Some.ensures.tells
+          c.step_of.ensures.header c.valid.ensures own c.in-Ok.ensures.comes w.in-Ok-to_owned.ensures.ok)
       | in-Err-to_owned w ↦ rw w.result-is
-          (memory_told g.row.T-Alloc.Denot core c.args.core.now c.in-Ok-Some.field-0 c.in-Ok-Some.frame c.in-Ok.step c.as_slice.result.now c.core.view_is c.in-Ok-Some.field-0-is c.in-Ok-Some.ensures.tells
-          c.step_of.ensures.header c.valid.ensures waiting c.in-Ok.ensures.comes w.in-Err-to_owned.ensures.err)
+          (memory_told g.row.T-Alloc.Denot core c.args.core.now c.in-Ok-Some.field-0 c.in-Ok-Some.frame step (take step.tokens c.first_tokens-tokens.result) c.core.view_is c.in-Ok-Some.field-0-is c.in-Ok-Some.ensures.tells
+          c.step_of.ensures.header own c.in-Ok.ensures.comes w.in-Err-to_owned.ensures.err)
     ]

@@ -6,8 +6,8 @@ use Rattle.wl_end.proofs.Receivings.{is_received}
 use Rattle.wl_objects.specs.Seen.{message_of}
 use Rattle.wl_client.proofs.receive.step_of.Goals as goal
 
-pub object_change_of-requires-clause-lasts : goal.object_change_of-requires-clause-lasts
-object_change_of-requires-clause-lasts g c one t =
+pub meaning_of-outline-requires-clause-lasts : goal.meaning_of-outline-requires-clause-lasts
+meaning_of-outline-requires-clause-lasts g c one t =
     let view = g.T.Table.view c.args.table.now in
     let p = is_received c.args.tables.now event_side (reader_of view) c.args.frame.header c.args.frame.body.now c.args.frame.tokens (message_of c.in-Ok.message) (sym c.in-Ok.ensures.answer) in
     ends-another c.args.tables.now view event_side c.args.frame.header.object c.args.frame.header.opcode c.in-Ok.message.entry c.in-Ok.message.signature.now c.requires.valid c.requires.display p.row p.signature t

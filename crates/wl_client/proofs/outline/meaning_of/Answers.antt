@@ -1,0 +1,9 @@
+use Rattle.std.proofs.Common.{sym, ◌∙◌, rules}
+use Rattle.wl_client.proofs.Zombies.{after_zombie}
+use Rattle.wl_client.proofs.outline.meaning_of.Goals as goal
+
+pub returns-in-Zombie-clause-changed : goal.returns-in-Zombie-clause-changed
+returns-in-Zombie-clause-changed g c =
+    let m = c.args.message in
+    let same = after_zombie (g.T.Table.view c.args.table.now) m.signature.now.destroys m.target.id m.entry c.requires.row (search c.in-Zombie.is) in
+    sym same ∙ search rules
