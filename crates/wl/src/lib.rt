@@ -56,7 +56,8 @@
 //!   [`OwnedRequest`]) owns them. After an event for an object that the client has destroyed
 //!   ([`Incoming::Discarded`]) the caller closes the descriptors that its tokens stand for.
 //! - What allocates is given an allocator first, and returns an error where it has no memory. After
-//!   an end's `new` only the opening of an object allocates, and `next_owned`.
+//!   an end's `new` these allocate: the opening of an object, [`Server::add_global`], and the
+//!   reports of `next_owned` and `read_all`.
 //!
 //! # What an error leaves
 //!
@@ -65,7 +66,7 @@
 //! - [`NextError::Memory`] and [`NextError::OutFull`]: nothing has changed. The message stays, and
 //!   can be read again. A client's `next` never returns either.
 //! - [`NextError::Fault`]: the other end broke a rule, and this end has failed for good. It reads
-//!   and writes nothing more, but `take` still hands out what waits: at a server that ends with the
+//!   and writes nothing more, but `take` still returns what waits: at a server that ends with the
 //!   wl_display.error that says why. Take it, write it, and close the socket.
 //! - [`Incoming::Error`]: the server has ended the connection, and the client has failed for good.
 //!
