@@ -42,11 +42,13 @@ socket_command = with_rule (new_app (codes "socket")) path_argument
 
 -- the program, which has to be given one of them
 abbrev pub program : App
-program = on_top (λ (s : Shape). record s { subcommand_required = true }) (new_app (codes "waywire"))
+program =
+    on_top (λ (s : Shape). record s { subcommand_required = true }) (new_app (codes "waywire"))
 
 abbrev pub command_line : App
 command_line =
-    with_subcommand (with_subcommand (with_subcommand (with_subcommand program trace_command.top) check_command.top) demo_command.top) socket_command.top
+    with_subcommand (with_subcommand (with_subcommand (with_subcommand program
+    trace_command.top) check_command.top) demo_command.top) socket_command.top
 
 -- the texts of words
 abbrev pub texts_of : {A : Type 0} → List (String A) → List Text
@@ -54,20 +56,28 @@ texts_of = map string_bytes
 
 -- the digits spell the number, of 32 bits; a plus may stand in front of them
 abbrev pub Spells : Text → ℕ → Type 0
-Spells digits n = IsNumeral 10 (without_leading_plus digits) × (n ≡ digits_value 10 (without_leading_plus digits)) × (n < 2 ^ 32)
+Spells digits n =
+    IsNumeral 10 (without_leading_plus digits)
+    × (n ≡ digits_value 10 (without_leading_plus digits)) × (n < 2 ^ 32)
 
 -- the number that was given for a piece, or none
 abbrev pub IsPiece : List Row → Option ℕ → Type 0
-IsPiece arguments (Some piece) = (digits : Text) × (one_of (codes "piece") arguments ≡ Some digits) × Spells digits piece
-IsPiece arguments None = (digits : Text) (piece : ℕ) → one_of (codes "piece") arguments ≡ Some digits → Spells digits piece → ⊥
+IsPiece arguments (Some piece) =
+    (digits : Text) × (one_of (codes "piece") arguments ≡ Some digits) × Spells digits piece
+IsPiece arguments None =
+    (digits : Text) (piece : ℕ)
+    → one_of (codes "piece") arguments ≡ Some digits → Spells digits piece → ⊥
 
--- What a command and its arguments ask for. A file has the name of the word that was given for it, unchanged, and so has a path; a number is the one
--- that was given.
+-- What a command and its arguments ask for. A file has the name of the word that was given for it,
+-- unchanged, and so has a path; a number is the one that was given.
 abbrev pub IsGiven : Text → List Row → Job → Type 0
-IsGiven name arguments (Trace file) = (name ≡ codes "trace") × (first_of (codes "FILE") arguments ≡ Some (string_bytes file))
-IsGiven name arguments (Check file) = (name ≡ codes "check") × (first_of (codes "FILE") arguments ≡ Some (string_bytes file))
+IsGiven name arguments (Trace file) =
+    (name ≡ codes "trace") × (first_of (codes "FILE") arguments ≡ Some (string_bytes file))
+IsGiven name arguments (Check file) =
+    (name ≡ codes "check") × (first_of (codes "FILE") arguments ≡ Some (string_bytes file))
 IsGiven name arguments (Demo piece) = (name ≡ codes "demo") × IsPiece arguments (Some piece)
-IsGiven name arguments (Socket path) = (name ≡ codes "socket") × (first_of (codes "PATH") arguments ≡ Some (string_bytes path))
+IsGiven name arguments (Socket path) =
+    (name ≡ codes "socket") × (first_of (codes "PATH") arguments ≡ Some (string_bytes path))
 
 -- the job that a command and its arguments ask for, or none where they ask for none
 abbrev pub Gives : Text → List Row → Option Job → Type 0
@@ -76,24 +86,33 @@ Gives name arguments None = (job : Job) → IsGiven name arguments job → ⊥
 
 -- the same of the command that was named, if any was
 abbrev pub Names : Option (Text × List Row) → Option Job → Type 0
-Names found (Some job) = (name : Text) × (arguments : List Row) × (found ≡ Some (name, arguments)) × IsGiven name arguments job
-Names found None = (name : Text) (arguments : List Row) (job : Job) → found ≡ Some (name, arguments) → IsGiven name arguments job → ⊥
+Names found (Some job) =
+    (name : Text) × (arguments : List Row) × (found ≡ Some (name, arguments))
+    × IsGiven name arguments job
+Names found None =
+    (name : Text) (arguments : List Row) (job : Job)
+    → found ≡ Some (name, arguments) → IsGiven name arguments job → ⊥
 
--- What the words of a command line ask for, the program's name first: they have no fault, and name a command with its arguments.
+-- What the words of a command line ask for, the program's name first: they have no fault, and name a
+-- command with its arguments.
 pub record Asks (words : List Text) (job : Job) : Type 0 where
   pub faultless : fault_of command_line words ≡ []
   pub named : Names (subcommand_of command_line words) (Some job)
 
 -- help is asked for, or the version
 abbrev pub AsksHelp : List Text → Type 0
-AsksHelp words = IsAmong DisplayHelp (fault_of command_line words) ⊎ IsAmong DisplayVersion (fault_of command_line words)
+AsksHelp words =
+    IsAmong DisplayHelp (fault_of command_line words)
+    ⊎ IsAmong DisplayVersion (fault_of command_line words)
 
 -- a stop of this status with a text, or out of memory, which has none
 abbrev pub IsStop : ℕ → Stop → Type 0
-IsStop status stop = ((stop.status ≡ status) × (string_bytes stop.text ≢ [])) ⊎ ((stop.status ≡ 4) × (string_bytes stop.text ≡ []))
+IsStop status stop =
+    ((stop.status ≡ status) × (string_bytes stop.text ≢ []))
+    ⊎ ((stop.status ≡ 4) × (string_bytes stop.text ≡ []))
 
--- Why there is no job: help was asked for; or the words ask for none of the program's jobs; or there is no memory. The text is empty for lack of
--- memory alone.
+-- Why there is no job: help was asked for; or the words ask for none of the program's jobs; or there
+-- is no memory. The text is empty for lack of memory alone.
 pub data Stops (words : List Text) (stop : Stop) : Type 0 where
   helps : AsksHelp words → IsStop 0 stop → Stops words stop
   faulty : ((job : Job) → Asks words job → ⊥) → IsStop 2 stop → Stops words stop
