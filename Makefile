@@ -8,7 +8,9 @@ CC ?= cc
 CFLAGS ?= -O2
 # The folder of the toolchain: its C part gives the exports their memory.
 KIT ?= $(patsubst %/,%,$(dir $(shell rt doc)))
-VERSION := $(shell sed -n 's/^.define WAYWIRE_VERSION "\(.*\)"/\1/p' include/waywire.h)
+# The one place of the version's number is the program's.
+numbered = crates/wl_command/src/job.rt
+VERSION := $(shell sed -n 's/^const VERSION: &str = "\(.*\)";/\1/p' $(numbered))
 
 proved = crates/waywire_c/out/libwaywire_c.a
 crates := waywire_c $(shell sed -n 's/^waywire_c staticlib: //p' crates.txt)
@@ -22,7 +24,10 @@ $(proved): $(sources)
 	cd crates/waywire_c && rt lib
 	@touch $@
 
-out/c/waywire.o: c/waywire.c include/waywire.h
+include/waywire-version.h: $(numbered) Makefile
+	@printf '/* Made by make. */\n#define WAYWIRE_VERSION "%s"\n' '$(VERSION)' > $@
+
+out/c/waywire.o: c/waywire.c include/waywire.h include/waywire-version.h
 	@mkdir -p out/c
 	$(CC) $(CFLAGS) -std=c99 -Wall -Wextra -Wpedantic -fPIC -Iinclude -c $< -o $@
 
@@ -30,13 +35,14 @@ $(archive): $(proved) out/c/waywire.o
 	@rm -f $@
 	printf 'create $@\naddlib $(proved)\naddlib $(KIT)/c/liblibc_c.a\naddmod out/c/waywire.o\nsave\nend\n' | ar -M
 
-out/c/waywire.pc: c/waywire.pc.in Makefile include/waywire.h
+out/c/waywire.pc: c/waywire.pc.in Makefile $(numbered)
 	@mkdir -p out/c
 	sed 's|@PREFIX@|$(PREFIX)|; s|@VERSION@|$(VERSION)|' c/waywire.pc.in > $@
 
 install: all
 	install -d $(DESTDIR)$(PREFIX)/include $(DESTDIR)$(PREFIX)/lib/pkgconfig
-	install -m 644 include/waywire.h include/waywire-core.h $(DESTDIR)$(PREFIX)/include
+	install -m 644 include/waywire.h include/waywire-core.h include/waywire-version.h \
+		$(DESTDIR)$(PREFIX)/include
 	install -m 644 $(archive) $(DESTDIR)$(PREFIX)/lib
 	sed 's|@PREFIX@|$(PREFIX)|; s|@VERSION@|$(VERSION)|' c/waywire.pc.in \
 		> $(DESTDIR)$(PREFIX)/lib/pkgconfig/waywire.pc
@@ -47,6 +53,6 @@ install: all
 	fi
 
 clean:
-	rm -rf out/c
+	rm -rf out/c include/waywire-version.h
 
 .PHONY: all install clean

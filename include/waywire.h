@@ -40,8 +40,8 @@
 extern "C" {
 #endif
 
-/* The version of this header. */
-#define WAYWIRE_VERSION "0.1.0"
+/* WAYWIRE_VERSION, the version of this header, as a text. `make` writes the file. */
+#include "waywire-version.h"
 
 /* ---- what a call returns */
 

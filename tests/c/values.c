@@ -141,7 +141,7 @@ static void more_tables(void)
 	uint32_t version, rule = 0;
 	size_t line = 0;
 	MUST(!waywire_tables_read(tables, good, strlen(good), &joined, NULL, NULL));
-	MUST(!waywire_tables_interface(joined, "wp_thing", &interface) && interface == 18);
+	MUST(!waywire_tables_interface(joined, "wp_thing", &interface) && interface == 19);
 	MUST(!waywire_tables_version(joined, interface, &version) && version == 2);
 	MUST(waywire_tables_interface(tables, "wp_thing", &interface) == WAYWIRE_NOT_FOUND);
 	MUST(waywire_tables_read(tables, bad, strlen(bad), &more, &line, &rule) == WAYWIRE_BAD_LINE);

@@ -7,7 +7,7 @@ ghost use Rattle.std.specs.Prelude.{◌≤◌, length};
 use anyhow::{Context, Result, bail};
 use std::io::Write;
 use wl::{
-    Arg, Direction, Got, GotRef, Gots, Incoming, Object, OwnedIncoming, Recording, Sizes,
+    Arg, Direction, Got, GotRef, Gots, Incoming, Limit, Object, OwnedIncoming, Recording, Sizes,
     SlotTable, Tables, event, request, trace,
 };
 
@@ -21,6 +21,7 @@ const SIZES: Sizes = Sizes {
     out_tokens: 64,
     in_bytes: 65_536,
     in_tokens: 64,
+    limit: Limit::USUAL,
 };
 
 fn main(rt: HostRuntime) -> Result<()> {
@@ -29,7 +30,7 @@ fn main(rt: HostRuntime) -> Result<()> {
     let mut server = Server::new(rt.alloc(), &tables, SIZES)?;
     let mut wire = Recording::new(rt.alloc());
     talk(&tables, &mut client, &mut server, &mut wire)?;
-    let (lines, _verdict) = trace(rt.alloc(), &wire, &tables)?;
+    let (lines, _verdict) = trace(rt.alloc(), &wire, &tables, Limit::USUAL)?;
     rt.stdout().write_all(lines.as_slice())?;
     Ok(())
 }

@@ -4,7 +4,7 @@ use crate::replay::Props;
 use crate::tally::Tally;
 use std::alloc::{AllocError, Global};
 use wl_client::Client;
-use wl_message::{Piece, Sizes};
+use wl_message::{Limit, Piece, Sizes};
 use wl_objects::{Arg, Object, SlotTable, Table};
 use wl_scenes::{End, Trouble};
 use wl_server::Server;
@@ -19,6 +19,7 @@ const SIZES: Sizes = Sizes {
     out_tokens: 0,
     in_bytes: 4096,
     in_tokens: 20,
+    limit: Limit::USUAL,
 };
 
 /// wl_display.sync with new id 2, to a server.

@@ -5,6 +5,7 @@ use crate::sample::Sample;
 use crate::tally::Tally;
 use refusing::RefusingAllocator;
 use std::alloc::{AllocError, Global};
+use wl_message::Limit;
 use wl_recording::Recording;
 use wl_scenes::Trouble;
 use wl_session::{Verdict, check, trace};
@@ -42,7 +43,7 @@ pub fn judge_changed(props: Props<'_>, sample: &Sample<'_>) -> Result<Tally, Tro
     for place in 0..sample.len() {
         for change in Change::ALL {
             let changed = changed_at(props, sample, place, change)?;
-            let verdict = check(props.memory.clone()?, &changed, props.tables)?;
+            let verdict = check(props.memory.clone()?, &changed, props.tables, Limit::USUAL)?;
             let is_broken = matches!(verdict, Verdict::Broken { .. });
             tally.count(is_broken, traces(props, &changed, verdict)?);
         }
@@ -56,7 +57,7 @@ fn traces(
     recording: &Recording<RefusingAllocator>,
     verdict: Verdict,
 ) -> Result<bool, AllocError> {
-    let (_, traced) = trace(props.memory.clone()?, recording, props.tables)?;
+    let (_, traced) = trace(props.memory.clone()?, recording, props.tables, Limit::USUAL)?;
     Ok(traced == verdict)
 }
 

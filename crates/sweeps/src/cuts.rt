@@ -5,6 +5,7 @@ use crate::sample::{Sample, stream_of};
 use crate::tally::Tally;
 use refusing::RefusingAllocator;
 use std::alloc::{AllocError, Global};
+use wl_message::Limit;
 use wl_recording::{Direction, Recording};
 use wl_scenes::Trouble;
 use wl_session::{Verdict, check};
@@ -15,7 +16,7 @@ pub fn judge_cut(props: Props<'_>, sample: &Sample<'_>) -> Result<Tally, Trouble
     let mut tally = Tally::NONE;
     for len in 0..sample.len().saturating_add(1) {
         let cut = cut_after(props.memory, sample, len)?;
-        let verdict = check(props.memory.clone()?, &cut, props.tables)?;
+        let verdict = check(props.memory.clone()?, &cut, props.tables, Limit::USUAL)?;
         let is_right = verdict == whole_messages(props.alloc, &cut)?;
         tally.count(false, is_right);
     }

@@ -4,6 +4,7 @@ use crate::replay::Props;
 use crate::sample::Sample;
 use crate::tally::Tally;
 use std::alloc::AllocError;
+use wl_message::Limit;
 use wl_recording::{Recording, RecordingError};
 use wl_scenes::{Trouble, put_name, write_verdict};
 use wl_session::{check, trace};
@@ -73,8 +74,8 @@ fn is_answered(props: Props<'_>, sample: &Sample<'_>, call: Call) -> Result<bool
     match call {
         Call::Parse => is_read(Recording::parse(memory, sample.text.as_bytes())),
         Call::ToText => Ok(recording.to_text().is_ok()),
-        Call::Check => Ok(check(memory, recording, props.tables).is_ok()),
-        Call::Trace => Ok(trace(memory, recording, props.tables).is_ok()),
+        Call::Check => Ok(check(memory, recording, props.tables, Limit::USUAL).is_ok()),
+        Call::Trace => Ok(trace(memory, recording, props.tables, Limit::USUAL).is_ok()),
     }
 }
 
@@ -103,12 +104,22 @@ fn put_text(sample: &Sample<'_>, text: &mut String) -> Result<(), AllocError> {
 }
 
 fn put_verdict(props: Props<'_>, sample: &Sample<'_>, text: &mut String) -> Result<(), AllocError> {
-    let verdict = check(props.memory.clone()?, &sample.recording, props.tables)?;
+    let verdict = check(
+        props.memory.clone()?,
+        &sample.recording,
+        props.tables,
+        Limit::USUAL,
+    )?;
     write_verdict(text, &verdict)
 }
 
 fn put_trace(props: Props<'_>, sample: &Sample<'_>, text: &mut String) -> Result<(), AllocError> {
-    let (lines, verdict) = trace(props.memory.clone()?, &sample.recording, props.tables)?;
+    let (lines, verdict) = trace(
+        props.memory.clone()?,
+        &sample.recording,
+        props.tables,
+        Limit::USUAL,
+    )?;
     put_name(text, &lines)?;
     write_verdict(text, &verdict)
 }

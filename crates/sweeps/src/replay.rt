@@ -9,7 +9,7 @@ use refusing::RefusingAllocator;
 use std::alloc::{AllocError, Global};
 use std::fmt::Write;
 use wl_client::Client;
-use wl_message::{Piece, Sizes};
+use wl_message::{Limit, Piece, Sizes};
 use wl_objects::{Fault, NextError, SlotTable, Table};
 use wl_recording::Direction;
 use wl_scenes::{Actor, End, Trouble, Words, write_stop};
@@ -22,6 +22,7 @@ const SIZES: Sizes = Sizes {
     out_tokens: 64,
     in_bytes: 4096,
     in_tokens: 64,
+    limit: Limit::USUAL,
 };
 
 /// What every sweep is played with.

@@ -4,7 +4,7 @@ use crate::dice::Dice;
 use crate::replay::Props;
 use crate::tally::Tally;
 use std::alloc::{AllocError, Global};
-use wl_message::Sizes;
+use wl_message::{Limit, Sizes};
 use wl_objects::{Object, SlotTable};
 use wl_scenes::{Trouble, own_verdict};
 use wl_session::{Carried, Move, Pair, Reply, SendArg, Verdict};
@@ -26,6 +26,7 @@ const SIZES: Sizes = Sizes {
     out_tokens: 6,
     in_bytes: 4096,
     in_tokens: 20,
+    limit: Limit::USUAL,
 };
 
 const DISPLAY: Seen = Seen {
@@ -108,7 +109,7 @@ pub fn judge_runs(props: Props<'_>) -> Result<Judged, Trouble> {
         let error = run.error();
         run.make(&mut pair, error, &mut judged.moves)?;
         run.play(&mut pair, LAST_MOVES, &mut judged.moves)?;
-        let verdict = own_verdict(&props.alloc, props.tables, &pair)?;
+        let verdict = own_verdict(&props.alloc, props.tables, &pair, Limit::USUAL)?;
         let is_lawful = matches!(verdict, Verdict::Lawful { .. });
         judged
             .runs

@@ -3,7 +3,7 @@ ghost use Rattle.std.specs.Prelude.{◌≡◌, ◌≤◌, length, IfSome};
 ghost use Rattle.wl_message.specs.Arrived.{AreSizes};
 
 use std::ptr;
-use wl_message::{Fed, Sizes, Taken};
+use wl_message::{Fed, Limit, Sizes, Taken};
 use wl_objects::{Arg, GotRef, Named, Object};
 use wl_wire::Fixed;
 
@@ -132,6 +132,7 @@ impl CSizes {
             out_tokens: self.out_tokens,
             in_bytes: self.in_bytes,
             in_tokens: self.in_tokens,
+            limit: Limit::USUAL,
         })
     }
 }

@@ -25,8 +25,9 @@
 //!    whole. The caller goes on until `None`, and sends its replies on the way. `next_owned` returns
 //!    a report of its own, for a caller that keeps it.
 //!
-//! [`Client::read_all`] and [`Server::read_all`] are steps 4 and 5 for a list of pieces. No call
-//! blocks, and none calls back.
+//! [`Client::read_all`] and [`Server::read_all`] are steps 4 and 5 for a list of pieces. Where no
+//! descriptors pass, `flush` writes what waits to a stream (steps 2 and 3), and `fill` reads from
+//! one (steps 3 and 4). No call waits by itself, and none calls back.
 //!
 //! Messages have names: [`request::wl_surface::COMMIT`](request) is the opcode of
 //! wl_surface.commit, and [`event::wl_callback::DONE`](event) that of wl_callback.done.
@@ -42,11 +43,13 @@
 //!
 //! # Who owns what
 //!
-//! - [`Tables`] say which messages there are. They are made once, and lent to any number of ends.
+//! - [`Tables`] say which messages there are: those of the core interfaces ([`Tables::core`]), and
+//!   those that a text declares ([`Tables::read_more`]). They are made once, and lent to any number
+//!   of ends.
 //! - An end owns its objects, the two boxes and their room. [`Sizes`] says how large the boxes are,
-//!   and they never grow. Its objects stand in a [`Table`]: [`SlotTable`],
-//!   in which every call takes constant time, but for an opening that doubles its vector, or its
-//!   plain twin [`MapTable`].
+//!   which never grow, and how long a message may be ([`Limit`]). Its objects stand in a [`Table`]:
+//!   [`SlotTable`], in which every call takes constant time, but for an opening that doubles its
+//!   vector, or its plain twin [`MapTable`].
 //! - An [`Object`] is a plain value: an id and a birth, which tells it from every other object that
 //!   ever had that id. A call that names an object of the past is refused, and never reaches its
 //!   successor.
@@ -75,8 +78,9 @@
 //! # Beyond one end
 //!
 //! A [`Pair`] is a client and a server with nothing between, for tests; it plays a list of
-//! [`Move`]s. A [`Recording`] is what passed at one point of a connection, [`trace`] prints it
-//! message by message, and [`check`] says whether it is lawful, and where not.
+//! [`Move`]s. A [`Recording`] is what passed at one point of a connection; a [`Tee`] records what is
+//! read from a stream. [`trace`] prints a recording message by message, and [`check`] says whether it
+//! is lawful, and where not. [`same_rows`] says whether a client and a server have the same objects.
 //!
 //! # A client and a server
 //!
@@ -89,7 +93,7 @@
 //! use anyhow::{Context, Result, bail};
 //! use std::io::Write;
 //! use wl::{
-//!     Arg, Direction, Got, GotRef, Gots, Incoming, Object, OwnedIncoming, Recording, Sizes,
+//!     Arg, Direction, Got, GotRef, Gots, Incoming, Limit, Object, OwnedIncoming, Recording, Sizes,
 //!     SlotTable, Tables, event, request, trace,
 //! };
 //!
@@ -103,6 +107,7 @@
 //!     out_tokens: 64,
 //!     in_bytes: 65_536,
 //!     in_tokens: 64,
+//!     limit: Limit::USUAL,
 //! };
 //!
 //! fn main(rt: HostRuntime) -> Result<()> {
@@ -111,7 +116,7 @@
 //!     let mut server = Server::new(rt.alloc(), &tables, SIZES)?;
 //!     let mut wire = Recording::new(rt.alloc());
 //!     talk(&tables, &mut client, &mut server, &mut wire)?;
-//!     let (lines, _verdict) = trace(rt.alloc(), &wire, &tables)?;
+//!     let (lines, _verdict) = trace(rt.alloc(), &wire, &tables, Limit::USUAL)?;
 //!     rt.stdout().write_all(lines.as_slice())?;
 //!     Ok(())
 //! }
@@ -254,15 +259,15 @@
 
 pub use wl_client::{Client, Incoming, OwnedIncoming, Tokens};
 pub use wl_end::ReadAll;
-pub use wl_message::{BadSize, Fed, Full, Piece, Sizes, Taken};
+pub use wl_message::{BadSize, Fed, FillError, FlushError, Full, Limit, Piece, Sizes, Taken};
 pub use wl_objects::{
     Arg, Args, Entry, Fault, Got, GotRef, Gots, MapTable, Named, NextError, Object, SendError,
     SlotTable, State, Table, TableError,
 };
 pub use wl_server::{GlobalError, OwnedRequest, Request, Server};
 pub use wl_session::{
-    Carried, Direction, Move, Pair, Passed, Recording, RecordingError, Reply, SendArg, Verdict,
-    check, trace,
+    Carried, Direction, Move, Pair, Passed, Recording, RecordingError, Reply, SendArg, Tee,
+    Verdict, check, same_rows, trace,
 };
-pub use wl_sigs::{Destroys, Side, Signature, Tables, event, request};
+pub use wl_sigs::{Destroys, Side, Signature, TableFault, Tables, event, request};
 pub use wl_wire::{ArgFault, Bytes, Fixed, Iface, Kind, ReadError};

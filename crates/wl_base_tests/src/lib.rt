@@ -1,4 +1,4 @@
-//! The tests of `wl_wire`, `wl_sigs`, `wl_message` and `wl_table`, over what they give out.
+//! The tests of `wl_wire`, `wl_sigs`, `wl_message` and `wl_table`, over their public calls.
 #![tactic(auto)]
 
 #[cfg(test)]

@@ -1,12 +1,12 @@
 // What owns a box drops it at each way out, so a test does all else behind a `&mut`.
 ghost use Rattle.std.specs.Prelude.{◌≡◌, IsTrue, false};
-ghost use Rattle.wl_message.specs.Cut.{usual_limit, IsMessage};
+ghost use Rattle.wl_message.specs.Cut.{IsMessage};
 
 use refusing::RefusingAllocator;
 use std::alloc::{AllocError, Global};
 use std::test::Fail;
 use wl_message::{
-    BadSize, Fed, Full, Inbox, Outbox, Taken, any_cut, front_stays, headed_message,
+    BadSize, Fed, Full, Inbox, Limit, Outbox, Taken, any_cut, front_stays, headed_message,
     joined_messages, next_message, one_amount, one_cut, pieces_in_step, reading_in_step,
     take_keeps_step,
 };
@@ -33,9 +33,14 @@ fn front(inbox: &mut Inbox<Global>) -> Result<Option<Header>, BadSize> {
     }
 }
 
-/// Whether this stands in front of fresh bytes.
-fn begin_with(alloc: Global, bytes: &[u8], want: Result<Option<Header>, BadSize>) -> bool {
-    match Inbox::new(alloc, 65_536, 64) {
+/// Whether this stands in front of fresh bytes, at this limit.
+fn begin_at(
+    limit: Limit,
+    alloc: Global,
+    bytes: &[u8],
+    want: Result<Option<Header>, BadSize>,
+) -> bool {
+    match Inbox::new(alloc, 65_536, 64, limit) {
         Ok(mut inbox) => {
             inbox.feed(bytes, &[]);
             front(&mut inbox) == want
@@ -44,12 +49,17 @@ fn begin_with(alloc: Global, bytes: &[u8], want: Result<Option<Header>, BadSize>
     }
 }
 
+/// Whether this stands in front of fresh bytes, at the usual limit.
+fn begin_with(alloc: Global, bytes: &[u8], want: Result<Option<Header>, BadSize>) -> bool {
+    begin_at(Limit::USUAL, alloc, bytes, want)
+}
+
 /// Whether no whole message stands in front, and no bad size.
 fn waits(inbox: &mut Inbox<Global>) -> bool {
     front(inbox) == Ok(None)
 }
 
-/// Whether a message with this header and body stands in front, and so many tokens wait.
+/// Whether a message with this header and body stands in front, and this number of tokens waits.
 fn is_framed(inbox: &mut Inbox<Global>, header: Header, body: &[u8], tokens: usize) -> bool {
     match inbox.frame() {
         Ok(Some(frame)) => frame.header == header && frame.body == body && frame.tokens == tokens,
@@ -83,6 +93,44 @@ fn a_size_that_no_message_has_is_told_with_its_header(rt: HostRuntime) {
     assert!(rt; tells_bad_sizes(rt.alloc()));
 }
 
+/// Whether the number of bytes of each limit, and no other number, makes a limit.
+fn makes_the_limits() -> bool {
+    for bytes in 0..70_000 {
+        let is_limit = 4096 <= bytes && bytes <= 65_532 && bytes % 4 == 0;
+        let is_made = match Limit::new(bytes) {
+            Some(limit) => u32::from(limit.bytes) == bytes,
+            None => false,
+        };
+        if is_made != is_limit {
+            return false;
+        }
+    }
+    Limit::new(u32::MAX).is_none() && Limit::new(4096) == Some(Limit::USUAL)
+}
+
+#[test]
+fn limits_are_the_multiples_of_4_from_4096_to_65532(rt: HostRuntime) {
+    assert!(rt; makes_the_limits());
+}
+
+/// Whether an inbox with the greatest limit waits for what is above the usual one, and tells a size
+/// that no message of any limit has.
+fn tells_what_no_limit_allows(alloc: Global) -> bool {
+    let Some(greatest) = Limit::new(65_532) else {
+        return false;
+    };
+    let above = Err(BadSize { size: 65_534 });
+    begin_at(greatest, alloc, b"\x01\0\0\0\0\0\x04\x10", Ok(None))
+        && begin_at(greatest, alloc, b"\x01\0\0\0\0\0\xfc\xff", Ok(None))
+        && begin_at(greatest, alloc, b"\x01\0\0\0\0\0\xfe\xff", above)
+        && begin_with(alloc, b"\x01\0\0\0\0\0\xfe\xff", above)
+}
+
+#[test]
+fn the_limit_tells_which_size_is_bad(rt: HostRuntime) {
+    assert!(rt; tells_what_no_limit_allows(rt.alloc()));
+}
+
 /// Whether a message of 4096 bytes comes with its last byte.
 fn comes_with_its_last_byte(inbox: &mut Inbox<Global>) -> bool {
     inbox.feed(&[1, 0, 0, 0, 0, 0, 0, 16], &[]);
@@ -99,7 +147,7 @@ fn comes_with_its_last_byte(inbox: &mut Inbox<Global>) -> bool {
 
 #[test]
 fn a_message_of_4096_bytes_is_waited_for(rt: HostRuntime) -> Result<(), Fail> {
-    let mut inbox = Inbox::new(rt.alloc(), 65_536, 64)?;
+    let mut inbox = Inbox::new(rt.alloc(), 65_536, 64, Limit::USUAL)?;
     assert!(rt; comes_with_its_last_byte(&mut inbox));
     Ok(())
 }
@@ -129,12 +177,12 @@ fn comes_byte_by_byte(inbox: &mut Inbox<Global>) -> bool {
 
 #[test]
 fn a_message_comes_byte_by_byte(rt: HostRuntime) -> Result<(), Fail> {
-    let mut inbox = Inbox::new(rt.alloc(), 4096, 20)?;
+    let mut inbox = Inbox::new(rt.alloc(), 4096, 20, Limit::USUAL)?;
     assert!(rt; comes_byte_by_byte(&mut inbox));
     Ok(())
 }
 
-/// Whether just so many of these bytes and tokens are taken in.
+/// Whether just these numbers of bytes and tokens are taken in.
 fn takes_in(
     inbox: &mut Inbox<Global>,
     from: &[u8],
@@ -166,30 +214,30 @@ fn takes_bytes_alone(inbox: &mut Inbox<Global>) -> bool {
 
 #[test]
 fn tokens_that_do_not_fit_hold_back_the_bytes(rt: HostRuntime) -> Result<(), Fail> {
-    let mut inbox = Inbox::new(rt.alloc(), 4096, 20)?;
+    let mut inbox = Inbox::new(rt.alloc(), 4096, 20, Limit::USUAL)?;
     assert!(rt; takes_bytes_alone(&mut inbox));
     Ok(())
 }
 
-/// Whether the bytes are a whole message.
-fn is_message(bytes: &[u8]) -> bool
-    ensures { IsTrue result → IsMessage usual_limit bytes.now }
+/// Whether the bytes are a whole message within this limit.
+fn is_message(bytes: &[u8], limit: Limit) -> bool
+    ensures { IsTrue result → IsMessage limit.bytes bytes.now }
 {
     if bytes.len() < 8 {
         return false;
     }
     let size = bytes[6] as usize + 256 * bytes[7] as usize;
-    size == bytes.len() && size % 4 == 0 && size <= 4096
+    size == bytes.len() && size % 4 == 0 && size <= limit.bytes as usize
 }
 
 /// Pushes a message. Whether it is whole and fits.
 fn pushes(outbox: &mut Outbox<Global>, message: &[u8], tokens: &[u32]) -> bool {
-    is_message(message) && outbox.push(message, tokens).is_ok()
+    is_message(message, outbox.limit()) && outbox.push(message, tokens).is_ok()
 }
 
 /// Whether a message is whole and does not fit.
 fn is_full(outbox: &mut Outbox<Global>, message: &[u8], tokens: &[u32]) -> bool {
-    is_message(message) && outbox.push(message, tokens) == Err(Full)
+    is_message(message, outbox.limit()) && outbox.push(message, tokens) == Err(Full)
 }
 
 /// Whether just these bytes and tokens are taken, where there are as many places for them.
@@ -230,7 +278,7 @@ fn gives_the_token_first(outbox: &mut Outbox<Global>) -> bool {
 
 #[test]
 fn tokens_go_with_the_first_byte(rt: HostRuntime) -> Result<(), Fail> {
-    let mut outbox = Outbox::new(rt.alloc(), 65_536, 64)?;
+    let mut outbox = Outbox::new(rt.alloc(), 65_536, 64, Limit::USUAL)?;
     assert!(rt; gives_the_token_first(&mut outbox));
     Ok(())
 }
@@ -261,7 +309,7 @@ fn fills_up_and_gives_both(outbox: &mut Outbox<Global>) -> bool {
 
 #[test]
 fn an_outbox_fills_to_the_last_byte_and_token(rt: HostRuntime) -> Result<(), Fail> {
-    let mut outbox = Outbox::new(rt.alloc(), 28, 1)?;
+    let mut outbox = Outbox::new(rt.alloc(), 28, 1, Limit::USUAL)?;
     assert!(rt; fills_up_and_gives_both(&mut outbox));
     Ok(())
 }
@@ -278,7 +326,8 @@ fn fits_a_full_outbox(outbox: &mut Outbox<Global>) -> bool
     requires { outbox.old.has_error ≡ false }
 {
     let event = long_event();
-    if !is_message(&SYNC) || !is_message(&event) || outbox.push(&SYNC, &[]).is_err() {
+    let limit = outbox.limit();
+    if !is_message(&SYNC, limit) || !is_message(&event, limit) || outbox.push(&SYNC, &[]).is_err() {
         return false;
     }
     outbox.push_error(&event);
@@ -308,7 +357,7 @@ fn goes_behind(outbox: &mut Outbox<Global>) -> bool
 
 #[test]
 fn an_error_event_fits_a_full_outbox(rt: HostRuntime) -> Result<(), Fail> {
-    let mut outbox = Outbox::new(rt.alloc(), 12, 0)?;
+    let mut outbox = Outbox::new(rt.alloc(), 12, 0, Limit::USUAL)?;
     assert!(rt; goes_behind(&mut outbox));
     Ok(())
 }
@@ -327,7 +376,7 @@ fn is_new_inbox(inbox: &Inbox<RefusingAllocator>) -> bool {
 fn makes_an_outbox(memory: &RefusingAllocator, number: u64) -> Result<bool, AllocError> {
     let alloc = memory.clone()?;
     memory.refuse_nth(number);
-    match Outbox::new(alloc, 64, 1) {
+    match Outbox::new(alloc, 64, 1, Limit::USUAL) {
         Ok(outbox) => Ok(is_new_outbox(&outbox)),
         Err(_) => Ok(false),
     }
@@ -337,7 +386,7 @@ fn makes_an_outbox(memory: &RefusingAllocator, number: u64) -> Result<bool, Allo
 fn makes_an_inbox(memory: &RefusingAllocator, number: u64) -> Result<bool, AllocError> {
     let alloc = memory.clone()?;
     memory.refuse_nth(number);
-    match Inbox::new(alloc, 4096, 20) {
+    match Inbox::new(alloc, 4096, 20, Limit::USUAL) {
         Ok(inbox) => Ok(is_new_inbox(&inbox)),
         Err(_) => Ok(false),
     }

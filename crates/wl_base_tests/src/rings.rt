@@ -1,11 +1,11 @@
 // What goes through the rings of the boxes, with their seam at each place of a message. What owns a
 // box drops it at each way out, so a test does all else behind a `&mut`.
 ghost use Rattle.std.specs.Prelude.{IsTrue};
-ghost use Rattle.wl_message.specs.Cut.{usual_limit, IsMessage};
+ghost use Rattle.wl_message.specs.Cut.{IsMessage};
 
 use std::alloc::Global;
 use std::test::Fail;
-use wl_message::{Fed, Inbox, Outbox, Taken};
+use wl_message::{Fed, Inbox, Limit, Outbox, Taken};
 
 /// How many messages go in at a box. Beside those that wait at the end, more come out than the larger
 /// ring has places, 4163, so they begin at each place: neither 2 nor 3 divides the number of places.
@@ -134,21 +134,21 @@ fn messages_pass_an_inbox_with_its_seam_at_each_place(rt: HostRuntime) -> Result
         } = messages;
         let bytes = &mut bytes[..size.min(4096) as usize];
         let tokens = &mut tokens[..count.min(20) as usize];
-        let mut inbox = Inbox::new(rt.alloc(), 4097, 23)?;
+        let mut inbox = Inbox::new(rt.alloc(), 4097, 23, Limit::USUAL)?;
         assert!(rt; pass_an_inbox(&mut inbox, bytes, tokens, waiting));
     }
     Ok(())
 }
 
-/// Whether the bytes are a whole message.
-fn is_message(bytes: &[u8]) -> bool
-    ensures { IsTrue result → IsMessage usual_limit bytes.now }
+/// Whether the bytes are a whole message within this limit.
+fn is_message(bytes: &[u8], limit: Limit) -> bool
+    ensures { IsTrue result → IsMessage limit.bytes bytes.now }
 {
     if bytes.len() < 8 {
         return false;
     }
     let size = bytes[6] as usize + 256 * bytes[7] as usize;
-    size == bytes.len() && size % 4 == 0 && size <= 4096
+    size == bytes.len() && size % 4 == 0 && size <= limit.bytes as usize
 }
 
 /// Pushes the message of this number. Whether it fits.
@@ -160,7 +160,7 @@ fn pushes(
 ) -> bool {
     write_message(message, number);
     write_tokens(tokens, number);
-    is_message(message) && outbox.push(message, tokens).is_ok()
+    is_message(message, outbox.limit()) && outbox.push(message, tokens).is_ok()
 }
 
 /// Takes a message out, where there are as many places as it has bytes and tokens. Whether it and
@@ -214,8 +214,79 @@ fn messages_pass_an_outbox_with_its_seam_at_each_place(rt: HostRuntime) -> Resul
         } = messages;
         let bytes = &mut bytes[..size.min(4096) as usize];
         let tokens = &mut tokens[..count.min(20) as usize];
-        let mut outbox = Outbox::new(rt.alloc(), 4099, 23)?;
+        let mut outbox = Outbox::new(rt.alloc(), 4099, 23, Limit::USUAL)?;
         assert!(rt; pass_an_outbox(&mut outbox, bytes, tokens, waiting));
     }
+    Ok(())
+}
+
+/// How many bytes the longest message at the greatest limit has.
+const LONGEST: usize = 65_532;
+
+/// How often it goes through a ring of a few places more. It begins at each place, for each time it
+/// begins one place, or 65, before where it began last: 65 and 65,597 have no divisor in common.
+const LONG_ROUNDS: u32 = 65_597;
+
+/// Whether one message comes out of an inbox each time as it went in.
+fn repeat_in_an_inbox(inbox: &mut Inbox<Global>, message: &[u8], tokens: &[u32]) -> bool {
+    let all = Fed {
+        bytes: message.len(),
+        tokens: tokens.len(),
+    };
+    for _ in 0..LONG_ROUNDS {
+        if inbox.feed(message, tokens) != all || !pops(inbox, message, tokens) {
+            return false;
+        }
+    }
+    true
+}
+
+#[test]
+fn the_longest_message_passes_an_inbox_with_its_seam_at_each_place(
+    rt: HostRuntime,
+) -> Result<(), Fail> {
+    let mut bytes = [0; LONGEST];
+    let mut tokens = [0; 20];
+    write_message(&mut bytes, 1);
+    write_tokens(&mut tokens, 1);
+    let limit = Limit::new(65_532).unwrap_or(Limit::USUAL);
+    let mut inbox = Inbox::new(rt.alloc(), LONGEST + 1, 23, limit)?;
+    assert!(rt; repeat_in_an_inbox(&mut inbox, &bytes, &tokens));
+    Ok(())
+}
+
+/// Whether one message comes out of an outbox each time as it went in.
+fn repeat_in_an_outbox(outbox: &mut Outbox<Global>, message: &[u8], tokens: &[u32]) -> bool {
+    let mut bytes_taken = [0; LONGEST];
+    let mut tokens_taken = [0; 20];
+    let all = Taken {
+        bytes: message.len(),
+        tokens: tokens.len(),
+    };
+    for _ in 0..LONG_ROUNDS {
+        let has_passed = is_message(message, outbox.limit())
+            && outbox.push(message, tokens).is_ok()
+            && outbox.take(&mut bytes_taken, &mut tokens_taken) == all
+            && bytes_taken.as_slice() == message
+            && tokens_taken.as_slice() == tokens;
+        if !has_passed {
+            return false;
+        }
+    }
+    true
+}
+
+// With the 64 bytes that are kept for an error event its ring has 65,597 bytes.
+#[test]
+fn the_longest_message_passes_an_outbox_with_its_seam_at_each_place(
+    rt: HostRuntime,
+) -> Result<(), Fail> {
+    let mut bytes = [0; LONGEST];
+    let mut tokens = [0; 20];
+    write_message(&mut bytes, 1);
+    write_tokens(&mut tokens, 1);
+    let limit = Limit::new(65_532).unwrap_or(Limit::USUAL);
+    let mut outbox = Outbox::new(rt.alloc(), LONGEST + 1, 23, limit)?;
+    assert!(rt; repeat_in_an_outbox(&mut outbox, &bytes, &tokens));
     Ok(())
 }

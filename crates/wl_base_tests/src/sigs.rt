@@ -7,8 +7,9 @@ use wl_wire::{Iface, Kind};
 
 // Each interface with its version, its requests and its events, in the order of their opcodes. Arguments: i int,
 // u uint, f fixed, s string, o object, n new_id, a array, h descriptor; with `?` null is allowed. D: the message
-// destroys its target. `@k`: since version k, where that is not 1. Written from wayland.xml.
-static TABLE: [&str; 18] = [
+// destroys its target; D(0): the object that its argument at place 0 names. `@k`: since version k, where that is not 1.
+// Written from wayland.xml.
+static TABLE: [&str; 19] = [
     "wl_display 1 | sync n(wl_callback); get_registry n(wl_registry) | error o(any) u s; delete_id u",
     "wl_registry 1 | bind u n(no interface) | global u s u; global_remove u",
     "wl_callback 1 | none | done u D",
@@ -27,6 +28,7 @@ static TABLE: [&str; 18] = [
     "wl_subsurface 1 | destroy D; set_position i i; place_above o(wl_surface); place_below o(wl_surface); set_sync; set_desync | none",
     "wl_shell 1 | get_shell_surface n(wl_shell_surface) o(wl_surface) | none",
     "wl_shell_surface 1 | pong u; move o(wl_seat) u; resize o(wl_seat) u u; set_toplevel; set_transient o(wl_surface) i i u; set_fullscreen u u ?o(wl_output); set_popup o(wl_seat) u o(wl_surface) i i u; set_maximized ?o(wl_output); set_title s; set_class s | ping u; configure u i i; popup_done",
+    "wl_fixes 1 | destroy D; destroy_registry o(wl_registry) D(0) | none",
 ];
 
 fn put<A: Allocator>(text: &mut String<A>, bytes: &[u8]) -> Result<(), AllocError> {
@@ -97,8 +99,10 @@ fn put_message<A: Allocator, B: Allocator>(
     for kind in signature.kinds() {
         put_kind(text, tables, *kind)?;
     }
-    if signature.destroys() == Destroys::Target {
-        put(text, b" D")?;
+    match signature.destroys() {
+        Destroys::Nothing => {}
+        Destroys::Target => put(text, b" D")?,
+        Destroys::Arg(place) => write!(text, " D({place})")?,
     }
     if signature.since() != 1 {
         write!(text, " @{}", signature.since())?;
@@ -148,7 +152,7 @@ pub(crate) fn has_row<A: Allocator>(
 }
 
 fn has_all_rows(alloc: Global, tables: &Tables) -> bool {
-    for place in 0u16..18 {
+    for place in 0u16..19 {
         if !has_row(alloc, tables, place, TABLE[place as usize]) {
             return false;
         }
@@ -157,9 +161,9 @@ fn has_all_rows(alloc: Global, tables: &Tables) -> bool {
 }
 
 fn has_no_more(tables: &Tables) -> bool {
-    tables.version(Iface(18)).is_none()
-        && tables.name(Iface(18)).is_none()
-        && tables.message(Iface(18), Side::Request, 0).is_none()
+    tables.version(Iface(19)).is_none()
+        && tables.name(Iface(19)).is_none()
+        && tables.message(Iface(19), Side::Request, 0).is_none()
         && tables.message(Iface(0), Side::Request, 2).is_none()
         && tables.message(Iface(0), Side::Event, 65535).is_none()
 }
@@ -167,6 +171,7 @@ fn has_no_more(tables: &Tables) -> bool {
 fn finds_by_name(tables: &Tables) -> bool {
     tables.interface(b"wl_display") == Some(Iface(0))
         && tables.interface(b"wl_shell_surface") == Some(Iface(17))
+        && tables.interface(b"wl_fixes") == Some(Iface(18))
         && tables.interface(b"wl_data_device").is_none()
 }
 
@@ -188,7 +193,7 @@ fn are_made(alloc: Global, memory: RefusingAllocator) -> bool {
 }
 
 /// Whether the making is refused, where the allocation of this number is, with lack of memory, and
-/// the same call with memory gives the tables. Where it is not met the tables are made.
+/// the same call with memory returns the tables. Where it is not met the tables are made.
 fn is_made_at_last(
     alloc: Global,
     memory: &RefusingAllocator,
@@ -221,6 +226,6 @@ fn refused_in_turn(alloc: Global) -> Result<Option<u64>, AllocError> {
 // that is not empty.
 #[test]
 fn the_core_tables_are_refused_each_allocation_in_turn(rt: HostRuntime) -> Result<(), Fail> {
-    assert_eq!(rt; refused_in_turn(rt.alloc())?, Some(224));
+    assert_eq!(rt; refused_in_turn(rt.alloc())?, Some(229));
     Ok(())
 }

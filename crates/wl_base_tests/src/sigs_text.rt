@@ -27,9 +27,10 @@ const EVERY_FORM_ROWS: [&str; 2] = [
 ];
 
 // Texts of which each line has a form, with the first line that breaks a rule, and the least rule there.
-static BROKEN: [(&str, usize, u8); 23] = [
+static BROKEN: [(&str, usize, u8); 24] = [
     // V1: a name of the core, of the same text, and names with other bytes.
     ("interface wl_seat 9", 1, 1),
+    ("interface wl_fixes 1", 1, 1),
     ("interface a 1\ninterface a 1", 2, 1),
     ("interface a 1\nrequest r\nrequest r", 3, 1),
     ("interface a 1\nrequest D", 2, 1),
@@ -84,7 +85,7 @@ static BAD_LINES: [(&str, usize); 10] = [
     ("interface a 1\r", 1),
 ];
 
-/// Whether a text gives these two interfaces behind the core tables, and no other.
+/// Whether a text declares these two interfaces behind the core tables, and no other.
 fn gives(alloc: Global, text: &[u8], rows: &[&str]) -> Result<bool, AllocError> {
     let core = Tables::core(alloc)?;
     let Ok(tables) = core.read_more(text) else {
@@ -92,10 +93,10 @@ fn gives(alloc: Global, text: &[u8], rows: &[&str]) -> Result<bool, AllocError> 
     };
     Ok(
         rows.len() == 2
-            && has_row(alloc, &tables, 18, rows[0])
-            && has_row(alloc, &tables, 19, rows[1])
+            && has_row(alloc, &tables, 19, rows[0])
+            && has_row(alloc, &tables, 20, rows[1])
             && has_row(alloc, &tables, 2, "wl_callback 1 | none | done u D")
-            && tables.version(Iface(20)).is_none(),
+            && tables.version(Iface(21)).is_none(),
     )
 }
 
@@ -119,7 +120,7 @@ fn texts_are_read_one_behind_the_other(rt: HostRuntime) -> Result<(), Fail> {
     let named = more.read_more(b"interface b 1\nrequest r o(a)");
     assert!(rt; matches!(named, Err(TableFault::BadTable { line: 2, rule: 7 })));
     let most = more.read_more(b"").expect(&rt, "the text is read");
-    assert!(rt; most.interface(b"a") == Some(Iface(18)) && most.version(Iface(19)).is_none());
+    assert!(rt; most.interface(b"a") == Some(Iface(19)) && most.version(Iface(20)).is_none());
     Ok(())
 }
 
@@ -162,14 +163,14 @@ fn put_interfaces(text: &mut String, most: u32) -> Result<(), AllocError> {
 fn the_largest_text_is_read(rt: HostRuntime) -> Result<(), Fail> {
     let core = Tables::core(rt.alloc())?;
     let mut text = String::new(rt.alloc());
-    put_interfaces(&mut text, 1006)?;
+    put_interfaces(&mut text, 1005)?;
     let tables = core
         .read_more(text.as_bytes())
         .expect(&rt, "the text is read");
-    assert!(rt; tables.interface(b"interface_1005") == Some(Iface(1023)));
+    assert!(rt; tables.interface(b"interface_1004") == Some(Iface(1023)));
     writeln!(&mut text, "request request_256")?;
     let too_many = TableFault::BadTable {
-        line: 258_543,
+        line: 258_286,
         rule: 3,
     };
     assert!(rt; is_refused_as(&core, text.as_str(), too_many));
@@ -179,7 +180,7 @@ fn the_largest_text_is_read(rt: HostRuntime) -> Result<(), Fail> {
 }
 
 /// Whether the reading is refused, where the allocation of this number is, for lack of memory, and the same call
-/// with memory gives the tables. Where it is not met the tables are read.
+/// with memory returns the tables. Where it is not met the tables are read.
 fn is_read_at_last(
     alloc: Global,
     memory: &RefusingAllocator,
@@ -188,7 +189,7 @@ fn is_read_at_last(
 ) -> bool {
     memory.refuse_nth(number);
     match core.read_more(VIEWPORTER.as_bytes()) {
-        Ok(tables) => !memory.has_refused() && has_row(alloc, &tables, 19, VIEWPORTER_ROWS[1]),
+        Ok(tables) => !memory.has_refused() && has_row(alloc, &tables, 20, VIEWPORTER_ROWS[1]),
         Err(TableFault::Memory) => {
             let is_refused = memory.has_refused() && memory.asked() == number.wrapping_add(1);
             memory.refuse_none();
@@ -212,6 +213,6 @@ fn a_reading_is_refused_each_allocation_in_turn(rt: HostRuntime) -> Result<(), F
             break;
         }
     }
-    assert!(rt; met > 224);
+    assert!(rt; met > 229);
     Ok(())
 }

@@ -1,13 +1,14 @@
 // What becomes of the boxes where a stream fails. What owns a box drops it at each way out, so a
 // test does all else behind a `&mut`.
 ghost use Rattle.std.specs.Prelude.{IsTrue};
-ghost use Rattle.wl_message.specs.Cut.{usual_limit, IsMessage};
+ghost use Rattle.wl_message.specs.Cut.{IsMessage};
 
 use std::alloc::Global;
 use std::io::ErrorKind;
 use std::test::Fail;
 use wl_message::{
-    FillError, FlushError, Inbox, Outbox, ScriptReader, ScriptWriter, Step, Taken, fill, flush,
+    FillError, FlushError, Inbox, Limit, Outbox, ScriptReader, ScriptWriter, Step, Taken, fill,
+    flush,
 };
 use wl_wire::Header;
 
@@ -32,20 +33,20 @@ const COMMIT: [u8; 8] = [4, 0, 0, 0, 6, 0, 8, 0];
 /// wl_shm.create_pool with new id 5 and size 4096, for object 4. It takes a token.
 const CREATE_POOL: [u8; 16] = [4, 0, 0, 0, 0, 0, 16, 0, 5, 0, 0, 0, 0, 16, 0, 0];
 
-/// Whether the bytes are a whole message.
-fn is_message(bytes: &[u8]) -> bool
-    ensures { IsTrue result → IsMessage usual_limit bytes.now }
+/// Whether the bytes are a whole message within this limit.
+fn is_message(bytes: &[u8], limit: Limit) -> bool
+    ensures { IsTrue result → IsMessage limit.bytes bytes.now }
 {
     if bytes.len() < 8 {
         return false;
     }
     let size = bytes[6] as usize + 256 * bytes[7] as usize;
-    size == bytes.len() && size % 4 == 0 && size <= 4096
+    size == bytes.len() && size % 4 == 0 && size <= limit.bytes as usize
 }
 
 /// Pushes a message. Whether it is whole and fits.
 fn pushes(outbox: &mut Outbox<Global>, message: &[u8], tokens: &[u32]) -> bool {
-    is_message(message) && outbox.push(message, tokens).is_ok()
+    is_message(message, outbox.limit()) && outbox.push(message, tokens).is_ok()
 }
 
 /// Whether a flush to a writer of this script returns this, and the writer takes these bytes.
@@ -80,7 +81,7 @@ fn goes_on_after_a_failure(alloc: Global, outbox: &mut Outbox<Global>, kind: Err
 #[test]
 fn a_flush_goes_on_after_a_failure(rt: HostRuntime) -> Result<(), Fail> {
     let alloc = rt.alloc();
-    let mut outbox = Outbox::new(alloc, 65_536, 64)?;
+    let mut outbox = Outbox::new(alloc, 65_536, 64, Limit::USUAL)?;
     assert!(rt; goes_on_after_a_failure(alloc, &mut outbox, ErrorKind::Other));
     assert!(rt; goes_on_after_a_failure(alloc, &mut outbox, ErrorKind::Interrupted));
     Ok(())
@@ -109,7 +110,7 @@ fn stops_before_a_token(alloc: Global, outbox: &mut Outbox<Global>) -> bool {
 #[test]
 fn a_flush_stops_before_a_token(rt: HostRuntime) -> Result<(), Fail> {
     let alloc = rt.alloc();
-    let mut outbox = Outbox::new(alloc, 65_536, 64)?;
+    let mut outbox = Outbox::new(alloc, 65_536, 64, Limit::USUAL)?;
     assert!(rt; stops_before_a_token(alloc, &mut outbox));
     Ok(())
 }
@@ -127,7 +128,7 @@ fn stays_where_none_is_taken(alloc: Global, outbox: &mut Outbox<Global>) -> bool
 #[test]
 fn a_flush_fails_where_no_byte_is_taken(rt: HostRuntime) -> Result<(), Fail> {
     let alloc = rt.alloc();
-    let mut outbox = Outbox::new(alloc, 65_536, 64)?;
+    let mut outbox = Outbox::new(alloc, 65_536, 64, Limit::USUAL)?;
     assert!(rt; stays_where_none_is_taken(alloc, &mut outbox));
     Ok(())
 }
@@ -154,7 +155,7 @@ fn writes_across_the_seam(alloc: Global, outbox: &mut Outbox<Global>) -> bool {
 #[test]
 fn a_flush_writes_across_the_seam(rt: HostRuntime) -> Result<(), Fail> {
     let alloc = rt.alloc();
-    let mut outbox = Outbox::new(alloc, 25, 0)?;
+    let mut outbox = Outbox::new(alloc, 25, 0, Limit::USUAL)?;
     assert!(rt; writes_across_the_seam(alloc, &mut outbox));
     Ok(())
 }
@@ -193,7 +194,7 @@ fn pops(inbox: &mut Inbox<Global>) -> bool {
 
 #[test]
 fn a_fill_goes_on_after_a_failure(rt: HostRuntime) -> Result<(), Fail> {
-    let mut inbox = Inbox::new(rt.alloc(), 65_536, 64)?;
+    let mut inbox = Inbox::new(rt.alloc(), 65_536, 64, Limit::USUAL)?;
     assert!(rt; comes_after_a_failure(&mut inbox, ErrorKind::Other));
     assert!(rt; comes_after_a_failure(&mut inbox, ErrorKind::Interrupted));
     Ok(())
@@ -220,7 +221,7 @@ fn reads_what_is_free(inbox: &mut Inbox<Global>) -> bool {
 
 #[test]
 fn a_fill_reads_what_is_free(rt: HostRuntime) -> Result<(), Fail> {
-    let mut inbox = Inbox::new(rt.alloc(), 5000, 64)?;
+    let mut inbox = Inbox::new(rt.alloc(), 5000, 64, Limit::USUAL)?;
     assert!(rt; reads_what_is_free(&mut inbox));
     Ok(())
 }

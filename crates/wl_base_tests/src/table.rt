@@ -12,12 +12,12 @@ const DISPLAY: Iface = Iface(0);
 
 const CALLBACK: Iface = Iface(2);
 
-/// Whether the next opening gives this object.
+/// Whether the next opening returns this object.
 fn opens<T: Table>(table: &mut T, version: u32, id: u32, birth: u64) -> bool {
     table.open_next(CALLBACK, version) == Ok(Object { id, birth })
 }
 
-/// Whether an opening at this id gives an object of this birth.
+/// Whether an opening at this id returns an object of this birth.
 fn opens_at<T: Table>(table: &mut T, id: u32, birth: u64) -> bool {
     table.open_at(id, CALLBACK, 1) == Ok(Object { id, birth })
 }
@@ -47,7 +47,7 @@ fn ends<T: Table>(table: &mut T, id: u32) -> bool {
     }
 }
 
-/// Whether the table has used so many ids, has so many entries and has had so many births.
+/// Whether the table has used this number of ids, has `len` entries and has counted `births`.
 fn counts<T: Table>(table: &T, used: u32, len: u32, births: u64) -> bool {
     table.used() == used && table.len() == len && table.births() == births
 }
@@ -187,7 +187,7 @@ fn are_same<T: Table, U: Table>(one: &T, other: &U) -> bool {
     true
 }
 
-/// Opens so many objects, and closes the last three where they are more than three. Whether it did.
+/// Opens this number of objects, and closes the last three where they are more than three. Whether it did.
 fn fill<T: Table>(table: &mut T, objects: u32) -> bool
     requires { objects < 100 }
 {
@@ -198,7 +198,7 @@ fn fill<T: Table>(table: &mut T, objects: u32) -> bool
         || closes(table, objects - 1) && closes(table, objects + 1) && closes(table, objects)
 }
 
-/// A table with so many objects, if it could be filled.
+/// A table with this number of objects, if it could be filled.
 fn filled<T: Table<Alloc = RefusingAllocator> + Drop>(
     memory: &RefusingAllocator,
     objects: u32,
@@ -237,8 +237,8 @@ fn open<T: Table>(table: &mut T, id: u32, named: bool) -> Result<Object, TableEr
     }
 }
 
-/// Whether an opening gives this object where no allocation was refused. Else whether the answer is
-/// lack of memory, the table is as it was before, and the same call gives the object with memory.
+/// Whether an opening returns this object where no allocation was refused. Else whether it is out of
+/// memory, the table is as it was before, and the same call returns the object with memory.
 fn opens_or_is_as_before<T: Table>(
     memory: &RefusingAllocator,
     before: &T,
@@ -255,7 +255,7 @@ fn opens_or_is_as_before<T: Table>(
         && open(table, object.id, named) == Ok(object)
 }
 
-/// The same of a table with so many objects, with the allocation of this number refused.
+/// The same of a table with this number of objects, with the allocation of this number refused.
 fn is_refused_rightly<T: Table<Alloc = RefusingAllocator> + Drop>(
     memory: &RefusingAllocator,
     objects: u32,

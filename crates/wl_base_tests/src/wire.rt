@@ -9,7 +9,7 @@ fn is_written(alloc: Global, value: ValueRef<'_>, bytes: &[u8]) -> bool {
     value.fits() && encode_value(value, &mut out).is_ok() && out.as_slice() == bytes
 }
 
-/// Whether the first bytes, so many, are read as the value.
+/// Whether the first `len` bytes are read as the value.
 fn is_read(alloc: Global, kind: Kind, bytes: &[u8], value: ValueRef<'_>, len: usize) -> bool {
     match read_value(alloc, kind, bytes) {
         Ok((found, taken)) => found.lend() == value && taken == len,

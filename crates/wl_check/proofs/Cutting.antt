@@ -3,7 +3,7 @@ use Rattle.std.proofs.Common.{◌≡◌, ℕ, zero, suc, ◌+◌, ◌<◌, ◌�
 use Rattle.std.proofs.lemmas.Bool.{lt-ltb, le-ltb}
 use Rattle.std.proofs.lemmas.List.{length-drop, drop_all, drop-append-le, take_all}
 use Rattle.wl_recording.specs.declared.piece.Direction.{Direction}
-use Rattle.wl_message.specs.Cut.{usual_limit, is_size, told_size, front, Front, More, Bad, Whole}
+use Rattle.wl_message.specs.Cut.{is_size, told_size, front, Front, More, Bad, Whole}
 use Rattle.wl_message.proofs.Fronts.{front_stands}
 use Rattle.wl_message.proofs.Cuts.{front_none, whole_stays, bad_stays}
 use Rattle.wl_check.specs.declared.frames.Frame.{Frame}
@@ -11,60 +11,60 @@ use Rattle.wl_check.specs.Merged.{Mark, mark, Cutting, cutting, stopped, bad_at,
 
 -- ---- what stands in front, by the code's tests
 
-front_tests : (bytes : List ℕ) (a b c : Bool) → ltb (length bytes) 8 ≡ a → is_size usual_limit (told_size bytes) ≡ b → ltb (length bytes) (told_size bytes) ≡ c
-    → front usual_limit bytes ≡ cond a More (cond b (cond c More (Whole (told_size bytes))) (Bad (told_size bytes)))
+front_tests : (limit : ℕ) (bytes : List ℕ) (a b c : Bool) → ltb (length bytes) 8 ≡ a → is_size limit (told_size bytes) ≡ b → ltb (length bytes) (told_size bytes) ≡ c
+    → front limit bytes ≡ cond a More (cond b (cond c More (Whole (told_size bytes))) (Bad (told_size bytes)))
 unfolding front
-front_tests bytes a b c p q r = rw (p, q, r) refl
+front_tests limit bytes a b c p q r = rw (p, q, r) refl
 
-pub front_short : (bytes : List ℕ) → length bytes < 8 → More ≡ front usual_limit bytes
-front_short bytes h = sym (front_tests bytes true _ _ (lt-ltb (length bytes) 8 h) refl refl)
+pub front_short : (limit : ℕ) (bytes : List ℕ) → length bytes < 8 → More ≡ front limit bytes
+front_short limit bytes h = sym (front_tests limit bytes true _ _ (lt-ltb (length bytes) 8 h) refl refl)
 
-pub front_bad : (bytes : List ℕ) (z : ℕ) → z ≡ told_size bytes → 8 ≤ length bytes → is_size usual_limit z ≡ false → Bad z ≡ front usual_limit bytes
-front_bad bytes z e h bad = rw e (sym (front_tests bytes false false _ (le-ltb (length bytes) 8 h) (subst (λ (n : ℕ). is_size usual_limit n ≡ false) e bad) refl))
+pub front_bad : (limit : ℕ) (bytes : List ℕ) (z : ℕ) → z ≡ told_size bytes → 8 ≤ length bytes → is_size limit z ≡ false → Bad z ≡ front limit bytes
+front_bad limit bytes z e h bad = rw e (sym (front_tests limit bytes false false _ (le-ltb (length bytes) 8 h) (subst (λ (n : ℕ). is_size limit n ≡ false) e bad) refl))
 
-pub front_long : (bytes : List ℕ) (z : ℕ) → z ≡ told_size bytes → 8 ≤ length bytes → is_size usual_limit z ≡ true → length bytes < z → More ≡ front usual_limit bytes
-front_long bytes z e h good long = sym (front_tests bytes false true true (le-ltb (length bytes) 8 h) (subst (λ (n : ℕ). is_size usual_limit n ≡ true) e good) (lt-ltb (length bytes) (told_size bytes) (omega (arith, e, long))))
+pub front_long : (limit : ℕ) (bytes : List ℕ) (z : ℕ) → z ≡ told_size bytes → 8 ≤ length bytes → is_size limit z ≡ true → length bytes < z → More ≡ front limit bytes
+front_long limit bytes z e h good long = sym (front_tests limit bytes false true true (le-ltb (length bytes) 8 h) (subst (λ (n : ℕ). is_size limit n ≡ true) e good) (lt-ltb (length bytes) (told_size bytes) (omega (arith, e, long))))
 
-pub front_good : (bytes : List ℕ) (z : ℕ) → z ≡ told_size bytes → 8 ≤ length bytes → is_size usual_limit z ≡ true → z ≤ length bytes → Whole z ≡ front usual_limit bytes
-front_good bytes z e h good there = rw e (sym (front_tests bytes false true false (le-ltb (length bytes) 8 h) (subst (λ (n : ℕ). is_size usual_limit n ≡ true) e good) (le-ltb (length bytes) (told_size bytes) (omega (arith, e, there)))))
+pub front_good : (limit : ℕ) (bytes : List ℕ) (z : ℕ) → z ≡ told_size bytes → 8 ≤ length bytes → is_size limit z ≡ true → z ≤ length bytes → Whole z ≡ front limit bytes
+front_good limit bytes z e h good there = rw e (sym (front_tests limit bytes false true false (le-ltb (length bytes) 8 h) (subst (λ (n : ℕ). is_size limit n ≡ true) e good) (le-ltb (length bytes) (told_size bytes) (omega (arith, e, there)))))
 
 -- the rest of a stream, as the code lends it
 pub rest_is : (s : List ℕ) (p : ℕ) → p ≤ length s → take (length s - p) (drop p s) ≡ drop p s
 rest_is s p within = take_all (length s - p) (drop p s) (omega (arith, length-drop p s))
 
-pub front_rest : (s : List ℕ) (p : ℕ) (f : Front) → p ≤ length s → f ≡ front usual_limit (take (length s - p) (drop p s)) → f ≡ front usual_limit (drop p s)
-front_rest s p f within e = e ∙ ap (front usual_limit) (rest_is s p within)
+pub front_rest : (limit : ℕ) (s : List ℕ) (p : ℕ) (f : Front) → p ≤ length s → f ≡ front limit (take (length s - p) (drop p s)) → f ≡ front limit (drop p s)
+front_rest limit s p f within e = e ∙ ap (front limit) (rest_is s p within)
 
 -- ---- one step of the cutting
 
-pub front_past : (s : List ℕ) (p : ℕ) → length s ≤ p → front usual_limit (drop p s) ≡ More
-front_past s p h = ap (front usual_limit) (drop_all p s h) ∙ front_none usual_limit
+pub front_past : (limit : ℕ) (s : List ℕ) (p : ℕ) → length s ≤ p → front limit (drop p s) ≡ More
+front_past limit s p h = ap (front limit) (drop_all p s h) ∙ front_none limit
 
 -- where a message stands, the next place is later and within the stream
-pub next_within : (s : List ℕ) (p z : ℕ) → front usual_limit (drop p s) ≡ Whole z → p ≤ length s → (8 ≤ z) × (p + z ≤ length s)
-next_within s p z h within = let w = front_stands usual_limit (drop p s) z h in (w.size.header, omega (arith, w.there, length-drop p s, within))
+pub next_within : (limit : ℕ) (s : List ℕ) (p z : ℕ) → front limit (drop p s) ≡ Whole z → p ≤ length s → (8 ≤ z) × (p + z ≤ length s)
+next_within limit s p z h within = let w = front_stands limit (drop p s) z h in (w.size.header, omega (arith, w.there, length-drop p s, within))
 
 front_more : (s t : List ℕ) (p : ℕ) → p ≤ length s → drop p (s ++ t) ≡ drop p s ++ t
 front_more s t p within = drop-append-le p s t within
 
 -- the fuel, once enough, makes no difference
-fuel_step : (n k : ℕ) (s : List ℕ) (p : ℕ) (f : Front) → front usual_limit (drop p s) ≡ f → p ≤ length s → ((z : ℕ) → 8 ≤ z → p + z ≤ length s → cutting n s (p + z) ≡ cutting k s (p + z))
-    → cut_at p f (cutting n s) ≡ cut_at p f (cutting k s)
-fuel_step n k s p More e within ih = refl
-fuel_step n k s p (Bad z) e within ih = refl
-fuel_step n k s p (Whole z) e within ih = let w = next_within s p z e within in ap (λ (c : Cutting). then_cut (mark p z) c) (ih z w.0 w.1)
+fuel_step : (limit n k : ℕ) (s : List ℕ) (p : ℕ) (f : Front) → front limit (drop p s) ≡ f → p ≤ length s → ((z : ℕ) → 8 ≤ z → p + z ≤ length s → cutting limit n s (p + z) ≡ cutting limit k s (p + z))
+    → cut_at p f (cutting limit n s) ≡ cut_at p f (cutting limit k s)
+fuel_step limit n k s p More e within ih = refl
+fuel_step limit n k s p (Bad z) e within ih = refl
+fuel_step limit n k s p (Whole z) e within ih = let w = next_within limit s p z e within in ap (λ (c : Cutting). then_cut (mark p z) c) (ih z w.0 w.1)
 
-pub fuel : (n k : ℕ) (s : List ℕ) (p : ℕ) → p ≤ length s → length s ≤ p + n → length s ≤ p + k → cutting n s p ≡ cutting k s p
+pub fuel : (limit n k : ℕ) (s : List ℕ) (p : ℕ) → p ≤ length s → length s ≤ p + n → length s ≤ p + k → cutting limit n s p ≡ cutting limit k s p
 unfolding cutting
-fuel zero zero s p within a b = refl
-fuel zero (suc k) s p within a b = rw (front_past s p (omega arith)) refl
-fuel (suc n) zero s p within a b = rw (front_past s p (omega arith)) refl
-fuel (suc n) (suc k) s p within a b = fuel_step n k s p (front usual_limit (drop p s)) refl within (λ z big there. fuel n k s (p + z) there (omega arith) (omega arith))
+fuel limit zero zero s p within a b = refl
+fuel limit zero (suc k) s p within a b = rw (front_past limit s p (omega arith)) refl
+fuel limit (suc n) zero s p within a b = rw (front_past limit s p (omega arith)) refl
+fuel limit (suc n) (suc k) s p within a b = fuel_step limit n k s p (front limit (drop p s)) refl within (λ z big there. fuel limit n k s (p + z) there (omega arith) (omega arith))
 
 -- one step, where the fuel is enough
-pub step : (j : ℕ) (w : List ℕ) (p : ℕ) → p ≤ length w → length w ≤ j → cutting j w p ≡ cut_at p (front usual_limit (drop p w)) (cutting j w)
+pub step : (limit j : ℕ) (w : List ℕ) (p : ℕ) → p ≤ length w → length w ≤ j → cutting limit j w p ≡ cut_at p (front limit (drop p w)) (cutting limit j w)
 unfolding cutting
-step j w p within enough = fuel j (suc j) w p within (omega arith) (omega arith)
+step limit j w p within enough = fuel limit j (suc j) w p within (omega arith) (omega arith)
 
 -- a cutting that goes on, unless it stopped at a bad size
 abbrev pub goes_on : Cutting → (ℕ → Cutting) → Cutting
@@ -74,34 +74,34 @@ then_goes : (m : Mark) (c : Cutting) (f : ℕ → Cutting) (b : Bool) → c.is_b
 then_goes m c f true is = rw is refl
 then_goes m c f false is = rw is refl
 
-more_step : (n j : ℕ) (s t : List ℕ) (p : ℕ) (f : Front) → front usual_limit (drop p s) ≡ f → p ≤ length s → length (s ++ t) ≤ j
-    → ((z : ℕ) → 8 ≤ z → p + z ≤ length s → cutting j (s ++ t) (p + z) ≡ goes_on (cutting n s (p + z)) (cutting j (s ++ t)))
-    → cutting j (s ++ t) p ≡ goes_on (cut_at p f (cutting n s)) (cutting j (s ++ t))
-more_step n j s t p More e within enough ih = refl
-more_step n j s t p (Bad z) e within enough ih =
-    let there : front usual_limit (drop p (s ++ t)) ≡ Bad z = ap (front usual_limit) (front_more s t p within) ∙ bad_stays usual_limit (drop p s) t z e in
-    step j (s ++ t) p (omega (arith, length-append s t)) enough ∙ rw there refl
-more_step n j s t p (Whole z) e within enough ih =
-    let w = next_within s p z e within in
-    let there : front usual_limit (drop p (s ++ t)) ≡ Whole z = ap (front usual_limit) (front_more s t p within) ∙ whole_stays usual_limit (drop p s) t z e in
-    step j (s ++ t) p (omega (arith, length-append s t)) enough ∙ (rw (there, ih z w.0 w.1) (then_goes (mark p z) (cutting n s (p + z)) (cutting j (s ++ t)) (cutting n s (p + z)).is_bad refl))
+more_step : (limit n j : ℕ) (s t : List ℕ) (p : ℕ) (f : Front) → front limit (drop p s) ≡ f → p ≤ length s → length (s ++ t) ≤ j
+    → ((z : ℕ) → 8 ≤ z → p + z ≤ length s → cutting limit j (s ++ t) (p + z) ≡ goes_on (cutting limit n s (p + z)) (cutting limit j (s ++ t)))
+    → cutting limit j (s ++ t) p ≡ goes_on (cut_at p f (cutting limit n s)) (cutting limit j (s ++ t))
+more_step limit n j s t p More e within enough ih = refl
+more_step limit n j s t p (Bad z) e within enough ih =
+    let there : front limit (drop p (s ++ t)) ≡ Bad z = ap (front limit) (front_more s t p within) ∙ bad_stays limit (drop p s) t z e in
+    step limit j (s ++ t) p (omega (arith, length-append s t)) enough ∙ rw there refl
+more_step limit n j s t p (Whole z) e within enough ih =
+    let w = next_within limit s p z e within in
+    let there : front limit (drop p (s ++ t)) ≡ Whole z = ap (front limit) (front_more s t p within) ∙ whole_stays limit (drop p s) t z e in
+    step limit j (s ++ t) p (omega (arith, length-append s t)) enough ∙ (rw (there, ih z w.0 w.1) (then_goes (mark p z) (cutting limit n s (p + z)) (cutting limit j (s ++ t)) (cutting limit n s (p + z)).is_bad refl))
 
-pub more : (n j : ℕ) (s t : List ℕ) (p : ℕ) → p ≤ length s → length s ≤ p + n → length (s ++ t) ≤ j → cutting j (s ++ t) p ≡ goes_on (cutting n s p) (cutting j (s ++ t))
+pub more : (limit n j : ℕ) (s t : List ℕ) (p : ℕ) → p ≤ length s → length s ≤ p + n → length (s ++ t) ≤ j → cutting limit j (s ++ t) p ≡ goes_on (cutting limit n s p) (cutting limit j (s ++ t))
 unfolding cutting
-more zero j s t p within a b = refl
-more (suc n) j s t p within a b = more_step n j s t p (front usual_limit (drop p s)) refl within b (λ z big there. more n j s t (p + z) there (omega arith) b)
+more limit zero j s t p within a b = refl
+more limit (suc n) j s t p within a b = more_step limit n j s t p (front limit (drop p s)) refl within b (λ z big there. more limit n j s t (p + z) there (omega arith) b)
 
 -- where the cutting stops is within the stream
-place_step : (n : ℕ) (s : List ℕ) (p : ℕ) (f : Front) → front usual_limit (drop p s) ≡ f → p ≤ length s → ((z : ℕ) → p + z ≤ length s → (cutting n s (p + z)).place ≤ length s)
-    → (cut_at p f (cutting n s)).place ≤ length s
-place_step n s p More e within ih = within
-place_step n s p (Bad z) e within ih = within
-place_step n s p (Whole z) e within ih = ih z (next_within s p z e within).1
+place_step : (limit n : ℕ) (s : List ℕ) (p : ℕ) (f : Front) → front limit (drop p s) ≡ f → p ≤ length s → ((z : ℕ) → p + z ≤ length s → (cutting limit n s (p + z)).place ≤ length s)
+    → (cut_at p f (cutting limit n s)).place ≤ length s
+place_step limit n s p More e within ih = within
+place_step limit n s p (Bad z) e within ih = within
+place_step limit n s p (Whole z) e within ih = ih z (next_within limit s p z e within).1
 
-pub place_within : (n : ℕ) (s : List ℕ) (p : ℕ) → p ≤ length s → (cutting n s p).place ≤ length s
+pub place_within : (limit n : ℕ) (s : List ℕ) (p : ℕ) → p ≤ length s → (cutting limit n s p).place ≤ length s
 unfolding cutting
-place_within zero s p within = within
-place_within (suc n) s p within = place_step n s p (front usual_limit (drop p s)) refl within (λ z there. place_within n s (p + z) there)
+place_within limit zero s p within = within
+place_within limit (suc n) s p within = place_step limit n s p (front limit (drop p s)) refl within (λ z there. place_within limit n s (p + z) there)
 
 pub drop_whole : (xs : List Mark) → drop (length xs) xs ≡ []
 drop_whole [] = refl
@@ -116,8 +116,8 @@ new_step : (a : Cutting) (f : ℕ → Cutting) (b : Bool) → a.is_bad ≡ b →
 new_step a f true is = rw is (drop_whole a.marks)
 new_step a f false is = rw is (drop_front a.marks (f a.place).marks)
 
-pub new_marks : (s t : List ℕ) → drop (length (cut s).marks) (cut (s ++ t)).marks ≡ cond (cut s).is_bad [] (cutting (length (s ++ t)) (s ++ t) (cut s).place).marks
-new_marks s t = rw (more (length s) (length (s ++ t)) s t 0 (omega arith) (omega arith) (omega arith)) (new_step (cutting (length s) s 0) (cutting (length (s ++ t)) (s ++ t)) (cutting (length s) s 0).is_bad refl)
+pub new_marks : (limit : ℕ) (s t : List ℕ) → drop (length (cut limit s).marks) (cut limit (s ++ t)).marks ≡ cond (cut limit s).is_bad [] (cutting limit (length (s ++ t)) (s ++ t) (cut limit s).place).marks
+new_marks limit s t = rw (more limit (length s) (length (s ++ t)) s t 0 (omega arith) (omega arith) (omega arith)) (new_step (cutting limit (length s) s 0) (cutting limit (length (s ++ t)) (s ++ t)) (cutting limit (length s) s 0).is_bad refl)
 
 -- ---- the loop that cuts: what it has done, and what is left, is all that it does
 pub record Left (frames : List Frame) (c : Cutting) (d : Direction) (k : ℕ) (all : List Frame) (to : Cutting) : Type 0 where
@@ -130,43 +130,43 @@ pub record Ended (frames : List Frame) (place : ℕ) (b : Bool) (all : List Fram
   pub place_is : place ≡ to.place
   pub bad : b ≡ to.is_bad
 
-pub ended_more : (fs all : List Frame) (w : List ℕ) (to : Cutting) (d : Direction) (k p : ℕ) → p ≤ length w → More ≡ front usual_limit (drop p w) → Left fs (cutting (length w) w p) d k all to → Ended fs p false all to
-ended_more fs all w to d k p within e l =
-    let is : cutting (length w) w p ≡ stopped p = step (length w) w p within (omega arith) ∙ rw (← e) refl in
+pub ended_more : (limit : ℕ) (fs all : List Frame) (w : List ℕ) (to : Cutting) (d : Direction) (k p : ℕ) → p ≤ length w → More ≡ front limit (drop p w) → Left fs (cutting limit (length w) w p) d k all to → Ended fs p false all to
+ended_more limit fs all w to d k p within e l =
+    let is : cutting limit (length w) w p ≡ stopped p = step limit (length w) w p within (omega arith) ∙ rw (← e) refl in
     let m : Left fs (stopped p) d k all to = subst (λ (x : Cutting). Left fs x d k all to) is l in
     record { frames_are = sym (append-nil fs) ∙ m.frames_are; place_is = m.place; bad = m.bad }
 
-pub ended_bad : (fs all : List Frame) (w : List ℕ) (to : Cutting) (d : Direction) (k p z : ℕ) → p ≤ length w → Bad z ≡ front usual_limit (drop p w) → Left fs (cutting (length w) w p) d k all to
+pub ended_bad : (limit : ℕ) (fs all : List Frame) (w : List ℕ) (to : Cutting) (d : Direction) (k p z : ℕ) → p ≤ length w → Bad z ≡ front limit (drop p w) → Left fs (cutting limit (length w) w p) d k all to
     → Ended (fs ++ framed d k (mark p z) ∷ []) p true all to
-ended_bad fs all w to d k p z within e l =
-    let is : cutting (length w) w p ≡ bad_at p z = step (length w) w p within (omega arith) ∙ rw (← e) refl in
+ended_bad limit fs all w to d k p z within e l =
+    let is : cutting limit (length w) w p ≡ bad_at p z = step limit (length w) w p within (omega arith) ∙ rw (← e) refl in
     let m : Left fs (bad_at p z) d k all to = subst (λ (x : Cutting). Left fs x d k all to) is l in
     record { frames_are = m.frames_are; place_is = m.place; bad = m.bad }
 
-pub left_good : (fs all : List Frame) (w : List ℕ) (to : Cutting) (d : Direction) (k p z : ℕ) → p ≤ length w → Whole z ≡ front usual_limit (drop p w) → Left fs (cutting (length w) w p) d k all to
-    → Left (fs ++ framed d k (mark p z) ∷ []) (cutting (length w) w (p + z)) d k all to
-left_good fs all w to d k p z within e l =
-    let next = cutting (length w) w (p + z) in
-    let is : cutting (length w) w p ≡ then_cut (mark p z) next = step (length w) w p within (omega arith) ∙ rw (← e) refl in
+pub left_good : (limit : ℕ) (fs all : List Frame) (w : List ℕ) (to : Cutting) (d : Direction) (k p z : ℕ) → p ≤ length w → Whole z ≡ front limit (drop p w) → Left fs (cutting limit (length w) w p) d k all to
+    → Left (fs ++ framed d k (mark p z) ∷ []) (cutting limit (length w) w (p + z)) d k all to
+left_good limit fs all w to d k p z within e l =
+    let next = cutting limit (length w) w (p + z) in
+    let is : cutting limit (length w) w p ≡ then_cut (mark p z) next = step limit (length w) w p within (omega arith) ∙ rw (← e) refl in
     let m : Left fs (then_cut (mark p z) next) d k all to = subst (λ (x : Cutting). Left fs x d k all to) is l in
     record { frames_are = append_assoc fs (framed d k (mark p z) ∷ []) (map (framed d k) next.marks) ∙ m.frames_are; place = m.place; bad = m.bad }
 
 -- ---- a stream after more bytes
-pub fed_bad : (s t : List ℕ) → (cut s).is_bad ≡ true → cut (s ++ t) ≡ cut s
-fed_bad s t bad = more (length s) (length (s ++ t)) s t 0 (omega arith) (omega arith) (omega arith) ∙ rw bad refl
+pub fed_bad : (limit : ℕ) (s t : List ℕ) → (cut limit s).is_bad ≡ true → cut limit (s ++ t) ≡ cut limit s
+fed_bad limit s t bad = more limit (length s) (length (s ++ t)) s t 0 (omega arith) (omega arith) (omega arith) ∙ rw bad refl
 
-pub fed_good : (s t : List ℕ) → (cut s).is_bad ≡ false
-    → cut (s ++ t) ≡ (let x = cutting (length (s ++ t)) (s ++ t) (cut s).place in record { marks = (cut s).marks ++ x.marks; place = x.place; is_bad = x.is_bad })
-fed_good s t fine = more (length s) (length (s ++ t)) s t 0 (omega arith) (omega arith) (omega arith) ∙ rw fine refl
+pub fed_good : (limit : ℕ) (s t : List ℕ) → (cut limit s).is_bad ≡ false
+    → cut limit (s ++ t) ≡ (let x = cutting limit (length (s ++ t)) (s ++ t) (cut limit s).place in record { marks = (cut limit s).marks ++ x.marks; place = x.place; is_bad = x.is_bad })
+fed_good limit s t fine = more limit (length s) (length (s ++ t)) s t 0 (omega arith) (omega arith) (omega arith) ∙ rw fine refl
 
 -- the cutting of s, and then of what came, is that of both
-pub went_on : (s t v w : List ℕ) (from place : ℕ) (b : Bool) → v ≡ w → w ≡ s ++ t → from ≡ (cut s).place → (cut s).is_bad ≡ false
-    → place ≡ (cutting (length v) v from).place → b ≡ (cutting (length v) v from).is_bad → (place ≡ (cut w).place) × (b ≡ (cut w).is_bad)
-went_on s t v w from place b v_is w_is from_is fine place_is b_is =
-    let e = fed_good s t fine in
+pub went_on : (limit : ℕ) (s t v w : List ℕ) (from place : ℕ) (b : Bool) → v ≡ w → w ≡ s ++ t → from ≡ (cut limit s).place → (cut limit s).is_bad ≡ false
+    → place ≡ (cutting limit (length v) v from).place → b ≡ (cutting limit (length v) v from).is_bad → (place ≡ (cut limit w).place) × (b ≡ (cut limit w).is_bad)
+went_on limit s t v w from place b v_is w_is from_is fine place_is b_is =
+    let e = fed_good limit s t fine in
     let v_all : v ≡ s ++ t = v_is ∙ w_is in
     (place_is ∙ rw (v_all, w_is, from_is, e) refl, b_is ∙ rw (v_all, w_is, from_is, e) refl)
 
-pub went_frames : (s t v : List ℕ) (from : ℕ) (d : Direction) (k : ℕ) (old new : List Frame) → v ≡ s ++ t → from ≡ (cut s).place → (cut s).is_bad ≡ false
-    → new ≡ old ++ map (framed d k) (cutting (length v) v from).marks → new ≡ old ++ map (framed d k) (drop (length (cut s).marks) (cut (s ++ t)).marks)
-went_frames s t v from d k old new v_is from_is fine is = is ∙ rw (v_is, from_is, new_marks s t, fine) refl
+pub went_frames : (limit : ℕ) (s t v : List ℕ) (from : ℕ) (d : Direction) (k : ℕ) (old new : List Frame) → v ≡ s ++ t → from ≡ (cut limit s).place → (cut limit s).is_bad ≡ false
+    → new ≡ old ++ map (framed d k) (cutting limit (length v) v from).marks → new ≡ old ++ map (framed d k) (drop (length (cut limit s).marks) (cut limit (s ++ t)).marks)
+went_frames limit s t v from d k old new v_is from_is fine is = is ∙ rw (v_is, from_is, new_marks limit s t, fine) refl

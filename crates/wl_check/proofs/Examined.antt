@@ -158,8 +158,8 @@ pub record IsAt {A : Type 0} (tables : List Interface) (s : Session) (k : ℕ) (
 
 -- the message is judged by what is known
 pub message_is : {A : Type 0} (tables : List Interface) (s : Session) (k : ℕ) (f : Frame) (p : Progress A) → slice_get s.frames k ≡ Some f → IsAt tables s k p
-    → slice_get (messages tables s) k ≡ Some (judged tables (known_in p.known) (s.streams f.direction) f)
-message_is tables s k f p e at = reading tables s k f e ∙ ap (λ (x : Known). Some (judged tables x (s.streams f.direction) f)) (sym at.known_is)
+    → slice_get (messages tables s) k ≡ Some (judged s.limit tables (known_in p.known) (s.streams f.direction) f)
+message_is tables s k f p e at = reading tables s k f e ∙ ap (λ (x : Known). Some (judged s.limit tables x (s.streams f.direction) f)) (sym at.known_is)
 
 abbrev first_entry : Bool → Option Entry
 first_entry b = cond b (Some (record { birth = 0; iface = display; version = 1; state = Live })) None
@@ -220,9 +220,9 @@ passed_next ms k call a e on j h = elim (cases_order j k) [
 
 -- what the code finds at a place
 pub found_is : {A : Type 0} (tables : List Interface) (s : Session) (k : ℕ) (f : Frame) (p : Progress A) (stream : List ℕ) (x : Judged) → slice_get s.frames k ≡ Some f → IsAt tables s k p
-    → stream ≡ s.streams f.direction → x ≡ judged tables (known_in p.known) stream f → slice_get (messages tables s) k ≡ Some x
+    → stream ≡ s.streams f.direction → x ≡ judged s.limit tables (known_in p.known) stream f → slice_get (messages tables s) k ≡ Some x
 found_is tables s k f p stream x e at stream_is is =
-    message_is tables s k f p e at ∙ ap (λ (y : Judged). Some y) (sym (is ∙ ap (λ (b : List ℕ). judged tables (known_in p.known) b f) stream_is))
+    message_is tables s k f p e at ∙ ap (λ (y : Judged). Some y) (sym (is ∙ ap (λ (b : List ℕ). judged s.limit tables (known_in p.known) b f) stream_is))
 
 pub frame_is : (frames items : List Frame) (k : ℕ) (d : Frame) → items ≡ frames → k < length items → slice_get frames k ≡ Some (get_or items k d)
 frame_is frames items k d is h = ap (λ (l : List Frame). slice_get l k) (sym is) ∙ slice_get-get_or items k d h

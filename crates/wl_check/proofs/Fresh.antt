@@ -12,7 +12,7 @@ use Rattle.wl_wire.specs.declared.kind.Iface.{Iface}
 use Rattle.wl_wire.specs.declared.kind.ArgFault.{ArgFault}
 use Rattle.wl_wire.specs.Argument.{Argument, New, NewNamed}
 use Rattle.wl_wire.specs.Word.{header_at}
-use Rattle.wl_message.specs.Cut.{usual_limit, is_size}
+use Rattle.wl_message.specs.Cut.{is_size}
 use Rattle.wl_wire.specs.Reading.{reading as value_at}
 use Rattle.wl_sigs.specs.declared.signature.Side.{Side}
 use Rattle.wl_sigs.specs.Tables.{Message, Interface, signature_at, place_of}
@@ -140,13 +140,13 @@ free_size : (tables : List Interface) (k : Known) (b : Bool) (x : Result Call Fa
 free_size tables k true x h = h
 free_size tables k false x h = tt
 
-pub judged_free : (tables : List Interface) (k : Known) (stream : List ℕ) (frame : Frame) → Free_effect tables k (judged tables k stream frame)
-judged_free tables k stream frame =
+pub judged_free : (limit : ℕ) (tables : List Interface) (k : Known) (stream : List ℕ) (frame : Frame) → Free_effect tables k (judged limit tables k stream frame)
+judged_free limit tables k stream frame =
     let header = header_at (drop frame.start stream) in
     let body = take (frame.size - 8) (drop (frame.start + 8) stream) in
     let waiting = frame.tokens - k.taken frame.direction in
     let r = reader k frame.direction in
-    free_size tables k (is_size usual_limit frame.size) (judged_as tables k frame header body)
+    free_size tables k (is_size limit frame.size) (judged_as tables k frame header body)
     (free_called tables k frame.direction header.opcode (received tables (side_of frame.direction) r header body waiting) (free_by tables (side_of frame.direction) r header body waiting (r.object header.object)))
 
 -- ---- each place
@@ -188,9 +188,9 @@ fresh_place tables session k None e = fresh_made (effects tables (messages table
 fresh_place tables session k (Some x) e =
     let s = effects tables (messages tables session) in
     let f = some_at session.frames k (let w = slice_get_within (messages tables session) k x e in let l = length_messages tables session in omega (arith, w, l)) in
-    let is : Some x ≡ Some (judged tables (known s (suc k)) (session.streams f.0.direction) f.0) = sym e ∙ reading tables session k f.0 f.1 in
-    let same : judged tables (known s (suc k)) (session.streams f.0.direction) f.0 ≡ x = cc in
-    fresh_judged tables (known s (suc k)) (suc k) s x refl (rw e refl) (subst (Free_effect tables (known s (suc k))) same (judged_free tables (known s (suc k)) (session.streams f.0.direction) f.0))
+    let is : Some x ≡ Some (judged session.limit tables (known s (suc k)) (session.streams f.0.direction) f.0) = sym e ∙ reading tables session k f.0 f.1 in
+    let same : judged session.limit tables (known s (suc k)) (session.streams f.0.direction) f.0 ≡ x = cc in
+    fresh_judged tables (known s (suc k)) (suc k) s x refl (rw e refl) (subst (Free_effect tables (known s (suc k))) same (judged_free session.limit tables (known s (suc k)) (session.streams f.0.direction) f.0))
 
 fresh_first : (tables : List Interface) (ms : List Judged) → IsFresh (effects tables ms) 0
 unfolding holder used

@@ -9,7 +9,7 @@ use Rattle.std.specs.List.{AllByRecursion}
 use Rattle.wl_wire.specs.declared.kind.Iface.{Iface}
 use Rattle.wl_wire.specs.Word.{header_at, number_at}
 use Rattle.wl_sigs.specs.Tables.{Interface}
-use Rattle.wl_message.specs.Cut.{usual_limit, is_size}
+use Rattle.wl_message.specs.Cut.{is_size}
 use Rattle.wl_recording.specs.declared.piece.Direction.{Direction}
 use Rattle.wl_recording.specs.Piece.{Piece}
 use Rattle.wl_check.specs.declared.effect.Advertised.{Advertised}
@@ -47,15 +47,15 @@ body_more : (p n : ℕ) (xs ys : List ℕ) → p + n ≤ length xs → take n (d
 body_more p n xs ys h =
     ap (take n) (drop-append-le p xs ys (omega arith)) ∙ take-append-le n (drop p xs) ys (omega (arith, length-drop p xs))
 
-size_least : (n : ℕ) → is_size usual_limit n ≡ true → 8 ≤ n
-size_least n e = grind (arith, nat_tests)
+size_least : (limit n : ℕ) → is_size limit n ≡ true → 8 ≤ n
+size_least limit n e = grind (arith, nat_tests)
 
-judged_if : (tables : List Interface) (k : Known) (xs ys : List ℕ) (f : Frame) (b : Bool) → is_size usual_limit f.size ≡ b → IsWithin (length xs) f
-    → judged tables k (xs ++ ys) f ≡ judged tables k xs f
-judged_if tables k xs ys f false e w = rw e refl
-judged_if tables k xs ys f true e w =
+judged_if : (limit : ℕ) (tables : List Interface) (k : Known) (xs ys : List ℕ) (f : Frame) (b : Bool) → is_size limit f.size ≡ b → IsWithin limit (length xs) f
+    → judged limit tables k (xs ++ ys) f ≡ judged limit tables k xs f
+judged_if limit tables k xs ys f false e w = rw e refl
+judged_if limit tables k xs ys f true e w =
     let whole = w.whole e in
-    let l : 8 ≤ f.size = size_least f.size e in
+    let l : 8 ≤ f.size = size_least limit f.size e in
     let long : 8 ≤ length (drop f.start xs) = (let n = length-drop f.start xs in let g = w.header in omega (arith, n, g)) in
     let head : header_at (drop f.start (xs ++ ys)) ≡ header_at (drop f.start xs) =
     ap header_at (drop-append-le f.start xs ys (let g = w.header in omega (arith, g))) ∙ header_more (drop f.start xs) ys long in
@@ -64,17 +64,17 @@ judged_if tables k xs ys f true e w =
 
 -- ---- the judgements of more frames
 
-abbrev judged_along : List Interface → (Direction → List ℕ) → (Direction → List ℕ) → List Frame → Type 0
-judged_along tables old new fs = AllByRecursion (λ (f : Frame). (k : Known) → judged tables k (new f.direction) f ≡ judged tables k (old f.direction) f) fs
+abbrev judged_along : (limit : ℕ) → List Interface → (Direction → List ℕ) → (Direction → List ℕ) → List Frame → Type 0
+judged_along limit tables old new fs = AllByRecursion (λ (f : Frame). (k : Known) → judged limit tables k (new f.direction) f ≡ judged limit tables k (old f.direction) f) fs
 
-pub after_more : (tables : List Interface) (old new : Direction → List ℕ) (e : List Judged) (fs gs : List Frame) → judged_along tables old new fs
-    → judged_after tables new e (fs ++ gs) ≡ judged_after tables new (judged_after tables old e fs) gs
+pub after_more : (limit : ℕ) (tables : List Interface) (old new : Direction → List ℕ) (e : List Judged) (fs gs : List Frame) → judged_along limit tables old new fs
+    → judged_after limit tables new e (fs ++ gs) ≡ judged_after limit tables new (judged_after limit tables old e fs) gs
 unfolding judged_after
-after_more tables old new e [] gs a = refl
-after_more tables old new e (f ∷ fs) gs a =
+after_more limit tables old new e [] gs a = refl
+after_more limit tables old new e (f ∷ fs) gs a =
     let k = known (effects tables e) (suc (length e)) in
-    ap (λ (j : Judged). judged_after tables new (e ++ j ∷ []) (fs ++ gs)) (a.0 k)
-    ∙ after_more tables old new (e ++ judged tables k (old f.direction) f ∷ []) fs gs a.1
+    ap (λ (j : Judged). judged_after limit tables new (e ++ j ∷ []) (fs ++ gs)) (a.0 k)
+    ∙ after_more limit tables old new (e ++ judged limit tables k (old f.direction) f ∷ []) fs gs a.1
 
 -- ---- one piece more
 
@@ -87,25 +87,25 @@ get_seam : {A : Type 0} (xs : List A) (y : A) → slice_get (xs ++ y ∷ []) (le
 get_seam [] y = refl
 get_seam (x ∷ xs) y = get_seam xs y
 
-completed_front : (ps qs : List Piece) (k : ℕ) (o : Option Piece) → take k qs ≡ take k ps → completed_at qs k o ≡ completed_at ps k o
-completed_front ps qs k None e = refl
-completed_front ps qs k (Some p) e = ap (λ (l : List Piece). completed l p) e
+completed_front : (limit : ℕ) (ps qs : List Piece) (k : ℕ) (o : Option Piece) → take k qs ≡ take k ps → completed_at limit qs k o ≡ completed_at limit ps k o
+completed_front limit ps qs k None e = refl
+completed_front limit ps qs k (Some p) e = ap (λ (l : List Piece). completed limit l p) e
 
-merged_front : (ps more : List Piece) (k : ℕ) → k ≤ length ps → merged_within (ps ++ more) k ≡ merged_within ps k
+merged_front : (limit : ℕ) (ps more : List Piece) (k : ℕ) → k ≤ length ps → merged_within limit (ps ++ more) k ≡ merged_within limit ps k
 unfolding merged_within
-merged_front ps more zero h = refl
-merged_front ps more (suc k) h =
-    rw (merged_front ps more k (omega arith), get_front ps more k (omega arith))
-    (ap (λ (l : List Frame). merged_within ps k ++ l) (completed_front ps (ps ++ more) k (slice_get ps k) (take-append-le k ps more (omega arith))))
+merged_front limit ps more zero h = refl
+merged_front limit ps more (suc k) h =
+    rw (merged_front limit ps more k (omega arith), get_front ps more k (omega arith))
+    (ap (λ (l : List Frame). merged_within limit ps k ++ l) (completed_front limit ps (ps ++ more) k (slice_get ps k) (take-append-le k ps more (omega arith))))
 
-merged_last : (ps : List Piece) (p : Piece) → merged_within (ps ++ p ∷ []) (suc (length ps)) ≡ merged_within ps (length ps) ++ completed ps p
+merged_last : (limit : ℕ) (ps : List Piece) (p : Piece) → merged_within limit (ps ++ p ∷ []) (suc (length ps)) ≡ merged_within limit ps (length ps) ++ completed limit ps p
 unfolding merged_within
-merged_last ps p = rw (merged_front ps (p ∷ []) (length ps) (omega arith), get_seam ps p, take-append_seam ps (p ∷ [])) refl
+merged_last limit ps p = rw (merged_front limit ps (p ∷ []) (length ps) (omega arith), get_seam ps p, take-append_seam ps (p ∷ [])) refl
 
-pub merged_with : (ps : List Piece) (p : Piece) → merged (ps ++ p ∷ []) ≡ merged ps ++ completed ps p
-merged_with ps p =
+pub merged_with : (limit : ℕ) (ps : List Piece) (p : Piece) → merged limit (ps ++ p ∷ []) ≡ merged limit ps ++ completed limit ps p
+merged_with limit ps p =
     let n : length (ps ++ p ∷ []) ≡ suc (length ps) = omega (arith, length-append ps (p ∷ [])) in
-    ap (merged_within (ps ++ p ∷ [])) n ∙ merged_last ps p
+    ap (merged_within limit (ps ++ p ∷ [])) n ∙ merged_last limit ps p
 
 pub stream_last : (d : Direction) (ps : List Piece) (p : Piece) → stream_of d (ps ++ p ∷ []) ≡ stream_of d ps ++ own d p
 stream_last d [] p = append-nil (own d p)
@@ -115,23 +115,23 @@ pub tokens_last : (d : Direction) (ps : List Piece) (p : Piece) → tokens_of d 
 tokens_last d [] p = omega arith
 tokens_last d (x ∷ xs) p = omega (arith, tokens_last d xs p)
 
-frame_more : (tables : List Interface) (ps : List Piece) (p : Piece) (f : Frame) (k : Known) → LiesIn ps f
-    → judged tables k (stream_of f.direction (ps ++ p ∷ [])) f ≡ judged tables k (stream_of f.direction ps) f
-frame_more tables ps p f k w =
-    ap (λ (l : List ℕ). judged tables k l f) (stream_last f.direction ps p)
-    ∙ judged_if tables k (stream_of f.direction ps) (own f.direction p) f (is_size usual_limit f.size) refl w
+frame_more : (limit : ℕ) (tables : List Interface) (ps : List Piece) (p : Piece) (f : Frame) (k : Known) → LiesIn limit ps f
+    → judged limit tables k (stream_of f.direction (ps ++ p ∷ [])) f ≡ judged limit tables k (stream_of f.direction ps) f
+frame_more limit tables ps p f k w =
+    ap (λ (l : List ℕ). judged limit tables k l f) (stream_last f.direction ps p)
+    ∙ judged_if limit tables k (stream_of f.direction ps) (own f.direction p) f (is_size limit f.size) refl w
 
-all_along : (tables : List Interface) (ps : List Piece) (p : Piece) (fs : List Frame) → AllByRecursion (LiesIn ps) fs
-    → judged_along tables (λ d. stream_of d ps) (λ d. stream_of d (ps ++ p ∷ [])) fs
-all_along tables ps p [] a = tt
-all_along tables ps p (f ∷ fs) a = ((λ k. frame_more tables ps p f k a.0), all_along tables ps p fs a.1)
+all_along : (limit : ℕ) (tables : List Interface) (ps : List Piece) (p : Piece) (fs : List Frame) → AllByRecursion (LiesIn limit ps) fs
+    → judged_along limit tables (λ d. stream_of d ps) (λ d. stream_of d (ps ++ p ∷ [])) fs
+all_along limit tables ps p [] a = tt
+all_along limit tables ps p (f ∷ fs) a = ((λ k. frame_more limit tables ps p f k a.0), all_along limit tables ps p fs a.1)
 
 -- A piece more: the messages before it are judged as they were, and those that it completes come behind them.
-pub messages_more : (tables : List Interface) (ps : List Piece) (p : Piece)
-    → messages tables (session_of (ps ++ p ∷ [])) ≡ judged_after tables (λ d. stream_of d (ps ++ p ∷ [])) (messages tables (session_of ps)) (completed ps p)
-messages_more tables ps p =
-    ap (λ (fs : List Frame). judged_after tables (λ d. stream_of d (ps ++ p ∷ [])) [] fs) (merged_with ps p)
-    ∙ after_more tables (λ d. stream_of d ps) (λ d. stream_of d (ps ++ p ∷ [])) [] (merged ps) (completed ps p) (all_along tables ps p (merged ps) (merged_lies ps (length ps)))
+pub messages_more : (limit : ℕ) (tables : List Interface) (ps : List Piece) (p : Piece)
+    → messages tables (session_of limit (ps ++ p ∷ [])) ≡ judged_after limit tables (λ d. stream_of d (ps ++ p ∷ [])) (messages tables (session_of limit ps)) (completed limit ps p)
+messages_more limit tables ps p =
+    ap (λ (fs : List Frame). judged_after limit tables (λ d. stream_of d (ps ++ p ∷ [])) [] fs) (merged_with limit ps p)
+    ∙ after_more limit tables (λ d. stream_of d ps) (λ d. stream_of d (ps ++ p ∷ [])) [] (merged limit ps) (completed limit ps p) (all_along limit tables ps p (merged limit ps) (merged_lies limit ps (length ps)))
 
 -- ---- one message more
 

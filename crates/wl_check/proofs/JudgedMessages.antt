@@ -20,7 +20,7 @@ use Rattle.wl_recording.specs.declared.piece.Direction.{Direction}
 use Rattle.wl_check.specs.declared.frames.Frame.{Frame}
 use Rattle.wl_check.specs.Effects.{Call, side_of}
 use Rattle.wl_check.specs.Places.{Known}
-use Rattle.wl_message.specs.Cut.{usual_limit, is_size}
+use Rattle.wl_message.specs.Cut.{is_size}
 use Rattle.wl_wire.specs.Word.{header_at}
 use Rattle.wl_check.specs.Rules.{reader, is_bad_bind, called, judged_as, judged}
 use Rattle.wl_check.proofs.Cutting.{rest_is}
@@ -76,15 +76,15 @@ pub from_side : (tables : List Interface) (k : Known) (d : Direction) (header : 
 from_side tables k d header body n side x is h = h ∙ ap (λ (s : Side). received tables s (reader k d) header body n) is
 
 -- the parts of a message, as the code lends them
-pub parts_are : (tables : List Interface) (k : Known) (stream : List ℕ) (frame : Frame) (header : Header) (body : List ℕ) (x : Result Call Fault) → is_size usual_limit frame.size ≡ true
+pub parts_are : (limit : ℕ) (tables : List Interface) (k : Known) (stream : List ℕ) (frame : Frame) (header : Header) (body : List ℕ) (x : Result Call Fault) → is_size limit frame.size ≡ true
     → frame.start + 8 ≤ length stream → header ≡ header_at (take (length stream - frame.start) (drop frame.start stream))
     → body ≡ take (frame.start + frame.size - (frame.start + 8)) (drop (frame.start + 8) stream)
-    → x ≡ judged_as tables k frame header body → x ≡ judged tables k stream frame
-parts_are tables k stream frame header body x good within header_is body_is x_is =
+    → x ≡ judged_as tables k frame header body → x ≡ judged limit tables k stream frame
+parts_are limit tables k stream frame header body x good within header_is body_is x_is =
     let h : header ≡ header_at (drop frame.start stream) = header_is ∙ ap header_at (rest_is stream frame.start (omega arith)) in
     let n : frame.start + frame.size - (frame.start + 8) ≡ frame.size - 8 = omega arith in
     let b : body ≡ take (frame.size - 8) (drop (frame.start + 8) stream) = body_is ∙ ap (λ (m : ℕ). take m (drop (frame.start + 8) stream)) n in
     x_is ∙ (λ i. judged_as tables k frame (h i) (b i)) ∙ rw good refl
 
-pub size_bad : (tables : List Interface) (k : Known) (stream : List ℕ) (frame : Frame) → is_size usual_limit frame.size ≡ false → Err BadSize ≡ judged tables k stream frame
-size_bad tables k stream frame bad = rw bad refl
+pub size_bad : (limit : ℕ) (tables : List Interface) (k : Known) (stream : List ℕ) (frame : Frame) → is_size limit frame.size ≡ false → Err BadSize ≡ judged limit tables k stream frame
+size_bad limit tables k stream frame bad = rw bad refl

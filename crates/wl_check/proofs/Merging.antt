@@ -34,13 +34,13 @@ tokens_more d [] k p e = absurd (cc)
 tokens_more d (x ∷ xs) zero p e = let is : x ≡ p = cc in let same : own_tokens d x ≡ own_tokens d p = ap (own_tokens d) is in omega (arith, same)
 tokens_more d (x ∷ xs) (suc k) p e = omega (arith, tokens_more d xs k p e)
 
-pub merged_more : (ps : List Piece) (k : ℕ) (p : Piece) → slice_get ps k ≡ Some p → merged_within ps (suc k) ≡ merged_within ps k ++ completed (take k ps) p
+pub merged_more : (limit : ℕ) (ps : List Piece) (k : ℕ) (p : Piece) → slice_get ps k ≡ Some p → merged_within limit ps (suc k) ≡ merged_within limit ps k ++ completed limit (take k ps) p
 unfolding merged_within
-merged_more ps k p e = rw e refl
+merged_more limit ps k p e = rw e refl
 
 -- a stream after the first pieces
-pub record IsFed {A : Type 0} (d : Direction) (ps : List Piece) (k : ℕ) (s : Stream A) : Type 0 where
-  pub cut_is : IsCut s
+pub record IsFed (limit : ℕ) {A : Type 0} (d : Direction) (ps : List Piece) (k : ℕ) (s : Stream A) : Type 0 where
+  pub cut_is : IsCut limit s
   pub bytes_are : s.bytes.items ≡ stream_of d (take k ps)
   pub tokens_are : s.tokens ≡ tokens_of d (take k ps)
   pub few : s.tokens ≤ k * 2 ^ 32
@@ -50,9 +50,9 @@ same_is ToServer = refl
 same_is ToClient = refl
 
 -- the direction of the piece
-pub fed_own : {A : Type 0} (d : Direction) (ps : List Piece) (k : ℕ) (p : Piece) (s w : Stream A) → slice_get ps k ≡ Some p → p.direction ≡ d → p.tokens < 2 ^ 32 → IsFed d ps k s
-    → IsCut w → w.bytes.items ≡ s.bytes.items ++ p.bytes → w.tokens ≡ s.tokens + p.tokens → IsFed d ps (k + 1) w
-fed_own d ps k p s w is dir small fed cut_w bytes tokens =
+pub fed_own : (limit : ℕ) {A : Type 0} (d : Direction) (ps : List Piece) (k : ℕ) (p : Piece) (s w : Stream A) → slice_get ps k ≡ Some p → p.direction ≡ d → p.tokens < 2 ^ 32 → IsFed limit d ps k s
+    → IsCut limit w → w.bytes.items ≡ s.bytes.items ++ p.bytes → w.tokens ≡ s.tokens + p.tokens → IsFed limit d ps (k + 1) w
+fed_own limit d ps k p s w is dir small fed cut_w bytes tokens =
     let same : same_direction p.direction d ≡ true = rw dir (same_is d) in
     record {
       cut_is = cut_w;
@@ -62,32 +62,32 @@ fed_own d ps k p s w is dir small fed cut_w bytes tokens =
     }
 
 -- and the other
-pub fed_other : {A : Type 0} (d : Direction) (ps : List Piece) (k : ℕ) (p : Piece) (s : Stream A) → slice_get ps k ≡ Some p → same_direction p.direction d ≡ false → IsFed d ps k s → IsFed d ps (k + 1) s
-fed_other d ps k p s is other fed = record {
+pub fed_other : (limit : ℕ) {A : Type 0} (d : Direction) (ps : List Piece) (k : ℕ) (p : Piece) (s : Stream A) → slice_get ps k ≡ Some p → same_direction p.direction d ≡ false → IsFed limit d ps k s → IsFed limit d ps (k + 1) s
+fed_other limit d ps k p s is other fed = record {
   cut_is = fed.cut_is;
   bytes_are = sym (rw add-one (stream_more d ps k p is ∙ rw (other, fed.bytes_are) (append-nil (stream_of d (take k ps)))));
   tokens_are = sym (rw add-one (tokens_more d ps k p is ∙ rw (other, fed.tokens_are) (omega arith)));
   few = omega (arith, fed.few);
 }
 
-pub frames_more : {A : Type 0} (d : Direction) (ps : List Piece) (k : ℕ) (p : Piece) (s : Stream A) (old new : List Frame) → slice_get ps k ≡ Some p → p.direction ≡ d → IsFed d ps k s → old ≡ merged_within ps k
-    → new ≡ old ++ map (framed p.direction (s.tokens + p.tokens)) (drop (length (cut s.bytes.items).marks) (cut (s.bytes.items ++ p.bytes)).marks) → new ≡ merged_within ps (k + 1)
-frames_more d ps k p s old new is dir fed old_is new_is = new_is ∙ sym (rw add-one (merged_more ps k p is ∙ rw (dir, fed.bytes_are, fed.tokens_are, old_is) refl))
+pub frames_more : (limit : ℕ) {A : Type 0} (d : Direction) (ps : List Piece) (k : ℕ) (p : Piece) (s : Stream A) (old new : List Frame) → slice_get ps k ≡ Some p → p.direction ≡ d → IsFed limit d ps k s → old ≡ merged_within limit ps k
+    → new ≡ old ++ map (framed p.direction (s.tokens + p.tokens)) (drop (length (cut limit s.bytes.items).marks) (cut limit (s.bytes.items ++ p.bytes)).marks) → new ≡ merged_within limit ps (k + 1)
+frames_more limit d ps k p s old new is dir fed old_is new_is = new_is ∙ sym (rw add-one (merged_more limit ps k p is ∙ rw (dir, fed.bytes_are, fed.tokens_are, old_is) refl))
 
 length-map : {A B : Type 0} (f : A → B) (xs : List A) → length (map f xs) ≡ length xs
 length-map f [] = refl
 length-map f (x ∷ xs) = ap suc (length-map f xs)
 
 -- the end
-pub all_merged : {X : Type 0} (f : X → Piece) (xs : List X) (k : ℕ) → length xs ≤ k → k ≤ length xs → merged_within (map f xs) k ≡ merged_within (map f xs) (length (map f xs))
-all_merged f xs k a b = let e : k ≡ length (map f xs) = omega (arith, length-map f xs) in ap (merged_within (map f xs)) e
+pub all_merged : (limit : ℕ) {X : Type 0} (f : X → Piece) (xs : List X) (k : ℕ) → length xs ≤ k → k ≤ length xs → merged_within limit (map f xs) k ≡ merged_within limit (map f xs) (length (map f xs))
+all_merged limit f xs k a b = let e : k ≡ length (map f xs) = omega (arith, length-map f xs) in ap (merged_within limit (map f xs)) e
 
-pub all_fed : {X A : Type 0} (f : X → Piece) (d : Direction) (xs : List X) (k : ℕ) (s : Stream A) → length xs ≤ k → IsFed d (map f xs) k s → s.bytes.items ≡ stream_of d (map f xs)
-all_fed f d xs k s a fed = fed.bytes_are ∙ ap (stream_of d) (take_all k (map f xs) (omega (arith, length-map f xs)))
+pub all_fed : (limit : ℕ) {X A : Type 0} (f : X → Piece) (d : Direction) (xs : List X) (k : ℕ) (s : Stream A) → length xs ≤ k → IsFed limit d (map f xs) k s → s.bytes.items ≡ stream_of d (map f xs)
+all_fed limit f d xs k s a fed = fed.bytes_are ∙ ap (stream_of d) (take_all k (map f xs) (omega (arith, length-map f xs)))
 
 bytes_are : {A : Type 0} (ps : List Piece) (m : Merged A) → m.to_server.items ≡ stream_of ToServer ps → m.to_client.items ≡ stream_of ToClient ps → (d : Direction) → bytes_in m d ≡ stream_of d ps
 bytes_are ps m a b ToServer = a
 bytes_are ps m a b ToClient = b
 
-pub session_is : {A : Type 0} (ps : List Piece) (m : Merged A) → m.frames.items ≡ merged_within ps (length ps) → m.to_server.items ≡ stream_of ToServer ps → m.to_client.items ≡ stream_of ToClient ps → session_in m ≡ session_of ps
-session_is ps m f a b = let s = fun_ext (bytes_are ps m a b) in λ i. record { frames = f i; streams = s i }
+pub session_is : {A : Type 0} (ps : List Piece) (m : Merged A) → m.frames.items ≡ merged_within m.limit.bytes ps (length ps) → m.to_server.items ≡ stream_of ToServer ps → m.to_client.items ≡ stream_of ToClient ps → session_in m ≡ session_of m.limit.bytes ps
+session_is ps m f a b = let s = fun_ext (bytes_are ps m a b) in λ i. record { limit = m.limit.bytes; frames = f i; streams = s i }

@@ -30,31 +30,31 @@ both_step a f true is = rw is (ap (λ (l : List Mark). a.marks ++ l) (drop_whole
 both_step a f false is = rw is (ap (λ (l : List Mark). a.marks ++ l) (drop_front a.marks (f a.place).marks))
 
 -- what was complete, and what a piece completes, is all
-both : (s t : List ℕ) → (cut s).marks ++ drop (length (cut s).marks) (cut (s ++ t)).marks ≡ (cut (s ++ t)).marks
-both s t = rw (more (length s) (length (s ++ t)) s t 0 (omega arith) (omega arith) (omega arith)) (both_step (cutting (length s) s 0) (cutting (length (s ++ t)) (s ++ t)) (cutting (length s) s 0).is_bad refl)
+both : (limit : ℕ) (s t : List ℕ) → (cut limit s).marks ++ drop (length (cut limit s).marks) (cut limit (s ++ t)).marks ≡ (cut limit (s ++ t)).marks
+both limit s t = rw (more limit (length s) (length (s ++ t)) s t 0 (omega arith) (omega arith) (omega arith)) (both_step (cutting limit (length s) s 0) (cutting limit (length (s ++ t)) (s ++ t)) (cutting limit (length s) s 0).is_bad refl)
 
-piece_step : (d e : Direction) (b : Bool) (s : List ℕ) (t : List ℕ) (k : ℕ) (w : List ℕ) → same_direction e d ≡ b → (b ≡ true → w ≡ s) → (cut s).marks ++ marks_in d (map (framed e k) (drop (length (cut w).marks) (cut (w ++ t)).marks)) ≡ (cut (s ++ cond b t [])).marks
-piece_step d e true s t k w is same = ap (λ (l : List Mark). (cut s).marks ++ l) (marks_own e d k (drop (length (cut w).marks) (cut (w ++ t)).marks) is)
-    ∙ ap (λ (x : List ℕ). (cut s).marks ++ drop (length (cut x).marks) (cut (x ++ t)).marks) (same refl) ∙ both s t
-piece_step d e false s t k w is same = ap (λ (l : List Mark). (cut s).marks ++ l) (marks_other e d k (drop (length (cut w).marks) (cut (w ++ t)).marks) is)
-    ∙ append-nil (cut s).marks ∙ ap (λ (x : List ℕ). (cut x).marks) (sym (append-nil s))
+piece_step : (limit : ℕ) (d e : Direction) (b : Bool) (s : List ℕ) (t : List ℕ) (k : ℕ) (w : List ℕ) → same_direction e d ≡ b → (b ≡ true → w ≡ s) → (cut limit s).marks ++ marks_in d (map (framed e k) (drop (length (cut limit w).marks) (cut limit (w ++ t)).marks)) ≡ (cut limit (s ++ cond b t [])).marks
+piece_step limit d e true s t k w is same = ap (λ (l : List Mark). (cut limit s).marks ++ l) (marks_own e d k (drop (length (cut limit w).marks) (cut limit (w ++ t)).marks) is)
+    ∙ ap (λ (x : List ℕ). (cut limit s).marks ++ drop (length (cut limit x).marks) (cut limit (x ++ t)).marks) (same refl) ∙ both limit s t
+piece_step limit d e false s t k w is same = ap (λ (l : List Mark). (cut limit s).marks ++ l) (marks_other e d k (drop (length (cut limit w).marks) (cut limit (w ++ t)).marks) is)
+    ∙ append-nil (cut limit s).marks ∙ ap (λ (x : List ℕ). (cut limit x).marks) (sym (append-nil s))
 
 same_stream : (d e : Direction) (ps : List Piece) → same_direction e d ≡ true → stream_of e ps ≡ stream_of d ps
 same_stream d e ps h = ap (λ (x : Direction). stream_of x ps) (same_is e d h)
 
-next_step : (d : Direction) (ps : List Piece) (k : ℕ) (o : Option Piece) → slice_get ps k ≡ o → k < length ps → (cut (stream_of d (take k ps))).marks ++ marks_in d (completed_at ps k o) ≡ (cut (stream_of d (take (suc k) ps))).marks
-next_step d ps k None e h = absurd (let s = some_at ps k h in let is = s.1 in cc)
-next_step d ps k (Some p) e h =
-    piece_step d p.direction (same_direction p.direction d) (stream_of d (take k ps)) p.bytes (tokens_of p.direction (take k ps) + p.tokens) (stream_of p.direction (take k ps)) refl (same_stream d p.direction (take k ps))
-    ∙ ap (λ (x : List ℕ). (cut x).marks) (sym (stream_more d ps k p e))
+next_step : (limit : ℕ) (d : Direction) (ps : List Piece) (k : ℕ) (o : Option Piece) → slice_get ps k ≡ o → k < length ps → (cut limit (stream_of d (take k ps))).marks ++ marks_in d (completed_at limit ps k o) ≡ (cut limit (stream_of d (take (suc k) ps))).marks
+next_step limit d ps k None e h = absurd (let s = some_at ps k h in let is = s.1 in cc)
+next_step limit d ps k (Some p) e h =
+    piece_step limit d p.direction (same_direction p.direction d) (stream_of d (take k ps)) p.bytes (tokens_of p.direction (take k ps) + p.tokens) (stream_of p.direction (take k ps)) refl (same_stream d p.direction (take k ps))
+    ∙ ap (λ (x : List ℕ). (cut limit x).marks) (sym (stream_more d ps k p e))
 
-within_once : (d : Direction) (ps : List Piece) (k : ℕ) → k ≤ length ps → marks_in d (merged_within ps k) ≡ (cut (stream_of d (take k ps))).marks
+within_once : (limit : ℕ) (d : Direction) (ps : List Piece) (k : ℕ) → k ≤ length ps → marks_in d (merged_within limit ps k) ≡ (cut limit (stream_of d (take k ps))).marks
 unfolding merged_within cutting
-within_once d ps zero h = refl
-within_once d ps (suc k) h =
-    marks-append d (merged_within ps k) (completed_at ps k (slice_get ps k))
-    ∙ ap (λ (l : List Mark). l ++ marks_in d (completed_at ps k (slice_get ps k))) (within_once d ps k (omega arith))
-    ∙ next_step d ps k (slice_get ps k) refl (omega arith)
+within_once limit d ps zero h = refl
+within_once limit d ps (suc k) h =
+    marks-append d (merged_within limit ps k) (completed_at limit ps k (slice_get ps k))
+    ∙ ap (λ (l : List Mark). l ++ marks_in d (completed_at limit ps k (slice_get ps k))) (within_once limit d ps k (omega arith))
+    ∙ next_step limit d ps k (slice_get ps k) refl (omega arith)
 
-pub once : (d : Direction) (ps : List Piece) → marks_in d (merged ps) ≡ (cut (stream_of d ps)).marks
-once d ps = within_once d ps (length ps) (omega arith) ∙ ap (λ (l : List Piece). (cut (stream_of d l)).marks) (take_all (length ps) ps (omega arith))
+pub once : (limit : ℕ) (d : Direction) (ps : List Piece) → marks_in d (merged limit ps) ≡ (cut limit (stream_of d ps)).marks
+once limit d ps = within_once limit d ps (length ps) (omega arith) ∙ ap (λ (l : List Piece). (cut limit (stream_of d l)).marks) (take_all (length ps) ps (omega arith))

@@ -79,43 +79,43 @@ pub front_known : (tables : List Interface) (e ys : List Judged) → known (effe
 front_known tables e ys = known_same (effects tables e) (effects tables (e ++ ys)) (suc (length e)) (λ q h. sym (effects_same tables e ys q h))
 
 -- the judgement of the next frame
-abbrev next_of : List Interface → (Direction → List ℕ) → List Judged → Frame → Judged
-next_of tables streams e f = judged tables (known (effects tables e) (suc (length e))) (streams f.direction) f
+abbrev next_of : (limit : ℕ) → List Interface → (Direction → List ℕ) → List Judged → Frame → Judged
+next_of limit tables streams e f = judged limit tables (known (effects tables e) (suc (length e))) (streams f.direction) f
 
-after_front : (tables : List Interface) (streams : Direction → List ℕ) (e : List Judged) (fs : List Frame) → (ys : List Judged) × (judged_after tables streams e fs ≡ e ++ ys)
+after_front : (limit : ℕ) (tables : List Interface) (streams : Direction → List ℕ) (e : List Judged) (fs : List Frame) → (ys : List Judged) × (judged_after limit tables streams e fs ≡ e ++ ys)
 unfolding judged_after
-after_front tables streams e [] = ([], sym (append-nil e))
-after_front tables streams e (f ∷ fs) =
-    let m = next_of tables streams e f in
-    let rest = after_front tables streams (e ++ m ∷ []) fs in
+after_front limit tables streams e [] = ([], sym (append-nil e))
+after_front limit tables streams e (f ∷ fs) =
+    let m = next_of limit tables streams e f in
+    let rest = after_front limit tables streams (e ++ m ∷ []) fs in
     (m ∷ rest.0, rest.1 ∙ append_assoc e (m ∷ []) rest.0)
 
-length_after : (tables : List Interface) (streams : Direction → List ℕ) (e : List Judged) (fs : List Frame) → length (judged_after tables streams e fs) ≡ length e + length fs
+length_after : (limit : ℕ) (tables : List Interface) (streams : Direction → List ℕ) (e : List Judged) (fs : List Frame) → length (judged_after limit tables streams e fs) ≡ length e + length fs
 unfolding judged_after
-length_after tables streams e [] = omega arith
-length_after tables streams e (f ∷ fs) =
-    let m = next_of tables streams e f in
-    omega (arith, length_after tables streams (e ++ m ∷ []) fs, length-append e (m ∷ []))
+length_after limit tables streams e [] = omega arith
+length_after limit tables streams e (f ∷ fs) =
+    let m = next_of limit tables streams e f in
+    omega (arith, length_after limit tables streams (e ++ m ∷ []) fs, length-append e (m ∷ []))
 
-reading_after : (tables : List Interface) (streams : Direction → List ℕ) (e : List Judged) (fs : List Frame) (k n : ℕ) (f : Frame) → slice_get fs k ≡ Some f → n ≡ length e + k
-    → slice_get (judged_after tables streams e fs) n ≡ Some (judged tables (known (effects tables (judged_after tables streams e fs)) (suc n)) (streams f.direction) f)
+reading_after : (limit : ℕ) (tables : List Interface) (streams : Direction → List ℕ) (e : List Judged) (fs : List Frame) (k n : ℕ) (f : Frame) → slice_get fs k ≡ Some f → n ≡ length e + k
+    → slice_get (judged_after limit tables streams e fs) n ≡ Some (judged limit tables (known (effects tables (judged_after limit tables streams e fs)) (suc n)) (streams f.direction) f)
 unfolding judged_after
-reading_after tables streams e [] k n f is at = absurd (cc)
-reading_after tables streams e (x ∷ fs) zero n f is at =
+reading_after limit tables streams e [] k n f is at = absurd (cc)
+reading_after limit tables streams e (x ∷ fs) zero n f is at =
     let same : x ≡ f = cc in
-    let m : Judged = next_of tables streams e x in
-    let rest = after_front tables streams (e ++ m ∷ []) fs in
-    let whole : judged_after tables streams (e ++ m ∷ []) fs ≡ e ++ m ∷ rest.0 = rest.1 ∙ append_assoc e (m ∷ []) rest.0 in
+    let m : Judged = next_of limit tables streams e x in
+    let rest = after_front limit tables streams (e ++ m ∷ []) fs in
+    let whole : judged_after limit tables streams (e ++ m ∷ []) fs ≡ e ++ m ∷ rest.0 = rest.1 ∙ append_assoc e (m ∷ []) rest.0 in
     let here : n ≡ length e = omega arith in
-    rw (whole, here, ← same) (get_end e rest.0 m ∙ ap (λ (k : Known). Some (judged tables k (streams x.direction) x)) (front_known tables e (m ∷ rest.0)))
-reading_after tables streams e (x ∷ fs) (suc k) n f is at =
-    let m = next_of tables streams e x in
-    reading_after tables streams (e ++ m ∷ []) fs k n f is (omega (arith, length-append e (m ∷ [])))
+    rw (whole, here, ← same) (get_end e rest.0 m ∙ ap (λ (k : Known). Some (judged limit tables k (streams x.direction) x)) (front_known tables e (m ∷ rest.0)))
+reading_after limit tables streams e (x ∷ fs) (suc k) n f is at =
+    let m = next_of limit tables streams e x in
+    reading_after limit tables streams (e ++ m ∷ []) fs k n f is (omega (arith, length-append e (m ∷ [])))
 
 -- a message is judged by what is known at its place
 pub reading : (tables : List Interface) (session : Session) (k : ℕ) (f : Frame) → slice_get session.frames k ≡ Some f
-    → slice_get (messages tables session) k ≡ Some (judged tables (known (effects tables (messages tables session)) (suc k)) (session.streams f.direction) f)
-reading tables session k f is = reading_after tables session.streams [] session.frames k k f is (omega arith)
+    → slice_get (messages tables session) k ≡ Some (judged session.limit tables (known (effects tables (messages tables session)) (suc k)) (session.streams f.direction) f)
+reading tables session k f is = reading_after session.limit tables session.streams [] session.frames k k f is (omega arith)
 
 pub length_messages : (tables : List Interface) (session : Session) → length (messages tables session) ≡ length session.frames
-length_messages tables session = omega (arith, length_after tables session.streams [] session.frames)
+length_messages tables session = omega (arith, length_after session.limit tables session.streams [] session.frames)

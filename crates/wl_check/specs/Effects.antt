@@ -4,10 +4,10 @@ use Rattle.wl_wire.specs.declared.kind.Iface.{Iface}
 use Rattle.wl_wire.specs.Argument.{Argument, Uint, Str}
 use Rattle.wl_sigs.specs.declared.signature.Side.{Side}
 use Rattle.wl_sigs.specs.declared.signature.Side.TheVariants.{Request, Event}
-use Rattle.wl_sigs.specs.Tables.{Interface, place_of, destroys_target}
+use Rattle.wl_sigs.specs.Tables.{Interface, place_of, destroys_one}
 use Rattle.wl_sigs.specs.Fixed.{display, registry}
 use Rattle.wl_objects.specs.Reading.{descriptors}
-use Rattle.wl_objects.specs.Messages.{Received, Made, made, is_error, is_delete_id, same_iface}
+use Rattle.wl_objects.specs.Messages.{Received, Made, made, is_error, is_delete_id, same_iface, ended_id}
 use Rattle.wl_recording.specs.declared.piece.Direction.{Direction}
 use Rattle.wl_recording.specs.declared.piece.Direction.TheVariants.{ToServer, ToClient}
 use Rattle.wl_check.specs.declared.effect.Advertised.{Advertised}
@@ -56,7 +56,7 @@ effect tables call = let r = call.received in record {
   direction = call.direction;
   made = if_request call.direction (made tables r.entry.version r.signature.kinds r.values);
   deleted = if is_delete_id (side_of call.direction) r.entry.iface call.opcode then first_number r.values else None;
-  destroyed = destroyed (destroys_target r.signature.destroys) r.target.id;
+  destroyed = destroyed (destroys_one r.signature.destroys) (ended_id r.signature.destroys r.target.id r.values);
   advertised = if is_global (side_of call.direction) r.entry.iface call.opcode then advertised tables r.values else None;
   tokens = descriptors r.signature.kinds;
   is_error = is_error (side_of call.direction) r.entry.iface call.opcode;

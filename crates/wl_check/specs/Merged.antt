@@ -3,7 +3,7 @@ use Rattle.std.specs.Prelude.{ℕ, zero, suc, ◌+◌, Bool, true, false, List, 
 use Rattle.wl_recording.specs.declared.piece.Direction.{Direction}
 use Rattle.wl_recording.specs.declared.piece.Direction.TheVariants.{ToServer, ToClient}
 use Rattle.wl_recording.specs.Piece.{Piece}
-use Rattle.wl_message.specs.Cut.{usual_limit, is_size, front, Front, More, Bad, Whole}
+use Rattle.wl_message.specs.Cut.{is_size, front, Front, More, Bad, Whole}
 use Rattle.wl_check.specs.declared.frames.Frame.{Frame}
 
 -- where a message begins in its direction, and the size in its header
@@ -36,14 +36,14 @@ cut_at place (Bad size) others = bad_at place size
 cut_at place (Whole size) others = then_cut (mark place size) (others (place + size))
 
 -- at most so many messages of a stream, from a place on
-unfoldable pub cutting : ℕ → List ℕ → ℕ → Cutting
-cutting zero stream place = stopped place
-cutting (suc count) stream place = cut_at place (front usual_limit (drop place stream)) (cutting count stream)
+unfoldable pub cutting : ℕ → ℕ → List ℕ → ℕ → Cutting
+cutting limit zero stream place = stopped place
+cutting limit (suc count) stream place = cut_at place (front limit (drop place stream)) (cutting limit count stream)
 
 -- The messages of a stream: they are cut off by the sizes in their headers, each as soon as it is whole. A message of a bad
 -- size stands there as soon as its header does, and is the last.
-abbrev pub cut : List ℕ → Cutting
-cut stream = cutting (length stream) stream 0
+abbrev pub cut : ℕ → List ℕ → Cutting
+cut limit stream = cutting limit (length stream) stream 0
 
 abbrev pub same_direction : Direction → Direction → Bool
 same_direction ToServer ToServer = true
@@ -66,24 +66,24 @@ framed direction tokens m = record { direction = direction; start = m.start; siz
 
 -- The messages that a piece completes, where these pieces came before it: those of its direction's bytes with it that were
 -- not there without it.
-abbrev pub completed : List Piece → Piece → List Frame
-completed before piece =
+abbrev pub completed : ℕ → List Piece → Piece → List Frame
+completed limit before piece =
     map (framed piece.direction (tokens_of piece.direction before + piece.tokens))
-    (drop (length (cut (stream_of piece.direction before)).marks) (cut (stream_of piece.direction before ++ piece.bytes)).marks)
+    (drop (length (cut limit (stream_of piece.direction before)).marks) (cut limit (stream_of piece.direction before ++ piece.bytes)).marks)
 
-abbrev pub completed_at : List Piece → ℕ → Option Piece → List Frame
-completed_at pieces k None = []
-completed_at pieces k (Some piece) = completed (take k pieces) piece
+abbrev pub completed_at : ℕ → List Piece → ℕ → Option Piece → List Frame
+completed_at limit pieces k None = []
+completed_at limit pieces k (Some piece) = completed limit (take k pieces) piece
 
 -- the messages that the first pieces complete, in the order of the pieces, and those of one piece in the order of the stream
-unfoldable pub merged_within : List Piece → ℕ → List Frame
-merged_within pieces zero = []
-merged_within pieces (suc k) = merged_within pieces k ++ completed_at pieces k (slice_get pieces k)
+unfoldable pub merged_within : ℕ → List Piece → ℕ → List Frame
+merged_within limit pieces zero = []
+merged_within limit pieces (suc k) = merged_within limit pieces k ++ completed_at limit pieces k (slice_get pieces k)
 
 -- the merged list
-abbrev pub merged : List Piece → List Frame
-merged pieces = merged_within pieces (length pieces)
+abbrev pub merged : ℕ → List Piece → List Frame
+merged limit pieces = merged_within limit pieces (length pieces)
 
 -- where the last byte of a message stands, or that of its header where the size is bad
-abbrev pub finish : Mark → ℕ
-finish m = if is_size usual_limit m.size then m.start + m.size else m.start + 8
+abbrev pub finish : ℕ → Mark → ℕ
+finish limit m = if is_size limit m.size then m.start + m.size else m.start + 8

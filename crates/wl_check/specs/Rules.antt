@@ -8,7 +8,7 @@ use Rattle.wl_wire.specs.declared.kind.Iface.{Iface}
 use Rattle.wl_wire.specs.Word.{header_at}
 use Rattle.wl_sigs.specs.declared.signature.Side.{Side}
 use Rattle.wl_sigs.specs.Tables.{Interface, interface_at}
-use Rattle.wl_message.specs.Cut.{usual_limit, is_size}
+use Rattle.wl_message.specs.Cut.{is_size}
 use Rattle.wl_table.specs.declared.object.Entry.{Entry}
 use Rattle.wl_objects.specs.declared.error.Fault.{Fault}
 use Rattle.wl_objects.specs.declared.error.Fault.TheVariants.{BadSize, BadBind}
@@ -50,13 +50,13 @@ version_of tables iface = option_map_or (λ (i : Interface). i.version) (interfa
 
 -- A bind of this name may make this object: its interface is in the tables, its version is at least 1, at most that of the
 -- tables, and at most one that an event advertised for this name and interface.
-abbrev pub may_bind : List Interface → Known → Option ℕ → Option Made → Bool
-may_bind tables k (Some name) (Some new) = nat_le 1 new.version && nat_le new.version (version_of tables new.iface) && nat_le new.version (k.advertised_version name new.iface.0)
-may_bind tables k _ _ = false
+abbrev pub can_bind : List Interface → Known → Option ℕ → Option Made → Bool
+can_bind tables k (Some name) (Some new) = nat_le 1 new.version && nat_le new.version (version_of tables new.iface) && nat_le new.version (k.advertised_version name new.iface.0)
+can_bind tables k _ _ = false
 
 abbrev pub is_bad_bind : List Interface → Known → Side → ℕ → Received → Bool
 is_bad_bind tables k side opcode r =
-    is_bind side r.entry.iface opcode && not (may_bind tables k (first_number r.values) (made tables r.entry.version r.signature.kinds r.values))
+    is_bind side r.entry.iface opcode && not (can_bind tables k (first_number r.values) (made tables r.entry.version r.signature.kinds r.values))
 
 -- F9 comes last
 abbrev pub called : List Interface → Known → Direction → ℕ → Result Received Fault → Result Call Fault
@@ -70,8 +70,8 @@ judged_as tables k frame header body =
     called tables k frame.direction header.opcode (received tables (side_of frame.direction) (reader k frame.direction) header body (frame.tokens - k.taken frame.direction))
 
 -- A message of a direction's stream, judged by what is known at its place: what it is, or the first rule that it breaks.
-abbrev pub judged : List Interface → Known → List ℕ → Frame → Result Call Fault
-judged tables k stream frame =
-    if is_size usual_limit frame.size
+abbrev pub judged : ℕ → List Interface → Known → List ℕ → Frame → Result Call Fault
+judged limit tables k stream frame =
+    if is_size limit frame.size
     then judged_as tables k frame (header_at (drop frame.start stream)) (take (frame.size - 8) (drop (frame.start + 8) stream))
     else Err BadSize

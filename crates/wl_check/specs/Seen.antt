@@ -31,9 +31,9 @@ front_in (Bad size) = cuts.Bad size
 front_in (Whole size) = cuts.Whole size
 
 -- how far a stream is cut
-pub record IsCut {A : Type 0} (s : Stream A) : Type 0 where
-  pub place : s.place ≡ (cut s.bytes.items).place
-  pub is_bad : s.is_bad ≡ (cut s.bytes.items).is_bad
+pub record IsCut {A : Type 0} (limit : ℕ) (s : Stream A) : Type 0 where
+  pub place : s.place ≡ (cut limit s.bytes.items).place
+  pub is_bad : s.is_bad ≡ (cut limit s.bytes.items).is_bad
 
 -- the order of names and interfaces
 abbrev pub pair_cmp : ℕ × ℕ → ℕ × ℕ → Ordering
@@ -64,7 +64,7 @@ bytes_in m ToClient = m.to_client.items
 
 -- what was merged
 abbrev pub session_in : {A : Type 0} → Merged A → Session
-session_in m = record { frames = m.frames.items; streams = bytes_in m }
+session_in m = record { limit = m.limit.bytes; frames = m.frames.items; streams = bytes_in m }
 
 -- what is counted of a direction behind a message
 abbrev pub tally_after : Direction → Frame → Tally → Tally

@@ -3,7 +3,7 @@ use Rattle.std.specs.Prelude.{◌≡◌, ℕ, zero, suc, ◌+◌, ◌-◌, ◌<�
 use Rattle.std.specs.declared.result.Result.{Result}
 use Rattle.std.specs.declared.result.Result.TheVariants.{Ok, Err}
 use Rattle.wl_sigs.specs.Tables.{Interface}
-use Rattle.wl_message.specs.Cut.{usual_limit, is_size}
+use Rattle.wl_message.specs.Cut.{is_size}
 use Rattle.wl_objects.specs.declared.error.Fault.{Fault}
 use Rattle.wl_objects.specs.Messages.{is_error}
 use Rattle.wl_recording.specs.declared.piece.Direction.{Direction}
@@ -18,13 +18,14 @@ use Rattle.wl_check.specs.Effects.{Call, effect, nothing, beginning, side_of}
 use Rattle.wl_check.specs.Places.{known}
 use Rattle.wl_check.specs.Rules.{judged}
 
--- the merged list of a recording, and the bytes of each direction
+-- the merged list of a recording, the bytes of each direction, and how many bytes a message may have
 pub record Session : Type 0 where
+  pub limit : ℕ
   pub frames : List Frame
   pub streams : Direction → List ℕ
 
-abbrev pub session_of : List Piece → Session
-session_of pieces = record { frames = merged pieces; streams = λ direction. stream_of direction pieces }
+abbrev pub session_of : ℕ → List Piece → Session
+session_of limit pieces = record { limit = limit; frames = merged limit pieces; streams = λ direction. stream_of direction pieces }
 
 -- a message judged at its place: what it is, or the first rule that it breaks
 abbrev pub Judged : Type 0
@@ -40,14 +41,14 @@ effects tables messages zero = beginning
 effects tables messages (suc k) = effect_of tables (slice_get messages k)
 
 -- these messages, and behind them those of the frames, each judged by what stands at the places before it
-unfoldable pub judged_after : List Interface → (Direction → List ℕ) → List Judged → List Frame → List Judged
-judged_after tables streams earlier [] = earlier
-judged_after tables streams earlier (frame ∷ frames) =
-    judged_after tables streams (earlier ++ judged tables (known (effects tables earlier) (suc (length earlier))) (streams frame.direction) frame ∷ []) frames
+unfoldable pub judged_after : ℕ → List Interface → (Direction → List ℕ) → List Judged → List Frame → List Judged
+judged_after limit tables streams earlier [] = earlier
+judged_after limit tables streams earlier (frame ∷ frames) =
+    judged_after limit tables streams (earlier ++ judged limit tables (known (effects tables earlier) (suc (length earlier))) (streams frame.direction) frame ∷ []) frames
 
 -- the messages of a session
 abbrev pub messages : List Interface → Session → List Judged
-messages tables session = judged_after tables session.streams [] session.frames
+messages tables session = judged_after session.limit tables session.streams [] session.frames
 
 -- wl_display.error
 abbrev pub ends_session : Judged → Bool
@@ -124,9 +125,9 @@ SaysLawful (Lawful requests events left_to_server left_to_client) = Unit {0}
 SaysLawful (Broken direction index offset fault) = ⊥
 
 -- A message lies within its stream; where its size is bad, its header does.
-pub record IsWithin (len : ℕ) (frame : Frame) : Type 0 where
+pub record IsWithin (limit len : ℕ) (frame : Frame) : Type 0 where
   pub header : frame.start + 8 ≤ len
-  pub whole : is_size usual_limit frame.size ≡ true → frame.start + frame.size ≤ len
+  pub whole : is_size limit frame.size ≡ true → frame.start + frame.size ≤ len
 
 abbrev pub AreWithin : Session → Type 0
-AreWithin session = (k : ℕ) (frame : Frame) → slice_get session.frames k ≡ Some frame → IsWithin (length (session.streams frame.direction)) frame
+AreWithin session = (k : ℕ) (frame : Frame) → slice_get session.frames k ≡ Some frame → IsWithin session.limit (length (session.streams frame.direction)) frame

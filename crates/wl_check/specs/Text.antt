@@ -1,7 +1,7 @@
 -- What is held, open, used and advertised at a place of a session, in words: by the messages that stand before it.
 use Rattle.std.specs.Prelude.{◌≡◌, ◌≢◌, ℕ, suc, ◌<◌, ◌≤◌, true, false, List, [], ◌∷◌, ◌++◌, if◌then◌else◌, length, slice_get, drop, take, Some}
 use Rattle.std.specs.List.{filter, AllByRecursion}
-use Rattle.wl_message.specs.Cut.{usual_limit, is_size, front, Bad}
+use Rattle.wl_message.specs.Cut.{is_size, front, Bad}
 use Rattle.wl_check.specs.declared.effect.Advertised.{Advertised}
 use Rattle.wl_recording.specs.declared.piece.Direction.{Direction}
 use Rattle.wl_check.specs.declared.frames.Frame.{Frame}
@@ -42,21 +42,21 @@ abbrev pub part_of : List ℕ → Mark → List ℕ
 part_of stream m = take m.size (drop m.start stream)
 
 -- those that are no bad size
-abbrev pub sound : List Mark → List Mark
-sound marks = filter (λ (m : Mark). is_size usual_limit m.size) marks
+abbrev pub sound : ℕ → List Mark → List Mark
+sound limit marks = filter (λ (m : Mark). is_size limit m.size) marks
 
-abbrev pub AreSound : List Mark → Type 0
-AreSound marks = AllByRecursion (λ (m : Mark). is_size usual_limit m.size ≡ true) marks
+abbrev pub AreSound : ℕ → List Mark → Type 0
+AreSound limit marks = AllByRecursion (λ (m : Mark). is_size limit m.size ≡ true) marks
 
 -- A stream whose messages leave this rest has these marks: those of the messages, and a bad size last, where the rest begins with one.
-pub data EndsWith (stream rest : List ℕ) (marks : List Mark) : Type 0 where
-  messages : AreSound marks → ((size : ℕ) → front usual_limit rest ≢ Bad size) → EndsWith stream rest marks
-  bad_size : (before : List Mark) (place size : ℕ) → marks ≡ before ++ mark place size ∷ [] → AreSound before → drop place stream ≡ rest
-      → front usual_limit rest ≡ Bad size → EndsWith stream rest marks
+pub data EndsWith (limit : ℕ) (stream rest : List ℕ) (marks : List Mark) : Type 0 where
+  messages : AreSound limit marks → ((size : ℕ) → front limit rest ≢ Bad size) → EndsWith limit stream rest marks
+  bad_size : (before : List Mark) (place size : ℕ) → marks ≡ before ++ mark place size ∷ [] → AreSound limit before → drop place stream ≡ rest
+      → front limit rest ≡ Bad size → EndsWith limit stream rest marks
 
 -- each of these messages ends behind the first `before` bytes of its direction, and within the first `after`
-abbrev pub Brings : ℕ → ℕ → List Mark → Type 0
-Brings before after marks = AllByRecursion (λ (m : Mark). (before < finish m) × (finish m ≤ after)) marks
+abbrev pub Brings : ℕ → ℕ → ℕ → List Mark → Type 0
+Brings limit before after marks = AllByRecursion (λ (m : Mark). (before < finish limit m) × (finish limit m ≤ after)) marks
 
 -- a message of the session, before which none is wl_display.error
 pub record IsExamined (messages : List Judged) (k : ℕ) : Type 0 where
@@ -70,15 +70,15 @@ marks_in direction (frame ∷ frames) = (if same_direction frame.direction direc
 
 -- A message comes with the piece of its direction that brings its last byte, and counts the tokens that its direction brought with
 -- the pieces up to that one.
-pub record ComesWith (pieces : List Piece) (k : ℕ) (frame : Frame) : Type 0 where
+pub record ComesWith (limit : ℕ) (pieces : List Piece) (k : ℕ) (frame : Frame) : Type 0 where
   pub piece : Piece
   pub there : slice_get pieces k ≡ Some piece
   pub direction : piece.direction ≡ frame.direction
-  pub behind : length (stream_of frame.direction (take k pieces)) < finish (mark frame.start frame.size)
-  pub within : finish (mark frame.start frame.size) ≤ length (stream_of frame.direction (take (suc k) pieces))
+  pub behind : length (stream_of frame.direction (take k pieces)) < finish limit (mark frame.start frame.size)
+  pub within : finish limit (mark frame.start frame.size) ≤ length (stream_of frame.direction (take (suc k) pieces))
   pub tokens : frame.tokens ≡ tokens_of frame.direction (take (suc k) pieces)
 
 -- These messages come with the pieces in their order, from one piece on and before another.
-abbrev pub ComeInOrder : List Piece → ℕ → ℕ → List Frame → Type 0
-ComeInOrder pieces from to [] = Unit {0}
-ComeInOrder pieces from to (frame ∷ frames) = (k : ℕ) × (from ≤ k) × (k < to) × ComesWith pieces k frame × ComeInOrder pieces k to frames
+abbrev pub ComeInOrder : ℕ → List Piece → ℕ → ℕ → List Frame → Type 0
+ComeInOrder limit pieces from to [] = Unit {0}
+ComeInOrder limit pieces from to (frame ∷ frames) = (k : ℕ) × (from ≤ k) × (k < to) × ComesWith limit pieces k frame × ComeInOrder limit pieces k to frames

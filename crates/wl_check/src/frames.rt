@@ -1,6 +1,6 @@
 //! A recording's messages in one list, in the order in which its pieces complete them.
 ghost use Rattle.std.specs.Prelude.{◌≡◌, ◌+◌, ◌^◌, ◌≤◌, ◌<◌, ◌++◌, [], false, map, drop, length, OnOk, IfOk};
-ghost use Rattle.wl_message.specs.Cut.{usual_limit, front, told_size};
+ghost use Rattle.wl_message.specs.Cut.{front, told_size};
 ghost use Rattle.wl_wire.specs.Word.{header_at};
 ghost use Rattle.wl_check.specs.Seen.{bytes_in, front_in, session_in, IsCut};
 ghost use Rattle.wl_recording.specs.Piece.{plain};
@@ -8,7 +8,7 @@ ghost use Rattle.wl_check.specs.Merged.{cut, cutting, framed};
 ghost use Rattle.wl_check.specs.Session.{session_of};
 
 use std::alloc::{AllocError, Allocator, Global};
-use wl_message::is_size;
+use wl_message::Limit;
 use wl_recording::{Direction, Passed};
 use wl_wire::Header;
 
@@ -52,6 +52,8 @@ pub(crate) struct Merged<A: Allocator = Global> {
     pub frames: Vec<Frame, A>,
     pub to_server: Vec<u8, A>,
     pub to_client: Vec<u8, A>,
+    /// How many bytes a message may have.
+    pub limit: Limit,
 }
 
 /// The header that the first 8 bytes are.
@@ -65,14 +67,14 @@ pub(crate) fn header_of(bytes: &[u8]) -> Header
     Header::from_bytes(first)
 }
 
-fn front_of(bytes: &[u8]) -> Front
-    ensures { front_in result ≡ front usual_limit bytes.now }
+fn front_of(bytes: &[u8], limit: Limit) -> Front
+    ensures { front_in result ≡ front limit.bytes bytes.now }
 {
     if bytes.len() < 8 {
         return Front::More;
     }
     let size = header_of(bytes).size;
-    if !is_size(size) {
+    if !limit.allows(size) {
         return Front::Bad(size);
     }
     if bytes.len() < size as usize {
@@ -88,18 +90,22 @@ fn cut_on<A: Allocator>(
     direction: Direction,
     tokens: u128,
     frames: &mut Vec<Frame, A>,
+    limit: Limit,
 ) -> Result<(usize, bool), AllocError>
     requires { from ≤ length bytes.now }
     ensures frames { OnOk result
         (frames.new.items ≡ frames.old.items
-        ++ map (framed direction tokens) (cutting (length bytes.now) bytes.now from).marks) }
-    ensures place { IfOk result (λ r. r.0 ≡ (cutting (length bytes.now) bytes.now from).place) }
-    ensures bad { IfOk result (λ r. r.1 ≡ (cutting (length bytes.now) bytes.now from).is_bad) }
+        ++ map (framed direction tokens)
+        (cutting limit.bytes (length bytes.now) bytes.now from).marks) }
+    ensures place { IfOk result
+        (λ r. r.0 ≡ (cutting limit.bytes (length bytes.now) bytes.now from).place) }
+    ensures bad { IfOk result
+        (λ r. r.1 ≡ (cutting limit.bytes (length bytes.now) bytes.now from).is_bad) }
 {
     let mut place = from;
     'messages: loop {
         let start = place;
-        match front_of(&bytes[start..]) {
+        match front_of(&bytes[start..], limit) {
             Front::More => return Ok((start, false)),
             Front::Bad(size) => {
                 frames.push(Frame {
@@ -128,18 +134,19 @@ fn feed<A: Allocator>(
     stream: &mut Stream<A>,
     piece: &Passed<A>,
     frames: &mut Vec<Frame, A>,
+    limit: Limit,
 ) -> Result<(), AllocError>
-    requires cut { IsCut stream.old }
+    requires cut { IsCut limit.bytes stream.old }
     requires tokens { stream.old.tokens + 2 ^ 32 < 2 ^ 128 }
-    ensures cut { OnOk result (IsCut stream.new) }
+    ensures cut { OnOk result (IsCut limit.bytes stream.new) }
     ensures bytes { OnOk result
         (stream.new.bytes.items ≡ stream.old.bytes.items ++ piece.now.bytes) }
     ensures tokens { OnOk result (stream.new.tokens ≡ stream.old.tokens + piece.now.tokens) }
     ensures few { OnOk result (piece.now.tokens < 2 ^ 32) }
     ensures frames { OnOk result (frames.new.items ≡ frames.old.items
         ++ map (framed piece.now.direction (stream.old.tokens + piece.now.tokens))
-        (drop (length (cut stream.old.bytes.items).marks)
-        (cut (stream.old.bytes.items ++ piece.now.bytes)).marks)) }
+        (drop (length (cut limit.bytes stream.old.bytes.items).marks)
+        (cut limit.bytes (stream.old.bytes.items ++ piece.now.bytes)).marks)) }
 {
     stream.bytes.extend_from_slice(piece.bytes.as_slice())?;
     stream.tokens += u128::from(piece.tokens);
@@ -152,6 +159,7 @@ fn feed<A: Allocator>(
         piece.direction,
         stream.tokens,
         frames,
+        limit,
     )?;
     stream.place = place;
     stream.is_bad = is_bad;
@@ -176,22 +184,24 @@ fn empty_stream<A: Allocator>(alloc: A) -> Stream<A>
 pub(crate) fn merge<A: Allocator + Clone>(
     alloc: &A,
     pieces: &[Passed<A>],
+    limit: Limit,
 ) -> Result<Merged<A>, AllocError>
-    ensures { IfOk result (λ m. session_in m ≡ session_of (map plain pieces.now)) }
+    ensures { IfOk result (λ m. session_in m ≡ session_of limit.bytes (map plain pieces.now)) }
 {
     let mut frames = Vec::new(alloc.clone()?);
     let mut to_server = empty_stream(alloc.clone()?);
     let mut to_client = empty_stream(alloc.clone()?);
     'pieces: for piece in pieces {
         match piece.direction {
-            Direction::ToServer => feed(&mut to_server, piece, &mut frames)?,
-            Direction::ToClient => feed(&mut to_client, piece, &mut frames)?,
+            Direction::ToServer => feed(&mut to_server, piece, &mut frames, limit)?,
+            Direction::ToClient => feed(&mut to_client, piece, &mut frames, limit)?,
         }
     }
     Ok(Merged {
         frames,
         to_server: to_server.bytes,
         to_client: to_client.bytes,
+        limit,
     })
 }
 

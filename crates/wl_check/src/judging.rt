@@ -1,9 +1,9 @@
 //! One message judged by what is known at its place.
 ghost use Rattle.std.specs.Prelude.{◌≡◌, ◌+◌, ◌≤◌, ◌^◌, ◌<◌, ◌++◌, min, true, length, OnOk};
 ghost use Rattle.wl_sigs.specs.Valid.{Valid};
-ghost use Rattle.wl_message.specs.Cut.{usual_limit, is_size};
+ghost use Rattle.wl_message.specs.Cut.{is_size};
 ghost use Rattle.wl_check.specs.Effects.{advertised, effect, first_number, is_global, side_of};
-ghost use Rattle.wl_check.specs.Rules.{is_bad_bind, judged, judged_as, may_bind, version_of};
+ghost use Rattle.wl_check.specs.Rules.{is_bad_bind, judged, judged_as, can_bind, version_of};
 ghost use Rattle.wl_objects.specs.Seen.{message_of};
 ghost use Rattle.wl_check.specs.Seen.{call_of, judged_in, known_in, taken_in};
 ghost use Rattle.wl_check.specs.Trace.{call_line};
@@ -13,10 +13,10 @@ use crate::frames::{Frame, header_of};
 use crate::known::{Knowledge, ReaderLookup};
 use std::alloc::{AllocError, Allocator};
 use wl_lines::write_line;
-use wl_message::is_size;
+use wl_message::Limit;
 use wl_objects::{
     Fault, Made, REGISTRY, Received, Values, descriptors, is_bind, is_delete_id, is_error,
-    made_by_message, receive_by,
+    made_by_message, receive,
 };
 use wl_recording::Direction;
 use wl_sigs::event::wl_registry::GLOBAL;
@@ -48,16 +48,17 @@ pub(crate) fn judge<'t: 'a, 'a, A: Allocator>(
     known: &Knowledge<A>,
     stream: &'a [u8],
     frame: &Frame,
+    limit: Limit,
 ) -> Result<Message<'t, 'a>, Fault>
     requires valid { Valid tables.now }
     requires header { frame.now.start + 8 ≤ length stream.now }
-    requires whole { is_size usual_limit frame.now.size ≡ true
+    requires whole { is_size limit.bytes frame.now.size ≡ true
         → frame.now.start + frame.now.size ≤ length stream.now }
     ensures judged { judged_in result
-        ≡ judged tables.now (known_in known.now) stream.now frame.now }
-    ensures size { OnOk result (is_size usual_limit frame.now.size ≡ true) }
+        ≡ judged limit.bytes tables.now (known_in known.now) stream.now frame.now }
+    ensures size { OnOk result (is_size limit.bytes frame.now.size ≡ true) }
 {
-    if !is_size(frame.size) {
+    if !limit.allows(frame.size) {
         return Err(Fault::BadSize);
     }
     let header = header_of(&stream[frame.start..]);
@@ -81,7 +82,7 @@ fn judge_as<'t: 'a, 'a, A: Allocator>(
     let side = side_of(direction);
     let lookup = ReaderLookup { known, direction };
     let waiting = frame.tokens.saturating_sub(known.taken(direction));
-    let received = match receive_by(tables, side, &lookup, header, body, count(waiting)) {
+    let received = match receive(tables, side, &lookup, header, body, count(waiting)) {
         Ok(received) => received,
         Err(fault) => return Err(fault),
     };
@@ -119,17 +120,17 @@ fn is_bad_bind<A: Allocator>(
     let kinds = received.signature.kinds();
     let values = received.values();
     let new = made_by_message(tables, received.entry.version, kinds, &values);
-    !may_bind(tables, known, first_number(&values), new)
+    !can_bind(tables, known, first_number(&values), new)
 }
 
 /// Whether a bind of this name may make this object.
-fn may_bind<A: Allocator>(
+fn can_bind<A: Allocator>(
     tables: &Tables,
     known: &Knowledge<A>,
     name: Option<u32>,
     new: Option<Made>,
 ) -> bool
-    ensures { result ≡ may_bind tables.now (known_in known.now) name new }
+    ensures { result ≡ can_bind tables.now (known_in known.now) name new }
 {
     match (name, new) {
         (Some(name), Some(new)) => {
@@ -205,6 +206,7 @@ impl<'t, 'a> Message<'t, 'a> {
             },
             destroyed: match self.received.signature.destroys() {
                 Destroys::Target => Some(self.received.target.id),
+                Destroys::Arg(place) => Some(values.id_at(place)),
                 Destroys::Nothing => None,
             },
             advertised: if is_global(side, iface, self.opcode) {

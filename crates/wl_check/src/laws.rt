@@ -2,7 +2,7 @@
 //! places what the definitions compute.
 ghost use Rattle.std.specs.Prelude.{◌≡◌, ◌↔◌, ◌<◌, ◌≤◌, ◌++◌, ℕ, List, Some, false, length, drop, map};
 ghost use Rattle.wl_sigs.specs.Tables.{Interface};
-ghost use Rattle.wl_message.specs.Cut.{usual_limit, messages_of, rest_of};
+ghost use Rattle.wl_message.specs.Cut.{messages_of, rest_of};
 ghost use Rattle.wl_check.specs.Merged.{cut, stream_of};
 ghost use Rattle.wl_check.specs.Places.{holder, is_ending, used, advertised_version};
 ghost use Rattle.wl_check.specs.Session.{Session, effects, examined, messages, session_of};
@@ -13,31 +13,33 @@ ghost use Rattle.wl_check.specs.Text.{marks_in, part_of, sound, Brings, ComeInOr
 /// The messages of a stream are those that its sizes cut off. A bad size, if one follows them, stands
 /// behind them and is the last.
 pub fn a_stream_has_its_messages()
-    ensures messages { (stream : List ℕ)
-        → map (part_of stream) (sound (cut stream).marks) ≡ messages_of usual_limit stream }
-    ensures bad_size { (stream : List ℕ)
-        → EndsWith stream (rest_of usual_limit stream) (cut stream).marks }
+    ensures messages { (limit : ℕ) (stream : List ℕ)
+        → map (part_of stream) (sound limit (cut limit stream).marks)
+        ≡ messages_of limit stream }
+    ensures bad_size { (limit : ℕ) (stream : List ℕ)
+        → EndsWith limit stream (rest_of limit stream) (cut limit stream).marks }
 {}
 
 /// In the merged list each message of a direction stands once, in the order of its stream.
 pub fn each_message_stands_once()
-    ensures { (pieces : List Piece) (direction : Way)
-        → marks_in direction (session_of pieces).frames ≡ (cut (stream_of direction pieces)).marks }
+    ensures { (limit : ℕ) (pieces : List Piece) (direction : Way)
+        → marks_in direction (session_of limit pieces).frames
+        ≡ (cut limit (stream_of direction pieces)).marks }
 {}
 
 /// The messages of both directions follow the pieces that bring their last bytes, a bad size the one
 /// that brings the last byte of its header; and tokens count up to a message's own piece.
 pub fn messages_follow_their_pieces()
-    ensures { (pieces : List Piece)
-        → ComeInOrder pieces 0 (length pieces) (session_of pieces).frames }
+    ensures { (limit : ℕ) (pieces : List Piece)
+        → ComeInOrder limit pieces 0 (length pieces) (session_of limit pieces).frames }
 {}
 
 /// A piece brings the last byte of each message that it completes, and of a bad size the last byte
 /// of its header.
 pub fn a_piece_brings_last_bytes()
-    ensures { (before piece : List ℕ)
-        → Brings (length before) (length (before ++ piece))
-        (drop (length (cut before).marks) (cut (before ++ piece)).marks) }
+    ensures { (limit : ℕ) (before piece : List ℕ)
+        → Brings limit (length before) (length (before ++ piece))
+        (drop (length (cut limit before).marks) (cut limit (before ++ piece)).marks) }
 {}
 
 /// An id names the object that was made with it, until its delete_id.

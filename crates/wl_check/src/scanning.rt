@@ -36,7 +36,7 @@ pub(crate) fn scan<A: Allocator + Clone>(
     let mut progress = Progress::new(alloc, tables)?;
     for (index, frame) in merged.frames.iter().enumerate() {
         let stream = merged.stream(frame.direction);
-        let message = match judge(tables, &progress.known, stream, frame) {
+        let message = match judge(tables, &progress.known, stream, frame, merged.limit) {
             Ok(message) => message,
             Err(fault) => {
                 let verdict = progress.broken(frame, fault);

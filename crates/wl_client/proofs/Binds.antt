@@ -19,6 +19,7 @@ use Rattle.wl_objects.specs.declared.error.SendError.{SendError}
 use Rattle.wl_objects.specs.declared.error.SendError.TheVariants as refusals
 use Rattle.wl_objects.specs.Writing.{bind_values, message_bytes}
 use Rattle.wl_objects.specs.Messages.{live_row, same_iface}
+use Rattle.wl_message.specs.Cut.{usual_limit}
 use Rattle.wl_end.specs.Spelled.{MessageSpells}
 use Rattle.wl_end.proofs.Spelled.{own-spelled}
 use Rattle.wl_client.specs.State.{State, Global, global_of}
@@ -74,5 +75,5 @@ bind_spells state target name version iface v s n w made e signature there =
     let f = free_is state.core.view id s (free_or_next-next_id state.core.view) in
     let low : id < 2 ^ 32 = omega (arith, f.at_most_next, s.ids_end) in
     let fits = fits_answer state target name version iface made v e in
-    subst (λ (ks : List Kind). MessageSpells ks target.id 0 values (message_bytes target.id 0 values)) (kinds_in _ _ signature (ap (option_and_then (message_of Request 0)) v.fixed_three.registry) there)
+    subst (λ (ks : List Kind). MessageSpells usual_limit ks target.id 0 values (message_bytes target.id 0 values)) (kinds_in _ _ signature (ap (option_and_then (message_of Request 0)) v.fixed_four.registry) there)
     (own-spelled (uint ∷ new None ∷ []) target.id 0 values (n, (((fits.fits 0 0 0).1.0, w, low), tt)) (fits.len name version id))

@@ -125,7 +125,7 @@ fault_leaves state what offset f = ap (λ (s : State). s.core.inbox.bytes) (leav
 -- ---- so a client reads as an end does
 
 message_of : (state : State) (r : Report) → Read state r → IsOfMessage reading event_side state
-message_of state r m = record { message = m.message; there = m.there; left = ap (λ (s : State). waiting s.core) m.leaves }
+message_of state r m = record { message = m.message; there = m.there; left = ap (λ (s : State). waiting s.core) m.leaves; kept = ap (λ (s : State). s.core.inbox.limit) m.leaves }
 
 fault_of : (state : State) (what : Fault) (offset : ℕ) → Fails state what offset → IsFault reading event_side state what offset
 fault_of state what offset f = comes f.there (λ bytes tokens h. fault_again state what offset bytes tokens f h)

@@ -15,7 +15,8 @@ use Rattle.wl_sigs.specs.declared.signature.Side.TheVariants.{Event as event_sid
 use Rattle.wl_sigs.specs.Valid.{Valid}
 use Rattle.wl_message.specs.declared.inbox.Frame.{Frame}
 use Rattle.wl_message.specs.Arrived.{Tells}
-use Rattle.wl_message.specs.Cut.{usual_limit, front, Whole}
+use Rattle.wl_message.specs.Arrived.{in_front}
+use Rattle.wl_message.specs.Cut.{Whole}
 use Rattle.wl_table.specs.declared.object.State.{State as ObjectState}
 use Rattle.wl_table.specs.declared.object.State.TheVariants.{Live, Zombie}
 use Rattle.wl_table.specs.View.{View}
@@ -38,7 +39,7 @@ use Rattle.wl_end.proofs.Coming.{IsFound, is_found, reported_own}
 -- a frame as it is told
 pub record IsFrame (core : Core) (h : Header) (body : List ℕ) (waiting : ℕ) : Type 0 where
   pub header : IsHeader h
-  pub whole : front usual_limit core.inbox.bytes ≡ Whole h.size
+  pub whole : in_front core.inbox ≡ Whole h.size
   pub parts : take h.size core.inbox.bytes ≡ header_bytes h ++ body
   pub tokens : waiting ≡ length core.inbox.tokens
 

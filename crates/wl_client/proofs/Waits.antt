@@ -76,7 +76,7 @@ pub none_leaves : (state : State) → next_answer state ≡ Ok None → after_ne
 none_leaves state e = leaves state (sound_none state e) ∙ ap (state_found state) (nothing_there state e)
 
 -- where no whole message waits, less waits than the longest one has
-pub none_waits : (state : State) → next_answer state ≡ Ok None → length state.core.inbox.bytes < 4096
+pub none_waits : (state : State) → next_answer state ≡ Ok None → length state.core.inbox.bytes < state.core.inbox.limit.bytes
 none_waits state e = none_short state.core event_side (nothing_there state e)
 
 -- a message that is read has bytes

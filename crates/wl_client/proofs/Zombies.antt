@@ -1,17 +1,19 @@
 -- A zombie that is made a zombie stays one.
-use Rattle.std.proofs.Common.{◌≡◌, ℕ, Bool, true, false, refl, sym, ap, ◌∙◌, cond, eqb}
+use Rattle.std.proofs.Common.{◌≡◌, ℕ, List, Bool, true, false, refl, sym, ap, ◌∙◌, cond, eqb}
 use Rattle.std.proofs.lemmas.Bool.{eqb-true}
 use Rattle.std.specs.Ordering.{nat_cmp}
 use Rattle.std.specs.Cmp.{nat_cmp_total}
 use Rattle.std.specs.FinMap.{FinMap, get, insert, same_map, nat_cmp-IsAntisymmetric}
 use Rattle.std.specs.declared.option.Option.TheVariants.{Some, None}
 use Rattle.wl_sigs.specs.declared.signature.Destroys.{Destroys}
-use Rattle.wl_sigs.specs.declared.signature.Destroys.TheVariants.{Nothing, Target}
+use Rattle.wl_sigs.specs.declared.signature.Destroys.TheVariants.{Nothing, Target, Arg}
+use Rattle.wl_sigs.specs.Tables.{destroys_argument}
+use Rattle.wl_wire.specs.Argument.{Argument}
 use Rattle.wl_table.specs.declared.object.Entry.{Entry}
 use Rattle.wl_table.specs.declared.object.State.TheVariants.{Zombie}
 use Rattle.wl_table.specs.View.{View, look, zombie, with_zombie, zombied}
 use Rattle.wl_table.specs.Views.{get_put}
-use Rattle.wl_objects.specs.Messages.{Client as client, after}
+use Rattle.wl_objects.specs.Messages.{Client as client, after, ended_id}
 
 at_key : (rows : FinMap nat_cmp Entry) (id q : ℕ) (e : Entry) (b : Bool) → eqb q id ≡ b → get rows id ≡ Some e → cond b (Some e) (get rows q) ≡ get rows q
 at_key rows id q e false t h = refl
@@ -29,7 +31,9 @@ zombied_same view id e l z =
     ap (λ (r : FinMap nat_cmp Entry). record view { rows = r })
     (ap (with_zombie view.rows id) l ∙ ap (insert view.rows id) (zombie_same e z) ∙ put_same view.rows id e l)
 
--- an event for a zombie changes no object
-pub after_zombie : (view : View) (what : Destroys) (id : ℕ) (e : Entry) → look view id ≡ Some e → e.state ≡ Zombie → after client view None what id ≡ view
-after_zombie view Nothing id e l z = refl
-after_zombie view Target id e l z = zombied_same view id e l z
+-- an event for a zombie changes no object, since no event destroys an argument
+pub after_zombie : (view : View) (what : Destroys) (id : ℕ) (values : List Argument) (e : Entry) → destroys_argument what ≡ false → look view id ≡ Some e → e.state ≡ Zombie
+    → after client view None what (ended_id what id values) ≡ view
+after_zombie view Nothing id values e n l z = refl
+after_zombie view Target id values e n l z = zombied_same view id e l z
+after_zombie view (Arg place) id values e n l z = absurd (cc n)

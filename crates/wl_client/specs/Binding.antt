@@ -4,6 +4,7 @@ use Rattle.std.specs.declared.result.Result.TheVariants.{Ok}
 use Rattle.wl_sigs.specs.declared.signature.Side.TheVariants.{Request}
 use Rattle.wl_sigs.specs.Tables.{Message, signature_at}
 use Rattle.wl_sigs.specs.Valid.{Valid}
+use Rattle.wl_message.specs.Cut.{usual_limit}
 use Rattle.wl_table.specs.declared.object.Object.{Object}
 use Rattle.wl_table.specs.View.{Sound, next_id}
 use Rattle.wl_objects.specs.Writing.{EachFits, bind_values, message_bytes, message_len}
@@ -23,6 +24,6 @@ BindSpells state target name iface version =
     Valid state.core.tables → Sound state.core.view → name < 2 ^ 32 → version < 2 ^ 32
     → (new : Option Object) → bind_answer state target name iface version ≡ Ok new
     → (signature : Message) → signature_at state.core.tables 1 Request 0 ≡ Some signature
-    → MessageSpells signature.kinds target.id 0
+    → MessageSpells usual_limit signature.kinds target.id 0
     (bind_values name iface version (next_id state.core.view))
     (message_bytes target.id 0 (bind_values name iface version (next_id state.core.view)))

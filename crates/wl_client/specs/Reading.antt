@@ -9,7 +9,8 @@ use Rattle.wl_objects.specs.declared.error.NextError.{NextError}
 use Rattle.wl_table.specs.View.{View}
 use Rattle.wl_objects.specs.Messages.{Received}
 use Rattle.wl_message.specs.Arrived.{Arrived}
-use Rattle.wl_message.specs.Cut.{Whole, front, usual_limit}
+use Rattle.wl_message.specs.Arrived.{in_front}
+use Rattle.wl_message.specs.Cut.{Whole}
 use Rattle.wl_end.specs.Core.{Core}
 use Rattle.wl_end.specs.Receiving.{Found, takes}
 use Rattle.wl_client.specs.declared.receive.Step.{Step}
@@ -49,7 +50,7 @@ IsStepOf tables view header body r (Ok step) =
 
 -- the message in front can be taken: it is whole, and its tokens wait
 pub record CanTake (core : Core) (f : Found) : Type 0 where
-  pub message : front usual_limit core.inbox.bytes ≡ Whole f.size
+  pub message : in_front core.inbox ≡ Whole f.size
   pub few : takes f.message ≤ 20
   pub waiting : takes f.message ≤ length core.inbox.tokens
 

@@ -18,7 +18,7 @@ use Rattle.wl_table.specs.declared.object.Entry.{Entry}
 use Rattle.wl_table.specs.View.{View, look, is_held}
 use Rattle.wl_objects.specs.Writing.{is_live}
 use Rattle.wl_objects.specs.Reading.{Reported, named_at}
-use Rattle.wl_objects.specs.Messages.{Received, reader_of, is_error, is_delete_id, same_iface, Client as client, after, after_delete_id}
+use Rattle.wl_objects.specs.Messages.{Received, reader_of, is_error, is_delete_id, same_iface, Client as client, after, after_delete_id, ended_id}
 use Rattle.wl_end.specs.Core.{Core, with_view, with_failure}
 use Rattle.wl_end.specs.Outcomes.{Gives, answers_with}
 use Rattle.wl_end.specs.Receiving.{Found, found, reported, own_tokens, past_found, is_none}
@@ -109,7 +109,7 @@ abbrev pub view_after : Core → Found → View
 view_after core f =
     if is_error_event f then core.view
     else if is_delete_event f then after_delete_id core.view (deleted_id f)
-    else after client core.view None f.message.signature.destroys f.message.target.id
+    else after client core.view None f.message.signature.destroys (ended_id f.message.signature.destroys f.message.target.id f.message.values)
 
 -- the globals without one of this name
 abbrev pub forgotten : ℕ → List Global → List Global

@@ -12,6 +12,7 @@ use Rattle.wl_client.specs.declared.changes.ObjectChange.{ObjectChange}
 use Rattle.wl_client.specs.declared.changes.ObjectChange.TheVariants as object_changes
 use Rattle.wl_client.specs.declared.changes.GlobalChange.{GlobalChange}
 use Rattle.wl_client.specs.declared.changes.GlobalChange.TheVariants as global_changes
+use Rattle.wl_message.specs.Limits.{usual}
 use Rattle.wl_client.specs.State.{State, Global}
 use Rattle.wl_client.specs.Reports.{Report, report, view_after, globals_after, forgotten}
 use Rattle.wl_client.specs.Reports.{remembered}
@@ -26,10 +27,11 @@ end_with tables view tokens = record {
     tokens = tokens;
     capacity = 0;
     token_capacity = 0;
+    limit = usual;
     last = [];
     last_tokens = [];
   };
-  outbox = no_messages 0 0;
+  outbox = no_messages 0 0 usual;
   failed = false;
   read = 0;
 }

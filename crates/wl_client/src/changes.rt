@@ -10,6 +10,7 @@ use crate::globals::Global;
 use wl_end::Core;
 use wl_objects::{REGISTRY, Received, State, Table};
 use wl_sigs::Tables;
+use wl_sigs::event::wl_registry::{GLOBAL, GLOBAL_REMOVE};
 
 /// What a message does to the objects.
 #[derive(Clone, Copy, Debug)]
@@ -49,25 +50,26 @@ pub(crate) fn global_change_of(
     message: &Received<'_, '_>,
 ) -> GlobalChange
     ensures { (globals : List Told)
-        → with_global_change globals result ≡ globals_by tables.now globals (found_as opcode message.now) }
+        → with_global_change globals result
+        ≡ globals_by tables.now globals (found_as opcode message.now) }
 {
     if message.entry.iface != REGISTRY || message.entry.state != State::Live {
         return GlobalChange::Nothing;
     }
     let Received { args, body, .. } = message;
-    match opcode {
-        0 => {
-            let name = number_at(args, body, 0);
-            match tables.interface(text_at(args, body, 1)) {
-                None => GlobalChange::Forget(name),
-                Some(iface) => GlobalChange::Remember(Global {
-                    name,
-                    iface,
-                    version: number_at(args, body, 2),
-                }),
-            }
+    if opcode == GLOBAL {
+        let name = number_at(args, body, 0);
+        match tables.interface(text_at(args, body, 1)) {
+            None => GlobalChange::Forget(name),
+            Some(iface) => GlobalChange::Remember(Global {
+                name,
+                iface,
+                version: number_at(args, body, 2),
+            }),
         }
-        1 => GlobalChange::Forget(number_at(args, body, 0)),
-        _ => GlobalChange::Nothing,
+    } else if opcode == GLOBAL_REMOVE {
+        GlobalChange::Forget(number_at(args, body, 0))
+    } else {
+        GlobalChange::Nothing
     }
 }

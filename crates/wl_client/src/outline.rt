@@ -1,11 +1,13 @@
 //! What a message is to a client: what is reported of it, and what it changes among the objects.
 ghost use Rattle.std.specs.Prelude.{◌≡◌, ◌≢◌, ℕ, List, [], Some, false};
+ghost use Rattle.wl_sigs.specs.declared.signature.Side.TheVariants.{Event};
+ghost use Rattle.wl_sigs.specs.Tables.{destroys_argument};
 ghost use Rattle.wl_table.specs.View.{look};
 ghost use Rattle.wl_end.specs.Core.{HasDisplay};
 ghost use Rattle.wl_client.specs.Outlines.{outlined};
 ghost use Rattle.wl_client.specs.Reports.{delete_report, error_report, is_error_event};
 ghost use Rattle.wl_client.specs.Steps.{CanChange, changed, end_with, found_as, report_by, view_by};
-ghost use Rattle.wl_objects.specs.Messages.{after_delete_id, reader_of};
+ghost use Rattle.wl_objects.specs.Messages.{after_delete_id, is_error, reader_of};
 ghost use Rattle.wl_objects.specs.Parsed.{AreParsed, spelled_in};
 ghost use Rattle.wl_objects.specs.Reading.{descriptors};
 ghost use Rattle.wl_objects.specs.Seen.{message_of};
@@ -13,7 +15,7 @@ ghost use Rattle.wl_objects.specs.Seen.{message_of};
 use crate::arguments::{id_at, number_at};
 use crate::changes::ObjectChange;
 use crate::incoming::Outline;
-use wl_objects::{Object, ParsedArgs, Received, State, Table, is_delete_id, is_error, named};
+use wl_objects::{Object, ParsedArgs, Received, State, Table, is_delete_id, named};
 use wl_sigs::{Destroys, Side};
 
 /// What a message is to a client, but for the globals.
@@ -25,19 +27,16 @@ pub(crate) struct Meaning {
     pub(crate) last: bool,
 }
 
-/// What a message is, which takes this number of tokens.
-pub(crate) fn meaning_of<T: Table>(
-    table: &T,
-    opcode: u16,
-    message: Received<'_, '_>,
-    tokens: usize,
-) -> Meaning
+/// What a message is.
+pub(crate) fn meaning_of<T: Table>(table: &T, opcode: u16, message: Received<'_, '_>) -> Meaning
     requires parsed { AreParsed (reader_of (T.view table.now)) message.body.now message.args
         (message_of message).values }
-    requires tokens { tokens ≡ descriptors message.signature.now.kinds }
+    requires tokens { message.tokens ≡ descriptors message.signature.now.kinds }
+    requires error { message.is_error ≡ is_error Event message.entry.iface opcode }
     requires display { HasDisplay (T.view table.now) }
     requires row { look (T.view table.now) message.target.id ≡ Some message.entry }
     requires lasts { message.target.id ≡ 1 → message.signature.now.destroys ≢ Destroys.Target }
+    requires argument { destroys_argument message.signature.now.destroys ≡ false }
     ensures outline { (tokens : List ℕ) → outlined message.entry.body.now tokens result.outline
         ≡ report_by (T.view table.now) tokens (found_as opcode message.entry) }
     ensures changed { changed (T.view table.now) result.change
@@ -45,7 +44,7 @@ pub(crate) fn meaning_of<T: Table>(
     ensures can { CanChange (T.view table.now) result.change }
     ensures last { result.last ≡ is_error_event (found_as opcode message.entry) }
 {
-    if is_error(Side::Event, message.entry.iface, opcode) {
+    if message.is_error {
         return Meaning {
             outline: error_outline(table, message.args, message.body),
             change: ObjectChange::Nothing,
@@ -61,7 +60,7 @@ pub(crate) fn meaning_of<T: Table>(
             outline: Outline::Discarded {
                 target,
                 opcode,
-                tokens,
+                tokens: message.tokens,
             },
             change: ObjectChange::Nothing,
             last: false,
@@ -75,6 +74,8 @@ pub(crate) fn meaning_of<T: Table>(
             },
             change: match message.signature.destroys() {
                 Destroys::Nothing => ObjectChange::Nothing,
+                // No event destroys an argument.
+                Destroys::Arg(_) => ObjectChange::Nothing,
                 Destroys::Target => ObjectChange::Zombie(target.id),
             },
             last: false,

@@ -3,7 +3,8 @@ ghost use Rattle.std.specs.Prelude.{◌≡◌, ◌≤◌, ℕ, List, [], false, 
 ghost use Rattle.wl_wire.specs.Word.{IsHeader};
 ghost use Rattle.wl_sigs.specs.declared.signature.Side.TheVariants.{Event as event_side};
 ghost use Rattle.wl_sigs.specs.Valid.{Valid};
-ghost use Rattle.wl_message.specs.Cut.{Whole, front, usual_limit};
+ghost use Rattle.wl_message.specs.Arrived.{in_front};
+ghost use Rattle.wl_message.specs.Cut.{Whole};
 ghost use Rattle.wl_objects.specs.Messages.{reader_of, received};
 ghost use Rattle.wl_end.specs.Core.{HasDisplay, with_failure};
 ghost use Rattle.wl_end.specs.Outcomes.{left};
@@ -24,7 +25,7 @@ use crate::outline::{Meaning, meaning_of};
 use std::alloc::Allocator;
 use wl_end::{Core, MAX_TOKENS};
 use wl_message::Frame;
-use wl_objects::{DISPLAY, Fault, NextError, Table, descriptors, receive};
+use wl_objects::{DISPLAY, Fault, Held, NextError, Table, receive};
 use wl_sigs::{Side, Tables};
 
 /// What the reading of a message comes to, before the message is taken.
@@ -227,18 +228,26 @@ fn step_of<T: Table>(tables: &Tables, table: &T, frame: Frame<'_>) -> Result<Ste
 {
     let header = frame.header;
     let opcode = header.opcode;
-    let received = receive(tables, Side::Event, table, header, frame.body, frame.tokens);
+    let lookup = Held { table };
+    let received = receive(
+        tables,
+        Side::Event,
+        &lookup,
+        header,
+        frame.body,
+        frame.tokens,
+    );
     let message = match received {
         Ok(message) => message,
         Err(fault) => return Err(fault),
     };
     let global_change = global_change_of(tables, opcode, &message);
-    let tokens = descriptors(message.signature.kinds());
+    let tokens = message.tokens;
     let Meaning {
         outline,
         change,
         last,
-    } = meaning_of(table, opcode, message, tokens);
+    } = meaning_of(table, opcode, message);
     Ok(Step {
         outline,
         change,
@@ -258,7 +267,7 @@ fn take<T: Table>(
     tokens: usize,
     last: bool,
 )
-    requires message { front usual_limit core.old.inbox.bytes ≡ Whole bytes }
+    requires message { in_front core.old.inbox ≡ Whole bytes }
     requires few { tokens ≤ MAX_TOKENS }
     requires waiting { tokens ≤ length core.old.inbox.tokens }
     requires change { CanChange core.old.view change }

@@ -25,8 +25,8 @@ impl<'t, T: Table> Client<'t, T> {
     ) -> Result<Option<Object>, SendError>
         ensures answer { Gives SendError.Memory
             (opens_object
-            (checked self.old.core.tables request_side self.old.core.view target opcode
-            (given args.now)))
+            (checked self.old.core.outbox.limit.bytes self.old.core.tables request_side
+            self.old.core.view target opcode (given args.now)))
             (send_answer self.old.core request_side target opcode (given args.now)) result }
         ensures ok { OnOk result
             (self.new ≡ with_core self.old

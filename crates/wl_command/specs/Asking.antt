@@ -1,14 +1,31 @@
 -- The command line of the program, and what its words ask for.
-use Rattle.std.specs.Prelude.{◌≡◌, ◌≢◌, ◌⊎◌, ◌<◌, ◌^◌, ℕ, List, [], ◌∷◌, Option, Some, None, String, codes, map, true, pos, string_bytes}
+use Rattle.std.specs.Prelude.{◌≡◌, ◌≢◌, ◌⊎◌, ◌<◌, ◌^◌, ℕ, List, [], ◌∷◌, Option, Some, None, String, codes, map, option_map, true, pos, string_bytes}
 use Rattle.std.specs.Str.Parse.{IsNumeral, digits_value, without_leading_plus}
 use Rattle.clap.specs.Words.{App, IsAmong, Row, Rule, Shape, Text, fault_of, first_of, new_app, new_rule, one_of, subcommand_of, with_rule, with_subcommand}
 use Rattle.clap.specs.Simple.{on_top}
 use Rattle.clap.specs.declared.builder.value_parser.ValueParser.TheVariants as parser
 use Rattle.clap.specs.declared.error.kind.ErrorKind.{ErrorKind}
 use Rattle.clap.specs.declared.error.kind.ErrorKind.TheVariants.{DisplayHelp, DisplayVersion, OutOfMemory}
+use Rattle.wl_message.specs.declared.limit.Limit.{Limit}
 use Rattle.wl_command.specs.declared.job.Job.{Job}
 use Rattle.wl_command.specs.declared.job.Job.TheVariants.{Trace, Check, Demo, Socket}
 use Rattle.wl_command.specs.declared.job.Stop.{Stop}
+
+-- `--tables FILE`, which may be missing
+abbrev pub tables_argument : Rule
+tables_argument = record (new_rule (codes "tables")) {
+  long = Some (codes "tables");
+  value_names = 1;
+}
+
+-- `--limit N`, a number from 4096 to 65532, and 4096 where it is not given
+abbrev pub limit_argument : Rule
+limit_argument = record (new_rule (codes "limit")) {
+  long = Some (codes "limit");
+  value_names = 1;
+  defaults = codes "4096" ∷ [];
+  parser = Some (parser.Signed (pos 4096) (pos 65532));
+}
 
 -- the argument that names a recording: one word, which has to be there
 abbrev pub file_argument : Rule
@@ -29,10 +46,14 @@ piece_argument = record (new_rule (codes "piece")) {
 
 -- the commands `trace`, `check`, `demo` and `socket`
 abbrev pub trace_command : App
-trace_command = with_rule (new_app (codes "trace")) file_argument
+trace_command =
+    with_rule (with_rule (with_rule (new_app (codes "trace")) tables_argument) limit_argument)
+    file_argument
 
 abbrev pub check_command : App
-check_command = with_rule (new_app (codes "check")) file_argument
+check_command =
+    with_rule (with_rule (with_rule (new_app (codes "check")) tables_argument) limit_argument)
+    file_argument
 
 abbrev pub demo_command : App
 demo_command = with_rule (new_app (codes "demo")) piece_argument
@@ -40,10 +61,12 @@ demo_command = with_rule (new_app (codes "demo")) piece_argument
 abbrev pub socket_command : App
 socket_command = with_rule (new_app (codes "socket")) path_argument
 
--- the program, which has to be given one of them
+-- the program, which has to be given one of them, or be asked for its version
 abbrev pub program : App
 program =
-    on_top (λ (s : Shape). record s { subcommand_required = true }) (new_app (codes "waywire"))
+    on_top
+        (λ (s : Shape). record s { has_version = true; subcommand_required = true })
+        (new_app (codes "waywire"))
 
 abbrev pub command_line : App
 command_line =
@@ -60,22 +83,34 @@ Spells digits n =
     IsNumeral 10 (without_leading_plus digits)
     × (n ≡ digits_value 10 (without_leading_plus digits)) × (n < 2 ^ 32)
 
--- the number that was given for a piece, or none
-abbrev pub IsPiece : List Row → Option ℕ → Type 0
-IsPiece arguments (Some piece) =
-    (digits : Text) × (one_of (codes "piece") arguments ≡ Some digits) × Spells digits piece
-IsPiece arguments None =
-    (digits : Text) (piece : ℕ)
-    → one_of (codes "piece") arguments ≡ Some digits → Spells digits piece → ⊥
+-- the number that was given for the argument of this name, or none
+abbrev pub IsNumber : Text → List Row → Option ℕ → Type 0
+IsNumber name arguments (Some n) =
+    (digits : Text) × (one_of name arguments ≡ Some digits) × Spells digits n
+IsNumber name arguments None =
+    (digits : Text) (n : ℕ) → one_of name arguments ≡ Some digits → Spells digits n → ⊥
+
+-- the limit of the number that was given, or none where there is no limit of that number
+abbrev pub IsLimitOf : List Row → Option Limit → Type 0
+IsLimitOf arguments (Some limit) = IsNumber (codes "limit") arguments (Some limit.bytes)
+IsLimitOf arguments None =
+    (limit : Limit) → IsNumber (codes "limit") arguments (Some limit.bytes) → ⊥
+
+-- the words that were given for the file of tables, if any was, and for the recording, unchanged
+abbrev pub NamesFiles : {A : Type 0} → List Row → Option (String A) → String A → Type 0
+NamesFiles arguments tables file =
+    (first_of (codes "tables") arguments ≡ option_map string_bytes tables)
+    × (first_of (codes "FILE") arguments ≡ Some (string_bytes file))
 
 -- What a command and its arguments ask for. A file has the name of the word that was given for it,
--- unchanged, and so has a path; a number is the one that was given.
+-- unchanged, and so has a path; a number is the one that was given, and a limit has that number.
 abbrev pub IsGiven : Text → List Row → Job → Type 0
-IsGiven name arguments (Trace file) =
-    (name ≡ codes "trace") × (first_of (codes "FILE") arguments ≡ Some (string_bytes file))
-IsGiven name arguments (Check file) =
-    (name ≡ codes "check") × (first_of (codes "FILE") arguments ≡ Some (string_bytes file))
-IsGiven name arguments (Demo piece) = (name ≡ codes "demo") × IsPiece arguments (Some piece)
+IsGiven name arguments (Trace tables limit file) =
+    (name ≡ codes "trace") × NamesFiles arguments tables file × IsLimitOf arguments (Some limit)
+IsGiven name arguments (Check tables limit file) =
+    (name ≡ codes "check") × NamesFiles arguments tables file × IsLimitOf arguments (Some limit)
+IsGiven name arguments (Demo piece) =
+    (name ≡ codes "demo") × IsNumber (codes "piece") arguments (Some piece)
 IsGiven name arguments (Socket path) =
     (name ≡ codes "socket") × (first_of (codes "PATH") arguments ≡ Some (string_bytes path))
 

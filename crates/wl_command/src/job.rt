@@ -1,41 +1,62 @@
 //! What the words of a command line ask for.
 ghost use Rattle.std.specs.Prelude.{◌≡◌, List, [], IfOk, IfErr, false, option_map, string_bytes};
 ghost use Rattle.clap.specs.Words.{HasKind, app_of, fault_of, first_of, found_of, kind_of, rows_of, rule_of, subcommand_of, subcommand_rows_of};
-ghost use Rattle.wl_command.specs.Asking.{Asks, Gives, IsPiece, IsStop, Names, Stops, StopsFor, check_command, command_line, demo_command, file_argument, path_argument, piece_argument, socket_command, texts_of, trace_command};
+ghost use Rattle.wl_command.specs.Asking.{Asks, Gives, IsLimitOf, IsNumber, IsStop, Names, Stops, StopsFor, check_command, command_line, demo_command, file_argument, limit_argument, path_argument, piece_argument, socket_command, tables_argument, texts_of, trace_command};
 
 use clap::error::ErrorKind;
 use clap::{Arg, ArgMatches, Command, Error};
 use std::alloc::{AllocError, Global};
+use wl_message::Limit;
 
 /// The most bytes that the demonstration carries at once, unless it is told otherwise.
 const MOST_PIECE: &str = "4096";
 
-/// What is said of a command line where the parser has no words for it.
-const USAGE: &str = "error: no command of this program\n\nUsage: waywire <COMMAND>\n";
+/// The most bytes that a message has, unless it is told otherwise.
+const USUAL_LIMIT: &str = "4096";
+
+/// The version of this program and of the library, which `make` puts into the header too.
+const VERSION: &str = "0.1.0";
+
+/// What is said of a command line where the parser has no words for it: it takes each number in
+/// range for a limit.
+const USAGE: &str = "error: no command of this program, or a limit that is no multiple of 4\n\nUsage: waywire <COMMAND>\n";
 
 /// One run of the program.
 #[derive(Debug, Drop)]
 pub enum Job {
     /// Print each message of the recording in the file of this name, and where a rule is broken
-    /// which.
-    Trace { file: String },
-    /// Print whether the recording in the file of this name is lawful.
-    Check { file: String },
+    /// which. A file of tables, where one is named, is read before and adds its interfaces to the
+    /// core ones. Messages may be as long as the limit says.
+    Trace {
+        tables: Option<String>,
+        limit: Limit,
+        file: String,
+    },
+    /// Print whether the recording in the file of this name is lawful, by the same tables and limit.
+    Check {
+        tables: Option<String>,
+        limit: Limit,
+        file: String,
+    },
     /// Print a session of both ends, in which at most so many bytes are carried at once: 1 to 4096.
-    Demo { piece: u32 },
+    Demo {
+        piece: u32,
+    },
     /// Print the same session, played over a Unix socket that is bound at this path and removed at
     /// the end.
-    Socket { path: String },
+    Socket {
+        path: String,
+    },
 }
 
 /// Why there is no job.
 #[derive(Debug, Drop)]
 pub struct Stop {
-    /// The exit status: 0 where help was asked for, 2 for a command line that is none of this
-    /// program's, 4 for lack of memory.
+    /// The exit status: 0 where help or the version was asked for, 2 for a command line that is
+    /// none of this program's, 4 for lack of memory.
     pub status: u8,
-    /// What to print: help to standard output, a fault to standard error. It is empty for lack of
-    /// memory alone.
+    /// What to print: help and the version to standard output, a fault to standard error. It is
+    /// empty for lack of memory alone.
     pub text: String,
 }
 
@@ -45,6 +66,7 @@ fn command<'a>(alloc: Global) -> Result<Command<'a>, AllocError>
     Command::new(alloc, "waywire")
         .bin_name("waywire")?
         .about("Recorded sessions of Wayland clients, as text")
+        .version(VERSION)
         .subcommand_required(true)
         .subcommand(trace(alloc)?)?
         .subcommand(check(alloc)?)?
@@ -57,6 +79,8 @@ fn trace<'a>(alloc: Global) -> Result<Command<'a>, AllocError>
 {
     Command::new(alloc, "trace")
         .about("Prints each message of a recording, one a line")
+        .arg(tables(alloc))?
+        .arg(limit(alloc))?
         .arg(file(alloc))
 }
 
@@ -65,6 +89,8 @@ fn check<'a>(alloc: Global) -> Result<Command<'a>, AllocError>
 {
     Command::new(alloc, "check")
         .about("Prints whether a recording is a lawful session")
+        .arg(tables(alloc))?
+        .arg(limit(alloc))?
         .arg(file(alloc))
 }
 
@@ -82,6 +108,30 @@ fn socket<'a>(alloc: Global) -> Result<Command<'a>, AllocError>
     Command::new(alloc, "socket")
         .about("Prints the same session, played over a Unix socket")
         .arg(path(alloc))
+}
+
+/// The argument that names a text of tables.
+fn tables<'a>(alloc: Global) -> Arg<'a>
+    ensures rule { rule_of result ≡ tables_argument }
+    ensures local { result.global ≡ false }
+{
+    Arg::new(alloc, "tables")
+        .long("tables")
+        .value_name("FILE")
+        .help("A text of tables: further interfaces, with their messages")
+}
+
+/// The argument that says how long a message may be.
+fn limit<'a>(alloc: Global) -> Arg<'a>
+    ensures rule { rule_of result ≡ limit_argument }
+    ensures local { result.global ≡ false }
+{
+    Arg::new(alloc, "limit")
+        .long("limit")
+        .value_name("N")
+        .value_parser(clap::value_parser!(u32).range(4096..=65532))
+        .default_value(USUAL_LIMIT)
+        .help("The most bytes of a message, a multiple of 4 from 4096 to 65532")
 }
 
 /// The argument that names a recording.
@@ -132,11 +182,21 @@ fn word_of(
     }
 }
 
-/// The number of bytes that the demonstration is to carry at once, or none.
-fn piece_of(matches: &ArgMatches<'_>) -> Option<u32>
-    ensures { IsPiece (rows_of (found_of matches.now)) result }
+/// The number that a command was given for the argument of this name, or none.
+fn number_of(matches: &ArgMatches<'_>, name: &str) -> Option<u32>
+    ensures { IsNumber name.now (rows_of (found_of matches.now)) result }
 {
-    matches.get_one("piece")
+    matches.get_one(name)
+}
+
+/// The limit of the number that a command was given for it, or none.
+fn limit_of(matches: &ArgMatches<'_>) -> Option<Limit>
+    ensures { IsLimitOf (rows_of (found_of matches.now)) result }
+{
+    match number_of(matches, "limit") {
+        Some(bytes) => Limit::new(bytes),
+        None => None,
+    }
 }
 
 /// The job that a command of this name asks for with what it was given, or none.
@@ -144,9 +204,21 @@ fn named(alloc: Global, name: &str, given: &ArgMatches<'_>) -> Result<Option<Job
     ensures { IfOk result (Gives name.now (rows_of (found_of given.now))) }
 {
     match name {
-        "trace" => Ok(word_of(alloc, given, "FILE")?.map(|file| Job::Trace { file })),
-        "check" => Ok(word_of(alloc, given, "FILE")?.map(|file| Job::Check { file })),
-        "demo" => Ok(piece_of(given).map(|piece| Job::Demo { piece })),
+        "trace" => {
+            let Some(limit) = limit_of(given) else {
+                return Ok(None);
+            };
+            let tables = word_of(alloc, given, "tables")?;
+            Ok(word_of(alloc, given, "FILE")?.map(|file| Job::Trace { tables, limit, file }))
+        }
+        "check" => {
+            let Some(limit) = limit_of(given) else {
+                return Ok(None);
+            };
+            let tables = word_of(alloc, given, "tables")?;
+            Ok(word_of(alloc, given, "FILE")?.map(|file| Job::Check { tables, limit, file }))
+        }
+        "demo" => Ok(number_of(given, "piece").map(|piece| Job::Demo { piece })),
         "socket" => Ok(word_of(alloc, given, "PATH")?.map(|path| Job::Socket { path })),
         _ => Ok(None),
     }

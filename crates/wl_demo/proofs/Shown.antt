@@ -4,6 +4,7 @@ use Rattle.std.specs.declared.result.Result.{Result}
 use Rattle.std.specs.declared.result.Result.TheVariants.{Ok, Err}
 use Rattle.wl_sigs.specs.Tables.{Interface}
 use Rattle.wl_recording.specs.Piece.{Piece}
+use Rattle.wl_message.specs.Cut.{usual_limit}
 use Rattle.wl_check.specs.Session.{session_of}
 use Rattle.wl_check.specs.Trace.{trace_of}
 use Rattle.wl_world.specs.World.{opening}
@@ -15,12 +16,12 @@ use Rattle.wl_demo.specs.Demo.{IsShown, Tells, agreement_line, sizes}
 
 -- the lines of what was lent, and behind them the last line
 pub whole_text : (tables : List Interface) (lent pieces : List Piece) (lines text : List ℕ) (agree : Bool) (counted objects : ℕ)
-    → lines ≡ trace_of tables (session_of lent) → lent ≡ pieces → counted ≡ objects → text ≡ lines ++ agreement_line agree counted
-    → text ≡ trace_of tables (session_of pieces) ++ agreement_line agree objects
+    → lines ≡ trace_of tables (session_of usual_limit lent) → lent ≡ pieces → counted ≡ objects → text ≡ lines ++ agreement_line agree counted
+    → text ≡ trace_of tables (session_of usual_limit pieces) ++ agreement_line agree objects
 whole_text tables lent pieces lines text agree counted objects traced same number written =
     let by_lines = ap (λ (xs : List ℕ). xs ++ agreement_line agree counted) traced in
-    let by_pieces = ap (λ (ps : List Piece). trace_of tables (session_of ps) ++ agreement_line agree counted) same in
-    let by_number = ap (λ (n : ℕ). trace_of tables (session_of pieces) ++ agreement_line agree n) number in
+    let by_pieces = ap (λ (ps : List Piece). trace_of tables (session_of usual_limit ps) ++ agreement_line agree counted) same in
+    let by_number = ap (λ (n : ℕ). trace_of tables (session_of usual_limit pieces) ++ agreement_line agree n) number in
     written ∙ (by_lines ∙ (by_pieces ∙ by_number))
 
 -- what tells of a pair that a new one leads to

@@ -4,6 +4,8 @@ use Rattle.std.specs.Fmt.{decimal}
 use Rattle.std.specs.FinMap.{len as row_count}
 use Rattle.wl_sigs.specs.Tables.{Interface}
 use Rattle.wl_message.specs.declared.amounts.Sizes.{Sizes}
+use Rattle.wl_message.specs.Cut.{usual_limit}
+use Rattle.wl_message.specs.Limits.{usual}
 use Rattle.wl_check.specs.Session.{session_of}
 use Rattle.wl_check.specs.Trace.{trace_of}
 use Rattle.wl_world.specs.World.{opening}
@@ -26,10 +28,16 @@ agreement_line agree objects = agreement agree ++ codes ": " ++ decimal objects 
 pub record Tells (tables : List Interface) (pair : PairState) (text : List ℕ) : Type 0 where
   pub agree : Bool
   pub exact : IsTrue agree ↔ Agree pair.client.core.view pair.server.core.view
-  pub whole : text ≡ trace_of tables (session_of pair.recording) ++ agreement_line agree (row_count pair.client.core.view.rows)
+  pub whole : text ≡ trace_of tables (session_of usual_limit pair.recording) ++ agreement_line agree (row_count pair.client.core.view.rows)
 
 abbrev pub sizes : Sizes
-sizes = record { out_bytes = 65536; out_tokens = 64; in_bytes = 65536; in_tokens = 64 }
+sizes = record {
+  out_bytes = 65536;
+  out_tokens = 64;
+  in_bytes = 65536;
+  in_tokens = 64;
+  limit = usual;
+}
 
 -- The text tells of two ends that began new, after the session of both, of which each carry moved at most so many bytes.
 pub record IsShown (tables : List Interface) (piece : ℕ) (text : List ℕ) : Type 0 where

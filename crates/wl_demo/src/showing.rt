@@ -5,7 +5,7 @@ ghost use Rattle.wl_demo.specs.Demo.{IsShown, Tells, agreement_line};
 use crate::playing::play;
 use std::alloc::{AllocError, Allocator};
 use std::io::Write;
-use wl_message::Sizes;
+use wl_message::{Limit, Sizes};
 use wl_objects::{SlotTable, Table};
 use wl_session::{Pair, trace};
 use wl_sigs::Tables;
@@ -16,6 +16,7 @@ const SIZES: Sizes = Sizes {
     out_tokens: 64,
     in_bytes: 65_536,
     in_tokens: 64,
+    limit: Limit::USUAL,
 };
 
 /// What the program prints: the lines of what was carried, and whether both ends have the same
@@ -40,7 +41,7 @@ fn printed<T: Table>(
 ) -> Result<Vec<u8, T::Alloc>, AllocError>
     ensures { IfOk result (λ text. Tells tables.now pair.now text.items) }
 {
-    let (mut text, _verdict) = trace(alloc, pair.recording(), tables)?;
+    let (mut text, _verdict) = trace(alloc, pair.recording(), tables, Limit::USUAL)?;
     write_agreement(&mut text, pair.agree(), pair.len())?;
     Ok(text)
 }

@@ -5,6 +5,7 @@ use Rattle.std.specs.declared.option.Option.TheVariants.{None, Some}
 use Rattle.std.specs.declared.result.Result.{Result}
 use Rattle.std.specs.declared.result.Result.TheVariants.{Ok, Err}
 use Rattle.wl_sigs.specs.declared.signature.Side.{Side}
+use Rattle.wl_message.specs.declared.limit.Limit.{Limit}
 use Rattle.wl_message.specs.declared.amounts.Fed.{Fed}
 use Rattle.wl_message.specs.InStep.{Part, InStep, part_bytes, part_tokens}
 use Rattle.wl_message.proofs.Steps.{step_first, step_read}
@@ -27,6 +28,7 @@ pub record IsOfMessage {S R : Type 0} (e : Reading S R) (side : Side) (state : S
   pub message : Found
   pub there : found (e.core state) side ≡ Ok (Some message)
   pub left : waiting (e.core (e.after state)) ≡ waiting (past_found (e.core state) message)
+  pub kept : (e.core (e.after state)).inbox.limit ≡ (e.core state).inbox.limit
 
 -- a fault is there with more behind it too
 pub record IsFaultAgain {S R : Type 0} (e : Reading S R) (state : S) (what : Fault) (offset : ℕ) (bytes tokens : List ℕ) : Type 0 where
@@ -190,18 +192,19 @@ one_reading {e = e} (next {state = state} {report = r} a n h) (next {report = q}
 -- ---- what is read begins what waits
 
 first : {S R : Type 0} (e : Reading S R) (side : Side) → IsReading e side → (state : S) (r : R) (count : ℕ) (rest : List ℕ) → e.answer state ≡ Ok (Some r)
-    → BeginWith (e.core (e.after state)).inbox.bytes count rest → BeginWith (e.core state).inbox.bytes (suc count) rest
+    → BeginWith (e.core (e.after state)).inbox.limit.bytes (e.core (e.after state)).inbox.bytes count rest → BeginWith (e.core state).inbox.limit.bytes (e.core state).inbox.bytes (suc count) rest
 first e side i state r count rest a b =
     let m = i.message state r a in
-    begin_more (e.core state) side m.message count (e.core (e.after state)).inbox.bytes rest m.there (ap (λ (p : Part). p.bytes) m.left) b
+    begin_more (e.core state) side m.message count (e.core (e.after state)).inbox.bytes rest m.there (ap (λ (p : Part). p.bytes) m.left)
+    (subst (λ (limit : Limit). BeginWith limit.bytes (e.core (e.after state)).inbox.bytes count rest) m.kept b)
 
 pub begin_with : {S R : Type 0} {e : Reading S R} {side : Side} {state end : S} {reports : List R} {stop : Option NextError} → IsReading e side → Reads e state reports stop end
-    → BeginWith (e.core state).inbox.bytes (length reports) (e.core end).inbox.bytes
-begin_with {e = e} i (none {state = state} a) = begin_none (e.core state).inbox.bytes
-begin_with {e = e} i (full {state = state} a) = begin_none (e.core state).inbox.bytes
+    → BeginWith (e.core state).inbox.limit.bytes (e.core state).inbox.bytes (length reports) (e.core end).inbox.bytes
+begin_with {e = e} i (none {state = state} a) = begin_none (e.core state).inbox.limit.bytes (e.core state).inbox.bytes
+begin_with {e = e} i (full {state = state} a) = begin_none (e.core state).inbox.limit.bytes (e.core state).inbox.bytes
 begin_with {e = e} i (fault {state = state} {what = what} {offset = offset} a) =
-    subst (λ (l : List ℕ). BeginWith (e.core state).inbox.bytes 0 l) (sym (i.fault_leaves state what offset a)) (begin_none (e.core state).inbox.bytes)
+    subst (λ (l : List ℕ). BeginWith (e.core state).inbox.limit.bytes (e.core state).inbox.bytes 0 l) (sym (i.fault_leaves state what offset a)) (begin_none (e.core state).inbox.limit.bytes (e.core state).inbox.bytes)
 begin_with {e = e} {side = side} i (last {state = state} {report = r} a n) =
-    first e side i state r 0 (e.core (e.after state)).inbox.bytes a (begin_none (e.core (e.after state)).inbox.bytes)
+    first e side i state r 0 (e.core (e.after state)).inbox.bytes a (begin_none (e.core (e.after state)).inbox.limit.bytes (e.core (e.after state)).inbox.bytes)
 begin_with {e = e} {side = side} i (next {state = state} {end = end} {report = r} {reports = rs} a n h) =
     first e side i state r (length rs) (e.core end).inbox.bytes a (begin_with i h)

@@ -13,7 +13,8 @@ use Rattle.wl_wire.specs.Argument.{Argument}
 use Rattle.wl_wire.specs.Word.{number_at}
 use Rattle.wl_sigs.specs.declared.signature.Side.{Side}
 use Rattle.wl_sigs.specs.Tables.{Interface, Message, signature_at}
-use Rattle.wl_message.specs.Cut.{usual_limit, front, Front, More, Bad, Whole}
+use Rattle.wl_message.specs.Arrived.{in_front}
+use Rattle.wl_message.specs.Cut.{Front, More, Bad, Whole}
 use Rattle.wl_message.specs.InStep.{Need}
 use Rattle.wl_message.proofs.Fronts.{Seen, short, long, whole, bad, seen, front_stands}
 use Rattle.wl_message.proofs.Cuts.{whole_stays, bad_stays}
@@ -88,40 +89,40 @@ meets tables side reader header body = by_meets tables side reader header body (
 
 -- what stands in front, with more behind it
 pub data Finds (core : Core) (side : Side) : Type 0 where
-  nothing : front usual_limit core.inbox.bytes ≡ More → Finds core side
+  nothing : in_front core.inbox ≡ More → Finds core side
   fault : (what : Fault) → ((bytes tokens : List ℕ) → found (with_arrived core bytes tokens) side ≡ Err what) → Finds core side
   message : (f : Found) → 8 ≤ f.size → f.size ≤ length core.inbox.bytes → fds f.message.values ≡ takes f.message
       → ((bytes tokens : List ℕ) → takes f.message ≤ length (core.inbox.tokens ++ tokens) → found (with_arrived core bytes tokens) side ≡ Ok (Some f))
       → ((bytes tokens : List ℕ) → length (core.inbox.tokens ++ tokens) < takes f.message → found (with_arrived core bytes tokens) side ≡ Err faults.MissingDescriptor) → Finds core side
 
 -- with more behind them, a whole message's header, body and answer are the same, but for the number of tokens
-whole_found : (core : Core) (side : Side) (n : ℕ) (bytes tokens : List ℕ) → front usual_limit core.inbox.bytes ≡ Whole n
+whole_found : (core : Core) (side : Side) (n : ℕ) (bytes tokens : List ℕ) → in_front core.inbox ≡ Whole n
     → found (with_arrived core bytes tokens) side
     ≡ found_in n (header_of core.inbox.bytes).opcode (received core.tables side (reader_of core.view) (header_of core.inbox.bytes) (drop 8 (take n core.inbox.bytes)) (length (core.inbox.tokens ++ tokens)))
 whole_found core side n bytes tokens e =
-    let s = front_stands usual_limit core.inbox.bytes n e in
+    let s = front_stands core.inbox.limit.bytes core.inbox.bytes n e in
     let h = header_stays core.inbox.bytes bytes (omega (arith, s.size.header, s.there)) in
     let b = take-append-le n core.inbox.bytes bytes s.there in
-    ap (found_at (with_arrived core bytes tokens) side) (whole_stays usual_limit core.inbox.bytes bytes n e)
+    ap (found_at (with_arrived core bytes tokens) side) (whole_stays core.inbox.limit.bytes core.inbox.bytes bytes n e)
     ∙ λ i. found_in n (h i).opcode (received core.tables side (reader_of core.view) (h i) (drop 8 (b i)) (length (core.inbox.tokens ++ tokens)))
 
-at_whole : (core : Core) (side : Side) (n : ℕ) → front usual_limit core.inbox.bytes ≡ Whole n
+at_whole : (core : Core) (side : Side) (n : ℕ) → in_front core.inbox ≡ Whole n
     → Meets (λ w. received core.tables side (reader_of core.view) (header_of core.inbox.bytes) (drop 8 (take n core.inbox.bytes)) w) → Finds core side
 at_whole core side n e (fails what h) =
     fault what (λ bytes tokens. whole_found core side n bytes tokens e ∙ ap (found_in n (header_of core.inbox.bytes).opcode) (h (length (core.inbox.tokens ++ tokens))))
 at_whole core side n e (gives m count some few) =
-    let s = front_stands usual_limit core.inbox.bytes n e in
+    let s = front_stands core.inbox.limit.bytes core.inbox.bytes n e in
     message (record { size = n; opcode = (header_of core.inbox.bytes).opcode; message = m }) s.size.header s.there count
     (λ bytes tokens p. whole_found core side n bytes tokens e ∙ ap (found_in n (header_of core.inbox.bytes).opcode) (some (length (core.inbox.tokens ++ tokens)) p))
     (λ bytes tokens p. whole_found core side n bytes tokens e ∙ ap (found_in n (header_of core.inbox.bytes).opcode) (few (length (core.inbox.tokens ++ tokens)) p))
 
-finds_at : (core : Core) (side : Side) (x : Front) → front usual_limit core.inbox.bytes ≡ x → Finds core side
+finds_at : (core : Core) (side : Side) (x : Front) → in_front core.inbox ≡ x → Finds core side
 finds_at core side More e = nothing e
-finds_at core side (Bad n) e = fault faults.BadSize (λ bytes tokens. ap (found_at (with_arrived core bytes tokens) side) (bad_stays usual_limit core.inbox.bytes bytes n e))
+finds_at core side (Bad n) e = fault faults.BadSize (λ bytes tokens. ap (found_at (with_arrived core bytes tokens) side) (bad_stays core.inbox.limit.bytes core.inbox.bytes bytes n e))
 finds_at core side (Whole n) e = at_whole core side n e (meets core.tables side (reader_of core.view) (header_of core.inbox.bytes) (drop 8 (take n core.inbox.bytes)))
 
 pub finds : (core : Core) (side : Side) → Finds core side
-finds core side = finds_at core side (front usual_limit core.inbox.bytes) refl
+finds core side = finds_at core side (in_front core.inbox) refl
 
 -- ---- what came at two times, or none
 
@@ -150,7 +151,7 @@ pub record IsFound (core : Core) (side : Side) (f : Found) : Type 0 where
 side_of : (a b : ℕ) → (a < b) ⊎ (b ≤ a)
 side_of a b = elim (ltb a b) as (λ c. ltb a b ≡ c → (a < b) ⊎ (b ≤ a)) [ true ↦ λ h. inl (grind (arith, nat_tests)) | false ↦ λ h. inr (grind (arith, nat_tests)) ] refl
 
-nothing_found : (core : Core) (side : Side) → front usual_limit core.inbox.bytes ≡ More → found core side ≡ Ok None
+nothing_found : (core : Core) (side : Side) → in_front core.inbox ≡ More → found core side ≡ Ok None
 nothing_found core side e = ap (found_at core side) e
 
 fault_found : (core : Core) (side : Side) (what : Fault) → ((bytes tokens : List ℕ) → found (with_arrived core bytes tokens) side ≡ Err what) → found core side ≡ Err what
@@ -262,14 +263,14 @@ fault_stays core side what bytes tokens e n = fault_stays_by core side what byte
 
 -- ---- nothing
 
-short_by : (bytes : List ℕ) (x : Front) → x ≡ More → Seen usual_limit bytes x → length bytes < 4096
-short_by bytes x e (short p) = omega arith
-short_by bytes x e (long p q r) = omega (arith, q.within)
-short_by bytes x e (whole q r) = absurd (cc e)
-short_by bytes x e (bad p q) = absurd (cc e)
+short_by : (limit : ℕ) (bytes : List ℕ) (x : Front) → 8 ≤ limit → x ≡ More → Seen limit bytes x → length bytes < limit
+short_by limit bytes x l e (short p) = omega arith
+short_by limit bytes x l e (long p q r) = omega (arith, q.within)
+short_by limit bytes x l e (whole q r) = absurd (cc e)
+short_by limit bytes x l e (bad p q) = absurd (cc e)
 
-none_by : (core : Core) (side : Side) → found core side ≡ Ok None → Finds core side → length core.inbox.bytes < 4096
-none_by core side e (nothing h) = short_by core.inbox.bytes (front usual_limit core.inbox.bytes) h (seen usual_limit core.inbox.bytes)
+none_by : (core : Core) (side : Side) → found core side ≡ Ok None → Finds core side → length core.inbox.bytes < core.inbox.limit.bytes
+none_by core side e (nothing h) = short_by core.inbox.limit.bytes core.inbox.bytes (in_front core.inbox) (omega (arith, core.inbox.limit.in_range.0)) h (seen core.inbox.limit.bytes core.inbox.bytes)
 none_by core side e (fault what h) = absurd (cc (fault_found core side what h, e))
 none_by core side e (message g low there count some few) =
     elim (side_of (length core.inbox.tokens) (takes g.message)) [
@@ -278,5 +279,5 @@ none_by core side e (message g low there count some few) =
     ]
 
 -- where nothing is found yet, less waits than the longest message has
-pub none_short : (core : Core) (side : Side) → found core side ≡ Ok None → length core.inbox.bytes < 4096
+pub none_short : (core : Core) (side : Side) → found core side ≡ Ok None → length core.inbox.bytes < core.inbox.limit.bytes
 none_short core side e = none_by core side e (finds core side)

@@ -71,7 +71,7 @@ ends-another tables view side id opcode entry m valid d row e t = λ same.
     let place : Some entry.iface.0 ≡ Some 0 = ap (option_map (λ (x : Entry). x.iface.0)) one in
     let zero_place : entry.iface.0 ≡ 0 = cc in
     let at : signature_at tables 0 side opcode ≡ Some m = subst (λ (n : ℕ). signature_at tables n side opcode ≡ Some m) zero_place e in
-    let found : slice_get (messages_of side wl_display) opcode ≡ Some m = rw valid.fixed_three.display at at in
+    let found : slice_get (messages_of side wl_display) opcode ≡ Some m = rw valid.fixed_four.display at at in
     let nothing : m.destroys ≡ Nothing = nothing-at side opcode m found in
     let no : Nothing ≡ Target = sym nothing ∙ t in cc
 

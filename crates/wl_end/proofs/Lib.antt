@@ -7,5 +7,6 @@ pub mod Appended
 pub mod Sends
 pub mod Receivings
 pub mod Spelled
+pub mod Ends
 pub mod Readings
 pub mod AnyCut

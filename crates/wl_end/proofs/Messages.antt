@@ -3,7 +3,8 @@ use Rattle.std.proofs.Common.{◌≡◌, ℕ, ◌+◌, ◌<◌, ◌≤◌, true,
 use Rattle.std.proofs.lemmas.Bool.Decides.{nat_tests}
 use Rattle.std.proofs.lemmas.Grind.{common_steps}
 use Rattle.wl_wire.specs.Argument.{Argument}
-use Rattle.wl_message.specs.Cut.{usual_limit, IsMessage}
+use Rattle.wl_message.specs.declared.limit.Limit.{Limit}
+use Rattle.wl_message.specs.Cut.{IsMessage}
 use Rattle.wl_message.specs.Outgoing.{Outgoing, all_bytes, message, room_of, with_message}
 use Rattle.wl_message.proofs.Cuts.{headed}
 use Rattle.wl_message.proofs.Passing.{bytes_append}
@@ -12,12 +13,16 @@ use Rattle.wl_objects.proofs.Calls.{len-least}
 use Rattle.wl_objects.proofs.Wholes.{length-message, message-words}
 use Rattle.wl_end.specs.Sending.{fits}
 
-pub whole : (object opcode : ℕ) (values : List Argument) → opcode < 65536 → message_len values ≤ 4096 → IsMessage usual_limit (message_bytes object opcode values)
-whole object opcode values o h =
+pub whole_within : (limit : Limit) (object opcode : ℕ) (values : List Argument) → opcode < 65536 → message_len values ≤ limit.bytes → IsMessage limit.bytes (message_bytes object opcode values)
+whole_within limit object opcode values o h =
     let least : 8 ≤ message_len values = len-least values in
-    headed usual_limit (record { object = object; size = message_len values; opcode = opcode }) (spelled values)
-    (sym (length-message object opcode values)) (omega arith) (omega arith)
+    headed limit.bytes (record { object = object; size = message_len values; opcode = opcode }) (spelled values)
+    (sym (length-message object opcode values)) (omega (arith, h, limit.in_range.1)) (omega arith)
     (record { header = least; words = message-words values; within = h })
+
+-- each limit allows 4096 bytes
+pub whole : (limit : Limit) (object opcode : ℕ) (values : List Argument) → opcode < 65536 → message_len values ≤ 4096 → IsMessage limit.bytes (message_bytes object opcode values)
+whole limit object opcode values o h = whole_within limit object opcode values o (omega (arith, h, limit.in_range.0))
 
 -- what fits with more bytes still fits, and leaves room for those
 pub fits-less : (o : Outgoing) (bytes more tokens : ℕ) → fits o (bytes + more) tokens ≡ true → fits o bytes tokens ≡ true

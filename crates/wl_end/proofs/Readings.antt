@@ -215,7 +215,7 @@ pub rest_len : (k : ℕ) (bytes : List ℕ) → length (take (length bytes - k) 
 rest_len k bytes = ap (λ (l : List ℕ). length l) (rest_is k bytes) ∙ length-drop k bytes
 
 -- A byte finds room where no whole message waits.
-pub fed_some : (core : Core) (bytes : List ℕ) (r : Fed) → core.failed ≡ false → length core.inbox.bytes < 4096 → 4096 ≤ core.inbox.capacity → 0 < length bytes → r ≡ feeds core bytes [] → 0 < r.bytes
+pub fed_some : (core : Core) (bytes : List ℕ) (r : Fed) → core.failed ≡ false → length core.inbox.bytes < core.inbox.limit.bytes → core.inbox.limit.bytes ≤ core.inbox.capacity → 0 < length bytes → r ≡ feeds core bytes [] → 0 < r.bytes
 fed_some core bytes r h short capacity some f =
     let b = fed_bytes core bytes [] r h (omega arith) f in
     omega arith

@@ -5,15 +5,16 @@ use Rattle.std.specs.declared.option.Option.{Option}
 use Rattle.std.specs.declared.option.Option.TheVariants.{None, Some}
 use Rattle.std.specs.declared.result.Result.{Result}
 use Rattle.std.specs.declared.result.Result.TheVariants.{Ok, Err}
-use Rattle.std.specs.Prelude.{IfSome, is_some, if◌then◌else◌}
+use Rattle.std.specs.Prelude.{IfSome, option_map, is_some, if◌then◌else◌}
 use Rattle.wl_wire.specs.declared.kind.Kind.{Kind}
 use Rattle.wl_wire.specs.declared.kind.Kind.TheVariants as kinds
 use Rattle.wl_wire.specs.declared.kind.Iface.{Iface}
 use Rattle.wl_wire.specs.Argument.{Argument, Int, Uint, Fixed, Str, Obj, Array, Fd}
 use Rattle.wl_sigs.specs.declared.signature.Side.{Side}
 use Rattle.wl_sigs.specs.declared.signature.Destroys.{Destroys}
-use Rattle.wl_sigs.specs.declared.signature.Destroys.TheVariants.{Target}
-use Rattle.wl_sigs.specs.Tables.{Message, makes, new_objects, first}
+use Rattle.wl_sigs.specs.declared.signature.Destroys.TheVariants.{Nothing, Target, Arg as ends_arg}
+use Rattle.wl_sigs.specs.Tables.{Message, makes, new_objects, first, destroys_one}
+use Rattle.wl_sigs.specs.Fixed.{display}
 use Rattle.wl_sigs.specs.Valid.{Valid}
 use Rattle.wl_message.specs.Outgoing.{Outgoing}
 use Rattle.wl_objects.specs.declared.argument.Arg.{Arg}
@@ -26,9 +27,9 @@ use Rattle.wl_objects.specs.declared.error.SendError.{SendError}
 use Rattle.wl_objects.specs.declared.error.SendError.TheVariants as refusals
 use Rattle.wl_table.specs.View.{View, look, is_live, lives, lives_in, next_id}
 use Rattle.wl_table.specs.Views.{look-opened_at}
-use Rattle.wl_objects.specs.Writing.{Given, given, given_of, wired, on_wire, suits, wrong_place, call_makes, id_of, message_len, message_bytes, tokens_of}
+use Rattle.wl_objects.specs.Writing.{Given, given, given_of, wired, on_wire, suits, wrong_place, lost_place, call_makes, id_of, message_len, message_bytes, tokens_of}
 use Rattle.wl_objects.specs.Writing as writing
-use Rattle.wl_objects.specs.Messages.{Made, opens, checked, destroys}
+use Rattle.wl_objects.specs.Messages.{ended_id, Made, opens, checked, destroys}
 use Rattle.wl_objects.proofs.Calls.{len-any}
 use Rattle.wl_objects.proofs.Carrying.{if-none}
 use Rattle.wl_objects.proofs.Fitting.{call-makes}
@@ -38,6 +39,7 @@ use Rattle.wl_end.specs.Outcomes.{Gives}
 use Rattle.wl_end.specs.Sending.{answer_of, fits, following_len, made_at, next_object, opening_answer, sent, with_following, following, with_sent, writer}
 use Rattle.wl_end.proofs.Displays.{ends-another}
 use Rattle.wl_end.proofs.Messages.{fits-after, fits-less}
+use Rattle.wl_end.proofs.Ends.{NamesRegistry, is_the_destroy, names_registry, the_destroy}
 
 -- no argument of a call stands where the signature gives no interface
 not-named : (x : Arg) → suits (kinds.New None) (given_of x) ≡ true → ⊥
@@ -93,15 +95,15 @@ version-at core target signature list entry row w = rw row (call-makes core.tabl
 
 -- the object that a call makes is the one that is opened next, if its signature has one
 pub made-next : (core : Core) (side : Side) (target : Object) (opcode : ℕ) (list : List Arg) (signature : Message) (entry : Entry)
-    → checked core.tables side core.view target opcode (given list) ≡ Ok signature → look core.view target.id ≡ Some entry
+    → checked core.outbox.limit.bytes core.tables side core.view target opcode (given list) ≡ Ok signature → look core.view target.id ≡ Some entry
     → made_at core target signature (given list) ≡ next_object core.view entry.version (call_makes signature.kinds)
-made-next core side target opcode list signature entry e row = version-at core target signature list entry row (passes core.tables side core.view target opcode (given list) signature e).suit
+made-next core side target opcode list signature entry e row = version-at core target signature list entry row (passes core.outbox.limit.bytes core.tables side core.view target opcode (given list) signature e).suit
 
 -- what is written is the same with the new object's id as with the next one, also where no object is new
 pub wired-next : (core : Core) (side : Side) (target : Object) (opcode : ℕ) (list : List Arg) (signature : Message) (id : ℕ) (iface : Option Iface)
-    → checked core.tables side core.view target opcode (given list) ≡ Ok signature → iface ≡ call_makes signature.kinds → (is_some iface ≡ true → id ≡ next_id core.view)
+    → checked core.outbox.limit.bytes core.tables side core.view target opcode (given list) ≡ Ok signature → iface ≡ call_makes signature.kinds → (is_some iface ≡ true → id ≡ next_id core.view)
     → on_wire id list ≡ on_wire (next_id core.view) list
-wired-next core side target opcode list signature id None e f h = same-wired id (next_id core.view) 0 signature.kinds list (passes core.tables side core.view target opcode (given list) signature e).suit (sym f)
+wired-next core side target opcode list signature id None e f h = same-wired id (next_id core.view) 0 signature.kinds list (passes core.outbox.limit.bytes core.tables side core.view target opcode (given list) signature e).suit (sym f)
 wired-next core side target opcode list signature id (Some iface) e f h = ap (λ n. on_wire n list) (h refl)
 
 -- the target is live still after an object was opened
@@ -119,9 +121,9 @@ state-lives Live h = refl
 state-lives Zombie h = h
 
 pub target-live : (core : Core) (side : Side) (target : Object) (opcode : ℕ) (list : List Arg) (signature : Message) (new : Option Iface) (version : ℕ)
-    → checked core.tables side core.view target opcode (given list) ≡ Ok signature → is_live (opens core.view (next_object core.view version new)) target.id ≡ true
+    → checked core.outbox.limit.bytes core.tables side core.view target opcode (given list) ≡ Ok signature → is_live (opens core.view (next_object core.view version new)) target.id ≡ true
 target-live core side target opcode list signature new version e =
-    let p = passes core.tables side core.view target opcode (given list) signature e in
+    let p = passes core.outbox.limit.bytes core.tables side core.view target opcode (given list) signature e in
     live-opened core.view new version target.id (ap lives_in p.row ∙ state-lives p.entry.state p.live)
 
 -- what the code counts is the room that a call needs
@@ -149,7 +151,7 @@ gives-more memory wants more answer result f (inr w) = inr (w.0, f w.1, w.2)
 
 -- a call that has room is answered as the opening of its object is
 pub answered : (core : Core) (side : Side) (target : Object) (opcode : ℕ) (list : List Arg) (signature : Message) (entry : Entry) (result : Result (Option Object) SendError)
-    → checked core.tables side core.view target opcode (given list) ≡ Ok signature → look core.view target.id ≡ Some entry
+    → checked core.outbox.limit.bytes core.tables side core.view target opcode (given list) ≡ Ok signature → look core.view target.id ≡ Some entry
     → fits core.outbox (message_len (on_wire 0 list) + following_len side signature.destroys) (length (tokens_of (given list))) ≡ true
     → Gives refusals.Memory (is_some (call_makes signature.kinds)) (opening_answer core (next_object core.view entry.version (call_makes signature.kinds))) result
     → Gives refusals.Memory (is_some (makes signature)) (answer_of core side target (given list) (Ok signature)) result
@@ -166,7 +168,7 @@ id-where new view (Some iface) h s = h
 
 -- the message in the outbox and the new object in the table
 pub written-known : (core opened written : Core) (side : Side) (target : Object) (opcode : ℕ) (list : List Arg) (signature : Message) (entry : Entry) (new : Option Object) (iface : Option Iface) (tokens : List ℕ)
-    → checked core.tables side core.view target opcode (given list) ≡ Ok signature → look core.view target.id ≡ Some entry → iface ≡ call_makes signature.kinds
+    → checked core.outbox.limit.bytes core.tables side core.view target opcode (given list) ≡ Ok signature → look core.view target.id ≡ Some entry → iface ≡ call_makes signature.kinds
     → opened ≡ with_view core (opens core.view (next_object core.view entry.version iface)) → IfSome iface (λ _. id_of new ≡ next_id core.view)
     → written ≡ with_sent opened target.id opcode (on_wire (id_of new) list) tokens → tokens ≡ tokens_of (given list)
     → written ≡ with_view (with_sent core target.id opcode (map (wired (next_id core.view)) (given list)) (tokens_of (given list))) (opens core.view (made_at core target signature (given list)))
@@ -180,16 +182,53 @@ written-known core opened written side target opcode list signature entry new if
 
 -- no message ends wl_display
 pub ends-other : (core : Core) (side : Side) (target : Object) (opcode : ℕ) (list : List Arg) (signature : Message) → Valid core.tables → HasDisplay core.view
-    → checked core.tables side core.view target opcode (given list) ≡ Ok signature → signature.destroys ≡ Target → target.id ≢ 1
+    → checked core.outbox.limit.bytes core.tables side core.view target opcode (given list) ≡ Ok signature → signature.destroys ≡ Target → target.id ≢ 1
 ends-other core side target opcode list signature v d e t =
-    let p = passes core.tables side core.view target opcode (given list) signature e in
+    let p = passes core.outbox.limit.bytes core.tables side core.view target opcode (given list) signature e in
     ends-another core.tables core.view side target.id opcode p.entry signature v d p.row p.exists t
 
 -- and then what the message ends
-pub ended-known : (core written ended : Core) (side : Side) (target : Object) (opcode : ℕ) (list : List Arg) (signature : Message) (what : Destroys)
+pub ended-known : (core written ended : Core) (side : Side) (target : Object) (opcode : ℕ) (list : List Arg) (signature : Message) (what : Destroys) (id : ℕ)
     → written ≡ with_view (with_sent core target.id opcode (map (wired (next_id core.view)) (given list)) (tokens_of (given list))) (opens core.view (made_at core target signature (given list)))
-    → ended ≡ with_following (following side what) target.id (with_view written (destroys (writer side) what target.id written.view)) → what ≡ signature.destroys
+    → ended ≡ with_following (following side what) id (with_view written (destroys (writer side) what id written.view)) → what ≡ signature.destroys → id ≡ ended_id what target.id (on_wire 0 list)
     → ended ≡ sent core side target opcode (given list) signature
-ended-known core written ended side target opcode list signature what w e d =
-    e ∙ (ap (λ (x : Destroys). with_following (following side x) target.id (with_view written (destroys (writer side) x target.id written.view))) d
-    ∙ ap (λ (c : Core). with_following (following side signature.destroys) target.id (with_view c (destroys (writer side) signature.destroys target.id c.view))) w)
+ended-known core written ended side target opcode list signature what id w e d i =
+    let same : id ≡ ended_id signature.destroys target.id (on_wire 0 list) = i ∙ ap (λ (x : Destroys). ended_id x target.id (on_wire 0 list)) d in
+    e ∙ (λ j. with_following (following side (d j)) (same j) (with_view (w j) (destroys (writer side) (d j) (same j) (w j).view)))
+
+-- ---- what is destroyed is live, and not wl_display
+
+open_row : (view : View) (new : Option Iface) (version id : ℕ) → NamesRegistry view id → is_live (opens view (next_object view version new)) id ≡ true
+open_row view new version id n = live-opened view new version id (ap lives_in n.there ∙ state-lives n.entry.state n.live)
+
+argument-named : (core : Core) (side : Side) (target : Object) (opcode : ℕ) (list : List Arg) (signature : Message) (k : ℕ) → Valid core.tables
+    → checked core.outbox.limit.bytes core.tables side core.view target opcode (given list) ≡ Ok signature → signature.destroys ≡ ends_arg k → NamesRegistry core.view (ended_id signature.destroys target.id (on_wire 0 list))
+argument-named core side target opcode list signature k v e d =
+    let p = passes core.outbox.limit.bytes core.tables side core.view target opcode (given list) signature e in
+    let same : signature ≡ the_destroy = is_the_destroy core.tables p.entry.iface.0 side opcode signature k v p.exists d in
+    subst (λ (m : Message). NamesRegistry core.view (ended_id m.destroys target.id (on_wire 0 list))) (sym same)
+    (names_registry core.view (given list) (subst (λ (m : Message). wrong_place 0 m.kinds (given list) ≡ None) same p.suit) (subst (λ (m : Message). lost_place (look core.view) 0 m.kinds (given list) ≡ None) same p.can_name))
+
+pub ended-live : (core : Core) (side : Side) (target : Object) (opcode : ℕ) (list : List Arg) (signature : Message) (new : Option Iface) (version : ℕ) → Valid core.tables
+    → checked core.outbox.limit.bytes core.tables side core.view target opcode (given list) ≡ Ok signature → is_live (opens core.view (next_object core.view version new)) (ended_id signature.destroys target.id (on_wire 0 list)) ≡ true
+ended-live core side target opcode list signature new version v e = by_what signature.destroys refl
+  where
+    by_what : (what : Destroys) → signature.destroys ≡ what → is_live (opens core.view (next_object core.view version new)) (ended_id signature.destroys target.id (on_wire 0 list)) ≡ true
+    by_what Nothing d = rw d (target-live core side target opcode list signature new version e)
+    by_what Target d = rw d (target-live core side target opcode list signature new version e)
+    by_what (ends_arg k) d = open_row core.view new version _ (argument-named core side target opcode list signature k v e d)
+
+registry-other : (view : View) (id : ℕ) → HasDisplay view → NamesRegistry view id → id ≢ 1
+registry-other view id d n = λ same. (
+    let one : Some n.entry ≡ Some (record { birth = 0; iface = display; version = 1; state = Live }) = sym n.there ∙ ap (look view) same ∙ d in
+    let place : Some n.entry.iface.0 ≡ Some 0 = ap (option_map (λ (x : Entry). x.iface.0)) one in
+    let r = n.registers in cc (place, r))
+
+pub ended-other : (core : Core) (side : Side) (target : Object) (opcode : ℕ) (list : List Arg) (signature : Message) → Valid core.tables → HasDisplay core.view
+    → checked core.outbox.limit.bytes core.tables side core.view target opcode (given list) ≡ Ok signature → destroys_one signature.destroys ≡ true → ended_id signature.destroys target.id (on_wire 0 list) ≢ 1
+ended-other core side target opcode list signature v d e one = by_what signature.destroys refl
+  where
+    by_what : (what : Destroys) → signature.destroys ≡ what → ended_id signature.destroys target.id (on_wire 0 list) ≢ 1
+    by_what Nothing h = absurd (let no = ap destroys_one h in cc (no, one))
+    by_what Target h = subst (λ (what : Destroys). ended_id what target.id (on_wire 0 list) ≢ 1) (sym h) (ends-other core side target opcode list signature v d e h)
+    by_what (ends_arg k) h = registry-other core.view _ d (argument-named core side target opcode list signature k v e h)

@@ -15,7 +15,8 @@ use Rattle.wl_wire.proofs.Canonicals.{canonical-spells, header_at-bytes, header_
 use Rattle.wl_wire.proofs.Numbers.{number_at_fits}
 use Rattle.wl_sigs.specs.declared.signature.Side.{Side}
 use Rattle.wl_sigs.specs.Tables.{Interface, Message, signature_at}
-use Rattle.wl_message.specs.Cut.{usual_limit, front, Front, More, Bad, Whole, IsSize, told_size}
+use Rattle.wl_message.specs.Arrived.{in_front}
+use Rattle.wl_message.specs.Cut.{usual_limit, Front, More, Bad, Whole, IsSize, told_size}
 use Rattle.wl_message.proofs.Fronts.{front_stands, parts_of}
 use Rattle.wl_message.proofs.Cuts.{message_there}
 use Rattle.wl_table.specs.declared.object.Object.{Object}
@@ -85,7 +86,7 @@ pub calls_spell : (core : Core) (side : Side) (target : Object) (opcode : ℕ) (
 calls_spell core side target opcode list signature s e r =
     let n = next_id core.view in
     let values = map (wired n) list in
-    let p = passes core.tables side core.view target opcode list signature e in
+    let p = passes core.outbox.limit.bytes core.tables side core.view target opcode list signature e in
     let f = free_is core.view n s (free_or_next-next_id core.view) in
     let low : n < 2 ^ 32 = omega (arith, f.at_most_next, s.ids_end) in
     let len : length (message_bytes target.id opcode values) ≡ message_len values = length-message target.id opcode values in
@@ -96,7 +97,7 @@ calls_spell core side target opcode list signature s e r =
     record {
       arguments = spelled values;
       whole = ap (λ (k : ℕ). header_bytes (record { object = target.id; size = k; opcode = opcode }) ++ spelled values) (sym len);
-      size = subst (IsSize usual_limit) (sym len) (record { header = least; words = words; within = omega (arith, any, p.len) });
+      size = subst (IsSize core.outbox.limit.bytes) (sym len) (record { header = least; words = words; within = omega (arith, any, p.len) });
       each = written-spelled n 0 signature.kinds list low p.suit r (λ object k d h. nulls k d h object);
     }
 
@@ -113,7 +114,7 @@ suited-spelled (kind ∷ kinds) [] s = absurd s
 suited-spelled (kind ∷ kinds) (value ∷ values) s = spelling.more (canonical-spells kind value s.0) (suited-spelled kinds values s.1) refl
 
 -- a message that an end writes of itself
-pub own-spelled : (kinds : List Kind) (object opcode : ℕ) (values : List Argument) → EachSuits kinds values → message_len values ≤ 4096 → MessageSpells kinds object opcode values (message_bytes object opcode values)
+pub own-spelled : (kinds : List Kind) (object opcode : ℕ) (values : List Argument) → EachSuits kinds values → message_len values ≤ 4096 → MessageSpells usual_limit kinds object opcode values (message_bytes object opcode values)
 own-spelled kinds object opcode values s l =
     let len : length (message_bytes object opcode values) ≡ message_len values = length-message object opcode values in
     let words = message-words values in
@@ -167,7 +168,7 @@ read_as : (side : Side) (reader : Reader) (header : Header) (body : List ℕ) (w
 read_as side reader header body waiting m entry signature true h = absurd (cc h)
 read_as side reader header body waiting m entry signature false h = read_whole side reader header body waiting m entry signature _ refl h
 
-abbrev IsRead : Side → Reader → ℕ → List ℕ → Received → Type 0
+abbrev pub IsRead : Side → Reader → ℕ → List ℕ → Received → Type 0
 IsRead side reader opcode body m = arguments_at (forgiving (is_error side m.entry.iface opcode) reader) 0 m.signature.kinds body ≡ Ok (m.values, [])
 
 is_read : (side : Side) (reader : Reader) (opcode : ℕ) (body : List ℕ) (entry : Entry) (signature : Message) (m : Received) → ReadBy side reader opcode body entry signature m → IsRead side reader opcode body m
@@ -180,7 +181,7 @@ read_entry side reader header body waiting m entry None h = absurd (cc h)
 read_entry side reader header body waiting m entry (Some signature) h =
     is_read side reader header.opcode body entry signature m (read_as side reader header body waiting m entry signature (nat_lt entry.version signature.since) h)
 
-read_row : (tables : List Interface) (side : Side) (reader : Reader) (header : Header) (body : List ℕ) (waiting : ℕ) (m : Received) (o : Option Entry)
+pub read_row : (tables : List Interface) (side : Side) (reader : Reader) (header : Header) (body : List ℕ) (waiting : ℕ) (m : Received) (o : Option Entry)
     → received_by tables side reader header body waiting o ≡ Ok m → IsRead side reader header.opcode body m
 read_row tables side reader header body waiting m None h = absurd (cc h)
 read_row tables side reader header body waiting m (Some entry) h = read_entry side reader header body waiting m entry (signature_at tables entry.iface.0 side header.opcode) h
@@ -231,8 +232,8 @@ size_of core side f (Whole n) h = by_result (received core.tables side (reader_o
 pub found_spells : (core : Core) (side : Side) (f : Found) → FoundSpells core side f
 found_spells core side f w e =
     let bytes = core.inbox.bytes in
-    let z = size_of core side f (front usual_limit bytes) e in
-    let st = front_stands usual_limit bytes f.size z.0 in
+    let z = size_of core side f (in_front core.inbox) e in
+    let st = front_stands core.inbox.limit.bytes bytes f.size z.0 in
     let big = st.size.header in
     let fits = st.there in
     let h = header_of bytes in
@@ -254,23 +255,23 @@ found_spells core side f w e =
     record {
       arguments = body;
       whole = all ∙ (λ i. header_bytes (record { object = sym id i; size = (size ∙ sym len) i; opcode = sym opcode i }) ++ body);
-      size = subst (IsSize usual_limit) (sym len) st.size;
+      size = subst (IsSize core.inbox.limit.bytes) (sym len) st.size;
       each = meets-spelled (met reader 0 f.message.signature.kinds body f.message.values [] wide r) refl;
     }
 
 -- ---- messages one after another
 
-pub begin_none : (bytes : List ℕ) → BeginWith bytes 0 bytes
-begin_none bytes = record { messages = []; as_many = refl; whole = tt; joined = refl }
+pub begin_none : (limit : ℕ) (bytes : List ℕ) → BeginWith limit bytes 0 bytes
+begin_none limit bytes = record { messages = []; as_many = refl; whole = tt; joined = refl }
 
-pub begin_more : (core : Core) (side : Side) (f : Found) (count : ℕ) (left rest : List ℕ) → found core side ≡ Ok (Some f) → left ≡ drop f.size core.inbox.bytes → BeginWith left count rest
-    → BeginWith core.inbox.bytes (suc count) rest
+pub begin_more : (core : Core) (side : Side) (f : Found) (count : ℕ) (left rest : List ℕ) → found core side ≡ Ok (Some f) → left ≡ drop f.size core.inbox.bytes → BeginWith core.inbox.limit.bytes left count rest
+    → BeginWith core.inbox.limit.bytes core.inbox.bytes (suc count) rest
 begin_more core side f count left rest e l b =
     let bytes = core.inbox.bytes in
     let first = take f.size bytes in
     record {
       messages = first ∷ b.messages;
       as_many = ap suc b.as_many;
-      whole = (message_there usual_limit bytes f.size (size_of core side f (front usual_limit bytes) e).0, b.whole);
+      whole = (message_there core.inbox.limit.bytes bytes f.size (size_of core side f (in_front core.inbox) e).0, b.whole);
       joined = sym (take-append-drop f.size bytes) ∙ ap (λ (x : List ℕ). first ++ x) (sym l ∙ b.joined) ∙ sym (append_assoc first (concat b.messages) rest);
     }

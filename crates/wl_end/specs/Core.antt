@@ -34,8 +34,8 @@ abbrev pub new_core : List Interface → Sizes → Core
 new_core tables sizes = record {
   tables = tables;
   view = opening display;
-  inbox = nothing_arrived sizes.in_bytes sizes.in_tokens;
-  outbox = no_messages sizes.out_bytes sizes.out_tokens;
+  inbox = nothing_arrived sizes.in_bytes sizes.in_tokens sizes.limit;
+  outbox = no_messages sizes.out_bytes sizes.out_tokens sizes.limit;
   failed = false;
   read = 0;
 }

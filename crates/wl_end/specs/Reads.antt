@@ -5,7 +5,6 @@ use Rattle.std.specs.declared.result.Result.{Result}
 use Rattle.std.specs.declared.result.Result.TheVariants.{Ok, Err}
 use Rattle.wl_sigs.specs.declared.signature.Side.{Side}
 use Rattle.wl_message.specs.Arrived.{free_tokens}
-use Rattle.wl_message.specs.Cut.{usual_limit}
 use Rattle.wl_message.specs.InStep.{Part, Need, InStep}
 use Rattle.wl_objects.specs.declared.error.Fault.{Fault}
 use Rattle.wl_objects.specs.declared.error.NextError.{NextError}
@@ -108,7 +107,7 @@ pub record ReadsReport {S R : Type 0} (e : Reading S R) (state : S) (report : R)
 pub record ReadsNothing {S R : Type 0} (e : Reading S R) (state : S) : Type 0 where
   pub is : e.answer state ≡ Ok None
   pub sound : (e.core state).failed ≡ false
-  pub short : length (e.core state).inbox.bytes < usual_limit
+  pub short : length (e.core state).inbox.bytes < (e.core state).inbox.limit.bytes
 
 -- What one reading returns and leaves, at an end that has not failed.
 abbrev pub ReadsNext : {S R X : Type 0} → Reading S R → (X → R) → S → Answer X → S → Type 0

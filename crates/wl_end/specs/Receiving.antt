@@ -6,7 +6,8 @@ use Rattle.std.specs.declared.result.Result.TheVariants.{Ok, Err}
 use Rattle.wl_wire.specs.declared.header.Header.{Header}
 use Rattle.wl_wire.specs.Reading.{number_at}
 use Rattle.wl_sigs.specs.declared.signature.Side.{Side}
-use Rattle.wl_message.specs.Cut.{usual_limit, front, Front, More, Bad, Whole}
+use Rattle.wl_message.specs.Arrived.{in_front}
+use Rattle.wl_message.specs.Cut.{Front, More, Bad, Whole}
 use Rattle.wl_objects.specs.declared.error.Fault.{Fault}
 use Rattle.wl_objects.specs.declared.error.Fault.TheVariants as faults
 use Rattle.wl_objects.specs.Reading.{descriptors, Reported, reports_of}
@@ -43,7 +44,7 @@ found_at core side (Whole size) =
 -- What stands in front of the waiting bytes: no whole message yet, a message, or a fault; messages
 -- of this side come in.
 abbrev pub found : Core → Side → Result (Option Found) Fault
-found core side = found_at core side (front usual_limit core.inbox.bytes)
+found core side = found_at core side (in_front core.inbox)
 
 -- the arguments of a message as they are reported: objects by the rows before the message,
 -- descriptors as the first tokens that wait

@@ -6,7 +6,7 @@ use Rattle.wl_wire.specs.Argument.{Argument, Uint, Str, Obj}
 use Rattle.wl_sigs.specs.declared.signature.Side.{Side}
 use Rattle.wl_sigs.specs.declared.signature.Side.TheVariants.{Request, Event}
 use Rattle.wl_sigs.specs.declared.signature.Destroys.{Destroys}
-use Rattle.wl_sigs.specs.Tables.{Message, destroys_target, makes}
+use Rattle.wl_sigs.specs.Tables.{Message, destroys_one, makes}
 use Rattle.wl_message.specs.Outgoing.{Outgoing, room_of, token_room_of, with_message, with_error}
 use Rattle.wl_table.specs.declared.object.Object.{Object}
 use Rattle.wl_table.specs.declared.object.Entry.{Entry}
@@ -15,7 +15,7 @@ use Rattle.wl_objects.specs.declared.error.SendError.TheVariants as refusals
 use Rattle.wl_wire.specs.declared.kind.Iface.{Iface}
 use Rattle.wl_table.specs.View.{View, next_id, can_open, look}
 use Rattle.wl_objects.specs.Writing.{Given, wired, message_len, message_bytes, tokens_of}
-use Rattle.wl_objects.specs.Messages.{Made, made, checked, End, Client, Server, after}
+use Rattle.wl_objects.specs.Messages.{Made, made, checked, End, Client, Server, after, ended_id}
 use Rattle.wl_end.specs.Core.{Core, with_view}
 
 -- whether this number of bytes and tokens is free in the outbox
@@ -65,7 +65,7 @@ reader Event = Client
 -- the delete_id that directly follows a destroying event
 abbrev pub following : Side → Destroys → Bool
 following Request what = false
-following Event what = destroys_target what
+following Event what = destroys_one what
 
 abbrev pub following_len : Side → Destroys → ℕ
 following_len side what = if following side what then delete_id_len else 0
@@ -89,7 +89,7 @@ answer_of core side target given (Ok signature) =
 -- new object, if the message makes one.
 abbrev pub send_answer : Core → Side → Object → ℕ → List Given → Result (Option Object) SendError
 send_answer core side target opcode given =
-    if core.failed then Err refusals.Failed else answer_of core side target given (checked core.tables side core.view target opcode given)
+    if core.failed then Err refusals.Failed else answer_of core side target given (checked core.outbox.limit.bytes core.tables side core.view target opcode given)
 
 abbrev pub with_following : Bool → ℕ → Core → Core
 with_following true id core = with_delete_id core id
@@ -97,9 +97,10 @@ with_following false id core = core
 
 abbrev pub sent : Core → Side → Object → ℕ → List Given → Message → Core
 sent core side target opcode given signature =
-    with_following (following side signature.destroys) target.id
+    let id = ended_id signature.destroys target.id (map (wired 0) given) in
+    with_following (following side signature.destroys) id
     (with_view (with_sent core target.id opcode (map (wired (next_id core.view)) given) (tokens_of given))
-    (after (writer side) core.view (made_at core target signature given) signature.destroys target.id))
+    (after (writer side) core.view (made_at core target signature given) signature.destroys id))
 
 abbrev pub after_checked : Core → Side → Object → ℕ → List Given → Result Message SendError → Core
 after_checked core side target opcode given (Err refusal) = core
@@ -108,7 +109,7 @@ after_checked core side target opcode given (Ok signature) = sent core side targ
 -- The end after a `send` that was answered Ok: the message in its canonical spelling stands last in the outbox, after it the
 -- delete_id of an object that it destroyed at the server, and the objects are as the message leaves them.
 abbrev pub after_send : Core → Side → Object → ℕ → List Given → Core
-after_send core side target opcode given = after_checked core side target opcode given (checked core.tables side core.view target opcode given)
+after_send core side target opcode given = after_checked core side target opcode given (checked core.outbox.limit.bytes core.tables side core.view target opcode given)
 
 -- whether a call opens an object
 abbrev pub opens_object : Result Message SendError → Bool

@@ -5,7 +5,7 @@ use Rattle.std.specs.List.{concat, AllByRecursion}
 use Rattle.std.specs.declared.result.Result.TheVariants.{Ok}
 use Rattle.wl_sigs.specs.declared.signature.Side.{Side}
 use Rattle.wl_message.specs.declared.amounts.Fed.{Fed}
-use Rattle.wl_message.specs.Cut.{usual_limit, IsMessage}
+use Rattle.wl_message.specs.Cut.{IsMessage}
 use Rattle.wl_message.specs.InStep.{Part, Need}
 use Rattle.wl_end.specs.Core.{Core, with_arrived, no_room}
 use Rattle.wl_end.specs.Receiving.{Found, found, takes}
@@ -62,10 +62,10 @@ NoneFits room [] count = Unit {0}
 NoneFits room (p ∷ ps) zero = room < length p.tokens
 NoneFits room (p ∷ ps) (suc count) = NoneFits room ps count
 
--- The bytes begin with this number of whole messages, by the sizes in their headers, and this is
--- left behind them.
-pub record BeginWith (bytes : List ℕ) (count : ℕ) (rest : List ℕ) : Type 0 where
+-- The bytes begin with this number of whole messages within a limit, by the sizes in their headers,
+-- and this is left behind them.
+pub record BeginWith (limit : ℕ) (bytes : List ℕ) (count : ℕ) (rest : List ℕ) : Type 0 where
   pub messages : List (List ℕ)
   pub as_many : length messages ≡ count
-  pub whole : AllByRecursion (IsMessage usual_limit) messages
+  pub whole : AllByRecursion (IsMessage limit) messages
   pub joined : bytes ≡ concat messages ++ rest

@@ -1,6 +1,5 @@
 //! An end, as whoever carries bytes to it and from it sees it.
 ghost use Rattle.std.specs.Prelude.{◌≡◌, ◌≤◌, ◌++◌, length, take, drop};
-ghost use Rattle.wl_message.specs.Cut.{usual_limit};
 ghost use Rattle.wl_message.specs.Outgoing.{goes, waiting_bytes, waiting_tokens};
 ghost use Rattle.wl_end.specs.Core.{Core, feeds, in_room, with_arrived, with_gone};
 ghost use Rattle.wl_end.specs.Reads.{IsCoreOf};
@@ -39,7 +38,7 @@ pub trait End {
         ensures state { self.new
             ≡ with_core self.old (with_arrived (core self.old)
             (take result.bytes bytes.now) (take result.tokens tokens.now)) }
-        ensures holds { usual_limit ≤ (core self.old).inbox.capacity };
+        ensures holds { (core self.old).inbox.limit.bytes ≤ (core self.old).inbox.capacity };
 
     ghost laws: { IsCoreOf core with_core };
 }

@@ -33,7 +33,7 @@ pub fn found_stays()
         → found core side ≡ Err what → (what ≡ faults.MissingDescriptor → tokens ≡ [])
         → found (with_arrived core bytes tokens) side ≡ Err what }
     ensures short { (core : Core) (side : Side) → found core side ≡ Ok None
-        → length core.inbox.bytes < 4096 }
+        → length core.inbox.bytes < core.inbox.limit.bytes }
 {}
 
 /// What was taken of pieces, and what was not, are all; and pieces in step stay so when what was

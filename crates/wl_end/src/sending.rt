@@ -1,12 +1,12 @@
 //! What an end writes.
 ghost use Rattle.std.specs.Prelude.{[], ◌≡◌, ◌≢◌, ◌≤◌, ◌+◌, ℕ, false, true, Some, Ok, IfOk, IfSome, IsTrue, OnErr, OnOk, is_some, length};
-ghost use Rattle.wl_message.specs.Cut.{usual_limit, IsMessage};
+ghost use Rattle.wl_message.specs.Cut.{IsMessage};
 ghost use Rattle.wl_message.specs.Outgoing.{with_message};
-ghost use Rattle.wl_sigs.specs.Tables.{makes};
+ghost use Rattle.wl_sigs.specs.Tables.{destroys_one, makes};
 ghost use Rattle.wl_sigs.specs.Valid.{Valid};
-ghost use Rattle.wl_objects.specs.Messages.{checked, destroys, opens};
+ghost use Rattle.wl_objects.specs.Messages.{checked, destroys, ended_id, id_named, opens};
 ghost use Rattle.wl_table.specs.View.{Sound, is_live, look, next_id};
-ghost use Rattle.wl_objects.specs.Writing.{EachFits, bind_values, given, has_no_nul, id_of, message_len, on_wire, tokens_of};
+ghost use Rattle.wl_objects.specs.Writing.{EachFits, bind_values, given, given_of, wired, has_no_nul, id_of, message_len, on_wire, tokens_of};
 ghost use Rattle.wl_end.specs.Core.{HasDisplay, with_view};
 ghost use Rattle.wl_end.specs.Outcomes.{Gives};
 ghost use Rattle.wl_end.specs.Sending.{after_send, answer_of, delete_id_len, fits, following, following_len, next_object, opening_answer, opens_object, send_answer, sent, with_delete_id, with_error_event, with_following, with_sent, writer};
@@ -27,12 +27,36 @@ use wl_wire::Iface;
 /// The number of bytes of wl_display.delete_id.
 pub const DELETE_ID_LEN: usize = 12;
 
+/// The id of the object that an argument names; 0 where it names none.
+fn id_named(arg: &Arg<'_>) -> u32
+    ensures { result ≡ id_named (Some (wired 0 (given_of arg.now))) }
+{
+    match arg {
+        Arg::Obj(Some(object)) => object.id,
+        _ => 0,
+    }
+}
+
+/// The id of the object that a call destroys, if it destroys one.
+#[tactic(auto, using(crate::proofs::Ends::named_known))]
+fn ended_id(what: Destroys, target: u32, args: &[Arg<'_>]) -> u32
+    ensures { result ≡ ended_id what target (on_wire 0 args.now) }
+{
+    match what {
+        Destroys::Nothing | Destroys::Target => target,
+        Destroys::Arg(place) => match args.get(place) {
+            Some(arg) => id_named(arg),
+            None => 0,
+        },
+    }
+}
+
 /// How many bytes directly follow a message of this side: a delete_id follows a destroying event.
 fn following_len(side: Side, destroys: Destroys) -> usize
     ensures { result ≡ following_len side destroys }
 {
     match (side, destroys) {
-        (Side::Event, Destroys::Target) => DELETE_ID_LEN,
+        (Side::Event, Destroys::Target | Destroys::Arg(_)) => DELETE_ID_LEN,
         _ => 0,
     }
 }
@@ -46,7 +70,7 @@ fn id_of(new: Option<Object>) -> u32
 
 /// Adds a message that fits.
 fn add<A: Allocator>(outbox: &mut Outbox<A>, message: &[u8], tokens: &[u32])
-    requires whole { IsMessage usual_limit message.now }
+    requires whole { IsMessage outbox.old.limit.bytes message.now }
     requires room { IsTrue (fits outbox.old (length message.now) (length tokens.now)) }
     ensures { outbox.new ≡ with_message outbox.old message.now tokens.now }
 {
@@ -134,7 +158,7 @@ impl<'t, T: Table> Core<'t, T> {
     )
         requires fits { EachFits (on_wire (id_of new) args.now) }
         requires len { len ≡ message_len (on_wire (id_of new) args.now) }
-        requires short { len ≤ 4096 }
+        requires short { len ≤ self.old.outbox.limit.bytes }
         requires room { IsTrue
             (fits self.old.outbox (message_len (on_wire (id_of new) args.now))
             (length tokens.now)) }
@@ -145,21 +169,22 @@ impl<'t, T: Table> Core<'t, T> {
         add(&mut self.outbox, &self.store, tokens);
     }
 
-    /// Ends the target of a message that destroys it: at a client it is a zombie, at a server it is
-    /// closed, and delete_id follows.
-    fn end_target(&mut self, side: Side, what: Destroys, id: u32)
+    /// Ends the object that a message destroys, if it destroys one: at a client it is a zombie, at a
+    /// server it is closed, and delete_id follows.
+    fn end_object(&mut self, side: Side, what: Destroys, id: u32)
         requires live { IsTrue (is_live self.old.view id) }
-        requires other { what ≡ Destroys.Target → id ≢ 1 }
+        requires other { destroys_one what ≡ true → id ≢ 1 }
         requires room { IsTrue (fits self.old.outbox (following_len side what) 0) }
         ensures { self.new ≡ with_following (following side what) id
             (with_view self.old (destroys (writer side) what id self.old.view)) }
     {
-        match (side, what) {
-            (_, Destroys::Nothing) => {}
-            (Side::Request, Destroys::Target) => self.table.make_zombie(id),
-            (Side::Event, Destroys::Target) => {
-                self.table.close(id);
-                self.write_delete_id(id);
+        if what.destroys_one() {
+            match side {
+                Side::Request => self.table.make_zombie(id),
+                Side::Event => {
+                    self.table.close(id);
+                    self.write_delete_id(id);
+                }
             }
         }
     }
@@ -173,12 +198,13 @@ impl<'t, T: Table> Core<'t, T> {
         args: &[Arg<'_>],
         call: CheckedCall<'_>,
     ) -> Result<Option<Object>, SendError>
-        requires passes { checked self.old.tables side self.old.view target opcode (given args.now)
+        requires passes { checked self.old.outbox.limit.bytes self.old.tables side self.old.view
+            target opcode (given args.now)
             ≡ Ok call.signature.now }
         requires entry { look self.old.view target.id ≡ Some call.entry }
         requires len { (id : ℕ) → call.len ≡ message_len (on_wire id args.now) }
         requires fits { (id : ℕ) → EachFits (on_wire id args.now)
-            × (message_len (on_wire id args.now) ≤ 4096) }
+            × (message_len (on_wire id args.now) ≤ self.old.outbox.limit.bytes) }
         requires few { length args.now ≤ 20 }
         requires sound { Sound self.old.view }
         requires display { HasDisplay self.old.view }
@@ -202,7 +228,8 @@ impl<'t, T: Table> Core<'t, T> {
         }
         let new = self.open_new(call_makes(signature.kinds()), entry.version)?;
         self.write_call(target.id, opcode, args, &tokens[..count], new, len);
-        self.end_target(side, signature.destroys(), target.id);
+        let what = signature.destroys();
+        self.end_object(side, what, ended_id(what, target.id, args));
         Ok(new)
     }
 
@@ -220,8 +247,9 @@ impl<'t, T: Table> Core<'t, T> {
         args: &[Arg<'_>],
     ) -> Result<Option<Object>, SendError>
         ensures answer { Gives SendError.Memory
-            (opens_object (checked self.old.tables side self.old.view target opcode
-            (given args.now))) (send_answer self.old side target opcode (given args.now)) result }
+            (opens_object (checked self.old.outbox.limit.bytes self.old.tables side self.old.view
+            target opcode (given args.now)))
+            (send_answer self.old side target opcode (given args.now)) result }
         ensures ok { OnOk result
             (self.new ≡ after_send self.old side target opcode (given args.now)) }
         ensures err { OnErr result (self.new ≡ self.old) }
@@ -231,7 +259,8 @@ impl<'t, T: Table> Core<'t, T> {
         if self.failed {
             return Err(SendError::Failed);
         }
-        let call = match check_call(self.tables, side, &self.table, target, opcode, args) {
+        let limit = self.outbox.limit().bytes;
+        let call = match check_call(self.tables, side, &self.table, target, opcode, args, limit) {
             Ok(call) => call,
             Err(refusal) => return Err(refusal),
         };

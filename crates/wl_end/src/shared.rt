@@ -1,7 +1,6 @@
 //! One end of a connection, whichever.
 ghost use Rattle.std.specs.Prelude.{◌≡◌, ◌≤◌, ◌↔◌, IfOk, IsTrue, length, take};
 ghost use Rattle.wl_message.specs.Arrived.{AreSizes};
-ghost use Rattle.wl_message.specs.Cut.{usual_limit};
 ghost use Rattle.wl_end.specs.Core.{new_core, display_object, live, in_room, feeds, with_arrived, is_drained};
 
 use std::alloc::AllocError;
@@ -10,7 +9,7 @@ use wl_message::{Fed, Inbox, Outbox, Sizes};
 use wl_objects::{DISPLAY, Object, State, Table};
 use wl_sigs::Tables;
 use wl_table::DISPLAY_ID;
-use wl_wire::{Iface, MAX_MESSAGE_LEN};
+use wl_wire::Iface;
 
 /// The most globals that a server advertises in its life, and the most that a client remembers.
 pub const MAX_GLOBALS: usize = 1024;
@@ -24,7 +23,7 @@ pub struct Core<'t, T: Table> {
     pub table: T,
     pub inbox: Inbox<T::Alloc>,
     pub outbox: Outbox<T::Alloc>,
-    /// Room for one whole message, the one that is being written.
+    /// Room for the longest message, for the one that is being written.
     pub store: Vec<u8, T::Alloc>,
     /// Whether the end has failed. It stays so for good.
     pub failed: bool,
@@ -47,9 +46,10 @@ impl<'t, T: Table> Model for Core<'t, T> {
     // The error event is written once, by an end that fails with it.
     ghost invariant = { λ c. record {
       store : 4096 ≤ vec_capacity c.store;
+      room : c.outbox.limit.bytes ≤ vec_capacity c.store;
       display : HasDisplay (T.view c.table);
       no_error : c.failed ≡ false → IsOrdinary c.outbox;
-      whole : 4096 ≤ c.inbox.capacity;
+      whole : c.inbox.limit.bytes ≤ c.inbox.capacity;
     } };
 }
 
@@ -59,9 +59,10 @@ impl<'t, T: Table> Core<'t, T> {
         requires { AreSizes sizes }
         ensures { IfOk result (λ core. core ≡ new_core tables.now sizes) }
     {
-        let inbox = Inbox::new(alloc.clone()?, sizes.in_bytes, sizes.in_tokens)?;
-        let outbox = Outbox::new(alloc.clone()?, sizes.out_bytes, sizes.out_tokens)?;
-        let store = Vec::with_capacity(alloc.clone()?, MAX_MESSAGE_LEN as usize)?;
+        let limit = sizes.limit;
+        let inbox = Inbox::new(alloc.clone()?, sizes.in_bytes, sizes.in_tokens, limit)?;
+        let outbox = Outbox::new(alloc.clone()?, sizes.out_bytes, sizes.out_tokens, limit)?;
+        let store = Vec::with_capacity(alloc.clone()?, limit.bytes as usize)?;
         let table = T::new(alloc, DISPLAY)?;
         Ok(Core {
             tables,
@@ -125,7 +126,7 @@ impl<'t, T: Table> Core<'t, T> {
         ensures fed { result ≡ feeds self.old bytes.now tokens.now }
         ensures state { self.new
             ≡ with_arrived self.old (take result.bytes bytes.now) (take result.tokens tokens.now) }
-        ensures holds { usual_limit ≤ self.old.inbox.capacity }
+        ensures holds { self.old.inbox.limit.bytes ≤ self.old.inbox.capacity }
     {
         if self.failed {
             return Fed {

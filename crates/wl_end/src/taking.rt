@@ -1,6 +1,7 @@
 //! What an end does with a message in front, and with its objects.
 ghost use Rattle.std.specs.Prelude.{◌≡◌, ◌≢◌, ◌≤◌, ◌<◌, ◌↔◌, ◌&&◌, not, ℕ, Err, IsTrue, IfOk, OnOk, OnErr, length, take, slice_index_or};
-ghost use Rattle.wl_message.specs.Cut.{usual_limit, front, Whole};
+ghost use Rattle.wl_message.specs.Arrived.{in_front};
+ghost use Rattle.wl_message.specs.Cut.{Whole};
 ghost use Rattle.wl_table.specs.View.{free_or_next, has_room, is_held, is_live, opened_at, closed, zombied};
 ghost use Rattle.wl_end.specs.Core.{past, with_view};
 
@@ -26,7 +27,7 @@ impl<'t, T: Table> Core<'t, T> {
     /// Takes out the message in front, of `size` bytes, and as many of the first tokens as the slice
     /// has places, in order.
     pub fn pass(&mut self, size: u16, tokens: &mut [u32])
-        requires message { front usual_limit self.old.inbox.bytes ≡ Whole size }
+        requires message { in_front self.old.inbox ≡ Whole size }
         requires tokens { length tokens.old ≤ length self.old.inbox.tokens }
         ensures tokens { tokens.new ≡ take (length tokens.old) self.old.inbox.tokens }
         ensures state { self.new ≡ past self.old size (length tokens.old) }

@@ -62,6 +62,6 @@ wrote_none a b c bytes at next le is so_far keeps =
     (omega (arith, le, is), subst (λ (m : ℕ). Appends a c (take m bytes)) (sym is) (appends_kept a b c (take at bytes) so_far keeps))
 
 -- a line, in the parts in which it is written
-pub line_is : (begins first second third text ends : List ℕ) → first ++ (second ++ third) ≡ text
-    → begins ++ (first ++ (second ++ (third ++ ends))) ≡ begins ++ (text ++ ends)
-line_is begins first second third text ends is = grind (arith, common_steps)
+pub line_is : (begins first second third fourth text ends : List ℕ) → first ++ (second ++ (third ++ fourth)) ≡ text
+    → begins ++ (first ++ (second ++ (third ++ (fourth ++ ends)))) ≡ begins ++ (text ++ ends)
+line_is begins first second third fourth text ends is = grind (arith, common_steps)

@@ -11,9 +11,9 @@ use Rattle.wl_command.specs.declared.job.Job.{Job}
 use Rattle.wl_command.specs.declared.job.Stop.{Stop}
 use Rattle.wl_command.specs.Asking.{Asks, Stops, texts_of}
 use Rattle.wl_jobs.specs.declared.failure.Failure.{Failure}
-use Rattle.wl_jobs.specs.declared.failure.Failure.TheVariants.{CannotRead, TooLong, BadLine, CannotWrite, SocketFailed, Memory}
+use Rattle.wl_jobs.specs.declared.failure.Failure.TheVariants.{CannotRead, TooLong, BadLine, BadTablesLine, BreaksRule, CannotWrite, SocketFailed, Memory}
 use Rattle.wl_jobs.specs.Failing.{IsSocketFailure, failure_line, status_of}
-use Rattle.wl_jobs.specs.Output.{Acted, BindsSocket, NamesFile, NamesPath, ReadsFile}
+use Rattle.wl_jobs.specs.Output.{Acted, BindsSocket, NamesFile, NamesPath, NamesTables, ReadsFile, ReadsTables}
 use Rattle.wl_jobs.specs.Writing.{AppendsFront}
 
 -- what stops a file from being opened
@@ -22,27 +22,46 @@ IsOpenFailure name kind (CannotRead it) = (kind ≢ OutOfMemory) × (it.now ≡ 
 IsOpenFailure name kind Memory = kind ≡ OutOfMemory
 IsOpenFailure name kind TooLong = ⊥
 IsOpenFailure name kind (BadLine line) = ⊥
+IsOpenFailure name kind (BadTablesLine line) = ⊥
+IsOpenFailure name kind (BreaksRule line rule) = ⊥
 IsOpenFailure name kind CannotWrite = ⊥
 IsOpenFailure name kind SocketFailed = ⊥
 
--- A job that names a file is done over the very reader that opening this file gave. Where it cannot be opened nothing is printed, and standard
--- error is given the failure's line: the status is 4 where it is out of memory, and else 3. A job with a socket is done over the one that was
--- bound at its path; where none could be bound, the same is said of that. A job that has neither is done over an empty file.
+-- The tables' file of a job is open, if it has one, and gives these bytes, as far as that is known.
+pub data HasOpened {R : Type 0} (remaining : R → Option (List ℕ)) (opens : List ℕ → Result R Error → Type 0) (job : Job) (known : Option (List ℕ))
+    : Type 0 where
+  needs_none : (ReadsTables job → ⊥) → HasOpened remaining opens job known
+  opened : (name : List ℕ) (file : R) → NamesTables job name → opens name (Ok file) → known ≡ remaining file → HasOpened remaining opens job known
+
+-- The recording of this name is opened and the job done over it, or that it cannot be opened is said.
+pub data OpensFile {R O E : Type 0} (remaining : R → Option (List ℕ)) (contents : O → Option (List ℕ)) (said : E → Option (List ℕ))
+    (opens : List ℕ → Result R Error → Type 0) (job : Job) (known_tables : Option (List ℕ)) (name : List ℕ) (out out' : O) (err err' : E) (status : ℕ)
+    : Type 0 where
+  opens_it : (file : R) → opens name (Ok file) → Acted contents said job known_tables (remaining file) out out' err err' status
+      → OpensFile remaining contents said opens job known_tables name out out' err err' status
+  fails : (why : Error) (failure : Failure) → opens name (Err why) → IsOpenFailure name (error_kind why) failure → status ≡ status_of failure
+      → out' ≡ out → AppendsFront (said err) (said err') (failure_line failure)
+      → OpensFile remaining contents said opens job known_tables name out out' err err' status
+
+-- A job that names files is done over the very readers that opening these files gave, that of the tables first. Where one cannot be opened nothing is
+-- printed, and standard error is given the failure's line: the status is 4 where it is out of memory, and else 3. A job with a socket is done over the
+-- one that was bound at its path; where none could be bound, the same is said of that. A job that has neither is done over empty files.
 pub data Opened {R S O E : Type 0} (remaining : R → Option (List ℕ)) (contents : O → Option (List ℕ)) (said : E → Option (List ℕ))
     (opens : List ℕ → Result R Error → Type 0) (binds : List ℕ → Result S Error → Type 0) (job : Job) (out out' : O) (err err' : E) (status : ℕ)
     : Type 0 where
-  over : (name : List ℕ) (file : R) → NamesFile job name → opens name (Ok file) → Acted contents said job (remaining file) out out' err err' status
+  over : (known_tables : Option (List ℕ)) (name : List ℕ) → HasOpened remaining opens job known_tables → NamesFile job name
+      → OpensFile remaining contents said opens job known_tables name out out' err err' status
       → Opened remaining contents said opens binds job out out' err err' status
-  not_opened : (name : List ℕ) (why : Error) (failure : Failure) → NamesFile job name → opens name (Err why) → IsOpenFailure name (error_kind why) failure
-      → status ≡ status_of failure → out' ≡ out → AppendsFront (said err) (said err') (failure_line failure)
+  no_tables : (name : List ℕ) (why : Error) (failure : Failure) → NamesTables job name → opens name (Err why)
+      → IsOpenFailure name (error_kind why) failure → status ≡ status_of failure → out' ≡ out → AppendsFront (said err) (said err') (failure_line failure)
       → Opened remaining contents said opens binds job out out' err err' status
-  bound : (path : List ℕ) (socket : S) (known : Option (List ℕ)) → NamesPath job path → binds path (Ok socket)
-      → Acted contents said job known out out' err err' status → Opened remaining contents said opens binds job out out' err err' status
+  bound : (path : List ℕ) (socket : S) (known_tables known : Option (List ℕ)) → NamesPath job path → binds path (Ok socket)
+      → Acted contents said job known_tables known out out' err err' status → Opened remaining contents said opens binds job out out' err err' status
   not_bound : (path : List ℕ) (why : Error) (failure : Failure) → NamesPath job path → binds path (Err why) → IsSocketFailure (error_kind why) failure
       → status ≡ status_of failure → out' ≡ out → AppendsFront (said err) (said err') (failure_line failure)
       → Opened remaining contents said opens binds job out out' err err' status
-  alone : (known : Option (List ℕ)) → (ReadsFile job → ⊥) → (BindsSocket job → ⊥) → Acted contents said job known out out' err err' status
-      → Opened remaining contents said opens binds job out out' err err' status
+  alone : (known_tables known : Option (List ℕ)) → (ReadsFile job → ⊥) → (BindsSocket job → ⊥)
+      → Acted contents said job known_tables known out out' err err' status → Opened remaining contents said opens binds job out out' err err' status
 
 -- Help is printed and nothing is said, or the output did not take it, or not all of it; for anything else nothing is printed, the status is that of
 -- the stop, and standard error is given its text, or the line that says out of memory, as far as it takes that.

@@ -1,9 +1,8 @@
 //! A job done over any reader and writers.
 ghost use Rattle.std.specs.Prelude.{◌≡◌, ◌≤◌, ◌⊎◌, ℕ, IfOk, IfErr, IsErr, Option, Some, List, ◌≢◌};
-ghost use Rattle.wl_sigs.specs.Core.{core_tables};
 ghost use Rattle.wl_command.specs.declared.job.Job.{Job};
 ghost use Rattle.wl_jobs.specs.Failing.{IsReadFailure, IsRefusal};
-ghost use Rattle.wl_jobs.specs.Output.{Acted, IsChecked, IsDone, IsRead, IsRefused, IsTraced, ReadsFile};
+ghost use Rattle.wl_jobs.specs.Output.{Acted, Gathers, IsChecked, IsDone, IsRead, IsRefused, IsTablesRefusal, IsTraced, ReadsFile};
 ghost use Rattle.wl_recording.specs.Text.{IsFirstBad};
 
 use crate::failure::Failure;
@@ -14,6 +13,7 @@ use std::io::{ErrorKind, Read, Write};
 use wl_check::{check, trace};
 use wl_command::Job;
 use wl_demo::demo;
+use wl_message::Limit;
 use wl_recording::Recording;
 use wl_sigs::Tables;
 
@@ -48,19 +48,39 @@ fn contents<'a, A: Allocator, R: Read>(
     }
 }
 
+/// The core tables, and behind them those of the text in a file, if one is named.
+fn gather<'a, A: Allocator, T: Read>(
+    alloc: A,
+    global: Global,
+    name: &'a Option<String>,
+    file: &mut T,
+) -> Result<Tables, Failure<'a>>
+    ensures gathered { IfOk result (λ tables. Gathers name.now (T.remaining file.old) tables) }
+    ensures refused { IfErr result (IsTablesRefusal name.now (T.remaining file.old)) }
+{
+    let core = Tables::core(global)?;
+    match name {
+        Some(name) => {
+            let text = contents(alloc, name.as_str(), file)?;
+            Ok(core.read_more(&text)?)
+        }
+        None => Ok(core),
+    }
+}
+
 /// The line of the verdict on a recording.
 fn checked<'a, A: Allocator>(
     alloc: &'a A,
     tables: &Tables,
+    limit: Limit,
     text: &[u8],
 ) -> Result<Printed<&'a A>, Failure<'static>>
-    requires { tables.now ≡ core_tables }
-    ensures line { IfOk result (λ o. IsChecked text.now o.text.items o.status) }
+    ensures line { IfOk result (λ o. IsChecked limit.bytes tables.now text.now o.text.items o.status) }
     ensures refused { IfErr result (IsRefusal text.now) }
     ensures bad { (n : ℕ) → IsFirstBad text.now n → IsErr result }
 {
     let recording = Recording::parse(alloc, text)?;
-    let verdict = check(alloc, &recording, tables)?;
+    let verdict = check(alloc, &recording, tables, limit)?;
     let mut text = Vec::new(alloc);
     write_verdict(&mut text, &verdict)?;
     Ok(Printed {
@@ -73,15 +93,15 @@ fn checked<'a, A: Allocator>(
 fn traced<'a, A: Allocator>(
     alloc: &'a A,
     tables: &Tables,
+    limit: Limit,
     text: &[u8],
 ) -> Result<Printed<&'a A>, Failure<'static>>
-    requires { tables.now ≡ core_tables }
-    ensures lines { IfOk result (λ o. IsTraced text.now o.text.items o.status) }
+    ensures lines { IfOk result (λ o. IsTraced limit.bytes tables.now text.now o.text.items o.status) }
     ensures refused { IfErr result (IsRefusal text.now) }
     ensures bad { (n : ℕ) → IsFirstBad text.now n → IsErr result }
 {
     let recording = Recording::parse(alloc, text)?;
-    let (mut text, verdict) = trace(alloc, &recording, tables)?;
+    let (mut text, verdict) = trace(alloc, &recording, tables, limit)?;
     write_broken(&mut text, &verdict)?;
     Ok(Printed {
         text,
@@ -90,25 +110,38 @@ fn traced<'a, A: Allocator>(
 }
 
 /// What the job prints.
-fn output<'a, 'b, A: Allocator, R: Read>(
+fn output<'a, 'b, A: Allocator, T: Read, R: Read>(
     alloc: &'a A,
     global: Global,
     job: &'b Job,
+    tables: &mut T,
     file: &mut R,
 ) -> Result<Printed<&'a A>, Failure<'b>>
-    ensures done { IfOk result (λ o. IsDone job.now (R.remaining file.old) o.text.items o.status) }
-    ensures refused { IfErr result (IsRefused job.now (R.remaining file.old)) }
+    ensures done { IfOk result (λ o. IsDone job.now (T.remaining tables.old)
+        (R.remaining file.old) o.text.items o.status) }
+    ensures refused { IfErr result (IsRefused job.now (T.remaining tables.old)
+        (R.remaining file.old)) }
     ensures bad { (text : List ℕ) (n : ℕ) → R.remaining file.old ≡ Some text → IsFirstBad text n
         → ReadsFile job.now → IsErr result }
 {
     match job {
-        Job::Trace { file: name } => {
+        Job::Trace {
+            tables: names,
+            limit,
+            file: name,
+        } => {
+            let tables = gather(alloc, global, names, tables)?;
             let text = contents(alloc, name.as_str(), file)?;
-            traced(alloc, &Tables::core(global)?, &text)
+            traced(alloc, &tables, *limit, &text)
         }
-        Job::Check { file: name } => {
+        Job::Check {
+            tables: names,
+            limit,
+            file: name,
+        } => {
+            let tables = gather(alloc, global, names, tables)?;
             let text = contents(alloc, name.as_str(), file)?;
-            checked(alloc, &Tables::core(global)?, &text)
+            checked(alloc, &tables, *limit, &text)
         }
         Job::Demo { piece } => {
             let text = demo(alloc, &Tables::core(global)?, *piece)?;
@@ -125,10 +158,10 @@ pub(crate) fn finish<A: Allocator, O: Write, E: Write>(
     out: &mut O,
     err: &mut E,
 ) -> u8
-    ensures acted { (job : Job) (known : Option (List ℕ))
-        → IfOk output.entry (λ o. IsDone job known o.text.items o.status)
-        → IfErr output.entry (IsRefused job known)
-        → Acted O.contents E.contents job known out.old out.new err.old err.new result }
+    ensures acted { (job : Job) (known_tables known : Option (List ℕ))
+        → IfOk output.entry (λ o. IsDone job known_tables known o.text.items o.status)
+        → IfErr output.entry (IsRefused job known_tables known)
+        → Acted O.contents E.contents job known_tables known out.old out.new err.old err.new result }
     ensures refused { IsErr output.entry
         → ((result ≡ 3) ⊎ (result ≡ 4)) × (O.contents out.new ≡ O.contents out.old) }
     ensures unwritten { result ≡ 4 → O.contents out.new ≡ O.contents out.old }
@@ -146,13 +179,14 @@ pub(crate) fn finish<A: Allocator, O: Write, E: Write>(
 /// Does the job and returns the exit status: 0 or 1 where `out` has taken the whole output, 1 where
 /// it tells of a broken rule; else the status of a `Failure`, whose line goes to `err`.
 ///
-/// Nothing is written to `out` before the whole output is there. `file` is what the job's file
-/// has, if it reads one; at most 16,777,217 bytes of it are read. The signature tables lie in the
-/// global memory. A job that needs a socket fails here, since this binds none.
-pub fn act<A: Allocator, R: Read, O: Write, E: Write>(
+/// Nothing is written to `out` before the whole output is there. `tables` is what the job's file of
+/// tables has, and `file` its recording, if it reads these; at most 16,777,217 bytes of each are
+/// read, the tables first. The signature tables lie in the global memory.
+pub fn act<A: Allocator, T: Read, R: Read, O: Write, E: Write>(
     alloc: A,
     global: Global,
     job: &Job,
+    tables: &mut T,
     file: &mut R,
     out: &mut O,
     err: &mut E,
@@ -160,8 +194,8 @@ pub fn act<A: Allocator, R: Read, O: Write, E: Write>(
     // The output was written whole, and nothing to `err`: 0 stands for a lawful session or a
     // demonstration, 1 for a broken session; or no output was written; or writing it failed, and a
     // beginning of it was written. In the last two cases `err` was given the failure's line.
-    ensures acted { Acted O.contents E.contents job.now (R.remaining file.old)
-        out.old out.new err.old err.new result }
+    ensures acted { Acted O.contents E.contents job.now (T.remaining tables.old)
+        (R.remaining file.old) out.old out.new err.old err.new result }
     // A recording with a bad line is refused, where the job reads one.
     ensures bad { (text : List ℕ) (n : ℕ) → R.remaining file.old ≡ Some text → IsFirstBad text n
         → ReadsFile job.now
@@ -169,5 +203,5 @@ pub fn act<A: Allocator, R: Read, O: Write, E: Write>(
     ensures unwritten { result ≡ 4 → O.contents out.new ≡ O.contents out.old }
     ensures statuses { (result ≤ 4) × (result ≢ 2) }
 {
-    finish(output(&alloc, global, job, file), out, err)
+    finish(output(&alloc, global, job, tables, file), out, err)
 }

@@ -3,7 +3,7 @@ ghost use Rattle.std.specs.Prelude.{◌≡◌, ◌++◌, OnOk};
 ghost use Rattle.std.specs.Io.KnownBytes.{Appends};
 ghost use Rattle.wl_jobs.specs.declared.failure.Failure.TheVariants as failures;
 ghost use Rattle.std.specs.IoError.{error_kind};
-ghost use Rattle.wl_jobs.specs.Failing.{IsSocketFailure, failure_line, failure_text, recording_failure, socket_failure, status_of};
+ghost use Rattle.wl_jobs.specs.Failing.{IsSocketFailure, failure_line, failure_text, recording_failure, socket_failure, status_of, tables_failure};
 ghost use Rattle.wl_jobs.specs.Writing.{AppendsFront};
 
 use crate::writing::write_whole;
@@ -13,6 +13,7 @@ use std::error::Error;
 use std::fmt::{self, Display, Formatter};
 use std::io::{self, ErrorKind, Write};
 use wl_recording::RecordingError;
+use wl_sigs::TableFault;
 use wl_socket::SocketError;
 
 /// Why a job has no output. Its text is what standard error says behind `waywire: `.
@@ -24,6 +25,10 @@ pub enum Failure<'a> {
     TooLong,
     /// This line is no line of a recording. Lines are counted from 1.
     BadLine(usize),
+    /// This line has none of the forms of a text of tables.
+    BadTablesLine(usize),
+    /// This line of a text of tables breaks a rule of valid tables, and this is the rule.
+    BreaksRule { line: usize, rule: u8 },
     /// The output was not taken.
     CannotWrite,
     /// A call of the socket failed, its input ended early, or the two ends over it do not have the
@@ -40,16 +45,18 @@ impl Display for Failure<'_> {
     ghost output = { λ failure. Some (failure_text failure) };
 
     fn fmt<W: fmt::Write>(&self, f: &mut Formatter<W>) -> fmt::Result {
-        let mut digits = Buffer::new();
-        let Parts(first, second, third) = self.parts(&mut digits);
+        let mut line = Buffer::new();
+        let mut rule = Buffer::new();
+        let Parts(first, second, third, fourth) = self.parts(&mut line, &mut rule);
         f.write_str(first)?;
         f.write_str(second)?;
-        f.write_str(third)
+        f.write_str(third)?;
+        f.write_str(fourth)
     }
 }
 
-/// A text in three parts, so that it can be written without allocating.
-struct Parts<'a>(&'a str, &'a str, &'a str);
+/// A text in four parts, so that it can be written without allocating.
+struct Parts<'a>(&'a str, &'a str, &'a str, &'a str);
 
 impl Error for Failure<'_> {}
 
@@ -74,17 +81,25 @@ impl Failure<'_> {
         }
     }
 
-    /// Its text. `digits` is room for a number.
-    fn parts<'b>(&'b self, digits: &'b mut Buffer) -> Parts<'b>
-        ensures { result.0.now ++ (result.1.now ++ result.2.now) ≡ failure_text self.now }
+    /// Its text. `line` and `rule` are room for numbers.
+    fn parts<'b>(&'b self, line: &'b mut Buffer, rule: &'b mut Buffer) -> Parts<'b>
+        ensures { result.0.now ++ (result.1.now ++ (result.2.now ++ result.3.now))
+            ≡ failure_text self.now }
     {
         match self {
-            Failure::CannotRead(name) => Parts("cannot read ", name, ""),
-            Failure::TooLong => Parts("file too long", "", ""),
-            Failure::BadLine(line) => Parts("line ", digits.format(*line), ": bad line"),
-            Failure::CannotWrite => Parts("cannot write", "", ""),
-            Failure::SocketFailed => Parts("socket failed", "", ""),
-            Failure::Memory => Parts("out of memory", "", ""),
+            Failure::CannotRead(name) => Parts("cannot read ", name, "", ""),
+            Failure::TooLong => Parts("file too long", "", "", ""),
+            Failure::BadLine(n) => Parts("line ", line.format(*n), ": bad line", ""),
+            Failure::BadTablesLine(n) => Parts("tables line ", line.format(*n), ": bad line", ""),
+            Failure::BreaksRule { line: n, rule: r } => Parts(
+                "tables line ",
+                line.format(*n),
+                ": breaks V",
+                rule.format(*r),
+            ),
+            Failure::CannotWrite => Parts("cannot write", "", "", ""),
+            Failure::SocketFailed => Parts("socket failed", "", "", ""),
+            Failure::Memory => Parts("out of memory", "", "", ""),
         }
     }
 
@@ -95,12 +110,14 @@ impl Failure<'_> {
             (Appends (E.contents err.old) (E.contents err.new) (failure_line self.now)) }
         ensures front { AppendsFront (E.contents err.old) (E.contents err.new) (failure_line self.now) }
     {
-        let mut digits = Buffer::new();
-        let Parts(first, second, third) = self.parts(&mut digits);
+        let mut line = Buffer::new();
+        let mut rule = Buffer::new();
+        let Parts(first, second, third, fourth) = self.parts(&mut line, &mut rule);
         write_whole(err, b"waywire: ")?;
         write_whole(err, first.as_bytes())?;
         write_whole(err, second.as_bytes())?;
         write_whole(err, third.as_bytes())?;
+        write_whole(err, fourth.as_bytes())?;
         write_whole(err, b"\n")
     }
 
@@ -129,6 +146,18 @@ impl From<RecordingError> for Failure<'_> {
         match error {
             RecordingError::BadLine { line } => Failure::BadLine(line),
             RecordingError::Memory => Failure::Memory,
+        }
+    }
+}
+
+impl From<TableFault> for Failure<'_> {
+    ghost from_gives = { λ fault e. e ≡ tables_failure fault };
+
+    fn from(fault: TableFault) -> Self {
+        match fault {
+            TableFault::BadLine { line } => Failure::BadTablesLine(line),
+            TableFault::BadTable { line, rule } => Failure::BreaksRule { line, rule },
+            TableFault::Memory => Failure::Memory,
         }
     }
 }

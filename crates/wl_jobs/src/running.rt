@@ -1,9 +1,9 @@
 //! A run of the whole program, over whatever opens files, and any writers.
-ghost use Rattle.std.specs.Prelude.{◌≡◌};
-ghost use Rattle.std.specs.Fn.{FnOnceReturnsAt};
+ghost use Rattle.std.specs.Prelude.{◌≡◌, string_bytes};
+ghost use Rattle.std.specs.Fn.{FnOnceReturnsAt, FnReturnsAt};
 ghost use Rattle.std.specs.IoError.{error_kind};
 ghost use Rattle.std.specs.Process.{exit_status};
-ghost use Rattle.wl_jobs.specs.Running.{IsOpenFailure, Opened, Runs, Told, Unread};
+ghost use Rattle.wl_jobs.specs.Running.{IsOpenFailure, Opened, OpensFile, Runs, Told, Unread};
 
 use crate::acting::{act, finish};
 use crate::failure::Failure;
@@ -33,9 +33,9 @@ impl Termination for Ending {
 
 /// Does what the words of a command line ask for, of which the first is the program's name.
 ///
-/// `opener` opens the file of a job that reads one, and `binder` binds the socket of one that needs
-/// it. The output and help go to `out`, and what is said of a failure or of a fault of usage to
-/// `err`.
+/// `opener` opens the files that a job reads, all of them before one is read, and `binder` binds the
+/// socket of one that needs it. The output, help and the version go to `out`, and what is said of a
+/// failure or of a fault of usage to `err`.
 pub fn run<R, F, S, B, O, E>(
     alloc: Global,
     words: io::Result<Vec<String>>,
@@ -46,14 +46,14 @@ pub fn run<R, F, S, B, O, E>(
 ) -> Ending
 where
     R: Read + Drop,
-    F: FnOnce(&str) -> io::Result<R>,
+    F: Fn(&str) -> io::Result<R>,
     S: Bound,
     B: FnOnce(&str) -> io::Result<S>,
     O: Write,
     E: Write,
     requires opens { F.IsAlwaysCallable opener }
     requires binds { B.IsAlwaysCallable binder }
-    ensures { Runs words R.remaining O.contents E.contents (FnOnceReturnsAt F.FnOnce opener)
+    ensures { Runs words R.remaining O.contents E.contents (FnReturnsAt F.Fn opener)
         (FnOnceReturnsAt B.FnOnce binder) out.old out.new err.old err.new result.status }
 {
     let status = match words {
@@ -77,8 +77,8 @@ fn not_read<E: Write>(error: &io::Error, err: &mut E) -> u8
     2
 }
 
-/// Prints help to `out`, and anything else to `err`, and returns the exit status: that of the
-/// stop, or 3 where `out` does not take the help.
+/// Prints help or the version to `out`, and anything else to `err`, and returns the exit status: that
+/// of the stop, or 3 where `out` does not take the text.
 fn tell<O: Write, E: Write>(stop: &Stop, out: &mut O, err: &mut E) -> u8
     ensures { Told O.contents E.contents stop.now out.old out.new err.old err.new result }
 {
@@ -116,25 +116,71 @@ fn done<R, F, S, B, O, E>(
 ) -> u8
 where
     R: Read + Drop,
-    F: FnOnce(&str) -> io::Result<R>,
+    F: Fn(&str) -> io::Result<R>,
     S: Bound,
     B: FnOnce(&str) -> io::Result<S>,
     O: Write,
     E: Write,
     requires opens { F.IsAlwaysCallable opener }
     requires binds { B.IsAlwaysCallable binder }
-    ensures { Opened R.remaining O.contents E.contents (FnOnceReturnsAt F.FnOnce opener)
+    ensures { Opened R.remaining O.contents E.contents (FnReturnsAt F.Fn opener)
         (FnOnceReturnsAt B.FnOnce binder) job.now out.old out.new err.old err.new result }
 {
     match job {
-        Job::Trace { file: name } | Job::Check { file: name } => match opener(name.as_str()) {
-            Ok(mut file) => act(alloc, alloc, job, &mut file, out, err),
-            Err(error) => open_failure(name.as_str(), &error).tell(err),
+        Job::Trace {
+            tables,
+            limit: _limit,
+            file: name,
+        }
+        | Job::Check {
+            tables,
+            limit: _limit,
+            file: name,
+        } => match tables {
+            Some(tables) => match opener(tables.as_str()) {
+                Ok(mut tables) => over_file(alloc, job, &mut tables, name, &opener, out, err),
+                Err(error) => open_failure(tables.as_str(), &error).tell(err),
+            },
+            None => over_file(alloc, job, &mut io::empty(), name, &opener, out, err),
         },
-        Job::Demo { .. } => act(alloc, alloc, job, &mut io::empty(), out, err),
+        Job::Demo { .. } => act(
+            alloc,
+            alloc,
+            job,
+            &mut io::empty(),
+            &mut io::empty(),
+            out,
+            err,
+        ),
         Job::Socket { path } => match binder(path.as_str()) {
             Ok(bound) => finish(over(alloc, alloc, bound), out, err),
             Err(error) => Failure::of_socket(&error).tell(err),
         },
+    }
+}
+
+/// Opens the recording of this name, does the job over it and its tables, and returns the status.
+fn over_file<T, R, F, O, E>(
+    alloc: Global,
+    job: &Job,
+    tables: &mut T,
+    name: &String,
+    opener: &F,
+    out: &mut O,
+    err: &mut E,
+) -> u8
+where
+    T: Read,
+    R: Read + Drop,
+    F: Fn(&str) -> io::Result<R>,
+    O: Write,
+    E: Write,
+    requires opens { F.IsAlwaysCallable opener.now }
+    ensures { OpensFile R.remaining O.contents E.contents (FnReturnsAt F.Fn opener.now) job.now
+        (T.remaining tables.old) (string_bytes name.now) out.old out.new err.old err.new result }
+{
+    match opener(name.as_str()) {
+        Ok(mut file) => act(alloc, alloc, job, tables, &mut file, out, err),
+        Err(error) => open_failure(name.as_str(), &error).tell(err),
     }
 }

@@ -4,6 +4,7 @@ use std::io::{self, Error, ErrorKind, Read, Write};
 use std::test::Fail;
 use wl_command::Job;
 use wl_jobs::{Failure, act};
+use wl_message::Limit;
 
 /// A stream that fails at its first call.
 #[derive(Drop)]
@@ -33,9 +34,13 @@ fn holds_of_both<F: FnOnce(Global, &Job, &Job) -> bool>(
     requires { F.IsAlwaysCallable scene }
 {
     let trace = Job::Trace {
+        tables: None,
+        limit: Limit::USUAL,
         file: String::from_str(alloc, "session.rec")?,
     };
     let check = Job::Check {
+        tables: None,
+        limit: Limit::USUAL,
         file: String::from_str(alloc, "session.rec")?,
     };
     Ok(scene(alloc, &trace, &check))
@@ -176,13 +181,21 @@ const REFUSED: [(&[u8], &[u8]); 3] = [
     ),
 ];
 
-/// Whether a job answers this status and writes this output, its last part behind the first, and
+/// Whether a job ends with this status and writes this output, its last part behind the first, and
 /// nothing to standard error.
 fn prints(alloc: Global, job: &Job, text: &[u8], status: u8, first: &[u8], last: &[u8]) -> bool {
     let mut file = text;
     let mut out = Vec::new(alloc);
     let mut err = Vec::new(alloc);
-    let answer = act(alloc, alloc, job, &mut file, &mut out, &mut err);
+    let answer = act(
+        alloc,
+        alloc,
+        job,
+        &mut io::empty(),
+        &mut file,
+        &mut out,
+        &mut err,
+    );
     answer == status && out.strip_prefix(first) == Some(last) && err.is_empty()
 }
 
@@ -218,11 +231,19 @@ fn traces_and_checks_broken_sessions(rt: HostRuntime) -> Result<(), Fail> {
     Ok(())
 }
 
-/// Whether a job answers this status, writes no output, and this to standard error.
+/// Whether a job ends with this status, writes no output, and this to standard error.
 fn says<R: Read>(alloc: Global, job: &Job, file: &mut R, status: u8, said: &[u8]) -> bool {
     let mut out = Vec::new(alloc);
     let mut err = Vec::new(alloc);
-    let answer = act(alloc, alloc, job, file, &mut out, &mut err);
+    let answer = act(
+        alloc,
+        alloc,
+        job,
+        &mut io::empty(),
+        file,
+        &mut out,
+        &mut err,
+    );
     answer == status && out.is_empty() && err.as_slice() == said
 }
 
@@ -282,7 +303,15 @@ fn says_that_reading_failed(alloc: Global, _trace: &Job, check: &Job) -> bool {
 fn says_that_writing_failed(alloc: Global, _trace: &Job, check: &Job) -> bool {
     let mut file = LAWFUL[0].0;
     let mut err = Vec::new(alloc);
-    let status = act(alloc, alloc, check, &mut file, &mut Failing, &mut err);
+    let status = act(
+        alloc,
+        alloc,
+        check,
+        &mut io::empty(),
+        &mut file,
+        &mut Failing,
+        &mut err,
+    );
     status == 3 && err.as_slice() == b"waywire: cannot write\n".as_slice()
 }
 
@@ -290,7 +319,15 @@ fn says_that_writing_failed(alloc: Global, _trace: &Job, check: &Job) -> bool {
 fn answers_the_same(alloc: Global, _trace: &Job, check: &Job) -> bool {
     let mut file = REFUSED[0].0;
     let mut out = Vec::new(alloc);
-    act(alloc, alloc, check, &mut file, &mut out, &mut Failing) == 3
+    act(
+        alloc,
+        alloc,
+        check,
+        &mut io::empty(),
+        &mut file,
+        &mut out,
+        &mut Failing,
+    ) == 3
 }
 
 #[test]
@@ -304,7 +341,7 @@ fn says_which_stream_failed(rt: HostRuntime) -> Result<(), Fail> {
 /// What is said for lack of memory.
 const NO_MEMORY: &[u8] = b"waywire: out of memory\n";
 
-/// Whether a trace in this memory answers lack of memory, and nothing else, where an allocation was
+/// Whether a trace in this memory is out of memory, and does nothing else, where an allocation was
 /// refused, and else all of this session.
 fn is_refused_or_whole(
     alloc: Global,
@@ -316,7 +353,15 @@ fn is_refused_or_whole(
     let mut file = text;
     let mut out = Vec::new(alloc);
     let mut err = Vec::new(alloc);
-    let status = act(memory, alloc, job, &mut file, &mut out, &mut err);
+    let status = act(
+        memory,
+        alloc,
+        job,
+        &mut io::empty(),
+        &mut file,
+        &mut out,
+        &mut err,
+    );
     if told.has_refused() {
         status == 4 && out.is_empty() && err.as_slice() == NO_MEMORY
     } else {
@@ -341,7 +386,7 @@ fn is_refused_in_turn(
     Ok(false)
 }
 
-/// Whether a trace is refused each of its allocations in turn, and then answered.
+/// Whether a trace is refused each of its allocations in turn, and then made.
 fn traces_at_last(alloc: Global, trace: &Job, _check: &Job) -> bool {
     match RefusingAllocator::new(alloc) {
         Ok(memory) => matches!(is_refused_in_turn(alloc, &memory, trace), Ok(true)),

@@ -32,11 +32,20 @@ fn asked(alloc: Global, words: &[&str]) -> Result<Option<Job>, AllocError> {
     Ok(job_of(alloc, all.as_slice()).ok())
 }
 
-/// Whether a job answers 0 and writes these lines, and nothing to standard error.
+/// Whether a job ends with 0 and writes these lines, and nothing to standard error.
 fn shows(alloc: Global, job: &Job) -> bool {
     let mut out = Vec::new(alloc);
     let mut err = Vec::new(alloc);
-    let status = act(alloc, alloc, job, &mut io::empty(), &mut out, &mut err);
+    let (mut tables, mut file) = (io::empty(), io::empty());
+    let status = act(
+        alloc,
+        alloc,
+        job,
+        &mut tables,
+        &mut file,
+        &mut out,
+        &mut err,
+    );
     status == 0 && out.as_slice() == LINES && err.is_empty()
 }
 
@@ -60,16 +69,25 @@ fn shows_the_same_session_in_any_pieces(rt: HostRuntime) -> Result<(), Fail> {
     Ok(())
 }
 
-/// Whether a demonstration in this memory answers lack of memory, and nothing else.
+/// Whether a demonstration in this memory is out of memory, and does nothing else.
 fn is_refused(alloc: Global, memory: RefusingAllocator<Global>) -> bool {
     let mut out = Vec::new(alloc);
     let mut err = Vec::new(alloc);
     let job = Job::Demo { piece: 4096 };
-    let status = act(memory, alloc, &job, &mut io::empty(), &mut out, &mut err);
+    let (mut tables, mut file) = (io::empty(), io::empty());
+    let status = act(
+        memory,
+        alloc,
+        &job,
+        &mut tables,
+        &mut file,
+        &mut out,
+        &mut err,
+    );
     status == 4 && out.is_empty() && err.as_slice() == b"waywire: out of memory\n".as_slice()
 }
 
-/// Refuses each allocation in turn. Whether each is answered so, and at last none is refused.
+/// Refuses each allocation in turn. Whether each is met so, and at last none is refused.
 fn is_refused_in_turn(alloc: Global, memory: &RefusingAllocator) -> Result<bool, AllocError> {
     let mut is_so = true;
     for number in 0u64..2000 {

@@ -3,7 +3,7 @@ use std::test::Fail;
 use wl_command::{Job, Stop, job_of};
 
 /// Command lines that ask for no job, and a part of what is said.
-const FAULTY: [(&[&str], &str); 12] = [
+const FAULTY: [(&[&str], &str); 16] = [
     (&["waywire"], "Usage: waywire"),
     (&["waywire", "draw"], "unrecognized subcommand 'draw'"),
     (&["waywire", "trace"], "<FILE>"),
@@ -14,6 +14,16 @@ const FAULTY: [(&[&str], &str); 12] = [
     ),
     (&["waywire", "check"], "<FILE>"),
     (&["waywire", "check", "a", "b"], "unexpected argument 'b'"),
+    (&["waywire", "check", "--tables", "a"], "<FILE>"),
+    (&["waywire", "check", "a", "--tables"], "--tables <FILE>"),
+    (
+        &["waywire", "trace", "--tables", "a", "--tables", "b", "c"],
+        "cannot be used multiple times",
+    ),
+    (
+        &["waywire", "demo", "--tables", "a"],
+        "unexpected argument '--tables'",
+    ),
     (&["waywire", "demo", "a"], "unexpected argument 'a'"),
     (&["waywire", "demo", "--piece"], "--piece <N>"),
     (
@@ -38,13 +48,16 @@ const DEMOS: [(&[&str], u32); 4] = [
     (&["waywire", "demo", "--piece", "4096"], 4096),
 ];
 
-/// What a command line is answered.
+/// What a command line asks for.
 #[derive(Clone, Copy)]
 enum Wanted<'a> {
-    /// The job that reads a file of this name.
-    Trace(&'a str),
-    Check(&'a str),
-    /// The demonstration, with so many bytes at once.
+    /// The job that reads a file of tables of the first name, if there is one, and then the
+    /// recording of the other.
+    Trace(Option<&'a str>, &'a str),
+    Check(Option<&'a str>, &'a str),
+    /// The job that checks a recording of this name by this limit.
+    CheckBy(u16, &'a str),
+    /// The demonstration, with this number of bytes at once.
     Demo(u32),
     /// No job, but this status, and a text of which this is a part.
     Stop(u8, &'a str),
@@ -63,10 +76,36 @@ fn add_all(alloc: Global, all: &mut Vec<String>, words: &[&str]) -> Result<(), A
     Ok(())
 }
 
+/// Whether a file of this name is named, or none.
+fn is_named(found: &Option<String>, wanted: Option<&str>) -> bool {
+    match (found, wanted) {
+        (Some(found), Some(wanted)) => found.as_str() == wanted,
+        (None, None) => true,
+        _ => false,
+    }
+}
+
 fn is_job(job: &Job, wanted: Wanted<'_>) -> bool {
     match (job, wanted) {
-        (Job::Trace { file }, Wanted::Trace(name)) => file.as_str() == name,
-        (Job::Check { file }, Wanted::Check(name)) => file.as_str() == name,
+        (
+            Job::Trace {
+                tables,
+                limit,
+                file,
+            },
+            Wanted::Trace(text, name),
+        )
+        | (
+            Job::Check {
+                tables,
+                limit,
+                file,
+            },
+            Wanted::Check(text, name),
+        ) => is_named(tables, text) && limit.bytes == 4096 && file.as_str() == name,
+        (Job::Check { limit, file, .. }, Wanted::CheckBy(bytes, name)) => {
+            limit.bytes == bytes && file.as_str() == name
+        }
         (Job::Demo { piece }, Wanted::Demo(bytes)) => *piece == bytes,
         _ => false,
     }
@@ -87,12 +126,12 @@ fn is_wanted(answer: &Result<Job, Stop>, wanted: Wanted<'_>) -> bool {
     }
 }
 
-/// Whether these words are answered so.
+/// Whether these words ask for this.
 fn is_answered(alloc: Global, words: &[String], wanted: Wanted<'_>) -> bool {
     is_wanted(&job_of(alloc, words), wanted)
 }
 
-/// Whether a command line is answered so.
+/// Whether a command line asks for this.
 fn answers(alloc: Global, words: &[&str], wanted: Wanted<'_>) -> Result<bool, AllocError> {
     let words = owned(alloc, words)?;
     Ok(is_answered(alloc, words.as_slice(), wanted))
@@ -101,7 +140,7 @@ fn answers(alloc: Global, words: &[&str], wanted: Wanted<'_>) -> Result<bool, Al
 #[test]
 fn reads_the_file_of_a_trace(rt: HostRuntime) -> Result<(), Fail> {
     let words = ["waywire", "trace", "a b.rec"];
-    assert!(rt; answers(rt.alloc(), &words, Wanted::Trace("a b.rec"))?);
+    assert!(rt; answers(rt.alloc(), &words, Wanted::Trace(None, "a b.rec"))?);
     Ok(())
 }
 
@@ -110,7 +149,34 @@ fn reads_the_file_of_a_check(rt: HostRuntime) -> Result<(), Fail> {
     let words = ["waywire", "check", "-x.rec"];
     assert!(rt; answers(rt.alloc(), &words, Wanted::Stop(2, ""))?);
     let words = ["waywire", "check", "./-x.rec"];
-    assert!(rt; answers(rt.alloc(), &words, Wanted::Check("./-x.rec"))?);
+    assert!(rt; answers(rt.alloc(), &words, Wanted::Check(None, "./-x.rec"))?);
+    Ok(())
+}
+
+/// The option of the tables stands before or behind the recording, and its word may be joined to it.
+#[test]
+fn reads_the_file_of_tables(rt: HostRuntime) -> Result<(), Fail> {
+    let wanted = Wanted::Trace(Some("t"), "f");
+    let words = ["waywire", "trace", "--tables", "t", "f"];
+    assert!(rt; answers(rt.alloc(), &words, wanted)?);
+    let words = ["waywire", "trace", "f", "--tables=t"];
+    assert!(rt; answers(rt.alloc(), &words, wanted)?);
+    let words = ["waywire", "check", "f", "--tables", "t"];
+    assert!(rt; answers(rt.alloc(), &words, Wanted::Check(Some("t"), "f"))?);
+    Ok(())
+}
+
+/// A limit is a multiple of 4 from 4096 to 65532.
+#[test]
+fn reads_the_limit(rt: HostRuntime) -> Result<(), Fail> {
+    let words = ["waywire", "check", "--limit", "65532", "f"];
+    assert!(rt; answers(rt.alloc(), &words, Wanted::CheckBy(65_532, "f"))?);
+    let words = ["waywire", "check", "f", "--limit=4100"];
+    assert!(rt; answers(rt.alloc(), &words, Wanted::CheckBy(4100, "f"))?);
+    for number in ["4095", "4092", "4098", "65533", "65536", "-4096", "x"] {
+        let words = ["waywire", "check", "--limit", number, "f"];
+        assert!(rt; answers(rt.alloc(), &words, Wanted::Stop(2, "limit"))?);
+    }
     Ok(())
 }
 
@@ -145,5 +211,16 @@ fn helps(rt: HostRuntime) -> Result<(), Fail> {
             "of {command}"
         );
     }
+    Ok(())
+}
+
+#[test]
+fn says_its_version(rt: HostRuntime) -> Result<(), Fail> {
+    for word in ["--version", "-V"] {
+        let words = ["waywire", word];
+        assert!(rt; answers(rt.alloc(), &words, Wanted::Stop(0, "waywire "))?);
+    }
+    let words = ["waywire", "trace", "--version"];
+    assert!(rt; answers(rt.alloc(), &words, Wanted::Stop(2, "--version"))?);
     Ok(())
 }

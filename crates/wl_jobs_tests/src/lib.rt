@@ -1,4 +1,4 @@
-//! The tests of `wl_jobs`, over what it gives out.
+//! The tests of `wl_jobs`, over its public calls.
 #![tactic(auto)]
 
 #[cfg(test)]
@@ -7,3 +7,5 @@ mod acting;
 mod demo;
 #[cfg(test)]
 mod job;
+#[cfg(test)]
+mod tables;

@@ -31,9 +31,9 @@ use Rattle.wl_link.specs.Follows.{AllGoOn, KnownAs, Follows, knowledge, places, 
 use Rattle.wl_link.specs.Linked.{Linked, linked, judgements}
 
 -- nothing was recorded
-none_judged : (tables : List Interface) → judgements tables [] ≡ []
+none_judged : (limit : ℕ) (tables : List Interface) → judgements limit tables [] ≡ []
 unfolding merged_within judged_after
-none_judged tables = refl
+none_judged limit tables = refl
 
 abbrev first_entry : Bool → Option Entry
 first_entry b = cond b (Some (record { birth = 0; iface = display; version = 1; state = Live })) None
@@ -41,10 +41,10 @@ first_entry b = cond b (Some (record { birth = 0; iface = display; version = 1; 
 abbrev first_known : Knows
 first_known = record { object = λ id. first_entry (nat_eq id 1); used = 1; advertised_version = λ name iface. 0; taken = λ d. 0 }
 
-known_none : (tables : List Interface) → first_known ≡ knowledge tables []
-known_none tables =
-    known_first tables (session_of []) first_known (record { objects = λ id. refl; used_is = refl; advertised_is = λ n i. refl; taken_is = λ d. refl })
-    ∙ ap (λ (ms : List Judged). known (effects tables ms) 1) (none_judged tables)
+known_none : (limit : ℕ) (tables : List Interface) → first_known ≡ knowledge tables []
+known_none limit tables =
+    known_first tables (session_of limit []) first_known (record { objects = λ id. refl; used_is = refl; advertised_is = λ n i. refl; taken_is = λ d. refl })
+    ∙ ap (λ (ms : List Judged). known (effects tables ms) 1) (none_judged limit tables)
 
 first_places : (tables : List Interface) → places tables [] ≡ 0 ∷ []
 unfolding makers
@@ -69,11 +69,11 @@ known_opening = record {
 none_go_on : AllGoOn []
 none_go_on k one e = absurd (cc e)
 
-follows_none : (tables : List Interface) → Follows tables [] [] [] (client_rows (opening_view display)) []
-follows_none tables = record {
+follows_none : (limit : ℕ) (tables : List Interface) → Follows tables [] [] [] (client_rows (opening_view display)) []
+follows_none limit tables = record {
   passed = none_go_on;
   here = client_rows (opening_view display);
-  known_as = subst (λ (k : Knows). KnownAs k (places tables []) (client_rows (opening_view display))) (known_none tables)
+  known_as = subst (λ (k : Knows). KnownAs k (places tables []) (client_rows (opening_view display))) (known_none limit tables)
       (subst (λ (l : List ℕ). KnownAs first_known l (client_rows (opening_view display))) (sym (first_places tables)) known_opening);
   joins = record { common = client_rows (opening_view display); leads = done; reads = all_read };
   remembers = tt;
@@ -81,24 +81,24 @@ follows_none tables = record {
   binds = tt;
 }
 
-none_taken : (tables : List Interface) (d : Direction) → 0 ≡ (knowledge tables (judgements tables [])).taken d
-none_taken tables d = ap (λ (k : Knows). k.taken d) (known_none tables) ∙ ap (λ (ms : List Judged). (knowledge tables ms).taken d) (sym (none_judged tables))
+none_taken : (limit : ℕ) (tables : List Interface) (d : Direction) → 0 ≡ (knowledge tables (judgements limit tables [])).taken d
+none_taken limit tables d = ap (λ (k : Knows). k.taken d) (known_none limit tables) ∙ ap (λ (ms : List Judged). (knowledge tables ms).taken d) (sym (none_judged limit tables))
 
-none_recorded : (tables : List Interface) (d : Direction) (sizes : Sizes) → Recorded d [] (nothing_arrived sizes.in_bytes sizes.in_tokens) ((knowledge tables (judgements tables [])).taken d) []
+none_recorded : (limit : ℕ) (tables : List Interface) (d : Direction) (sizes : Sizes) → sizes.limit.bytes ≡ limit → Recorded limit d [] (nothing_arrived sizes.in_bytes sizes.in_tokens sizes.limit) ((knowledge tables (judgements limit tables [])).taken d) []
 unfolding cutting
-none_recorded tables d sizes = record { part = []; sound = refl; rest = refl; waits = refl; tokens = let t = none_taken tables d in omega (arith, t) }
+none_recorded limit tables d sizes same = record { same_limit = same; part = []; sound = refl; rest = refl; waits = refl; tokens = let t = none_taken limit tables d in omega (arith, t) }
 
-pub new_linked : (tables : List Interface) (client_sizes server_sizes : Sizes) → Valid tables → Linked (new_pair tables client_sizes server_sizes) opening
-new_linked tables client_sizes server_sizes v = linked [] [] (refl, refl) (record {
-  stands = new_stands_by tables client_sizes server_sizes v;
+pub new_linked : (tables : List Interface) (client_sizes server_sizes : Sizes) → client_sizes.limit.bytes ≡ server_sizes.limit.bytes → Valid tables → Linked (new_pair tables client_sizes server_sizes) opening
+new_linked tables client_sizes server_sizes one v = linked [] [] (refl, refl) (record {
+  stands = new_stands_by tables client_sizes server_sizes one v;
   asked_seen = [];
   asked_later = [];
   told_seen = [];
   told_later = [];
   asked_is = refl;
   told_is = refl;
-  to_server = none_recorded tables ToServer server_sizes;
-  to_client = none_recorded tables ToClient client_sizes;
-  follows = subst (λ (ms : List Judged). Follows tables ms [] [] (client_rows (opening_view display)) []) (sym (none_judged tables)) (follows_none tables);
+  to_server = none_recorded server_sizes.limit.bytes tables ToServer server_sizes refl;
+  to_client = none_recorded server_sizes.limit.bytes tables ToClient client_sizes one;
+  follows = subst (λ (ms : List Judged). Follows tables ms [] [] (client_rows (opening_view display)) []) (sym (none_judged server_sizes.limit.bytes tables)) (follows_none server_sizes.limit.bytes tables);
   counted = tt;
 })

@@ -1,4 +1,4 @@
--- Whatever is done, an end keeps its tables, and what was recorded before an error stays.
+-- Whatever is done, an end keeps its tables and its limit, and what was recorded before an error stays.
 use Rattle.std.proofs.Common.{◌≡◌, ℕ, Bool, true, false, cond, List, length, take, refl, ap, ◌∙◌, arith, length-append}
 use Rattle.std.proofs.lemmas.List.{take-append-le}
 use Rattle.std.specs.declared.option.Option.{Option}
@@ -28,8 +28,16 @@ use Rattle.wl_world.specs.Answers.{KeepsRecord}
 use Rattle.wl_world.proofs.Announces.{only_sent}
 use Rattle.wl_link.specs.Linked.{EndedLawful}
 
+-- what no move changes
+record Fixed : Type 0 where
+  tables : List Interface
+  limit : ℕ
+
+abbrev fixed : Core → Fixed
+fixed c = record { tables = c.tables; limit = c.inbox.limit.bytes }
+
 abbrev HasTables : PairState → PairState → Type 0
-HasTables p q = q.server.core.tables ≡ p.server.core.tables
+HasTables p q = fixed q.server.core ≡ fixed p.server.core
 
 by_write : (answer : Result (Option Object) SendError) (opens : Bool) (p q : PairState) (reply : Result (Option Object) SendError) (p' : PairState) → HasTables p q → Writes answer opens p q reply p' → HasTables p p'
 by_write answer opens p q reply p' k (accepted h) = k
@@ -46,7 +54,7 @@ by_add refusal name p q reply p' k (refused h) = refl
 by_add refusal name p q reply p' k (no_memory h) = refl
 
 by_announce : (p : PairState) (reply : Result ℕ SendError) (p' : PairState) → Announces p reply p' → HasTables p p'
-by_announce p reply p' (announced {count = count} l f) = ap (λ (c : Core). c.tables) (only_sent p.server.core (take count (owed p.server)))
+by_announce p reply p' (announced {count = count} l f) = ap fixed (only_sent p.server.core (take count (owed p.server)))
 by_announce p reply p' (refused l) = refl
 
 by_next : {R : Type 0} (needs : R → Bool) (answer : Result (Option R) NextError) (p q : PairState) (reply : Result (Option R) NextError) (p' : PairState) → HasTables p q → Nexts needs answer p q reply p' → HasTables p p'
@@ -57,24 +65,24 @@ by_carry : (taken : Taken) (p q : PairState) (reply : Carried) (p' : PairState) 
 by_carry taken p q reply p' k moved = k
 by_carry taken p q reply p' k (no_memory h) = refl
 
-following_tables : (b : Bool) (id : ℕ) (c : Core) → (with_following b id c).tables ≡ c.tables
+following_tables : (b : Bool) (id : ℕ) (c : Core) → fixed (with_following b id c) ≡ fixed c
 following_tables true id c = refl
 following_tables false id c = refl
 
-checked_tables : (core : Core) (target : Object) (opcode : ℕ) (given : List Given) (r : Result sigs.Message SendError) → (after_checked core event_side target opcode given r).tables ≡ core.tables
+checked_tables : (core : Core) (target : Object) (opcode : ℕ) (given : List Given) (r : Result sigs.Message SendError) → fixed (after_checked core event_side target opcode given r) ≡ fixed core
 checked_tables core target opcode given (Err why) = refl
 checked_tables core target opcode given (Ok signature) = following_tables _ _ _
 
-full_tables : (s : server.State) (f : Found) (b : Bool) → (cond b s (requests.state_past s f)).core.tables ≡ s.core.tables
+full_tables : (s : server.State) (f : Found) (b : Bool) → fixed (cond b s (requests.state_past s f)).core ≡ fixed s.core
 full_tables s f true = refl
 full_tables s f false = following_tables _ _ _
 
-found_tables : (s : server.State) (r : Result (Option Found) Fault) → (requests.state_found s r).core.tables ≡ s.core.tables
+found_tables : (s : server.State) (r : Result (Option Found) Fault) → fixed (requests.state_found s r).core ≡ fixed s.core
 found_tables s (Err fault) = refl
 found_tables s (Ok None) = refl
 found_tables s (Ok (Some f)) = full_tables s f (requests.is_out_full s.core f)
 
-next_tables : (s : server.State) (b : Bool) → (cond b s (requests.state_found s (requests.request s))).core.tables ≡ s.core.tables
+next_tables : (s : server.State) (b : Bool) → fixed (cond b s (requests.state_found s (requests.request s))).core ≡ fixed s.core
 next_tables s true = refl
 next_tables s false = found_tables s (requests.request s)
 
@@ -82,7 +90,7 @@ keeps_tables : (p : PairState) (move : Move) (reply : Reply) (p' : PairState) �
 keeps_tables p (ClientSend target opcode given) (ClientSend reply) p' d = by_write _ _ p _ reply p' refl d
 keeps_tables p (ClientBind target name iface version) (ClientBind reply) p' d = by_write _ _ p _ reply p' refl d
 keeps_tables p (ServerSend target opcode given) (ServerSend reply) p' d =
-    by_write _ _ p _ reply p' (checked_tables p.server.core target opcode given (checked p.server.core.tables event_side p.server.core.view target opcode given)) d
+    by_write _ _ p _ reply p' (checked_tables p.server.core target opcode given (checked p.server.core.outbox.limit.bytes p.server.core.tables event_side p.server.core.view target opcode given)) d
 keeps_tables p (ServerDrop object) (ServerDrop reply) p' d = by_call _ p _ reply p' refl d
 keeps_tables p (PostError object code text) (PostError reply) p' d = by_call _ p _ reply p' refl d
 keeps_tables p (AddGlobal iface version) (AddGlobal reply) p' d = by_add _ _ p _ reply p' refl d
@@ -98,10 +106,11 @@ keeps_tables p _ _ p' d = absurd d
 pub still_lawful : (p p' : PairState) (move : Move) (reply : Reply) → Does p move reply p' → KeepsRecord p p' → EndedLawful p → EndedLawful p'
 still_lawful p p' move reply d k l =
     let there = l.there in
+    let same = keeps_tables p move reply p' d in
     let first : take l.count p'.recording ≡ take l.count p.recording = ap (take l.count) k.pieces ∙ take-append-le l.count p.recording k.more there in
     record {
       count = l.count;
       mark = k.mark l.count l.mark;
       there = let e = ap (λ (x : List Piece). length x) k.pieces in omega (arith, e, there, length-append p.recording k.more);
-      lawful = rw (keeps_tables p move reply p' d, first) l.lawful;
+      lawful = rw (ap (λ (f : Fixed). f.tables) same, ap (λ (f : Fixed). f.limit) same, first) l.lawful;
     }

@@ -16,12 +16,12 @@ use Rattle.wl_table.specs.declared.object.Entry.{Entry}
 use Rattle.wl_objects.specs.Messages.{Made, made, made_by, is_bind, same_iface}
 use Rattle.wl_client.specs.declared.globals.Global.{Global as Remembered}
 use Rattle.wl_server.specs.State.{Global, global_of}
-use Rattle.wl_server.specs.Requests.{bind_fits, name_fits}
+use Rattle.wl_server.specs.Requests.{can_bind as bind_fits, name_fits}
 use Rattle.wl_server.specs.Calls.{version_in}
 use Rattle.wl_recording.specs.declared.piece.Direction.TheVariants.{ToServer}
 use Rattle.wl_check.specs.Effects.{first_number}
 use Rattle.wl_check.specs.Places.{Known as Knows}
-use Rattle.wl_check.specs.Rules.{version_of, may_bind, is_bad_bind}
+use Rattle.wl_check.specs.Rules.{version_of, can_bind as may_bind, is_bad_bind}
 use Rattle.wl_world.specs.Meant.{Known, Message, Coming, Event, Delete, Arg, made_in, wire}
 use Rattle.wl_world.specs.World.{Each, IfThere}
 use Rattle.wl_world.specs.Stands.{AreOf, AsksFitly, IsGlobal}

@@ -8,7 +8,7 @@ use Rattle.wl_wire.specs.Word.{header_at, header_bytes}
 use Rattle.wl_wire.specs.Argument.{Int, Uint, Fixed, Str, Obj, New, NewNamed, Array, Fd}
 use Rattle.wl_sigs.specs.Tables.{Interface, signature_at}
 use Rattle.wl_sigs.specs.Tables as sigs
-use Rattle.wl_message.specs.Cut.{usual_limit, is_size}
+use Rattle.wl_message.specs.Cut.{IsMessage, is_size}
 use Rattle.wl_message.proofs.Fronts.{is_size-true}
 use Rattle.wl_table.specs.declared.object.Entry.{Entry}
 use Rattle.wl_objects.specs.declared.lookup.NewId.TheVariants.{Free}
@@ -23,7 +23,7 @@ use Rattle.wl_check.specs.Rules.{reader, called, judged, judged_as, is_bad_bind}
 use Rattle.wl_world.specs.Meant.{Known, Message, Arg, objects, new_in, wire, tokens, spelled}
 use Rattle.wl_world.specs.World.{Each, IfThere}
 use Rattle.wl_world.specs.Stands.{Fits}
-use Rattle.wl_world.proofs.Readings.{HasObject, Finds, received_by_any, bytes_whole, bytes_len, parted, sized}
+use Rattle.wl_world.proofs.Readings.{HasObject, Finds, received_by_any, bytes_len, parted, sized}
 
 pub all_found : (r : Reader) (args : List (Arg Known)) → Each (HasObject r) (objects args) → Each (λ a. IfThere (λ x. r.new_id x.id ≡ Free) (new_in a)) args → Each (Finds r) args
 all_found r [] o n = tt
@@ -61,15 +61,14 @@ body_is m stream more p e =
 
 -- A message that fits stands in a stream. It keeps all rules where the checker has what it names, it is no bad bind, and the tokens brought
 -- so far are at least those taken before it and its own.
-pub frame_called : (tables : List Interface) (k : Knows) (d : Direction) (m : Message Known) (stream more : List ℕ) (p t : ℕ) (o : HasObject (reader k d) m.target) (f : Fits tables (side_of d) m)
-    → drop p stream ≡ (spelled m).bytes ++ more → Each (Finds (reader k d)) m.args → k.taken d + length (tokens m.args) ≤ t
+pub frame_called : (limit : ℕ) (tables : List Interface) (k : Knows) (d : Direction) (m : Message Known) (stream more : List ℕ) (p t : ℕ) (o : HasObject (reader k d) m.target) (f : Fits tables (side_of d) m)
+    → IsMessage limit (spelled m).bytes → drop p stream ≡ (spelled m).bytes ++ more → Each (Finds (reader k d)) m.args → k.taken d + length (tokens m.args) ≤ t
     → is_bad_bind tables k (side_of d) m.opcode (call_as d m o.entry f.signature).received ≡ false
-    → judged tables k stream (framed d t (mark p (length (spelled m).bytes))) ≡ Ok (call_as d m o.entry f.signature)
-frame_called tables k d m stream more p t o f e args w good =
+    → judged limit tables k stream (framed d t (mark p (length (spelled m).bytes))) ≡ Ok (call_as d m o.entry f.signature)
+frame_called limit tables k d m stream more p t o f whole e args w good =
     let vs = map wire m.args in
     let n = length (spelled m).bytes in
-    let whole = bytes_whole m.target.id m.opcode vs f.opcode f.len in
-    let size : is_size usual_limit n ≡ true = is_size-true usual_limit n whole.size in
+    let size : is_size limit n ≡ true = is_size-true limit n whole.size in
     let header = header_at (drop p stream) in
     let q = parted (drop p stream) more m.target.id m.opcode vs e (omega (arith, f.low)) f.opcode f.len in
     let enough : length (tokens m.args) ≤ t - k.taken d = omega (arith, w) in

@@ -21,6 +21,7 @@ use Rattle.wl_world.specs.Stands.{birth_in}
 use Rattle.wl_world.specs.Flight.{Rows, Held, Fresh, at, most}
 use Rattle.wl_world.proofs.Deeds.{put_tells, held_other, held_some}
 use Rattle.wl_world.proofs.Wholes.{client_makes, client_ends}
+use Rattle.wl_world.proofs.Ended.{if_by}
 use Rattle.wl_world.proofs.Readings.{made_of}
 use Rattle.wl_link.specs.Follows.{entry_at, maker, makers, places, KnownAs}
 
@@ -78,7 +79,7 @@ at_deleted : (places : List ℕ) (x : Known) (here : Rows Row) (id : ℕ) (b : B
 at_deleted places x here id true t = let there : put here.rows x.id None id ≡ None = (let i : id ≡ x.id = grind (arith, nat_tests) in grind (arith, put_tells)) in ap (option_map (entry_at places)) (sym there)
 at_deleted places x here id false t = let there : put here.rows x.id None id ≡ here.rows id = (let i : id ≢ x.id = grind (arith, nat_tests) in grind (arith, put_tells)) in ap (option_map (entry_at places)) (sym there)
 
--- ---- a message that makes an object, or none, and destroys its target, or does not
+-- ---- a message that makes an object, or none, and destroys one, or none
 
 frees_none : (id : ℕ) → frees None id ≡ false
 frees_none id = and_right (not (nat_eq id 1)) false refl
@@ -95,16 +96,20 @@ makes_objects : (places : List ℕ) (p : ℕ) (here : Rows Row) (n : Option Know
 makes_objects places p here None l below f id = ap (λ (ps : List ℕ). option_map (entry_at ps) (here.rows id)) (sym (append-nil places))
 makes_objects places p here (Some y) l below f id = at_made places p y here (f.birth ∙ sym l) below id (is_made (Some (made_of y)) id) refl
 
-ends_objects : (places : List ℕ) (v : Rows Row) (b : Bool) (x : Known) → Held v x → (id : ℕ)
-    → unless_deleted (frees None id) (is_id (destroyed b x.id) id) (option_map (entry_at places) (v.rows id)) ≡ option_map (entry_at places) ((client_ends b x v).rows id)
-ends_objects places v false x h id = rw (frees_none id) refl
-ends_objects places v true x h id = rw (frees_none id) (at_ended places x v h id (is_id (Some x.id) id) refl)
+-- the id of what a message destroys
+abbrev pub ended_ids : Option Known → Option ℕ
+ended_ids o = option_map (λ x. x.id) o
+
+ends_objects : (places : List ℕ) (v : Rows Row) (o : Option Known) → IfThere (Held v) o → (id : ℕ)
+    → unless_deleted (frees None id) (is_id (ended_ids o) id) (option_map (entry_at places) (v.rows id)) ≡ option_map (entry_at places) ((client_ends o v).rows id)
+ends_objects places v None h id = rw (frees_none id) refl
+ends_objects places v (Some x) h id = rw (frees_none id) (at_ended places x v h id (is_id (Some x.id) id) refl)
 
 -- what a message destroys is not what it makes
-apart : (here : Rows Row) (n : Option Known) (b : Bool) (x : Known) → IfThere (Fresh here) n → Held here x → (id : ℕ) → is_made (option_map made_of n) id ≡ true → is_id (destroyed b x.id) id ≡ false
-apart here None b x f h id e = absurd (cc e)
-apart here (Some y) false x f h id e = refl
-apart here (Some y) true x f h id e = let ne = held_some here x y.id h f.free in grind (arith, nat_tests)
+apart : (here : Rows Row) (n o : Option Known) → IfThere (Fresh here) n → IfThere (Held here) o → (id : ℕ) → is_made (option_map made_of n) id ≡ true → is_id (ended_ids o) id ≡ false
+apart here None o f h id e = absurd (cc e)
+apart here (Some y) None f h id e = refl
+apart here (Some y) (Some x) f h id e = let ne = held_some here x y.id h f.free in grind (arith, nat_tests)
 
 swap : (made deleted ended : Bool) (new : Entry) (o : Option Entry) → deleted ≡ false → (made ≡ true → ended ≡ false)
     → cond made (Some new) (unless_deleted deleted ended o) ≡ unless_deleted deleted ended (cond made (Some new) o)
@@ -137,36 +142,36 @@ held_below : (v : Rows Row) (x : Known) → AllBelow v → Held v x → x.born.b
 held_below v x below (inl h) = below x.id (Open x.born) h
 held_below v x below (inr h) = below x.id (Ending x.born) h
 
-below_ended : (v : Rows Row) (b : Bool) (x : Known) → Held v x → AllBelow v → AllBelow (client_ends b x v)
-below_ended v false x h below = below
-below_ended v true x h below = λ id r e. elim (put_tells v.rows x.id (Some (Ending x.born)) id) [
+below_ended : (v : Rows Row) (o : Option Known) → IfThere (Held v) o → AllBelow v → AllBelow (client_ends o v)
+below_ended v None h below = below
+below_ended v (Some x) h below = λ id r e. elim (put_tells v.rows x.id (Some (Ending x.born)) id) [
   | inl p ↦ (let q : Ending x.born ≡ r = cc (p.1, e) in let l = ap birth_in q in let b = held_below v x below h in omega (arith, l, b))
   | inr p ↦ below id r (sym p.1 ∙ e)
 ]
 
-same_counts : (b : Bool) (x : Known) (v : Rows Row) → ((client_ends b x v).used ≡ v.used) × ((client_ends b x v).births ≡ v.births)
-same_counts false x v = (refl, refl)
-same_counts true x v = (refl, refl)
+same_counts : (o : Option Known) (v : Rows Row) → ((client_ends o v).used ≡ v.used) × ((client_ends o v).births ≡ v.births)
+same_counts None v = (refl, refl)
+same_counts (Some x) v = (refl, refl)
 
 -- The checker knew the rows before the message; it knows them behind it.
-pub known_behind : (k k' : Knows) (places : List ℕ) (p : ℕ) (here : Rows Row) (n : Option Known) (b : Bool) (x : Known) → KnownAs k places here → IfThere (Fresh here) n → Held here x
+pub known_behind : (k k' : Knows) (places : List ℕ) (p : ℕ) (here : Rows Row) (n o : Option Known) → KnownAs k places here → IfThere (Fresh here) n → IfThere (Held here) o
     → ((id : ℕ) → k'.object id
-    ≡ cond (is_made (option_map made_of n) id) (Some (entry_of p Live (new_of (option_map made_of n)))) (unless_deleted (frees None id) (is_id (destroyed b x.id) id) (k.object id)))
-    → k'.used ≡ used_by (option_map made_of n) k.used → KnownAs k' (places ++ maker (option_map made_of n) p) (client_ends b x (client_makes here n))
-known_behind k k' places p here n b x a f h objects used =
+    ≡ cond (is_made (option_map made_of n) id) (Some (entry_of p Live (new_of (option_map made_of n)))) (unless_deleted (frees None id) (is_id (ended_ids o) id) (k.object id)))
+    → k'.used ≡ used_by (option_map made_of n) k.used → KnownAs k' (places ++ maker (option_map made_of n) p) (client_ends o (client_makes here n))
+known_behind k k' places p here n o a f h objects used =
     let v = client_makes here n in
     let below : Below places here = λ id r e. (let l = a.below id r e in let q = a.births in omega (arith, l, q)) in
-    let held : Held v x = held_made here n x f h in
-    let same = same_counts b x v in
+    let held : IfThere (Held v) o = if_by (λ x k. held_made here n x f k) o h in
+    let same = same_counts o v in
     record {
       objects = λ id. objects id
-          ∙ swap (is_made (option_map made_of n) id) (frees None id) (is_id (destroyed b x.id) id) (entry_of p Live (new_of (option_map made_of n))) (k.object id) (frees_none id) (apart here n b x f h id)
-          ∙ ap (λ (o : Option Entry). unless_deleted (frees None id) (is_id (destroyed b x.id) id) (cond (is_made (option_map made_of n) id) (Some (entry_of p Live (new_of (option_map made_of n)))) o)) (a.objects id)
-          ∙ ap (unless_deleted (frees None id) (is_id (destroyed b x.id) id)) (makes_objects places p here n a.births below f id)
-          ∙ ends_objects (places ++ maker (option_map made_of n) p) v b x held id;
+          ∙ swap (is_made (option_map made_of n) id) (frees None id) (is_id (ended_ids o) id) (entry_of p Live (new_of (option_map made_of n))) (k.object id) (frees_none id) (apart here n o f h id)
+          ∙ ap (λ (row : Option Entry). unless_deleted (frees None id) (is_id (ended_ids o) id) (cond (is_made (option_map made_of n) id) (Some (entry_of p Live (new_of (option_map made_of n)))) row)) (a.objects id)
+          ∙ ap (unless_deleted (frees None id) (is_id (ended_ids o) id)) (makes_objects places p here n a.births below f id)
+          ∙ ends_objects (places ++ maker (option_map made_of n) p) v o held id;
       used = used ∙ used_made here n k.used a.used ∙ sym same.0;
       births = births_made places p here n a.births ∙ sym same.1;
-      below = below_ended v b x held (below_made here n f a.below);
+      below = below_ended v o held (below_made here n f a.below);
     }
 
 -- ---- a delete_id

@@ -12,7 +12,7 @@ use Rattle.wl_world.specs.World.{World}
 use Rattle.wl_world.specs.Pair.{PairState}
 use Rattle.wl_world.specs.Stands.{Stands, stands, ended as stands_ended}
 use Rattle.wl_link.specs.Follows.{AllGoOn}
-use Rattle.wl_link.specs.Linked.{Linked, linked, ended, judgements, up_to}
+use Rattle.wl_link.specs.Linked.{Linked, linked, ended, judgements, limit_of, up_to}
 
 no_fault : (ms : List Judged) → AllGoOn ms → (k : ℕ) (o : Option Judged) → slice_get ms k ≡ o → fault_of o ≡ None
 no_fault ms a k None e = refl
@@ -23,19 +23,19 @@ if_none true o e = e
 if_none false o e = refl
 
 -- where all messages go on, none breaks a rule
-pub all_lawful : (tables : List Interface) (pieces : List Piece) → AllGoOn (judgements tables pieces) → IsLawful tables (session_of pieces)
-all_lawful tables pieces a k =
-    let ms = messages tables (session_of pieces) in
+pub all_lawful : (limit : ℕ) (tables : List Interface) (pieces : List Piece) → AllGoOn (judgements limit tables pieces) → IsLawful tables (session_of limit pieces)
+all_lawful limit tables pieces a k =
+    let ms = messages tables (session_of limit pieces) in
     if_none (nat_lt k (examined ms)) (fault_of (slice_get ms k)) (no_fault ms a k (slice_get ms k) refl)
 
-pub linked_lawful : (p : PairState) (w : World) → Linked p w → IsLawful p.server.core.tables (session_of (up_to p.ended_at p.recording))
-linked_lawful p w (ended e l) = subst (λ (o : Option ℕ). IsLawful p.server.core.tables (session_of (up_to o p.recording))) (sym l.mark) l.lawful
+pub linked_lawful : (p : PairState) (w : World) → Linked p w → IsLawful p.server.core.tables (session_of (limit_of p) (up_to p.ended_at p.recording))
+linked_lawful p w (ended e l) = subst (λ (o : Option ℕ). IsLawful p.server.core.tables (session_of (limit_of p) (up_to o p.recording))) (sym l.mark) l.lawful
 linked_lawful p w (linked asked told z l) =
-    subst (λ (o : Option ℕ). IsLawful p.server.core.tables (session_of (up_to o p.recording))) (sym z.1) (all_lawful p.server.core.tables p.recording l.follows.passed)
+    subst (λ (o : Option ℕ). IsLawful p.server.core.tables (session_of (limit_of p) (up_to o p.recording))) (sym z.1) (all_lawful (limit_of p) p.server.core.tables p.recording l.follows.passed)
 
 -- whatever a checker answers of it, it says that the session is lawful
-pub check_says_lawful : (p : PairState) (w : World) → Linked p w → (verdict : Verdict) → Answers p.server.core.tables (session_of (up_to p.ended_at p.recording)) verdict → SaysLawful verdict
-check_says_lawful p w l verdict a = (exact_from p.server.core.tables (session_of (up_to p.ended_at p.recording)) verdict a).1 (linked_lawful p w l)
+pub check_says_lawful : (p : PairState) (w : World) → Linked p w → (verdict : Verdict) → Answers p.server.core.tables (session_of (limit_of p) (up_to p.ended_at p.recording)) verdict → SaysLawful verdict
+check_says_lawful p w l verdict a = (exact_from p.server.core.tables (session_of (limit_of p) (up_to p.ended_at p.recording)) verdict a).1 (linked_lawful p w l)
 
 pub linked_stands : (p : PairState) (w : World) → Linked p w → Stands p w
 linked_stands p w (ended e l) = stands_ended e

@@ -1,5 +1,5 @@
 -- Each move keeps a linked pair linked.
-use Rattle.std.proofs.Common.{List, [], ◌∷◌, length, take, sym, ap, subst, arith}
+use Rattle.std.proofs.Common.{ℕ, List, [], ◌∷◌, length, take, sym, ap, subst, arith}
 use Rattle.std.proofs.lemmas.List.{take_all}
 use Rattle.wl_sigs.specs.Tables.{Interface}
 use Rattle.wl_recording.specs.Piece.{Piece}
@@ -14,7 +14,7 @@ use Rattle.wl_world.proofs.Records.{keeps_record}
 use Rattle.wl_world.proofs.Carries.{to_server_stands, to_client_stands}
 use Rattle.wl_world.proofs.Happenings.{Happens, stays, giving, asking, telling, reading_request, reading_event, reading_delete, carrying_to_server, carrying_to_client, Outcome, goes_on, ends_it, IsMarked}
 use Rattle.wl_world.proofs.Steps.{does_moves}
-use Rattle.wl_link.specs.Linked.{Linked, linked, ended, LinkedBy, EndedLawful, LinksOn, RunsLinked}
+use Rattle.wl_link.specs.Linked.{Linked, linked, ended, LinkedBy, EndedLawful, LinksOn, RunsLinked, limit_of}
 use Rattle.wl_link.proofs.Lawful.{all_lawful}
 use Rattle.wl_link.proofs.Moving.{again, given_links, asked_links, told_links, request_links, event_links, delete_links}
 use Rattle.wl_link.proofs.Ended.{still_lawful}
@@ -28,10 +28,10 @@ by_happening p w w' asked told l p' asked' told' stays s = again p w w' asked to
 by_happening p w w' asked told l p' asked' told' (giving more) s = given_links p w w' asked told more l s
 by_happening p w w' asked told l p' asked' told' (asking m c b) s = asked_links p w w' asked told m c b l s
 by_happening p w w' asked told l p' asked' told' (telling view outbox registries news e h) s = told_links p w w' asked told view outbox registries news e h l s
-by_happening p w w' asked told l p' asked' told' (reading_request m ms n what e whole there) s =
-    request_links p w w' m ms told n what whole there (subst (λ (x : List (Message Known)). LinkedBy p w x told) e l) s
-by_happening p w w' asked told l p' asked' told' (reading_event m cs n what entry e whole d) s =
-    event_links p w w' asked m cs n what entry whole d (subst (λ (x : List (Coming Known)). LinkedBy p w asked x) e l) s
+by_happening p w w' asked told l p' asked' told' (reading_request m ms n e whole there) s =
+    request_links p w w' m ms told n whole there (subst (λ (x : List (Message Known)). LinkedBy p w x told) e l) s
+by_happening p w w' asked told l p' asked' told' (reading_event m cs n entry e whole) s =
+    event_links p w w' asked m cs n entry whole (subst (λ (x : List (Coming Known)). LinkedBy p w asked x) e l) s
 by_happening p w w' asked told l p' asked' told' (reading_delete x cs n e whole) s = delete_links p w w' asked x cs n whole (subst (λ (y : List (Coming Known)). LinkedBy p w asked y) e l) s
 by_happening p w w' asked told l p' asked' told' (carrying_to_server most) s =
     again (after_carry_to_server p (carries p.client.core p.server.core most)) w w' asked told (carry_to_server_links p w asked told most l (to_server_stands p w asked told most l.stands)) s
@@ -40,22 +40,22 @@ by_happening p w w' asked told l p' asked' told' (carrying_to_client most) s =
 
 -- ---- an error
 
-all_up_to : (tables : List Interface) (pieces : List Piece) → IsLawful tables (session_of pieces) → IsLawful tables (session_of (take (length pieces) pieces))
-all_up_to tables pieces h = subst (λ (l : List Piece). IsLawful tables (session_of l)) (sym (take_all (length pieces) pieces (omega arith))) h
+all_up_to : (limit : ℕ) (tables : List Interface) (pieces : List Piece) → IsLawful tables (session_of limit pieces) → IsLawful tables (session_of limit (take (length pieces) pieces))
+all_up_to limit tables pieces h = subst (λ (l : List Piece). IsLawful tables (session_of limit l)) (sym (take_all (length pieces) pieces (omega arith))) h
 
-marked_lawful : (p p' : PairState) → IsMarked p p' → IsLawful p.server.core.tables (session_of p.recording) → EndedLawful p'
+marked_lawful : (p p' : PairState) → IsMarked p p' → IsLawful p.server.core.tables (session_of (limit_of p) p.recording) → EndedLawful p'
 marked_lawful p p' m h =
     let e = m.pieces in
     record {
       count = length p.recording;
       mark = m.mark;
       there = omega (arith, ap (λ (l : List Piece). length l) e);
-      lawful = rw (m.tables, e) (all_up_to p.server.core.tables p.recording h);
+      lawful = rw (m.tables, m.limit, e) (all_up_to (limit_of p) p.server.core.tables p.recording h);
     }
 
 by_outcome : (p : PairState) (w : World) (asked : List (Message Known)) (told : List (Coming Known)) → LinkedBy p w asked told → (p' : PairState) (w' : World) → Outcome p asked told p' w' → Linked p' w'
 by_outcome p w asked told l p' w' (goes_on asked' told' z s h) = linked asked' told' z (by_happening p w w' asked told l p' asked' told' h s)
-by_outcome p w asked told l p' w' (ends_it e m) = ended e (marked_lawful p p' m (all_lawful p.server.core.tables p.recording l.follows.passed))
+by_outcome p w asked told l p' w' (ends_it e m) = ended e (marked_lawful p p' m (all_lawful (limit_of p) p.server.core.tables p.recording l.follows.passed))
 
 -- ---- all moves
 

@@ -6,17 +6,16 @@ use Rattle.std.specs.declared.option.Option.TheVariants.{None, Some}
 use Rattle.std.proofs.lemmas.Bool.{eqb-true, eq-eqb}
 use Rattle.std.proofs.lemmas.List.{append_assoc}
 use Rattle.wl_wire.specs.declared.kind.Iface.{Iface}
-use Rattle.wl_sigs.specs.declared.signature.Destroys.{Destroys}
-use Rattle.wl_sigs.specs.declared.signature.Destroys.TheVariants.{Nothing, Target}
-use Rattle.wl_sigs.specs.declared.signature.Side.TheVariants.{Request as request_side}
-use Rattle.wl_sigs.specs.Tables.{Interface, destroys_target, place_of}
+use Rattle.wl_sigs.specs.declared.signature.Side.TheVariants.{Request as request_side, Event as event_side}
+use Rattle.wl_sigs.specs.Tables.{Interface, place_of}
 use Rattle.wl_sigs.specs.Fixed.{registry}
-use Rattle.wl_message.specs.Cut.{usual_limit, front, Whole}
+use Rattle.wl_message.specs.Arrived.{in_front}
+use Rattle.wl_message.specs.Cut.{Whole}
 use Rattle.wl_message.specs.Outgoing as boxes
 use Rattle.wl_message.specs.Outgoing.{Outgoing}
 use Rattle.wl_table.specs.declared.object.Entry.{Entry}
 use Rattle.wl_table.specs.View.{View}
-use Rattle.wl_objects.specs.Messages.{Client as client_end, Server as server_end, after, is_bind, same_iface}
+use Rattle.wl_objects.specs.Messages.{Client as client_end, Server as server_end, opens, is_bind, same_iface}
 use Rattle.wl_client.specs.declared.globals.Global.{Global as Remembered}
 use Rattle.wl_client.specs.State.{is_named}
 use Rattle.wl_client.specs.Reports.{argument, number_in, text_in, forgotten, remembered_as, globals_told}
@@ -26,11 +25,12 @@ use Rattle.wl_recording.specs.declared.piece.Direction.TheVariants.{ToServer, To
 use Rattle.wl_check.specs.Effects.{first_number}
 use Rattle.wl_check.specs.Places.{Known as Knows}
 use Rattle.wl_world.specs.Meant.{Born, Known, Message, Coming, Event, Delete, Arg, made_in, objects, wire, tokens, spelled, spelled_coming}
-use Rattle.wl_world.specs.World.{World, Row, Each, delete, is_registry}
+use Rattle.wl_world.specs.World.{World, Row, Each, IfThere, delete, is_registry}
+use Rattle.wl_world.proofs.Ended.{ended_view, ended_has, if_by}
 use Rattle.wl_world.specs.Pair.{PairState, with_client, with_server}
-use Rattle.wl_world.specs.Flight.{IsBelow, Rows, Tell, tells, all_asks, all_tells, Reads, client_rows}
-use Rattle.wl_world.specs.Stands.{StandsBy, TellsGiven, TellsFitly, by_event}
-use Rattle.wl_world.proofs.Wholes.{client_makes, client_ends, tells_at, deletes_at, all_asks_more, all_tells_more, each_more, each_rest, each_by}
+use Rattle.wl_world.specs.Flight.{IsBelow, Rows, Tell, tells, all_asks, all_tells, Reads, Held, client_rows}
+use Rattle.wl_world.specs.Stands.{StandsBy, Fits, TellsGiven, TellsFitly, by_event}
+use Rattle.wl_world.proofs.Wholes.{OpenRow, client_ends, tells_at, deletes_at, all_asks_more, all_tells_more, each_more, each_rest, each_by}
 use Rattle.wl_world.proofs.Bridges.{client_closed}
 use Rattle.wl_world.proofs.Afters.{held_row, client_after}
 use Rattle.wl_world.proofs.Channels.{pops}
@@ -44,7 +44,7 @@ use Rattle.wl_world.proofs.Happenings.{BindsRemembered, told_pair, delete_below}
 use Rattle.wl_link.specs.Leads.{Joins}
 use Rattle.wl_link.specs.Recorded.{Recorded}
 use Rattle.wl_link.specs.Follows.{IsAdvertised, TellsAdvertised, BindsAdvertised}
-use Rattle.wl_link.specs.Linked.{LinkedBy, knows}
+use Rattle.wl_link.specs.Linked.{LinkedBy, knows, limit_of}
 use Rattle.wl_link.proofs.Joining.{asks_more}
 use Rattle.wl_link.proofs.Seen.{seen_first, read_on}
 
@@ -102,17 +102,17 @@ bind_advertised k globals m h binds e name x named made =
 
 asked_joins : (p : PairState) (m : Message Known) (c : CanAsk p m) (asked_later : List (Message Known)) (told_seen : List (Coming Known)) (here : Rows Row)
     → Joins (by_event p.server.core.tables) (all_asks asked_later) (all_tells told_seen) here (client_rows p.client.core.view)
-    → Joins (by_event p.server.core.tables) (all_asks (asked_later ++ m ∷ [])) (all_tells told_seen) here (client_rows (asked_pair p m c.fitly.fits.signature.destroys).client.core.view)
+    → Joins (by_event p.server.core.tables) (all_asks (asked_later ++ m ∷ [])) (all_tells told_seen) here (client_rows (asked_pair p m).client.core.view)
 asked_joins p m c asked_later told_seen here j =
     let test = by_event p.server.core.tables in
     let v = p.client.core.view in
     let f = c.fitly.fits in
-    let what = f.signature.destroys in
-    let d : destroys_target what ≡ m.destroys = sym f.destroys in
     let new = made_in m.args in
-    let rows : client_rows (after client_end v (option_map made_of new) what m.target.id) ≡ client_ends m.destroys m.target (client_makes (client_rows v) new) =
-    client_after v m.target new what c.new (held_row v m.target (inl c.target)) ∙ ap (λ (b : Bool). client_ends b m.target (client_makes (client_rows v) new)) d in
-    let more = asks_more m.target (objects m.args) new m.destroys j c.target c.target_plain c.args c.args_plain c.new c.mortal in
+    let opened : IfThere (OpenRow (client_rows v)) m.ends = subst (λ (o : Option Known). IfThere (OpenRow (client_rows v)) o) (sym f.ends) (ended_has (OpenRow (client_rows v)) f.signature.destroys m.target m.args c.target c.args) in
+    let no_event : IfThere (λ x. test x.born ≡ false) m.ends =
+    subst (λ (o : Option Known). IfThere (λ x. test x.born ≡ false) o) (sym f.ends) (ended_has (λ x. test x.born ≡ false) f.signature.destroys m.target m.args c.target_plain c.args_plain) in
+    let rows = client_after v new m.ends c.new (if_by (λ x h. held_row v x (inl h)) m.ends opened) in
+    let more = asks_more m.target (objects m.args) new m.ends j c.target c.target_plain c.args c.args_plain c.new opened no_event c.mortal in
     record {
       common = more.common;
       leads = rw (all_asks_more asked_later m) more.leads;
@@ -121,7 +121,7 @@ asked_joins p m c asked_later told_seen here j =
 
 pub asked_links : (p : PairState) (w w' : World) (asked : List (Message Known)) (told : List (Coming Known)) (m : Message Known) (c : CanAsk p m)
     → (is_bind request_side m.target.born.iface m.opcode ≡ true → BindsRemembered p.client.globals m.args) → LinkedBy p w asked told
-    → StandsBy (asked_pair p m c.fitly.fits.signature.destroys) w' (asked ++ m ∷ []) told → LinkedBy (asked_pair p m c.fitly.fits.signature.destroys) w' (asked ++ m ∷ []) told
+    → StandsBy (asked_pair p m) w' (asked ++ m ∷ []) told → LinkedBy (asked_pair p m) w' (asked ++ m ∷ []) told
 asked_links p w w' asked told m c binds l s =
     let f = l.follows in
     record {
@@ -171,31 +171,31 @@ told_links p w w' asked told view outbox registries news births below l s = reco
 
 -- ---- the server reads
 
-births_kept : (v : View) (n : Option Known) (what : Destroys) (x : ℕ) → v.births ≤ (after server_end v (option_map made_of n) what x).births
-births_kept v None Nothing x = omega arith
-births_kept v None Target x = omega arith
-births_kept v (Some y) Nothing x = omega arith
-births_kept v (Some y) Target x = omega arith
+births_kept : (v : View) (n o : Option Known) → v.births ≤ (ended_view server_end (opens v (option_map made_of n)) o).births
+births_kept v None None = omega arith
+births_kept v None (Some x) = omega arith
+births_kept v (Some y) None = omega arith
+births_kept v (Some y) (Some x) = omega arith
 
 below_more : (few many : ℕ) → few ≤ many → (t : Tell) → IsBelow few t → IsBelow many t
 below_more few many h t l = omega (arith, h, l)
 
-pub request_links : (p : PairState) (w w' : World) (m : Message Known) (ms : List (Message Known)) (told : List (Coming Known)) (n : ℕ) (what : Destroys)
-    → front usual_limit p.server.core.inbox.bytes ≡ Whole n → m.target.born.birth < p.server.core.view.births → LinkedBy p w (m ∷ ms) told
-    → StandsBy (with_server p (left_state p.server m n what)) w' ms (told ++ delete m.destroys m.target)
-    → LinkedBy (with_server p (left_state p.server m n what)) w' ms (told ++ delete m.destroys m.target)
-request_links p w w' m ms told n what whole there l s =
+pub request_links : (p : PairState) (w w' : World) (m : Message Known) (ms : List (Message Known)) (told : List (Coming Known)) (n : ℕ)
+    → in_front p.server.core.inbox ≡ Whole n → IfThere (λ x. x.born.birth < p.server.core.view.births) m.ends → LinkedBy p w (m ∷ ms) told
+    → StandsBy (with_server p (left_state p.server m n)) w' ms (told ++ delete m.ends)
+    → LinkedBy (with_server p (left_state p.server m n)) w' ms (told ++ delete m.ends)
+request_links p w w' m ms told n whole there l s =
     let q = pops p.client.core.outbox p.server.core.inbox (map spelled (m ∷ ms)) n l.stands.to_server whole in
     let first : q.first ≡ spelled m = cc q.is in
     let size : n ≡ length (spelled m).bytes = q.size ∙ ap (λ (x : boxes.Message). length x.bytes) first in
     let enough : length (tokens m.args) ≤ length p.server.core.inbox.tokens = subst (λ (x : boxes.Message). length x.tokens ≤ length p.server.core.inbox.tokens) first q.enough in
-    let seen = seen_first spelled ToServer p.recording p.server.core.inbox ((knows p).taken ToServer) n m ms l.asked_seen l.asked_later l.asked_is l.to_server whole in
-    let recorded : Recorded ToServer p.recording p.server.core.inbox ((knows p).taken ToServer) (spelled m ∷ map spelled seen.rest) =
-    subst (λ (x : List (Message Known)). Recorded ToServer p.recording p.server.core.inbox ((knows p).taken ToServer) (map spelled x)) seen.seen_is l.to_server in
+    let seen = seen_first spelled (limit_of p) ToServer p.recording p.server.core.inbox ((knows p).taken ToServer) n m ms l.asked_seen l.asked_later l.asked_is l.to_server whole in
+    let recorded : Recorded (limit_of p) ToServer p.recording p.server.core.inbox ((knows p).taken ToServer) (spelled m ∷ map spelled seen.rest) =
+    subst (λ (x : List (Message Known)). Recorded (limit_of p) ToServer p.recording p.server.core.inbox ((knows p).taken ToServer) (map spelled x)) seen.seen_is l.to_server in
     let births = p.server.core.view.births in
-    let now = (after server_end p.server.core.view (option_map made_of (made_in m.args)) what m.target.id).births in
-    let dead = delete m.destroys m.target in
-    let counted = more_counted births told dead l.counted (delete_below births m.destroys m.target there) in
+    let now = (ended_view server_end (opens p.server.core.view (option_map made_of (made_in m.args))) m.ends).births in
+    let dead = delete m.ends in
+    let counted = more_counted births told dead l.counted (delete_below births m.ends there) in
     record {
       stands = s;
       asked_seen = seen.rest;
@@ -204,10 +204,10 @@ request_links p w w' m ms told n what whole there l s =
       told_later = l.told_later ++ dead;
       asked_is = seen.others;
       told_is = ap (λ (x : List (Coming Known)). x ++ dead) l.told_is ∙ append_assoc l.told_seen l.told_later dead;
-      to_server = read_on ToServer p.recording p.server.core.inbox ((knows p).taken ToServer) n (length (tokens m.args)) (spelled m) (map spelled seen.rest) recorded size refl enough;
+      to_server = read_on (limit_of p) ToServer p.recording p.server.core.inbox ((knows p).taken ToServer) n (length (tokens m.args)) (spelled m) (map spelled seen.rest) recorded size refl enough;
       to_client = l.to_client;
       follows = l.follows;
-      counted = each_by (IsBelow births) (IsBelow now) (below_more births now (births_kept p.server.core.view (made_in m.args) what m.target.id)) (all_tells (told ++ dead)) counted;
+      counted = each_by (IsBelow births) (IsBelow now) (below_more births now (births_kept p.server.core.view (made_in m.args) m.ends)) (all_tells (told ++ dead)) counted;
     }
 
 -- ---- the client reads
@@ -246,18 +246,18 @@ both_true : (a b : Bool) → (a && b) ≡ true → a ≡ true
 both_true true b h = refl
 both_true false b h = h
 
-event_joins : (test : Born → Bool) (m : Message Known) (asked_later : List (Message Known)) (rest : List (Coming Known)) (here : Rows Row) (v : View) (what : Destroys) → destroys_target what ≡ m.destroys
-    → Joins test (all_asks asked_later) (all_tells (Event m ∷ rest)) here (client_rows v) → Joins test (all_asks asked_later) (all_tells rest) here (client_rows (after client_end v None what m.target.id))
-event_joins test m asked_later rest here v what d j =
-    let t = tells_at m.target (objects m.args) m.destroys j.reads in
-    let rows : client_rows (after client_end v None what m.target.id) ≡ client_ends m.destroys m.target (client_rows v) =
-    client_after v m.target None what tt (held_row v m.target t.target) ∙ ap (λ (b : Bool). client_ends b m.target (client_rows v)) d in
+event_joins : (test : Born → Bool) (m : Message Known) (asked_later : List (Message Known)) (rest : List (Coming Known)) (here : Rows Row) (v : View) (tables : List Interface) (f : Fits tables event_side m)
+    → Joins test (all_asks asked_later) (all_tells (Event m ∷ rest)) here (client_rows v) → Joins test (all_asks asked_later) (all_tells rest) here (client_rows (ended_view client_end v m.ends))
+event_joins test m asked_later rest here v tables f j =
+    let t = tells_at m.target (objects m.args) m.ends j.reads in
+    let held : IfThere (Held (client_rows v)) m.ends = subst (λ (o : Option Known). IfThere (Held (client_rows v)) o) (sym f.ends) (ended_has (Held (client_rows v)) f.signature.destroys m.target m.args t.target t.args) in
+    let rows : client_rows (ended_view client_end v m.ends) ≡ client_ends m.ends (client_rows v) = client_after v None m.ends tt (if_by (held_row v) m.ends held) in
     record { common = j.common; leads = j.leads; reads = subst (λ (x : Rows Row). Reads test (all_tells rest) x j.common) (sym rows) t.rest }
 
-pub event_links : (p : PairState) (w w' : World) (asked : List (Message Known)) (m : Message Known) (cs : List (Coming Known)) (n : ℕ) (what : Destroys) (entry : Entry)
-    → front usual_limit p.client.core.inbox.bytes ≡ Whole n → destroys_target what ≡ m.destroys → LinkedBy p w asked (Event m ∷ cs)
-    → StandsBy (with_client p (after_event p.client m n what (teaches m entry))) w' asked cs → LinkedBy (with_client p (after_event p.client m n what (teaches m entry))) w' asked cs
-event_links p w w' asked m cs n what entry whole d l s =
+pub event_links : (p : PairState) (w w' : World) (asked : List (Message Known)) (m : Message Known) (cs : List (Coming Known)) (n : ℕ) (entry : Entry)
+    → in_front p.client.core.inbox ≡ Whole n → LinkedBy p w asked (Event m ∷ cs)
+    → StandsBy (with_client p (after_event p.client m n (teaches m entry))) w' asked cs → LinkedBy (with_client p (after_event p.client m n (teaches m entry))) w' asked cs
+event_links p w w' asked m cs n entry whole l s =
     let f = l.follows in
     let tables = p.server.core.tables in
     let inbox = p.client.core.inbox in
@@ -266,9 +266,9 @@ event_links p w w' asked m cs n what entry whole d l s =
     let first : q.first ≡ spelled m = cc q.is in
     let size : n ≡ length (spelled m).bytes = q.size ∙ ap (λ (x : boxes.Message). length x.bytes) first in
     let enough : length (tokens m.args) ≤ length inbox.tokens = subst (λ (x : boxes.Message). length x.tokens ≤ length inbox.tokens) first q.enough in
-    let seen = seen_first spelled_coming ToClient p.recording inbox taken n (Event m) cs l.told_seen l.told_later l.told_is l.to_client whole in
-    let recorded : Recorded ToClient p.recording inbox taken (spelled m ∷ map spelled_coming seen.rest) =
-    subst (λ (x : List (Coming Known)). Recorded ToClient p.recording inbox taken (map spelled_coming x)) seen.seen_is l.to_client in
+    let seen = seen_first spelled_coming (limit_of p) ToClient p.recording inbox taken n (Event m) cs l.told_seen l.told_later l.told_is l.to_client whole in
+    let recorded : Recorded (limit_of p) ToClient p.recording inbox taken (spelled m ∷ map spelled_coming seen.rest) =
+    subst (λ (x : List (Coming Known)). Recorded (limit_of p) ToClient p.recording inbox taken (map spelled_coming x)) seen.seen_is l.to_client in
     let told = subst (λ (x : List (Coming Known)). Each (TellsAdvertised tables (knows p)) x) seen.seen_is f.tells in
     let joins = subst (λ (x : List (Coming Known)). Joins (by_event tables) (all_asks l.asked_later) (all_tells x) f.here (client_rows p.client.core.view)) seen.seen_is f.joins in
     record {
@@ -280,12 +280,12 @@ event_links p w w' asked m cs n what entry whole d l s =
       asked_is = l.asked_is;
       told_is = seen.others;
       to_server = l.to_server;
-      to_client = read_on ToClient p.recording inbox taken n (length (tokens m.args)) (spelled m) (map spelled_coming seen.rest) recorded size refl enough;
+      to_client = read_on (limit_of p) ToClient p.recording inbox taken n (length (tokens m.args)) (spelled m) (map spelled_coming seen.rest) recorded size refl enough;
       follows = record {
         passed = f.passed;
         here = f.here;
         known_as = f.known_as;
-        joins = event_joins (by_event tables) m l.asked_later seen.rest f.here p.client.core.view what d joins;
+        joins = event_joins (by_event tables) m l.asked_later seen.rest f.here p.client.core.view tables l.stands.told_fit.0.fits joins;
         remembers = learns (knows p) tables p.client.core.tables p.server.globals p.client.globals m l.stands.same_tables l.stands.told_fit.0 told.0 f.remembers (teaches m entry) (both_true (is_registry m.target.born) _);
         tells = told.1;
         binds = f.binds;
@@ -299,7 +299,7 @@ delete_joins test x asked_later rest here p n j =
     let t = deletes_at x j.reads in
     record { common = j.common; leads = j.leads; reads = subst (λ (y : Rows Row). Reads test (all_tells rest) y j.common) (sym (client_closed p.client.core.view x.id)) t.rest }
 
-pub delete_links : (p : PairState) (w w' : World) (asked : List (Message Known)) (x : Known) (cs : List (Coming Known)) (n : ℕ) → front usual_limit p.client.core.inbox.bytes ≡ Whole n
+pub delete_links : (p : PairState) (w w' : World) (asked : List (Message Known)) (x : Known) (cs : List (Coming Known)) (n : ℕ) → in_front p.client.core.inbox ≡ Whole n
     → LinkedBy p w asked (Delete x ∷ cs) → StandsBy (with_client p (after_delete p.client x n)) w' asked cs → LinkedBy (with_client p (after_delete p.client x n)) w' asked cs
 delete_links p w w' asked x cs n whole l s =
     let f = l.follows in
@@ -309,9 +309,9 @@ delete_links p w w' asked x cs n whole l s =
     let q = pops p.server.core.outbox inbox (map spelled_coming (Delete x ∷ cs)) n l.stands.to_client whole in
     let first : q.first ≡ spelled_coming (Delete x) = cc q.is in
     let size : n ≡ length (spelled_coming (Delete x)).bytes = q.size ∙ ap (λ (y : boxes.Message). length y.bytes) first in
-    let seen = seen_first spelled_coming ToClient p.recording inbox taken n (Delete x) cs l.told_seen l.told_later l.told_is l.to_client whole in
-    let recorded : Recorded ToClient p.recording inbox taken (spelled_coming (Delete x) ∷ map spelled_coming seen.rest) =
-    subst (λ (y : List (Coming Known)). Recorded ToClient p.recording inbox taken (map spelled_coming y)) seen.seen_is l.to_client in
+    let seen = seen_first spelled_coming (limit_of p) ToClient p.recording inbox taken n (Delete x) cs l.told_seen l.told_later l.told_is l.to_client whole in
+    let recorded : Recorded (limit_of p) ToClient p.recording inbox taken (spelled_coming (Delete x) ∷ map spelled_coming seen.rest) =
+    subst (λ (y : List (Coming Known)). Recorded (limit_of p) ToClient p.recording inbox taken (map spelled_coming y)) seen.seen_is l.to_client in
     let told = subst (λ (y : List (Coming Known)). Each (TellsAdvertised tables (knows p)) y) seen.seen_is f.tells in
     let joins = subst (λ (y : List (Coming Known)). Joins (by_event tables) (all_asks l.asked_later) (all_tells y) f.here (client_rows p.client.core.view)) seen.seen_is f.joins in
     record {
@@ -323,7 +323,7 @@ delete_links p w w' asked x cs n whole l s =
       asked_is = l.asked_is;
       told_is = seen.others;
       to_server = l.to_server;
-      to_client = read_on ToClient p.recording inbox taken n 0 (spelled_coming (Delete x)) (map spelled_coming seen.rest) recorded size refl (omega arith);
+      to_client = read_on (limit_of p) ToClient p.recording inbox taken n 0 (spelled_coming (Delete x)) (map spelled_coming seen.rest) recorded size refl (omega arith);
       follows = record {
         passed = f.passed;
         here = f.here;

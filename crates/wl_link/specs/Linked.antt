@@ -14,13 +14,17 @@ use Rattle.wl_world.specs.Stands.{StandsBy}
 use Rattle.wl_link.specs.Recorded.{Recorded}
 use Rattle.wl_link.specs.Follows.{Follows, knowledge}
 
--- the messages of a recording, each judged at its place
-abbrev pub judgements : List Interface → List Piece → List Judged
-judgements tables pieces = messages tables (session_of pieces)
+-- the messages of a recording, each judged at its place, by this limit
+abbrev pub judgements : ℕ → List Interface → List Piece → List Judged
+judgements limit tables pieces = messages tables (session_of limit pieces)
+
+-- the limit by which both ends go
+abbrev pub limit_of : PairState → ℕ
+limit_of p = p.server.core.inbox.limit.bytes
 
 -- the messages of a pair's recording, and what the checker knows behind them
 abbrev pub judged_in : PairState → List Judged
-judged_in p = judgements p.server.core.tables p.recording
+judged_in p = judgements (limit_of p) p.server.core.tables p.recording
 
 abbrev pub knows : PairState → Knows
 knows p = knowledge p.server.core.tables (judged_in p)
@@ -36,8 +40,8 @@ pub record LinkedBy (p : PairState) (w : World) (asked : List (Message Known)) (
   pub asked_is : asked ≡ asked_seen ++ asked_later
   pub told_is : told ≡ told_seen ++ told_later
   -- each direction's stream, and its tokens
-  pub to_server : Recorded ToServer p.recording p.server.core.inbox ((knows p).taken ToServer) (map spelled asked_seen)
-  pub to_client : Recorded ToClient p.recording p.client.core.inbox ((knows p).taken ToClient) (map spelled_coming told_seen)
+  pub to_server : Recorded (limit_of p) ToServer p.recording p.server.core.inbox ((knows p).taken ToServer) (map spelled asked_seen)
+  pub to_client : Recorded (limit_of p) ToClient p.recording p.client.core.inbox ((knows p).taken ToClient) (map spelled_coming told_seen)
   -- what the checker knows, and how the ends differ from it
   pub follows : Follows p.server.core.tables (judged_in p) asked_later told_seen (client_rows p.client.core.view) p.client.globals
   -- what an event in flight is about was counted by the server
@@ -53,7 +57,7 @@ pub record EndedLawful (p : PairState) : Type 0 where
   pub count : ℕ
   pub mark : p.ended_at ≡ Some count
   pub there : count ≤ length p.recording
-  pub lawful : IsLawful p.server.core.tables (session_of (take count p.recording))
+  pub lawful : IsLawful p.server.core.tables (session_of (limit_of p) (take count p.recording))
 
 -- The pair's recording is linked with its world. Once the world is ended this says only that what was recorded before the end is lawful.
 pub data Linked (p : PairState) (w : World) : Type 0 where

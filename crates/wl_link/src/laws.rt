@@ -1,5 +1,5 @@
 //! What the two ends record is lawful, whatever is done with them.
-ghost use Rattle.std.specs.Prelude.{List};
+ghost use Rattle.std.specs.Prelude.{◌≡◌, List};
 ghost use Rattle.wl_sigs.specs.Tables.{Interface};
 ghost use Rattle.wl_sigs.specs.Valid.{Valid};
 ghost use Rattle.wl_message.specs.declared.amounts.Sizes.{Sizes};
@@ -9,11 +9,12 @@ ghost use Rattle.wl_world.specs.World.{World, opening, Each};
 ghost use Rattle.wl_world.specs.Pair.{PairState, Move, Reply, Does, new_pair};
 ghost use Rattle.wl_world.specs.Stands.{Stands};
 ghost use Rattle.wl_world.specs.Runs.{DoesAll, IsMove};
-ghost use Rattle.wl_link.specs.Linked.{Linked, LinksOn, RunsLinked, up_to};
+ghost use Rattle.wl_link.specs.Linked.{Linked, LinksOn, RunsLinked, limit_of, up_to};
 
-/// A new pair is linked with the opening world.
+/// A new pair with one limit is linked with the opening world.
 pub fn new_linked()
-    ensures { (tables : List Interface) (client server : Sizes) → Valid tables
+    ensures { (tables : List Interface) (client server : Sizes)
+        → client.limit.bytes ≡ server.limit.bytes → Valid tables
         → Linked (new_pair tables client server) opening }
 {}
 
@@ -42,13 +43,15 @@ pub fn linked_stands()
 /// What a linked pair recorded is lawful, up to the first error that was posted.
 pub fn linked_lawful()
     ensures { (pair : PairState) (world : World) → Linked pair world
-        → IsLawful pair.server.core.tables (session_of (up_to pair.ended_at pair.recording)) }
+        → IsLawful pair.server.core.tables
+        (session_of (limit_of pair) (up_to pair.ended_at pair.recording)) }
 {}
 
 /// Whatever a checker may answer of what a linked pair recorded, up to the first error that was
 /// posted, it says that the session is lawful.
 pub fn check_says_lawful()
     ensures { (pair : PairState) (world : World) (verdict : Verdict) → Linked pair world
-        → Answers pair.server.core.tables (session_of (up_to pair.ended_at pair.recording)) verdict
+        → Answers pair.server.core.tables
+        (session_of (limit_of pair) (up_to pair.ended_at pair.recording)) verdict
         → SaysLawful verdict }
 {}

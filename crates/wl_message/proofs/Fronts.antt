@@ -1,11 +1,12 @@
 -- What stands in front of bytes.
-use Rattle.std.proofs.Common.{◌≡◌, ℕ, zero, suc, ◌+◌, ◌-◌, ◌<◌, ◌≤◌, min, Bool, true, false, cond, List, [], ◌∷◌, ◌++◌, length, take, drop, length-take-le, refl, sym, ap, subst, ◌∙◌, arith, ltb}
+use Rattle.std.proofs.Common.{◌≡◌, ℕ, ◌+◌, ◌-◌, ◌<◌, ◌≤◌, min, Bool, true, false, cond, List, ◌++◌, length, take, drop, length-take-le, refl, sym, ap, subst, ◌∙◌, arith, ltb}
 use Rattle.std.proofs.lemmas.Bool.Decides.{nat_tests}
-use Rattle.std.proofs.Math.Seq.{take-add}
+use Rattle.std.proofs.lemmas.List.{length-take, take-append-le}
+use Rattle.std.proofs.Math.Seq.{take-add, take-append-add}
 use Rattle.wl_wire.specs.Word.{header_bytes}
 use Rattle.wl_wire.specs.declared.header.Header.{Header}
 use Rattle.wl_message.specs.Arrived.{HasParts, IsCopy}
-use Rattle.wl_message.specs.Cut.{usual_limit, front, Front, More, Bad, Whole, told_size, is_size, IsSize, HasMessage, message_size}
+use Rattle.wl_message.specs.Cut.{front, Front, More, Bad, Whole, told_size, is_size, IsSize, HasMessage, message_size}
 
 -- the test tells the fact
 pub size_is : (limit n : ℕ) → is_size limit n ≡ true → IsSize limit n
@@ -66,28 +67,24 @@ parts_of bytes h low there e =
 
 -- ---- a copy of the message in front
 
-copy_of : (bytes copy : List ℕ) (n : ℕ) → copy ≡ take n bytes → length copy ≡ n → front usual_limit bytes ≡ Whole n → IsCopy bytes copy
-copy_of bytes copy n e l f = record { whole = f ∙ ap Whole (sym l); same = e ∙ ap (λ (k : ℕ). take k bytes) (sym l) }
+pub copy_is : (bytes copy : List ℕ) (n : ℕ) → n ≡ told_size bytes → n ≤ length bytes → copy ≡ take n bytes → IsCopy bytes copy
+copy_is bytes copy n s there e =
+    let l : length copy ≡ n = ap length e ∙ length-take-le n bytes there in
+    record { told = l ∙ s; same = e ∙ ap (λ (k : ℕ). take k bytes) (sym l) }
 
-pub copy_is : (bytes copy : List ℕ) (n : ℕ) → HasMessage (front usual_limit bytes) → n ≡ message_size (front usual_limit bytes) → copy ≡ take n bytes → IsCopy bytes copy
-copy_is bytes copy n h s e =
-    let there : message_size (front usual_limit bytes) ≤ length bytes = (has_message usual_limit bytes h).there in
-    let l : length copy ≡ n = ap length e ∙ length-take-le n bytes (omega (arith, s, there)) in
-    copy_of bytes copy n e l (has_at (front usual_limit bytes) h ∙ ap Whole (sym s))
-
-pub copied_size : (bytes copy : List ℕ) → IsCopy bytes copy → message_size (front usual_limit bytes) ≡ length copy
-copied_size bytes copy c = ap message_size c.whole
+-- where a whole message stands in front, the copy is of that
+pub copied_size : (limit : ℕ) (bytes copy : List ℕ) → HasMessage (front limit bytes) → IsCopy bytes copy → message_size (front limit bytes) ≡ length copy
+copied_size limit bytes copy h c = (has_message limit bytes h).told ∙ sym c.told
 
 pub copy_there : (bytes copy : List ℕ) → IsCopy bytes copy → length copy ≤ length bytes
-copy_there bytes copy c = (front_stands usual_limit bytes (length copy) c.whole).there
+copy_there bytes copy c = let e : length copy ≡ min (length copy) (length bytes) = ap length c.same ∙ length-take (length copy) bytes in grind (arith, nat_tests, e)
 
--- the front of two lists, one after the other
-pub take_both : (a b : List ℕ) (n k : ℕ) → k ≡ min (length a) n → take k a ++ take (n - k) b ≡ take n (a ++ b)
-take_both [] b n zero e = let z : n - 0 ≡ n = omega arith in ap (λ (m : ℕ). take m b) z
-take_both [] b n (suc k) e = absurd (omega arith)
-take_both (x ∷ a) b zero zero e = refl
-take_both (x ∷ a) b zero (suc k) e = absurd (omega arith)
-take_both (x ∷ a) b (suc n) zero e = absurd (omega arith)
-take_both (x ∷ a) b (suc n) (suc k) e =
-    let z : suc n - suc k ≡ n - k = omega arith in
-    rw z (ap (λ (r : List ℕ). x ∷ r) (take_both a b n k (omega arith)))
+-- the front of two lists, one after the other, ends in the first
+pub front_in_first : (a b c : List ℕ) (n : ℕ) → a ++ b ≡ c → n ≤ length a → take n a ≡ take n c
+front_in_first a b c n e h = sym (take-append-le n a b h) ∙ ap (λ (l : List ℕ). take n l) e
+
+-- or goes past it
+pub front_past_first : (a b c : List ℕ) (n : ℕ) → a ++ b ≡ c → length a ≤ n → a ++ take (n - length a) b ≡ take n c
+front_past_first a b c n e h =
+    let k : length a + (n - length a) ≡ n = omega (arith, h) in
+    sym (take-append-add a b (n - length a)) ∙ ap (λ (m : ℕ). take m (a ++ b)) k ∙ ap (λ (l : List ℕ). take n l) e

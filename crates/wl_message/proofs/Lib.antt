@@ -5,3 +5,4 @@ pub mod Cuts
 pub mod Passing
 pub mod Steps
 pub mod Flushing
+pub mod Limits

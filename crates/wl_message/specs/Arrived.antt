@@ -7,28 +7,35 @@ use Rattle.wl_message.specs.declared.amounts.Fed.{Fed}
 use Rattle.wl_message.specs.declared.amounts.Sizes.{Sizes}
 use Rattle.wl_message.specs.declared.inbox.BadSize.{BadSize}
 use Rattle.wl_message.specs.declared.inbox.Frame.{Frame}
-use Rattle.wl_message.specs.Cut.{usual_limit, front, More, Bad, Whole}
+use Rattle.wl_message.specs.declared.limit.Limit.{Limit}
+use Rattle.wl_message.specs.Cut.{front, Front, More, Bad, Whole, told_size}
 
--- An inbox: the bytes and the tokens that wait, how many of each may wait, the body of the message
--- that was taken out last, and the tokens that were taken with it.
+-- An inbox: the bytes and the tokens that wait, how many of each may wait, how many bytes a message
+-- may have, the body of the message that was taken out last, and the tokens that were taken with it.
 pub record Arrived : Type 0 where
   pub bytes : List ℕ
   pub tokens : List ℕ
   pub capacity : ℕ
   pub token_capacity : ℕ
+  pub limit : Limit
   pub last : List ℕ
   pub last_tokens : List ℕ
 
 -- nothing waits, and no message was taken out
-abbrev pub nothing_arrived : ℕ → ℕ → Arrived
-nothing_arrived bytes tokens = record {
+abbrev pub nothing_arrived : ℕ → ℕ → Limit → Arrived
+nothing_arrived bytes tokens limit = record {
   bytes = [];
   tokens = [];
   capacity = bytes;
   token_capacity = tokens;
+  limit = limit;
   last = [];
   last_tokens = [];
 }
+
+-- what stands in front of the bytes that wait
+abbrev pub in_front : Arrived → Front
+in_front a = front a.limit.bytes a.bytes
 
 -- how many bytes are free
 abbrev pub free_bytes : Arrived → ℕ
@@ -59,18 +66,18 @@ without_first a bytes tokens = record a {
   last_tokens = take tokens a.tokens;
 }
 
--- a copy of the whole message in front
+-- a copy of the bytes in front, as many as the header there tells
 pub record IsCopy (bytes copy : List ℕ) : Type 0 where
-  pub whole : front usual_limit bytes ≡ Whole (length copy)
+  pub told : length copy ≡ told_size bytes
   pub same : copy ≡ take (length copy) bytes
 
 -- The header of the message in front, a bad size there, or nothing as long as more bytes are
 -- needed.
-abbrev pub TellsHeader : List ℕ → Result (Option Header) BadSize → Type 0
-TellsHeader bytes (Ok None) = front usual_limit bytes ≡ More
-TellsHeader bytes (Ok (Some h)) =
-    (front usual_limit bytes ≡ Whole h.size) × (take 8 bytes ≡ header_bytes h)
-TellsHeader bytes (Err e) = front usual_limit bytes ≡ Bad e.size
+abbrev pub TellsHeader : ℕ → List ℕ → Result (Option Header) BadSize → Type 0
+TellsHeader limit bytes (Ok None) = front limit bytes ≡ More
+TellsHeader limit bytes (Ok (Some h)) =
+    (front limit bytes ≡ Whole h.size) × (take 8 bytes ≡ header_bytes h)
+TellsHeader limit bytes (Err e) = front limit bytes ≡ Bad e.size
 
 -- so many bytes as the header tells are there: the header, and what stands behind it
 pub record HasParts (bytes : List ℕ) (h : Header) : Type 0 where
@@ -81,18 +88,18 @@ pub record HasParts (bytes : List ℕ) (h : Header) : Type 0 where
 -- What is told of the message in front: its header, the bytes behind that, and how many tokens
 -- wait; a bad size; or nothing, as long as more bytes are needed.
 abbrev pub Tells : Arrived → Result (Option Frame) BadSize → Type 0
-Tells a (Ok None) = front usual_limit a.bytes ≡ More
+Tells a (Ok None) = in_front a ≡ More
 Tells a (Ok (Some f)) =
-    (front usual_limit a.bytes ≡ Whole f.header.size)
+    (in_front a ≡ Whole f.header.size)
     × (take f.header.size a.bytes ≡ header_bytes f.header ++ f.body.now)
     × (f.tokens ≡ length a.tokens)
-Tells a (Err e) = front usual_limit a.bytes ≡ Bad e.size
+Tells a (Err e) = in_front a ≡ Bad e.size
 
--- how large the two boxes of an end may be
+-- how large the two boxes of an end may be; its inbox can hold the longest message
 pub record AreSizes (sizes : Sizes) : Type 0 where
   pub out_bytes : sizes.out_bytes ≤ 16777216
   pub out_tokens : sizes.out_tokens ≤ 65536
-  pub in_bytes_low : usual_limit ≤ sizes.in_bytes
+  pub in_bytes_low : sizes.limit.bytes ≤ sizes.in_bytes
   pub in_bytes : sizes.in_bytes ≤ 16777216
   pub in_tokens_low : 20 ≤ sizes.in_tokens
   pub in_tokens : sizes.in_tokens ≤ 65536

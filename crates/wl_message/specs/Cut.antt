@@ -4,9 +4,18 @@ use Rattle.std.specs.Prelude.{nat_le, if◌then◌else◌, List, [], ◌∷◌, 
 use Rattle.std.specs.Prelude.{slice_index}
 use Rattle.std.specs.List.{concat, AllByRecursion}
 
--- the most bytes that a message has
+-- the most bytes that a message has where no other limit is chosen
 abbrev pub usual_limit : ℕ
 usual_limit = 4096
+
+-- The most bytes that any limit allows: above it no multiple of 4 is a size that a header can tell
+-- in its 16 bits.
+abbrev pub greatest_limit : ℕ
+greatest_limit = 65532
+
+-- Messages may be limited to n bytes.
+abbrev pub IsLimit : ℕ → Type 0
+IsLimit n = (usual_limit ≤ n) × (n ≤ greatest_limit) × (n % 4 ≡ 0)
 
 -- A message may have n bytes: its header has 8, it is a row of words, and it is within the limit.
 pub record IsSize (limit n : ℕ) : Type 0 where

@@ -2,6 +2,7 @@
 use Rattle.std.specs.Prelude.{◌≡◌, ℕ, ◌+◌, ◌<◌, ◌≤◌, ◌⊎◌, List, [], ◌∷◌, ◌++◌, length, take}
 use Rattle.wl_message.specs.declared.amounts.Piece.{Piece}
 use Rattle.wl_message.specs.declared.amounts.Taken.{Taken}
+use Rattle.wl_message.specs.declared.limit.Limit.{Limit}
 use Rattle.wl_message.specs.Outgoing.{Message, Outgoing, all_bytes, all_tokens, waiting_bytes}
 use Rattle.wl_message.specs.Outgoing.{waiting_tokens, newly_begun, Goes, after_taking, no_messages}
 use Rattle.wl_message.specs.Outgoing.{with_message, with_error}
@@ -76,7 +77,7 @@ pub record Carried (sent : List Message) (left : List ℕ) (parts : List Part) :
 -- What an outbox gave since it was new: the messages that were begun, and the pieces that were
 -- taken, one after another, while messages were added in between.
 pub data Gave : List Message → List Part → Outgoing → Type 0 where
-  starts : {bytes tokens : ℕ} → Gave [] [] (no_messages bytes tokens)
+  starts : {bytes tokens : ℕ} {limit : Limit} → Gave [] [] (no_messages bytes tokens limit)
   adds : {sent : List Message} {parts : List Part} {o : Outgoing} (bytes tokens : List ℕ)
       → Gave sent parts o → Gave sent parts (with_message o bytes tokens)
   adds_error : {sent : List Message} {parts : List Part} {o : Outgoing} (bytes : List ℕ)

@@ -1,4 +1,5 @@
 pub mod Cut
+pub mod Limits
 pub mod Outgoing
 pub mod Marks
 pub mod Arrived

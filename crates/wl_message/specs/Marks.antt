@@ -3,6 +3,7 @@
 use Rattle.std.specs.Prelude.{◌≡◌, ℕ, ◌+◌, ◌-◌, ◌≤◌, Bool, false, nat_lt, ◌==◌, if◌then◌else◌, List}
 use Rattle.std.specs.Prelude.{[], ◌∷◌, ◌++◌, length, take, drop}
 use Rattle.std.specs.List.{AllByRecursion}
+use Rattle.wl_message.specs.declared.limit.Limit.{Limit}
 use Rattle.wl_message.specs.declared.marks.Mark.{Mark}
 use Rattle.wl_message.specs.declared.marks.Reach.{Reach}
 use Rattle.wl_message.specs.Outgoing.{Message, message, Outgoing, all_bytes, all_tokens}
@@ -31,6 +32,7 @@ pub record Kept : Type 0 where
   pub left : ℕ
   pub capacity : ℕ
   pub token_capacity : ℕ
+  pub limit : Limit
   pub has_error : Bool
   pub error_from : ℕ
   pub error_to : ℕ
@@ -41,6 +43,7 @@ outgoing h = record {
   messages = parted h.marks (drop h.left h.bytes) h.tokens;
   capacity = h.capacity;
   token_capacity = h.token_capacity;
+  limit = h.limit;
   has_error = h.has_error;
   error_from = h.error_from;
   error_to = h.error_to;

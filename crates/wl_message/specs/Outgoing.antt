@@ -2,6 +2,7 @@
 use Rattle.std.specs.Prelude.{◌≡◌, ℕ, zero, suc, ◌+◌, ◌-◌, ◌≤◌, Bool, true, false, ◌||◌, ◌==◌}
 use Rattle.std.specs.Prelude.{nat_lt, if◌then◌else◌, min, List, [], ◌∷◌, ◌++◌, length, drop}
 use Rattle.wl_message.specs.declared.amounts.Taken.{Taken}
+use Rattle.wl_message.specs.declared.limit.Limit.{Limit}
 
 -- a message: its bytes, and the tokens that go with the first of them
 pub record Message : Type 0 where
@@ -20,26 +21,28 @@ all_tokens [] = []
 all_tokens (m ∷ ms) = m.tokens ++ all_tokens ms
 
 -- An outbox: what has not gone of the message that was begun last, whose tokens are gone; the
--- messages that are not begun; and how many bytes and tokens of ordinary messages may wait. One
--- error event may stand among the messages, beyond these numbers. Its bytes are those of the
--- waiting ones from the place error_from up to error_to, counted from 0; where both are 0 none of
--- it waits.
+-- messages that are not begun; how many bytes and tokens of ordinary messages may wait; and how many
+-- bytes a message may have. One error event may stand among the messages, beyond what of these may
+-- wait. Its bytes are those of the waiting ones from the place error_from up to error_to, counted
+-- from 0; where both are 0 none of it waits.
 pub record Outgoing : Type 0 where
   pub left : List ℕ
   pub messages : List Message
   pub capacity : ℕ
   pub token_capacity : ℕ
+  pub limit : Limit
   pub has_error : Bool
   pub error_from : ℕ
   pub error_to : ℕ
 
 -- nothing waits, and no error event was added
-abbrev pub no_messages : ℕ → ℕ → Outgoing
-no_messages bytes tokens = record {
+abbrev pub no_messages : ℕ → ℕ → Limit → Outgoing
+no_messages bytes tokens limit = record {
   left = [];
   messages = [];
   capacity = bytes;
   token_capacity = tokens;
+  limit = limit;
   has_error = false;
   error_from = 0;
   error_to = 0;

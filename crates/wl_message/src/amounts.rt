@@ -1,18 +1,20 @@
 //! Numbers of bytes and tokens, and what comes at one time.
 
+use crate::limit::Limit;
 use std::error::Error;
 use std::fmt::{self, Display, Formatter};
 
-/// How large the boxes of an end are, in bytes and in tokens.
+/// How large the boxes of an end are, in bytes and in tokens, and how long its messages may be.
 ///
-/// An outbox has at most 16,777,216 bytes and 65,536 tokens, an inbox 4096 to 16,777,216 bytes
-/// and 20 to 65,536 tokens.
+/// An outbox has at most 16,777,216 bytes and 65,536 tokens, an inbox as many bytes as the limit to
+/// 16,777,216 and 20 to 65,536 tokens.
 #[derive(Clone, Copy, Debug, PartialEq, Eq)]
 pub struct Sizes {
     pub out_bytes: usize,
     pub out_tokens: usize,
     pub in_bytes: usize,
     pub in_tokens: usize,
+    pub limit: Limit,
 }
 
 /// How many bytes and tokens were taken in.

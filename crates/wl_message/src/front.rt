@@ -37,7 +37,9 @@ pub(crate) fn move_first<T: Copy + Drop, A: Allocator>(
     ensures ring { ring.new ≡ buffer (drop n ring.old.items) ring.old.capacity }
     ensures to { to.new ≡ take n ring.old.items ++ drop n to.old }
 {
-    ring.read_into(&mut to[..n]);
+    if n > 0 {
+        ring.read_into(&mut to[..n]);
+    }
 }
 
 /// Moves as many of the first items as a slice has places into that slice, and keeps a copy of
@@ -56,11 +58,14 @@ pub(crate) fn take_first<T: Copy + Drop, A: Allocator>(
 {
     let _waiting = ring.len();
     copy.clear();
-    ring.read_into(to);
-    let _ = copy.extend_from_slice(to);
+    if !to.is_empty() {
+        ring.read_into(to);
+        let _ = copy.extend_from_slice(to);
+    }
 }
 
 /// Copies the first n bytes into a store, in place of what is there. They stay in the ring.
+#[tactic(auto, using(crate::proofs::Fronts::front_in_first, crate::proofs::Fronts::front_past_first))]
 pub(crate) fn copy_front<A: Allocator>(
     ring: &HeapCircularBuffer<u8, A>,
     to: &mut Vec<u8, A>,
@@ -72,10 +77,13 @@ pub(crate) fn copy_front<A: Allocator>(
     ensures capacity { vec_capacity to.old ≤ vec_capacity to.new }
 {
     let (first, second) = ring.as_slices();
-    let count = first.len().min(n);
     to.clear();
-    store(to, &first[..count]);
-    store(to, &second[..n - count]);
+    if n <= first.len() {
+        store(to, &first[..n]);
+        return;
+    }
+    store(to, first);
+    store(to, &second[..n - first.len()]);
 }
 
 /// Some of the first items, at most `most`; none only where there are none.

@@ -1,37 +1,38 @@
 //! The header in front of bytes.
 ghost use Rattle.std.specs.Prelude.{◌≡◌, ◌≤◌, true, IfOk, IfSome, length, take, vec_capacity};
 ghost use Rattle.wl_wire.specs.Word.{header_bytes};
-ghost use Rattle.wl_message.specs.Cut.{told_size, is_size, usual_limit, front, HasMessage, message_size};
+ghost use Rattle.wl_message.specs.Cut.{told_size};
 ghost use Rattle.wl_message.specs.Arrived.{TellsHeader, HasParts, IsCopy};
 
 use crate::front::copy_front;
 use crate::inbox::BadSize;
+use crate::limit::Limit;
 use circular_buffer::HeapCircularBuffer;
 use std::alloc::Allocator;
-use wl_wire::{Header, MAX_MESSAGE_LEN};
+use wl_wire::Header;
 
-/// The header that the first 8 bytes are, which are copied into the store.
+/// The header that the first 8 bytes are. Where they stand in two parts they are copied into the
+/// store.
+#[tactic(auto, using(crate::proofs::Fronts::front_in_first))]
 pub(crate) fn header_of<A: Allocator>(
     bytes: &HeapCircularBuffer<u8, A>,
     store: &mut Vec<u8, A>,
 ) -> Header
     requires there { 8 ≤ length bytes.now.items }
-    requires room { 4096 ≤ vec_capacity store.old }
-    ensures room { 4096 ≤ vec_capacity store.new }
+    requires room { 8 ≤ vec_capacity store.old }
+    ensures room { vec_capacity store.old ≤ vec_capacity store.new }
     ensures bytes { take 8 bytes.now.items ≡ header_bytes result }
     ensures size { result.size ≡ told_size bytes.now.items }
 {
-    copy_front(bytes, store, 8);
-    let mut first = [0; 8];
-    first.copy_from_slice(&store[..8]);
-    Header::from_bytes(first)
-}
-
-/// Whether a message may have this size.
-pub fn is_size(size: u16) -> bool
-    ensures { result ≡ is_size usual_limit size }
-{
-    size >= 8 && size % 4 == 0 && size <= MAX_MESSAGE_LEN
+    let (first, _) = bytes.as_slices();
+    let mut header = [0; 8];
+    if first.len() >= 8 {
+        header.copy_from_slice(&first[..8]);
+    } else {
+        copy_front(bytes, store, 8);
+        header.copy_from_slice(&store[..8]);
+    }
+    Header::from_bytes(header)
 }
 
 #[tactic(auto, using(crate::proofs::Fronts::size_is, crate::proofs::Fronts::parts_of), unfolding(crate::specs::Cut::front))]
@@ -39,37 +40,26 @@ pub fn is_size(size: u16) -> bool
 pub(crate) fn header_in_front<A: Allocator>(
     bytes: &HeapCircularBuffer<u8, A>,
     store: &mut Vec<u8, A>,
+    limit: Limit,
 ) -> Result<Option<Header>, BadSize>
-    requires room { 4096 ≤ vec_capacity store.old }
-    ensures room { 4096 ≤ vec_capacity store.new }
-    ensures tells { TellsHeader bytes.now.items result }
+    requires room { limit.bytes ≤ vec_capacity store.old }
+    ensures room { vec_capacity store.old ≤ vec_capacity store.new }
+    ensures tells { TellsHeader limit.bytes bytes.now.items result }
     ensures whole { IfOk result (λ o. IfSome o (λ h. HasParts bytes.now.items h)) }
-    ensures fits { IfOk result (λ o. IfSome o (λ h. h.size ≤ 4096)) }
+    ensures told { IfOk result (λ o. IfSome o (λ h. h.size ≡ told_size bytes.now.items)) }
+    ensures fits { IfOk result (λ o. IfSome o (λ h. h.size ≤ limit.bytes)) }
 {
     if bytes.len() < 8 {
         return Ok(None);
     }
     let header = header_of(bytes, store);
-    if !is_size(header.size) {
+    if !limit.allows(header.size) {
         return Err(BadSize { size: header.size });
     }
     if bytes.len() < header.size as usize {
         return Ok(None);
     }
     Ok(Some(header))
-}
-
-/// How many bytes the whole message in front has.
-#[tactic(auto, using(crate::proofs::Fronts::has_message))]
-fn message_len<A: Allocator>(bytes: &HeapCircularBuffer<u8, A>, store: &mut Vec<u8, A>) -> usize
-    requires message { HasMessage (front usual_limit bytes.now.items) }
-    requires room { 4096 ≤ vec_capacity store.old }
-    ensures room { 4096 ≤ vec_capacity store.new }
-    ensures len { result ≡ message_size (front usual_limit bytes.now.items) }
-    ensures there { result ≤ length bytes.now.items }
-    ensures within { result ≤ 4096 }
-{
-    header_of(bytes, store).size as usize
 }
 
 /// Copies the whole message in front into the store, unless it stands there.
@@ -79,14 +69,16 @@ pub(crate) fn copy_message<A: Allocator>(
     store: &mut Vec<u8, A>,
     is_copied: bool,
 )
-    requires message { HasMessage (front usual_limit bytes.now.items) }
-    requires room { 4096 ≤ vec_capacity store.old }
+    requires header { 8 ≤ length bytes.now.items }
+    requires whole { told_size bytes.now.items ≤ length bytes.now.items }
+    requires store { 8 ≤ vec_capacity store.old }
+    requires room { told_size bytes.now.items ≤ vec_capacity store.old }
     requires copied { is_copied ≡ true → IsCopy bytes.now.items store.old.items }
-    ensures room { 4096 ≤ vec_capacity store.new }
+    ensures room { vec_capacity store.old ≤ vec_capacity store.new }
     ensures copy { IsCopy bytes.now.items store.new.items }
 {
     if !is_copied {
-        let size = message_len(bytes, store);
+        let size = header_of(bytes, store).size as usize;
         copy_front(bytes, store, size);
     }
 }

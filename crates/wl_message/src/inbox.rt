@@ -3,14 +3,15 @@ ghost use Rattle.std.specs.Prelude.{◌≡◌, ◌≤◌, ◌<◌, ◌↔◌, []
 ghost use Rattle.std.specs.Borrow.{sem};
 ghost use Rattle.std.specs.Io.BufRead.{Rests};
 ghost use Rattle.std.specs.Io.KnownBytes.{Keeps};
-ghost use Rattle.wl_message.specs.Cut.{usual_limit, front, HasMessage, message_size};
-ghost use Rattle.wl_message.specs.Arrived.{nothing_arrived, free_bytes, free_tokens, fed, with_more, without_first, Tells};
+ghost use Rattle.wl_message.specs.Cut.{HasMessage, message_size};
+ghost use Rattle.wl_message.specs.Arrived.{nothing_arrived, free_bytes, free_tokens, fed, with_more, without_first, in_front, Tells};
 ghost use Rattle.wl_message.specs.Streams.{Gives};
 ghost use Rattle.wl_message.specs.contracts.inbox.Inbox.{the_row};
 
 use crate::amounts::Fed;
 use crate::front::{append, copy_front, remove_first, take_first};
 use crate::header::{copy_message, header_in_front};
+use crate::limit::Limit;
 use circular_buffer::HeapCircularBuffer;
 use std::alloc::{AllocError, Allocator, Global};
 use std::error::Error;
@@ -18,7 +19,10 @@ use std::fmt::{self, Display, Formatter};
 use std::io::{self, Read};
 use std::marker::Model;
 use std::mem;
-use wl_wire::{Header, MAX_MESSAGE_LEN};
+use wl_wire::Header;
+
+/// The most bytes that are read at one time.
+const MAX_READ_LEN: usize = 4096;
 
 /// A whole message in front of an inbox.
 #[derive(Clone, Copy, Debug)]
@@ -30,7 +34,7 @@ pub struct Frame<'a> {
     pub tokens: usize,
 }
 
-/// A header has a size that no message has: below 8, no multiple of 4, or above 4096.
+/// A header has a size that no message has: below 8, no multiple of 4, or above the limit.
 #[derive(Clone, Copy, Debug, PartialEq, Eq)]
 pub struct BadSize {
     /// The size in the header, in bytes.
@@ -58,6 +62,7 @@ impl Error for BadSize {}
 pub struct Inbox<A: Allocator = Global> {
     bytes: HeapCircularBuffer<u8, A>,
     tokens: HeapCircularBuffer<u32, A>,
+    limit: Limit,
     // Room for one whole message, which is lent from here: in the ring it may stand in two parts.
     message: Vec<u8, A>,
     // Whether `message` is a copy of the whole message in front.
@@ -78,31 +83,35 @@ impl<A: Allocator> Model for Inbox<A> {
       tokens = i.tokens.items;
       capacity = i.bytes.capacity;
       token_capacity = i.tokens.capacity;
+      limit = i.limit;
       last = drop 8 i.last.items;
       last_tokens = i.last_tokens.items;
     } };
 
     ghost invariant = { λ i. record {
-      room : 4096 ≤ vec_capacity i.message;
-      last_room : 4096 ≤ vec_capacity i.last;
+      room : i.limit.bytes ≤ vec_capacity i.message;
+      last_room : i.limit.bytes ≤ vec_capacity i.last;
       token_room : i.tokens.capacity ≤ vec_capacity i.last_tokens;
       copied : i.is_copied ≡ true → IsCopy i.bytes.items i.message.items;
     } };
 }
 
 impl<A: Allocator + Clone + Drop> Inbox<A> {
-    /// An inbox with room for this number of bytes and tokens, in which nothing waits.
-    pub fn new(alloc: A, bytes: usize, tokens: usize) -> Result<Inbox<A>, AllocError>
-        requires bytes { (4096 ≤ bytes) × (bytes ≤ 16777216) }
+    /// An inbox with room for this number of bytes and tokens, in which nothing waits, for messages
+    /// within this limit.
+    pub fn new(alloc: A, bytes: usize, tokens: usize, limit: Limit) -> Result<Inbox<A>, AllocError>
+        requires bytes { (limit.bytes ≤ bytes) × (bytes ≤ 16777216) }
         requires tokens { (20 ≤ tokens) × (tokens ≤ 65536) }
-        ensures { IfOk result (λ i. i ≡ nothing_arrived bytes tokens) }
+        ensures { IfOk result (λ i. i ≡ nothing_arrived bytes tokens limit) }
     {
+        let len = limit.bytes as usize;
         Ok(Inbox {
             bytes: HeapCircularBuffer::with_capacity(alloc.clone()?, bytes)?,
             tokens: HeapCircularBuffer::with_capacity(alloc.clone()?, tokens)?,
-            message: Vec::with_capacity(alloc.clone()?, MAX_MESSAGE_LEN as usize)?,
+            limit,
+            message: Vec::with_capacity(alloc.clone()?, len)?,
             is_copied: false,
-            last: Vec::with_capacity(alloc.clone()?, MAX_MESSAGE_LEN as usize)?,
+            last: Vec::with_capacity(alloc.clone()?, len)?,
             last_tokens: Vec::with_capacity(alloc, tokens)?,
         })
     }
@@ -159,7 +168,7 @@ impl<A: Allocator> Inbox<A> {
         ensures err { OnErr result
             ((self.new ≡ self.old) × Keeps (R.remaining reader.old) (R.remaining reader.new)) }
     {
-        let most = self.room().min(MAX_MESSAGE_LEN as usize);
+        let most = self.room().min(MAX_READ_LEN);
         self.is_copied = false;
         self.message.clear();
         let _ = self.message.resize(most, 0);
@@ -177,7 +186,7 @@ impl<A: Allocator> Inbox<A> {
     {
         let tokens = self.tokens.len();
         self.is_copied = false;
-        let header = match header_in_front(&self.bytes, &mut self.message)? {
+        let header = match header_in_front(&self.bytes, &mut self.message, self.limit)? {
             Some(header) => header,
             None => return Ok(None),
         };
@@ -199,13 +208,13 @@ impl<A: Allocator> Inbox<A> {
 
     /// Takes the first message out, and as many of the first tokens as the slice has places, in
     /// order. `last` and `last_tokens` lend them until the next call of `pop`.
-    #[tactic(auto, using(crate::proofs::Fronts::copied_size, crate::proofs::Fronts::copy_there))]
+    #[tactic(auto, using(crate::proofs::Fronts::has_message, crate::proofs::Fronts::copied_size, crate::proofs::Fronts::copy_there))]
     pub fn pop(&mut self, tokens: &mut [u32])
-        requires message { HasMessage (front usual_limit self.old.bytes) }
+        requires message { HasMessage (in_front self.old) }
         requires tokens { length tokens.old ≤ length self.old.tokens }
         ensures tokens { tokens.new ≡ take (length tokens.old) self.old.tokens }
         ensures rest { self.new
-            ≡ without_first self.old (message_size (front usual_limit self.old.bytes))
+            ≡ without_first self.old (message_size (in_front self.old))
             (length tokens.old) }
     {
         copy_message(&self.bytes, &mut self.message, self.is_copied);

@@ -11,18 +11,19 @@ mod front;
 mod header;
 mod inbox;
 mod laws;
+mod limit;
 mod marks;
 mod outbox;
 mod script;
 mod streams;
 
 pub use amounts::{Fed, Full, Piece, Sizes, Taken};
-pub use header::is_size;
 pub use inbox::{BadSize, Frame, Inbox};
 pub use laws::{
     any_cut, front_stays, headed_message, joined_messages, next_message, one_amount, one_cut,
     pieces_in_step, reading_in_step, take_keeps_step,
 };
+pub use limit::Limit;
 pub use outbox::Outbox;
 pub use script::{ScriptReader, ScriptWriter, Step};
 pub use streams::{FillError, FlushError, fill, flush};

@@ -1,12 +1,13 @@
 //! Messages that wait to go out.
 ghost use Rattle.std.specs.Prelude.{◌≡◌, ◌≤◌, ◌<◌, ◌+◌, ◌↔◌, ◌⊎◌, ◌++◌, false, [], length, take, drop, IfOk, OnOk, OnErr, IsErr, IsTrue};
-ghost use Rattle.wl_message.specs.Cut.{usual_limit, IsMessage};
+ghost use Rattle.wl_message.specs.Cut.{IsMessage};
 ghost use Rattle.wl_message.specs.Outgoing.{no_messages, waiting_bytes, waiting_tokens, ordinary_len, room_of, token_room_of, with_message, with_error, MayGo, Goes, goes, after_taking};
 ghost use Rattle.wl_message.specs.Marks.{Reaches};
 ghost use Rattle.wl_message.specs.Streams.{NextHasTokens};
 
 use crate::amounts::{Full, Taken};
 use crate::front::{append, first_part, move_first, remove_first};
+use crate::limit::Limit;
 use crate::marks::{Mark, Reach, push_mark, reach_into};
 use circular_buffer::HeapCircularBuffer;
 use std::alloc::{AllocError, Allocator, Global};
@@ -32,6 +33,7 @@ pub struct Outbox<A: Allocator = Global> {
     left: usize,
     // How many bytes of ordinary messages may wait.
     capacity: usize,
+    limit: Limit,
     // Whether the error event was added, and where among the bytes it stands.
     has_error: bool,
     error_from: usize,
@@ -53,6 +55,7 @@ impl<A: Allocator> Model for Outbox<A> {
       left = o.left;
       capacity = o.capacity;
       token_capacity = o.tokens.capacity;
+      limit = o.limit;
       has_error = o.has_error;
       error_from = o.error_from;
       error_to = o.error_to;
@@ -66,6 +69,7 @@ impl<A: Allocator> Model for Outbox<A> {
         left = o.left;
         capacity = o.capacity;
         token_capacity = o.tokens.capacity;
+        limit = o.limit;
         has_error = o.has_error;
         error_from = o.error_from;
         error_to = o.error_to;
@@ -77,12 +81,12 @@ impl<A: Allocator> Model for Outbox<A> {
 }
 
 impl<A: Allocator + Clone + Drop> Outbox<A> {
-    /// An outbox with room for this number of bytes and tokens, and for an error event beyond these. Nothing
-    /// waits in it.
-    pub fn new(alloc: A, bytes: usize, tokens: usize) -> Result<Outbox<A>, AllocError>
+    /// An outbox with room for this number of bytes and tokens, and for an error event beyond these,
+    /// for messages within this limit. Nothing waits in it.
+    pub fn new(alloc: A, bytes: usize, tokens: usize, limit: Limit) -> Result<Outbox<A>, AllocError>
         requires bytes { bytes ≤ 16777216 }
         requires tokens { tokens ≤ 65536 }
-        ensures { IfOk result (λ o. o ≡ no_messages bytes tokens) }
+        ensures { IfOk result (λ o. o ≡ no_messages bytes tokens limit) }
     {
         let len = bytes + ERROR_LEN;
         Ok(Outbox {
@@ -91,6 +95,7 @@ impl<A: Allocator + Clone + Drop> Outbox<A> {
             tokens: HeapCircularBuffer::with_capacity(alloc, tokens)?,
             left: 0,
             capacity: bytes,
+            limit,
             has_error: false,
             error_from: 0,
             error_to: 0,
@@ -107,6 +112,13 @@ impl<A: Allocator> Outbox<A> {
     {
         let error = self.error_to - self.error_from;
         self.capacity - (self.bytes.len() - error)
+    }
+
+    /// How many bytes a message may have.
+    pub fn limit(&self) -> Limit
+        ensures { result ≡ self.now.limit }
+    {
+        self.limit
     }
 
     /// How many tokens are free. Those of a message that was begun are gone.
@@ -130,7 +142,7 @@ impl<A: Allocator> Outbox<A> {
     /// Adds a whole message and its tokens at the end, or is `Full` where the bytes or the tokens do
     /// not fit.
     pub fn push(&mut self, message: &[u8], tokens: &[u32]) -> Result<(), Full>
-        requires { IsMessage usual_limit message.now }
+        requires { IsMessage self.old.limit.bytes message.now }
         ensures ok { OnOk result (self.new ≡ with_message self.old message.now tokens.now) }
         ensures err { OnErr result (self.new ≡ self.old) }
         ensures full { IsErr result
@@ -146,7 +158,7 @@ impl<A: Allocator> Outbox<A> {
 
     /// Adds a whole message and its tokens at the end, for which there is room.
     pub fn push_fitting(&mut self, message: &[u8], tokens: &[u32])
-        requires whole { IsMessage usual_limit message.now }
+        requires whole { IsMessage self.old.limit.bytes message.now }
         requires bytes { length message.now ≤ room_of self.old }
         requires tokens { length tokens.now ≤ token_room_of self.old }
         ensures { self.new ≡ with_message self.old message.now tokens.now }
@@ -165,7 +177,7 @@ impl<A: Allocator> Outbox<A> {
     /// always fits. It is added once at most.
     pub fn push_error(&mut self, message: &[u8])
         requires short { length message.now ≤ 64 }
-        requires whole { IsMessage usual_limit message.now }
+        requires whole { IsMessage self.old.limit.bytes message.now }
         requires first { self.old.has_error ≡ false }
         ensures { self.new ≡ with_error self.old message.now }
     {

@@ -41,16 +41,16 @@ pub len-least : (values : List Argument) → 8 ≤ message_len values
 len-least [] = omega arith
 len-least (value ∷ values) = let more : 8 ≤ message_len values = len-least values in omega arith
 
-pub too_long : (values : List Argument) → 4096 < message_len values → len_in_limit values ≡ None
-too_long values h = rw (lt-ltb 4096 (message_len values) h) refl
+pub too_long : (limit : ℕ) (values : List Argument) → limit < message_len values → len_in_limit limit values ≡ None
+too_long limit values h = rw (lt-ltb limit (message_len values) h) refl
 
-pub too_long_there : (i len : ℕ) (list : List Arg) (a : Arg) → i < length list
+pub too_long_there : (limit i len : ℕ) (list : List Arg) (a : Arg) → i < length list
     → len + message_len (on_wire 0 (drop i list)) ≡ message_len (on_wire 0 list) + 8
-    → 4096 < len + spelled_len (wired 0 (given_of (get_or list i a))) → len_in_limit (on_wire 0 list) ≡ None
-too_long_there i len list a q e h =
+    → limit < len + spelled_len (wired 0 (given_of (get_or list i a))) → len_in_limit limit (on_wire 0 list) ≡ None
+too_long_there limit i len list a q e h =
     let at : message_len (on_wire 0 (drop i list)) ≡ spelled_len (wired 0 (given_of (get_or list i a))) + message_len (on_wire 0 (drop (i + 1) list)) = len-at 0 i list a q in
     let least : 8 ≤ message_len (on_wire 0 (drop (i + 1) list)) = len-least (on_wire 0 (drop (i + 1) list)) in
-    too_long (on_wire 0 list) (omega arith)
+    too_long limit (on_wire 0 list) (omega arith)
 
 -- the length of an argument is the same whatever the new object's id
 len-one : (id : ℕ) (x : Given) → spelled_len (wired id x) ≡ spelled_len (wired 0 x)

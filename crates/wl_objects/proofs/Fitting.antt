@@ -1,5 +1,5 @@
 -- What a call that passed its checks gives the writer of its message.
-use Rattle.std.proofs.Common.{◌≡◌, ℕ, suc, ◌≤◌, Bool, true, false, List, [], ◌∷◌, length, map, Some, None, refl, sym, ◌∙◌, subst, arith}
+use Rattle.std.proofs.Common.{◌≡◌, ℕ, suc, ◌<◌, ◌≤◌, Bool, true, false, List, [], ◌∷◌, length, map, Some, None, refl, sym, ◌∙◌, subst, arith}
 use Rattle.std.specs.Prelude.{option_map, nat_lt, if◌then◌else◌}
 use Rattle.std.proofs.lemmas.Bool.{ltb-false}
 use Rattle.std.proofs.lemmas.List.{length-map}
@@ -16,7 +16,7 @@ use Rattle.wl_objects.proofs.Calls.{len-least, len-any}
 use Rattle.wl_objects.proofs.Carrying.{if-none, text_is}
 
 -- an argument of the kind has a spelling, where that is short
-fits-one : (n : ℕ) (kind : Kind) (x : Given) → suits kind x ≡ true → spelled_len (wired n x) ≤ 4104 → Fits (wired n x)
+fits-one : (n : ℕ) (kind : Kind) (x : Given) → suits kind x ≡ true → spelled_len (wired n x) ≤ 65543 → Fits (wired n x)
 fits-one n kinds.Int (Int z) e h = tt
 fits-one n kinds.Uint (Uint m) e h = tt
 fits-one n kinds.Fixed (Fixed z) e h = tt
@@ -29,7 +29,7 @@ fits-one n kinds.Array (Array bytes) e h = omega arith
 fits-one n kinds.Fd (Fd token) e h = tt
 fits-one n kind x e h = absurd (cc)
 
-pub each-fits : (n place : ℕ) (ks : List Kind) (list : List Given) → wrong_place place ks list ≡ None → message_len (map (wired n) list) ≤ 4104 → EachFits (map (wired n) list)
+pub each-fits : (n place : ℕ) (ks : List Kind) (list : List Given) → wrong_place place ks list ≡ None → message_len (map (wired n) list) ≤ 65543 → EachFits (map (wired n) list)
 each-fits n place [] [] w h = tt
 each-fits n place [] (x ∷ list) w h = absurd (cc)
 each-fits n place (kind ∷ ks) [] w h = absurd (cc)
@@ -84,24 +84,24 @@ call-makes tables version id place (kind ∷ ks) (x ∷ list) w =
     (λ (e : kind ≡ kinds.New None). not_named x (subst (λ (k : Kind). suits k (given_of x) ≡ true) e suit.0))
     (call-makes tables version id (suc place) ks list suit.1)
 
-in-limit : (values : List Argument) (n : ℕ) (b : Bool) → nat_lt 4096 (message_len values) ≡ b → Some n ≡ (if b then None else Some (message_len values)) → (n ≡ message_len values) × (message_len values ≤ 4096)
-in-limit values n true e h = absurd (cc)
-in-limit values n false e h = (cc, ltb-false 4096 (message_len values) e)
+in-limit : (limit : ℕ) (values : List Argument) (n : ℕ) (b : Bool) → nat_lt limit (message_len values) ≡ b → Some n ≡ (if b then None else Some (message_len values)) → (n ≡ message_len values) × (message_len values ≤ limit)
+in-limit limit values n true e h = absurd (cc)
+in-limit limit values n false e h = (cc, ltb-false limit (message_len values) e)
 
 -- a length that was found is that of the message
-pub within : (values : List Argument) (n : ℕ) → Some n ≡ len_in_limit values → (n ≡ message_len values) × (message_len values ≤ 4096)
-within values n e = in-limit values n (nat_lt 4096 (message_len values)) refl e
+pub within : (limit : ℕ) (values : List Argument) (n : ℕ) → Some n ≡ len_in_limit limit values → (n ≡ message_len values) × (message_len values ≤ limit)
+within limit values n e = in-limit limit values n (nat_lt limit (message_len values)) refl e
 
 -- what a call's checks tell the writer of its message
-pub checked-fits : (ks : List Kind) (list : List Arg) (n : ℕ) → None ≡ wrong_place 0 ks (given list) → Some n ≡ len_in_limit (on_wire 0 list)
-    → (id : ℕ) → EachFits (on_wire id list) × (message_len (on_wire id list) ≤ 4096)
-checked-fits ks list n w f id =
-    let len : message_len (on_wire id list) ≤ 4096 = omega (arith, (within (on_wire 0 list) n f).1, len-any id (given list)) in
+pub checked-fits : (limit : ℕ) (ks : List Kind) (list : List Arg) (n : ℕ) → limit < 65536 → None ≡ wrong_place 0 ks (given list) → Some n ≡ len_in_limit limit (on_wire 0 list)
+    → (id : ℕ) → EachFits (on_wire id list) × (message_len (on_wire id list) ≤ limit)
+checked-fits limit ks list n most w f id =
+    let len : message_len (on_wire id list) ≤ limit = omega (arith, (within limit (on_wire 0 list) n f).1, len-any id (given list)) in
     (each-fits id 0 ks (given list) (sym w) (omega arith), len)
 
 -- the length is the same whatever the new object's id
-pub checked-len : (list : List Arg) (n : ℕ) → Some n ≡ len_in_limit (on_wire 0 list) → (id : ℕ) → n ≡ message_len (on_wire id list)
-checked-len list n f id = (within (on_wire 0 list) n f).0 ∙ sym (len-any id (given list))
+pub checked-len : (limit : ℕ) (list : List Arg) (n : ℕ) → Some n ≡ len_in_limit limit (on_wire 0 list) → (id : ℕ) → n ≡ message_len (on_wire id list)
+checked-len limit list n f id = (within limit (on_wire 0 list) n f).0 ∙ sym (len-any id (given list))
 
 pub few : (ks : List Kind) (list : List Arg) → length ks ≤ 20 → None ≡ wrong_place 0 ks (given list) → length list ≤ 20
 few ks list h w = omega (arith, h, same-number 0 ks (given list) (sym w), length-map list given_of)

@@ -17,7 +17,7 @@ typed-next i list a q h rest = let more : All IsTyped (given (drop (suc i) list)
 pub typed-end : (i : ℕ) (list : List Arg) → length list ≤ i → All IsTyped (given (drop i list))
 typed-end i list q = rw (drop_all i list q) (λ k d h. absurd (omega arith))
 
-ranged-one : (n : ℕ) (x : Given) → IsTyped x → spelled_len (wired n x) ≤ 4104 → InRange x
+ranged-one : (n : ℕ) (x : Given) → IsTyped x → spelled_len (wired n x) ≤ 65543 → InRange x
 ranged-one n (Int z) t h = t
 ranged-one n (Uint m) t h = t
 ranged-one n (Fixed z) t h = t
@@ -30,7 +30,7 @@ ranged-one n (NewNamed iface version x) t h = (omega arith, t)
 ranged-one n (Array bytes) t h = omega arith
 ranged-one n (Fd token) t h = tt
 
-pub ranged : (n : ℕ) (list : List Given) → All IsTyped list → message_len (map (wired n) list) ≤ 4104 → All InRange list
+pub ranged : (n : ℕ) (list : List Given) → All IsTyped list → message_len (map (wired n) list) ≤ 65543 → All InRange list
 ranged n [] t h = λ k d q. absurd (omega arith)
 ranged n (x ∷ list) t h =
     let least : 8 ≤ message_len (map (wired n) list) = len-least (map (wired n) list) in

@@ -86,32 +86,32 @@ written-spelled n place (kind ∷ ks) (x ∷ list) b w i o =
 
 -- ---- calls
 
-checked-of : (list : List Given) (len : ℕ) (signature found : Message) → of_length len signature ≡ Ok found → (found ≡ signature) × (len ≤ 4096)
-checked-of list len signature found e = by_length (nat_lt 4096 len) refl e
+checked-of : (limit : ℕ) (list : List Given) (len : ℕ) (signature found : Message) → of_length limit len signature ≡ Ok found → (found ≡ signature) × (len ≤ limit)
+checked-of limit list len signature found e = by_length (nat_lt limit len) refl e
   where
-    by_length : (b : Bool) → nat_lt 4096 len ≡ b → (if b then Err refusals.TooLong else Ok signature) ≡ Ok found → (found ≡ signature) × (len ≤ 4096)
+    by_length : (b : Bool) → nat_lt limit len ≡ b → (if b then Err refusals.TooLong else Ok signature) ≡ Ok found → (found ≡ signature) × (len ≤ limit)
     by_length true t e = absurd (cc)
-    by_length false t e = (cc, ltb-false 4096 len t)
+    by_length false t e = (cc, ltb-false limit len t)
 
-checked-places : (wrong lost : Option ℕ) (len : ℕ) (signature found : Message) → unless_wrong wrong lost len signature ≡ Ok found
-    → (wrong ≡ None) × (lost ≡ None) × (found ≡ signature) × (len ≤ 4096)
-checked-places (Some place) lost len signature found e = absurd (cc)
-checked-places None (Some place) len signature found e = absurd (cc)
-checked-places None None len signature found e = let o = checked-of [] len signature found e in (refl, refl, o.0, o.1)
+checked-places : (limit : ℕ) (wrong lost : Option ℕ) (len : ℕ) (signature found : Message) → unless_wrong limit wrong lost len signature ≡ Ok found
+    → (wrong ≡ None) × (lost ≡ None) × (found ≡ signature) × (len ≤ limit)
+checked-places limit (Some place) lost len signature found e = absurd (cc)
+checked-places limit None (Some place) len signature found e = absurd (cc)
+checked-places limit None None len signature found e = let o = checked-of limit [] len signature found e in (refl, refl, o.0, o.1)
 
 -- what a signature and a row give
-checked-signature : (view : View) (list : List Given) (entry : Entry) (at : Option Message) (found : Message) → checked_as view list entry at ≡ Ok found
-    → (at ≡ Some found) × (found.since ≤ entry.version) × (wrong_place 0 found.kinds list ≡ None) × (lost_place (look view) 0 found.kinds list ≡ None) × (message_len (map (wired 0) list) ≤ 4096)
-checked-signature view list entry None found e = absurd (cc)
-checked-signature view list entry (Some signature) found e = by_version (nat_lt entry.version signature.since) refl e
+checked-signature : (limit : ℕ) (view : View) (list : List Given) (entry : Entry) (at : Option Message) (found : Message) → checked_as limit view list entry at ≡ Ok found
+    → (at ≡ Some found) × (found.since ≤ entry.version) × (wrong_place 0 found.kinds list ≡ None) × (lost_place (look view) 0 found.kinds list ≡ None) × (message_len (map (wired 0) list) ≤ limit)
+checked-signature limit view list entry None found e = absurd (cc)
+checked-signature limit view list entry (Some signature) found e = by_version (nat_lt entry.version signature.since) refl e
   where
     by_version : (b : Bool) → nat_lt entry.version signature.since ≡ b
-        → (if b then Err refusals.TooOld else unless_wrong (wrong_place 0 signature.kinds list) (lost_place (look view) 0 signature.kinds list) (message_len (map (wired 0) list)) signature) ≡ Ok found
-        → (Some signature ≡ Some found) × (found.since ≤ entry.version) × (wrong_place 0 found.kinds list ≡ None) × (lost_place (look view) 0 found.kinds list ≡ None) × (message_len (map (wired 0) list) ≤ 4096)
+        → (if b then Err refusals.TooOld else unless_wrong limit (wrong_place 0 signature.kinds list) (lost_place (look view) 0 signature.kinds list) (message_len (map (wired 0) list)) signature) ≡ Ok found
+        → (Some signature ≡ Some found) × (found.since ≤ entry.version) × (wrong_place 0 found.kinds list ≡ None) × (lost_place (look view) 0 found.kinds list ≡ None) × (message_len (map (wired 0) list) ≤ limit)
     by_version true t e = absurd (cc)
     by_version false t e =
-        let p = checked-places (wrong_place 0 signature.kinds list) (lost_place (look view) 0 signature.kinds list) (message_len (map (wired 0) list)) signature found e in
-        let Want : Message → Type 0 = λ m. (Some signature ≡ Some m) × (m.since ≤ entry.version) × (wrong_place 0 m.kinds list ≡ None) × (lost_place (look view) 0 m.kinds list ≡ None) × (message_len (map (wired 0) list) ≤ 4096) in
+        let p = checked-places limit (wrong_place 0 signature.kinds list) (lost_place (look view) 0 signature.kinds list) (message_len (map (wired 0) list)) signature found e in
+        let Want : Message → Type 0 = λ m. (Some signature ≡ Some m) × (m.since ≤ entry.version) × (wrong_place 0 m.kinds list ≡ None) × (lost_place (look view) 0 m.kinds list ≡ None) × (message_len (map (wired 0) list) ≤ limit) in
         subst Want (sym p.2) (refl, ltb-false entry.version signature.since t, p.0, p.1, p.3)
 
 shown-signature : (b : Bool) (at : Option Message) (found : Message) → unless_hidden b at ≡ Some found → (b ≡ false) × (at ≡ Some found)
@@ -136,28 +136,28 @@ live-target view target entry e = by_row (look view target.id) refl e
             let want = subst Want same (eqb-true row.birth target.birth parts.0, parts.1) in
             (l ∙ ap (λ (r : Entry). Some r) same, want.0, want.1)
 
-checked-found : (tables : List Interface) (side : Side) (view : View) (target : Object) (opcode : ℕ) (list : List Given) (found : Message) (at : Option Entry) → live_row view target ≡ at
-    → checked_by tables side view opcode list at ≡ Ok found → Passes tables side view target opcode list found
-checked-found tables side view target opcode list found None l e = absurd (cc)
-checked-found tables side view target opcode list found (Some entry) l e =
-    let s = checked-signature view list entry (unless_hidden (is_hidden side entry.iface opcode) (signature_at tables entry.iface.0 side opcode)) found e in
+checked-found : (limit : ℕ) (tables : List Interface) (side : Side) (view : View) (target : Object) (opcode : ℕ) (list : List Given) (found : Message) (at : Option Entry) → live_row view target ≡ at
+    → checked_by limit tables side view opcode list at ≡ Ok found → Passes limit tables side view target opcode list found
+checked-found limit tables side view target opcode list found None l e = absurd (cc)
+checked-found limit tables side view target opcode list found (Some entry) l e =
+    let s = checked-signature limit view list entry (unless_hidden (is_hidden side entry.iface opcode) (signature_at tables entry.iface.0 side opcode)) found e in
     let shown = shown-signature (is_hidden side entry.iface opcode) (signature_at tables entry.iface.0 side opcode) found s.0 in
     let live = live-target view target entry l in
     record { entry = entry; row = live.0; birth = live.1; live = live.2; shown = shown.0; exists = shown.1; since = s.1; suit = s.2; can_name = s.3; len = s.4 }
 
-pub passes : (tables : List Interface) (side : Side) (view : View) (target : Object) (opcode : ℕ) (list : List Given) (found : Message)
-    → checked tables side view target opcode list ≡ Ok found → Passes tables side view target opcode list found
-passes tables side view target opcode list found e = checked-found tables side view target opcode list found (live_row view target) refl e
+pub passes : (limit : ℕ) (tables : List Interface) (side : Side) (view : View) (target : Object) (opcode : ℕ) (list : List Given) (found : Message)
+    → checked limit tables side view target opcode list ≡ Ok found → Passes limit tables side view target opcode list found
+passes limit tables side view target opcode list found e = checked-found limit tables side view target opcode list found (live_row view target) refl e
 
 live-row : (view : View) (target : Object) (entry : Entry) → look view target.id ≡ Some entry → entry.birth ≡ target.birth → is_live entry.state ≡ true → live_row view target ≡ Some entry
 live-row view target entry row birth live = let same : nat_eq entry.birth target.birth ≡ true = eq-eqb entry.birth target.birth birth in rw (row, same, live) refl
 
-pub passed : (tables : List Interface) (side : Side) (view : View) (target : Object) (opcode : ℕ) (list : List Given) (found : Message)
-    → Passes tables side view target opcode list found → checked tables side view target opcode list ≡ Ok found
-passed tables side view target opcode list found p =
+pub passed : (limit : ℕ) (tables : List Interface) (side : Side) (view : View) (target : Object) (opcode : ℕ) (list : List Given) (found : Message)
+    → Passes limit tables side view target opcode list found → checked limit tables side view target opcode list ≡ Ok found
+passed limit tables side view target opcode list found p =
     let row = live-row view target p.entry p.row p.birth p.live in
     let since : nat_lt p.entry.version found.since ≡ false = le-ltb p.entry.version found.since p.since in
-    let len : nat_lt 4096 (message_len (map (wired 0) list)) ≡ false = le-ltb 4096 (message_len (map (wired 0) list)) p.len in
+    let len : nat_lt limit (message_len (map (wired 0) list)) ≡ false = le-ltb limit (message_len (map (wired 0) list)) p.len in
     rw (row, p.shown, p.exists, since, p.suit, p.can_name, len) refl
 
 -- ---- a whole message
@@ -173,11 +173,11 @@ shown-error Event iface opcode e = by_display (same_iface iface display) refl e
 forgiving-not : (r : Reader) → r.forgives ≡ false → forgiving false r ≡ r
 forgiving-not r f = let g : false ≡ r.forgives = sym f in λ i. record r { forgives = g i }
 
-pub message-arrives : (tables : List Interface) (side : Side) (view : View) (r : Reader) (target : Object) (opcode size n waiting : ℕ) (list : List Given) (signature : Message)
-    (p : Passes tables side view target opcode list signature) (t : IsTarget p.entry r target) → r.forgives ≡ false → n < 2 ^ 32 → All InRange list → All (IsExpected (look view) r n) list
+pub message-arrives : (limit : ℕ) (tables : List Interface) (side : Side) (view : View) (r : Reader) (target : Object) (opcode size n waiting : ℕ) (list : List Given) (signature : Message)
+    (p : Passes limit tables side view target opcode list signature) (t : IsTarget p.entry r target) → r.forgives ≡ false → n < 2 ^ 32 → All InRange list → All (IsExpected (look view) r n) list
     → length (tokens_of list) ≤ waiting
     → received tables side r (record { object = target.id; size = size; opcode = opcode }) (spelled (map (wired n) list)) waiting ≡ Ok (received_by target t.row signature (map (wired n) list))
-message-arrives tables side view r target opcode size n waiting list signature p t f b i h w =
+message-arrives limit tables side view r target opcode size n waiting list signature p t f b i h w =
     let exists : signature_at tables t.row.iface.0 side opcode ≡ Some signature = subst (λ (iface : Iface). signature_at tables iface.0 side opcode ≡ Some signature) (sym t.iface) p.exists in
     let since : nat_lt t.row.version signature.since ≡ false = le-ltb t.row.version signature.since (omega (arith, t.version, p.since)) in
     let plain : is_error side t.row.iface opcode ≡ false = shown-error side t.row.iface opcode (subst (λ (iface : Iface). is_hidden side iface opcode ≡ false) (sym t.iface) p.shown) in

@@ -115,8 +115,8 @@ received_by target row signature values = record {
 
 -- Nothing stands against a call: its target is live with this birth, the message is one that `send`
 -- writes and exists at the target's version, its arguments suit and name live objects of the right
--- interfaces, and it is not too long.
-pub record Passes (tables : List Interface) (side : Side) (view : View) (target : Object)
+-- interfaces, and it is not longer than the limit.
+pub record Passes (limit : ℕ) (tables : List Interface) (side : Side) (view : View) (target : Object)
     (opcode : ℕ) (list : List Given) (signature : Message) : Type 0 where
   pub entry : Entry
   pub row : look view target.id ≡ Some entry
@@ -127,4 +127,4 @@ pub record Passes (tables : List Interface) (side : Side) (view : View) (target 
   pub since : signature.since ≤ entry.version
   pub suit : wrong_place 0 signature.kinds list ≡ None
   pub can_name : lost_place (look view) 0 signature.kinds list ≡ None
-  pub len : message_len (map (wired 0) list) ≤ 4096
+  pub len : message_len (map (wired 0) list) ≤ limit

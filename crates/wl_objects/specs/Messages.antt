@@ -1,16 +1,16 @@
 -- A whole message at an end: what it means to its reader, what a writer must meet, and what it makes of the end's objects.
-use Rattle.std.specs.Prelude.{ℕ, Bool, true, false, ◌&&◌, ◌||◌, not, List, [], ◌∷◌, map, nat_eq, nat_lt, if◌then◌else◌, Option, Some, None, option_map}
+use Rattle.std.specs.Prelude.{ℕ, slice_get, Bool, true, false, ◌&&◌, ◌||◌, not, List, [], ◌∷◌, map, nat_eq, nat_lt, if◌then◌else◌, Option, Some, None, option_map}
 use Rattle.std.specs.declared.result.Result.{Result}
 use Rattle.std.specs.declared.result.Result.TheVariants.{Ok, Err}
 use Rattle.wl_wire.specs.declared.kind.Kind.{Kind}
 use Rattle.wl_wire.specs.declared.kind.Kind.TheVariants as kinds
 use Rattle.wl_wire.specs.declared.kind.Iface.{Iface}
 use Rattle.wl_wire.specs.declared.header.Header.{Header}
-use Rattle.wl_wire.specs.Argument.{Argument, New, NewNamed}
+use Rattle.wl_wire.specs.Argument.{Argument, Obj, New, NewNamed}
 use Rattle.wl_sigs.specs.declared.signature.Side.{Side}
 use Rattle.wl_sigs.specs.declared.signature.Side.TheVariants.{Request, Event}
 use Rattle.wl_sigs.specs.declared.signature.Destroys.{Destroys}
-use Rattle.wl_sigs.specs.declared.signature.Destroys.TheVariants.{Nothing, Target}
+use Rattle.wl_sigs.specs.declared.signature.Destroys.TheVariants.{Nothing, Target, Arg}
 use Rattle.wl_sigs.specs.Tables.{Message, Interface, signature_at, place_of}
 use Rattle.wl_sigs.specs.Fixed.{display, registry}
 use Rattle.wl_table.specs.declared.object.Object.{Object}
@@ -132,6 +132,21 @@ opens view (Some m) = opened_at view m.id m.iface m.version
 abbrev pub destroys : End → Destroys → ℕ → View → View
 destroys end Nothing target view = view
 destroys end Target target view = destroyed end view target
+destroys end (Arg place) target view = destroyed end view target
+
+-- the id of the object that the argument at a place names
+abbrev pub id_named : Option Argument → ℕ
+id_named (Some (Obj id)) = id
+id_named _ = 0
+
+abbrev pub id_at : List Argument → ℕ → ℕ
+id_at values place = id_named (slice_get values place)
+
+-- the id of the object that a message destroys, if it destroys one
+abbrev pub ended_id : Destroys → ℕ → List Argument → ℕ
+ended_id Nothing target values = target
+ended_id Target target values = target
+ended_id (Arg place) target values = id_at values place
 
 -- The objects of an end after it has written or read a message, other than delete_id: the making comes first.
 abbrev pub after : End → View → Option Made → Destroys → ℕ → View
@@ -148,36 +163,37 @@ abbrev pub is_hidden : Side → Iface → ℕ → Bool
 is_hidden Request iface opcode = same_iface iface registry && nat_eq opcode 0
 is_hidden Event iface opcode = same_iface iface display || same_iface iface registry
 
-abbrev pub of_length : ℕ → Message → Result Message SendError
-of_length len signature = if nat_lt 4096 len then Err refusals.TooLong else Ok signature
+abbrev pub of_length : (limit len : ℕ) → Message → Result Message SendError
+of_length limit len signature = if nat_lt limit len then Err refusals.TooLong else Ok signature
 
-abbrev pub unless_lost : Option ℕ → ℕ → Message → Result Message SendError
-unless_lost None len signature = of_length len signature
-unless_lost (Some place) len signature = Err (refusals.BadObject place)
+abbrev pub unless_lost : ℕ → Option ℕ → ℕ → Message → Result Message SendError
+unless_lost limit None len signature = of_length limit len signature
+unless_lost limit (Some place) len signature = Err (refusals.BadObject place)
 
-abbrev pub unless_wrong : Option ℕ → Option ℕ → ℕ → Message → Result Message SendError
-unless_wrong None lost len signature = unless_lost lost len signature
-unless_wrong (Some place) lost len signature = Err (refusals.WrongArgs place)
+abbrev pub unless_wrong : ℕ → Option ℕ → Option ℕ → ℕ → Message → Result Message SendError
+unless_wrong limit None lost len signature = unless_lost limit lost len signature
+unless_wrong limit (Some place) lost len signature = Err (refusals.WrongArgs place)
 
-abbrev pub checked_as : View → List Given → Entry → Option Message → Result Message SendError
-checked_as view given entry None = Err refusals.NoSuchMessage
-checked_as view given entry (Some signature) =
+abbrev pub checked_as : ℕ → View → List Given → Entry → Option Message → Result Message SendError
+checked_as limit view given entry None = Err refusals.NoSuchMessage
+checked_as limit view given entry (Some signature) =
     if nat_lt entry.version signature.since then Err refusals.TooOld
-    else unless_wrong (wrong_place 0 signature.kinds given) (lost_place (look view) 0 signature.kinds given) (message_len (map (wired 0) given)) signature
+    else unless_wrong limit (wrong_place 0 signature.kinds given) (lost_place (look view) 0 signature.kinds given) (message_len (map (wired 0) given)) signature
 
 abbrev pub unless_hidden : Bool → Option Message → Option Message
 unless_hidden true signature = None
 unless_hidden false signature = signature
 
-abbrev pub checked_by : List Interface → Side → View → ℕ → List Given → Option Entry → Result Message SendError
-checked_by tables side view opcode given None = Err refusals.Stale
-checked_by tables side view opcode given (Some entry) =
-    checked_as view given entry (unless_hidden (is_hidden side entry.iface opcode) (signature_at tables entry.iface.0 side opcode))
+abbrev pub checked_by : ℕ → List Interface → Side → View → ℕ → List Given → Option Entry → Result Message SendError
+checked_by limit tables side view opcode given None = Err refusals.Stale
+checked_by limit tables side view opcode given (Some entry) =
+    checked_as limit view given entry (unless_hidden (is_hidden side entry.iface opcode) (signature_at tables entry.iface.0 side opcode))
 
 -- the row of an object that is live with this birth
 abbrev pub live_row : View → Object → Option Entry
 live_row view object = if is_live_as object.birth (look view object.id) then look view object.id else None
 
--- What stands against a write before its room is looked at: the first of S2, S3, S4, S5, S6, S8; else the message's signature.
-abbrev pub checked : List Interface → Side → View → Object → ℕ → List Given → Result Message SendError
-checked tables side view target opcode given = checked_by tables side view opcode given (live_row view target)
+-- What stands against a write before its room is looked at: the first of S2, S3, S4, S5, S6, S8, by the limit that comes first; else the
+-- message's signature.
+abbrev pub checked : ℕ → List Interface → Side → View → Object → ℕ → List Given → Result Message SendError
+checked limit tables side view target opcode given = checked_by limit tables side view opcode given (live_row view target)

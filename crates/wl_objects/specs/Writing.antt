@@ -151,9 +151,9 @@ given list = map given_of list
 abbrev pub on_wire : ℕ → List Arg → List Argument
 on_wire id list = map (wired id) (given list)
 
--- how many bytes a message with these arguments has, or none where it is too long
-abbrev pub len_in_limit : List Argument → Option ℕ
-len_in_limit values = if nat_lt 4096 (message_len values) then None else Some (message_len values)
+-- how many bytes a message with these arguments has, or none where it is longer than the limit
+abbrev pub len_in_limit : ℕ → List Argument → Option ℕ
+len_in_limit limit values = if nat_lt limit (message_len values) then None else Some (message_len values)
 
 -- the interface of the object that a call makes: that of the signature's new object
 abbrev pub call_makes : List Kind → Option Iface

@@ -28,8 +28,9 @@ pub struct CheckedCall<'t> {
     pub len: usize,
 }
 
-/// Checks a call before its room is looked at: the first of S2, S3, S4, S5, S6 and S8, else the
-/// target's entry, the message's signature and its length. Takes no memory.
+/// Checks a call before its room is looked at: the first of S2, S3, S4, S5, S6 and S8, by this limit
+/// of a message's bytes, else the target's entry, the message's signature and its length. Takes no
+/// memory.
 pub fn check_call<'t, T: Table>(
     tables: &'t Tables,
     side: Side,
@@ -37,16 +38,18 @@ pub fn check_call<'t, T: Table>(
     target: Object,
     opcode: u16,
     args: &[Arg<'_>],
+    limit: u16,
 ) -> Result<CheckedCall<'t>, SendError>
+    requires { 8 ≤ limit }
     ensures answer { signature_in result
-        ≡ checked tables.now side (T.view table.now) target opcode (given args.now) }
+        ≡ checked limit tables.now side (T.view table.now) target opcode (given args.now) }
     ensures entry { IfOk result (λ call. look (T.view table.now) target.id ≡ Some call.entry) }
     ensures len { IfOk result
         (λ call. (id : ℕ) → call.len ≡ message_len (on_wire id args.now)) }
     // So the message can be written, whatever the id of its new object.
     ensures fits { IfOk result
         (λ _. (id : ℕ) → EachFits (on_wire id args.now)
-        × (message_len (on_wire id args.now) ≤ 4096)) }
+        × (message_len (on_wire id args.now) ≤ limit)) }
     ensures in_range { IfOk result (λ _. All InRange (given args.now)) }
     ensures few { IfOk result (λ _. length args.now ≤ 20) }
     // Always so, and known because the table and the tables were asked.
@@ -73,7 +76,7 @@ pub fn check_call<'t, T: Table>(
     if let Some(place) = lost_place(table, signature.kinds(), args) {
         return Err(SendError::BadObject(place));
     }
-    let len = match message_len(args) {
+    let len = match message_len(args, limit) {
         Some(len) => len,
         None => return Err(SendError::TooLong),
     };

@@ -27,7 +27,7 @@ pub enum SendError {
     /// S7: the name is not that of a remembered global of this interface, or the version is 0 or
     /// above the advertised one or the one in the tables.
     BadBind,
-    /// S8: the message is longer than 4096 bytes.
+    /// S8: the message is longer than the end's limit.
     TooLong,
     /// S9: the outbox has too few free bytes or tokens.
     Full,

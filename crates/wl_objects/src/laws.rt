@@ -57,18 +57,18 @@ pub fn call_makes_its_object()
 
 /// A call passes its checks exactly where nothing stands against it.
 pub fn a_call_passes()
-    ensures { (tables : List Interface) (side : SpecSide) (view : View) (target : SpecObject)
-        (opcode : ℕ) (list : List Given) (signature : Message)
-        → (checked tables side view target opcode list ≡ Ok signature)
-        ↔ Passes tables side view target opcode list signature }
+    ensures { (limit : ℕ) (tables : List Interface) (side : SpecSide) (view : View)
+        (target : SpecObject) (opcode : ℕ) (list : List Given) (signature : Message)
+        → (checked limit tables side view target opcode list ≡ Ok signature)
+        ↔ Passes limit tables side view target opcode list signature }
 {}
 
 /// A whole message arrives: what passed its checks at one end is received at the other, where the
 /// reader holds the target and each named object, live or a zombie, and the new id is free.
 pub fn a_message_arrives()
-    ensures { (tables : List Interface) (side : SpecSide) (view : View) (reader : Reader)
-        (target : SpecObject) (opcode size n waiting : ℕ) (list : List Given) (signature : Message)
-        → (passes : Passes tables side view target opcode list signature)
+    ensures { (limit : ℕ) (tables : List Interface) (side : SpecSide) (view : View)
+        (reader : Reader) (target : SpecObject) (opcode size n waiting : ℕ) (list : List Given)
+        (signature : Message) → (passes : Passes limit tables side view target opcode list signature)
         → (held : IsTarget passes.entry reader target)
         → reader.forgives ≡ false → n < 2 ^ 32 → All InRange list
         → All (IsExpected (look view) reader n) list → length (tokens_of list) ≤ waiting

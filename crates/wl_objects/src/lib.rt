@@ -28,7 +28,7 @@ pub use lookup::{Held, Lookup, NewId};
 pub use made::{Made, call_makes, made_by_message};
 pub use messages::{DISPLAY, REGISTRY, is_bind, is_delete_id, is_error, is_hidden};
 pub use parsed::{MAX_ARGS, ParsedArg, ParsedArgs};
-pub use reading::{Received, descriptors, receive, receive_by};
+pub use reading::{Received, descriptors, receive};
 pub use reporting::{Gots, named};
 pub use values::Values;
 pub use wl_table::{Entry, MapTable, Object, SlotTable, State, Table, TableError};

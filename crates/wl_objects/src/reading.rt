@@ -2,19 +2,18 @@
 ghost use Rattle.std.specs.Prelude.{◌≡◌, IfOk};
 ghost use Rattle.wl_wire.specs.Word.{IsHeader};
 ghost use Rattle.wl_sigs.specs.Valid.{Valid};
-ghost use Rattle.wl_table.specs.View.{look};
 ghost use Rattle.wl_objects.specs.Reading.{descriptors, object_fault, new_fault, iface_of};
-ghost use Rattle.wl_objects.specs.Messages.{reader_of, received};
+ghost use Rattle.wl_objects.specs.Messages.{is_error, received};
 ghost use Rattle.wl_objects.specs.Seen.{message_of, received_in};
 ghost use Rattle.wl_objects.specs.Parsed.{AreParsed};
 
 use crate::error::Fault;
-use crate::lookup::{Held, Lookup, NewId};
+use crate::lookup::{Lookup, NewId};
 use crate::messages::is_error;
 use crate::parsed::{MAX_ARGS, ParsedArg, ParsedArgs, parse_body};
 use crate::values::Values;
 use wl_sigs::{Side, Signature, Tables};
-use wl_table::{Entry, Object, Table};
+use wl_table::{Entry, Object};
 use wl_wire::{Header, Iface, Kind};
 
 /// A message that was read: nothing is wrong with it, and nothing has changed yet.
@@ -30,6 +29,10 @@ pub struct Received<'t, 'a> {
     pub body: &'a [u8],
     /// The arguments, parsed over the body, their objects as they are now.
     pub args: ParsedArgs,
+    /// How many tokens the message takes.
+    pub tokens: usize,
+    /// Whether it is wl_display.error.
+    pub is_error: bool,
 }
 
 impl<'t, 'a> Received<'t, 'a> {
@@ -41,32 +44,12 @@ impl<'t, 'a> Received<'t, 'a> {
     }
 }
 
-/// Reads one whole message, where this number of tokens waits. Allocates nothing.
+/// Reads one whole message, where this number of tokens waits, for whatever knows the objects and
+/// ids. Allocates nothing.
 ///
-/// The first fault is answered: F2; F3; for each argument from the left F4, F5, F6, F10; then F7
-/// and F8. An object may be a zombie. In wl_display.error the object may be null or unknown.
-pub fn receive<'t: 'a, 'a, T: Table>(
-    tables: &'t Tables,
-    side: Side,
-    table: &T,
-    header: Header,
-    body: &'a [u8],
-    waiting: usize,
-) -> Result<Received<'t, 'a>, Fault>
-    ensures answer { received_in result
-        ≡ received tables.now side (reader_of (T.view table.now)) header body.now waiting }
-    ensures args { IfOk result
-        (λ m. AreParsed (reader_of (T.view table.now)) body.now m.args (message_of m).values) }
-    ensures body { IfOk result (λ m. m.body.now ≡ body.now) }
-    // Always so, and known because the tables were asked and the header was given.
-    ensures valid { IfOk result (λ _. Valid tables.now) }
-    ensures header { IsHeader header }
-{
-    receive_by(tables, side, &Held { table }, header, body, waiting)
-}
-
-/// Reads one whole message as `receive` does, for whatever knows the objects and ids.
-pub fn receive_by<'t: 'a, 'a, L: Lookup>(
+/// Returns the first fault: F2; F3; for each argument from the left F4, F5, F6, F10; then F7 and F8.
+/// An object may be a zombie. In wl_display.error the object may be null or unknown.
+pub fn receive<'t: 'a, 'a, L: Lookup>(
     tables: &'t Tables,
     side: Side,
     lookup: &L,
@@ -79,7 +62,11 @@ pub fn receive_by<'t: 'a, 'a, L: Lookup>(
     ensures args { IfOk result
         (λ m. AreParsed (L.reader lookup.now) body.now m.args (message_of m).values) }
     ensures body { IfOk result (λ m. m.body.now ≡ body.now) }
+    ensures tokens { IfOk result (λ m. m.tokens ≡ descriptors m.signature.now.kinds) }
+    ensures error { IfOk result (λ m. m.is_error ≡ is_error side m.entry.iface header.opcode) }
+    // Always so, and known because the tables were asked and the header was given.
     ensures valid { IfOk result (λ _. Valid tables.now) }
+    ensures header { IsHeader header }
 {
     let entry = match lookup.object(header.object) {
         Some(entry) => entry,
@@ -92,14 +79,15 @@ pub fn receive_by<'t: 'a, 'a, L: Lookup>(
     if entry.version < signature.since() {
         return Err(Fault::UnknownMessage);
     }
-    let forgives = is_error(side, entry.iface, header.opcode);
+    let is_error = is_error(side, entry.iface, header.opcode);
     let kinds = signature.kinds();
     let mut items = [ParsedArg::Null; MAX_ARGS];
-    let rest = parse_body(lookup, forgives, kinds, body, &mut items)?;
+    let rest = parse_body(lookup, is_error, kinds, body, &mut items)?;
     if !rest.is_empty() {
         return Err(Fault::TrailingBytes);
     }
-    if waiting < descriptors(kinds) {
+    let tokens = descriptors(kinds);
+    if waiting < tokens {
         return Err(Fault::MissingDescriptor);
     }
     Ok(Received {
@@ -114,6 +102,8 @@ pub fn receive_by<'t: 'a, 'a, L: Lookup>(
             items,
             count: kinds.len(),
         },
+        tokens,
+        is_error,
     })
 }
 

@@ -1,6 +1,7 @@
 //! The values of one message's arguments, one after another.
 ghost use Rattle.std.specs.Prelude.{◌≡◌, ◌∷◌, [], MatchOption};
 ghost use Rattle.wl_wire.specs.Argument.{lent};
+ghost use Rattle.wl_objects.specs.Messages.{id_at};
 ghost use Rattle.wl_objects.specs.Parsed.{spelled_in};
 
 use crate::parsed::{ParsedArg, value_of};
@@ -41,6 +42,17 @@ impl<'a> Values<'a> {
         let (parsed, left) = self.left.split_first()?;
         self.left = left;
         Some(value_of(self.body, *parsed))
+    }
+
+    /// The id of the object that the argument at a place names, counted from 0; 0 where it names
+    /// none.
+    pub fn id_at(&self, place: usize) -> u32
+        ensures { result ≡ id_at self.now place }
+    {
+        match self.left.get(place) {
+            Some(ParsedArg::NoObject { id } | ParsedArg::Object { id, .. }) => *id,
+            _ => 0,
+        }
     }
 
     /// The same values once more.

@@ -11,7 +11,7 @@ use wl_sigs::event::wl_display::ERROR;
 use wl_sigs::event::wl_registry::GLOBAL;
 use wl_sigs::request::wl_registry::BIND;
 use wl_table::DISPLAY_ID;
-use wl_wire::{MAX_MESSAGE_LEN, ValueRef, encode_value};
+use wl_wire::{ValueRef, encode_value};
 
 /// The argument as it stands on the wire, where the new object gets this id.
 pub(crate) fn wired<'a>(arg: &Arg<'a>, new_id: u32) -> ValueRef<'a>
@@ -30,39 +30,42 @@ pub(crate) fn wired<'a>(arg: &Arg<'a>, new_id: u32) -> ValueRef<'a>
     }
 }
 
-/// How many bytes spell the argument; none where these are more than a message has.
-fn len_of(arg: &Arg<'_>) -> Option<usize>
-    ensures { MatchOption result (MAX_MESSAGE_LEN < spelled_len (wired 0 (given_of arg.now)))
-        (λ n. (n ≡ spelled_len (wired 0 (given_of arg.now))) × (n ≤ 8192)) }
+/// How many bytes spell the argument; none where these are more than the limit.
+fn len_of(arg: &Arg<'_>, limit: u16) -> Option<usize>
+    ensures { MatchOption result (limit < spelled_len (wired 0 (given_of arg.now)))
+        (λ n. (n ≡ spelled_len (wired 0 (given_of arg.now))) × (n ≤ 131072)) }
 {
     match arg {
-        Arg::Str(Some(text)) => counted_len(text.len(), 1),
-        Arg::Array(bytes) => counted_len(bytes.len(), 0),
+        Arg::Str(Some(text)) => counted_len(text.len(), 1, limit),
+        Arg::Array(bytes) => counted_len(bytes.len(), 0, limit),
         Arg::Fd(_) => Some(0),
         _ => Some(4),
     }
 }
 
 /// How many bytes a length, `len` bytes with `more` behind them, and their padding have; none where
-/// the bytes alone are more than a message has.
-fn counted_len(len: usize, more: usize) -> Option<usize>
+/// the bytes alone are more than the limit.
+fn counted_len(len: usize, more: usize, limit: u16) -> Option<usize>
     requires { more ≤ 1 }
-    ensures { MatchOption result (MAX_MESSAGE_LEN < len) (λ n. (n ≡ 4 + padded (len + more)) × (n ≤ 8192)) }
+    ensures { MatchOption result (limit < len)
+        (λ n. (n ≡ 4 + padded (len + more)) × (n ≤ 131072)) }
 {
-    if len > MAX_MESSAGE_LEN as usize {
+    if len > limit as usize {
         return None;
     }
     Some(4 + (len + more + 3) / 4 * 4)
 }
 
-/// How many bytes a message with these arguments has; none where it would be longer than 4096.
-pub fn message_len(args: &[Arg<'_>]) -> Option<usize>
-    ensures { result ≡ len_in_limit (on_wire 0 args.now) }
+/// How many bytes a message with these arguments has; none where it would be longer than the limit,
+/// which leaves room for a header.
+pub fn message_len(args: &[Arg<'_>], limit: u16) -> Option<usize>
+    requires { 8 ≤ limit }
+    ensures { result ≡ len_in_limit limit (on_wire 0 args.now) }
 {
     let mut len = 8;
     'arguments: for arg in args {
-        match len_of(arg) {
-            Some(more) if len + more <= MAX_MESSAGE_LEN as usize => len += more,
+        match len_of(arg, limit) {
+            Some(more) if len + more <= limit as usize => len += more,
             _ => return None,
         }
     }
@@ -97,8 +100,8 @@ pub fn encode_call<A: Allocator>(
 )
     requires fits { EachFits (on_wire new_id args.now) }
     requires len { len ≡ message_len (on_wire new_id args.now) }
-    requires short { len ≤ 4096 }
-    requires room { 4096 ≤ vec_capacity store.old }
+    requires short { len ≤ 65535 }
+    requires room { len ≤ vec_capacity store.old }
     ensures message { store.new.items ≡ message_bytes object opcode (on_wire new_id args.now) }
     ensures capacity { vec_capacity store.old ≤ vec_capacity store.new }
 {
@@ -181,8 +184,8 @@ pub fn encode_global<A: Allocator>(
 
 /// Empties the store and writes a header there.
 fn start<A: Allocator>(store: &mut Vec<u8, A>, object: u32, size: usize, opcode: u16)
-    requires size { size ≤ 4096 }
-    requires room { 4096 ≤ vec_capacity store.old }
+    requires size { size ≤ 65535 }
+    requires room { 8 ≤ vec_capacity store.old }
     ensures header { store.new.items
         ≡ header_bytes (record { object = object; size = size; opcode = opcode }) }
     ensures len { vec_len store.new ≡ 8 }

@@ -1,7 +1,9 @@
 //! One end of a connection: what a client and a server have in common for one who plays at it.
 
+use crate::acting::Actor;
+use crate::lending::{write_lent_event, write_lent_request};
 use crate::names::Names;
-use crate::replies::Teller;
+use crate::replies::{Teller, write_stop};
 use std::alloc::AllocError;
 use wl_client::{Client, OwnedIncoming};
 use wl_end::ReadAll;
@@ -44,6 +46,10 @@ pub trait End {
         action: &Move,
         args: &[Arg<'_>],
     ) -> Option<Reply<<Self::Table as Table>::Alloc>>;
+
+    /// Reads the next message by the call that lends its report, and appends that report in the words
+    /// of an owned one.
+    fn next_lent(&mut self, actor: &mut Actor<'_>, reply: &mut String) -> Result<(), AllocError>;
 
     fn read_all(
         &mut self,
@@ -111,6 +117,14 @@ impl<'t, T: Table> End for Client<'t, T> {
             } => Some(Reply::ClientBind(self.bind(*registry, *name, iface.as_slice(), *version))),
             Move::ClientNext => Some(Reply::ClientNext(self.next_owned())),
             _ => None,
+        }
+    }
+
+    fn next_lent(&mut self, actor: &mut Actor<'_>, reply: &mut String) -> Result<(), AllocError> {
+        match self.next() {
+            Ok(Some(report)) => write_lent_event(actor, reply, report),
+            Ok(None) => reply.push_str("nothing"),
+            Err(why) => write_stop(reply, why),
         }
     }
 
@@ -194,6 +208,14 @@ impl<'t, T: Table> End for Server<'t, T> {
             Move::Announce => Some(Reply::Announce(self.announce())),
             Move::ServerNext => Some(Reply::ServerNext(self.next_owned())),
             _ => None,
+        }
+    }
+
+    fn next_lent(&mut self, actor: &mut Actor<'_>, reply: &mut String) -> Result<(), AllocError> {
+        match self.next() {
+            Ok(Some(request)) => write_lent_request(actor, reply, request),
+            Ok(None) => reply.push_str("nothing"),
+            Err(why) => write_stop(reply, why),
         }
     }
 

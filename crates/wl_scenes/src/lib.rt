@@ -7,6 +7,7 @@
 mod acting;
 mod bytes;
 mod ends;
+mod lending;
 mod line;
 mod moves;
 mod names;
@@ -23,7 +24,7 @@ pub use ends::End;
 pub use line::{Line, Memory};
 pub use moves::{arguments_of, bytes_of, iface_of, lend, message_of, read_arguments, read_move};
 pub use names::Names;
-pub use own::{begin_of, own_verdict};
+pub use own::{own_verdict, verdict_on};
 pub use repeated::Repeated;
 pub use replies::{
     OUT_OF_MEMORY, Teller, put_name, write_arguments, write_object, write_sent, write_stop,

@@ -64,11 +64,7 @@ impl<'a> Teller<'a> {
                 target,
                 opcode,
                 tokens,
-            } => {
-                out.push_str("discarded ")?;
-                self.write_message(out, Side::Event, *target, *opcode)?;
-                write_tokens(out, tokens.as_slice())
-            }
+            } => self.write_discarded(out, *target, *opcode, tokens.as_slice()),
             OwnedIncoming::Deleted { object } => {
                 out.push_str("deleted ")?;
                 write_object(out, *object)
@@ -86,6 +82,19 @@ impl<'a> Teller<'a> {
                 write_text(out, text.as_slice())
             }
         }
+    }
+
+    /// Appends an event that was discarded, with its tokens.
+    pub(crate) fn write_discarded(
+        self,
+        out: &mut String,
+        target: Object,
+        opcode: u16,
+        tokens: &[u32],
+    ) -> Result<(), AllocError> {
+        out.push_str("discarded ")?;
+        self.write_message(out, Side::Event, target, opcode)?;
+        write_tokens(out, tokens)
     }
 
     /// Appends what a server read.

@@ -10,6 +10,8 @@ use Rattle.wl_objects.specs.declared.error.Fault.{Fault}
 use Rattle.wl_objects.specs.declared.error.Fault.TheVariants as faults
 use Rattle.wl_objects.specs.declared.error.NextError.{NextError}
 use Rattle.wl_objects.specs.declared.error.NextError.TheVariants as errors
+use Rattle.wl_table.specs.declared.object.Object.{Object}
+use Rattle.wl_table.specs.View.{View}
 use Rattle.wl_objects.specs.Messages.{Server as server, after, is_bind}
 use Rattle.wl_end.specs.Core.{Core, with_arrived, with_view}
 use Rattle.wl_end.specs.Receiving.{Found, found, past_found}
@@ -18,9 +20,10 @@ use Rattle.wl_end.specs.Streams.{waiting}
 use Rattle.wl_end.proofs.AnyCut.{IsOfMessage, IsFaultAgain, IsFault, stays, comes as found_first, IsReading}
 use Rattle.wl_end.proofs.Coming.{IsFound, is_found, reported_stays, past_stays}
 use Rattle.wl_server.specs.State.{State, with_core}
-use Rattle.wl_server.specs.Requests.{Report, report, judged, request, is_good_bind, made_in, destroys_it, core_after, state_past, is_out_full, answer_found, next_answer, state_found, after_next}
+use Rattle.wl_server.specs.Requests.{Report, report, judged, request, is_good_bind, made_in, destroys_it, ended, ended_object, registries_after, core_after, state_past, is_out_full, answer_found, next_answer, state_found, after_next}
 use Rattle.wl_end.specs.Reads.{arrived}
 use Rattle.wl_server.specs.Streams.{reading}
+use Rattle.wl_server.specs.Registries.{without_registry, registry_birth}
 
 -- ---- one message
 
@@ -31,14 +34,22 @@ following_arrived : (b : Bool) (id : ℕ) (core : Core) (bytes tokens : List ℕ
 following_arrived true id core bytes tokens = refl
 following_arrived false id core bytes tokens = refl
 
+ended_stays : (core : Core) (f : Found) (bytes tokens : List ℕ) → IsFound core request_side f → ended (with_arrived core bytes tokens) f ≡ ended core f
+ended_stays core f bytes tokens h = ap (ended_object f.message.signature.destroys) (report_stays core f bytes tokens h)
+
 core_arrived : (core : Core) (f : Found) (bytes tokens : List ℕ) → IsFound core request_side f → core_after (with_arrived core bytes tokens) f ≡ with_arrived (core_after core f) bytes tokens
 core_arrived core f bytes tokens h =
-    let view = after server core.view (made_in core f.message) f.message.signature.destroys f.message.target.id in
-    ap (λ (c : Core). with_following (destroys_it f.message) f.message.target.id (with_view c view)) (past_stays core request_side f bytes tokens h)
-    ∙ following_arrived (destroys_it f.message) f.message.target.id (with_view (past_found core f) view) bytes tokens
+    let id = (ended core f).id in
+    let view : ℕ → View = λ n. after server core.view (made_in core f.message) f.message.signature.destroys n in
+    ap (λ (o : Object). with_following (destroys_it f.message) o.id (with_view (past_found (with_arrived core bytes tokens) f) (view o.id))) (ended_stays core f bytes tokens h)
+    ∙ (ap (λ (c : Core). with_following (destroys_it f.message) id (with_view c (view id))) (past_stays core request_side f bytes tokens h)
+    ∙ following_arrived (destroys_it f.message) id (with_view (past_found core f) (view id)) bytes tokens)
 
 past_arrived : (state : State) (f : Found) (bytes tokens : List ℕ) → IsFound state.core request_side f → state_past (arrived reading state bytes tokens) f ≡ arrived reading (state_past state f) bytes tokens
-past_arrived state f bytes tokens h = ap (with_core (state_past state f)) (core_arrived state.core f bytes tokens h)
+past_arrived state f bytes tokens h = λ i. record (state_past state f) {
+  core = core_arrived state.core f bytes tokens h i;
+  registries = without_registry registry_birth (destroys_it f.message) (ended_stays state.core f bytes tokens h i).birth (registries_after state.core state.registries (made_in state.core f.message));
+}
 
 -- the request that is read next: it is found, and what is answered and left
 pub record Read (state : State) (r : Report) : Type 0 where
@@ -119,13 +130,21 @@ after_stays state r bytes tokens e =
     ∙ past_arrived state m.message bytes tokens h
     ∙ ap (λ (s : State). arrived reading s bytes tokens) (sym m.leaves)
 
+-- reading changes no limit
+limit_less : (b : Bool) (id : ℕ) (core : Core) → (with_following b id core).inbox.limit ≡ core.inbox.limit
+limit_less true id core = refl
+limit_less false id core = refl
+
+limit_past : (state : State) (f : Found) → (state_past state f).core.inbox.limit ≡ state.core.inbox.limit
+limit_past state f = limit_less (destroys_it f.message) (ended state.core f).id (with_view (past_found state.core f) (after server state.core.view (made_in state.core f.message) f.message.signature.destroys (ended state.core f).id))
+
 -- what waits after a request was read
 waits_less : (b : Bool) (id : ℕ) (core : Core) → waiting (with_following b id core) ≡ waiting core
 waits_less true id core = refl
 waits_less false id core = refl
 
 pub waits_past : (state : State) (f : Found) → waiting (state_past state f).core ≡ waiting (past_found state.core f)
-waits_past state f = waits_less (destroys_it f.message) f.message.target.id (with_view (past_found state.core f) (after server state.core.view (made_in state.core f.message) f.message.signature.destroys f.message.target.id))
+waits_past state f = waits_less (destroys_it f.message) (ended state.core f).id (with_view (past_found state.core f) (after server state.core.view (made_in state.core f.message) f.message.signature.destroys (ended state.core f).id))
 
 -- ---- where all that is read is left
 
@@ -185,7 +204,7 @@ fault_leaves state what offset f = ap (λ (s : State). s.core.inbox.bytes) (leav
 -- ---- so a server reads as an end does
 
 message_of : (state : State) (r : Report) → Read state r → IsOfMessage reading request_side state
-message_of state r m = record { message = m.message; there = m.there; left = ap (λ (s : State). waiting s.core) m.leaves ∙ waits_past state m.message }
+message_of state r m = record { message = m.message; there = m.there; left = ap (λ (s : State). waiting s.core) m.leaves ∙ waits_past state m.message; kept = ap (λ (s : State). s.core.inbox.limit) m.leaves ∙ limit_past state m.message }
 
 fault_of : (state : State) (what : Fault) (offset : ℕ) → Fails state what offset → Comes state what → IsFault reading request_side state what offset
 fault_of state what offset f (comes e) =

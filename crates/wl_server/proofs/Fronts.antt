@@ -1,6 +1,6 @@
 -- What stands in front of a server's waiting bytes, and that it can be taken.
 use Rattle.std.proofs.Common.{◌≡◌, ◌≢◌, ℕ, zero, suc, ◌≤◌, Bool, true, false, List, [], ◌∷◌, ◌++◌, length, take, drop, Some, refl, sym, ap, subst, ◌∙◌, arith, append_assoc}
-use Rattle.std.specs.Prelude.{Option, not, ◌&&◌, nat_lt, slice_get, IsTrue}
+use Rattle.std.specs.Prelude.{Option, not, ◌&&◌, nat_lt, nat_eq, slice_get, IsTrue}
 use Rattle.std.specs.Option.{option_and_then}
 use Rattle.std.specs.declared.result.Result.{Result}
 use Rattle.std.specs.declared.result.Result.TheVariants.{Ok, Err}
@@ -14,11 +14,12 @@ use Rattle.wl_wire.specs.declared.kind.Kind.{Kind}
 use Rattle.wl_wire.proofs.Canonicals.{header_at-bytes}
 use Rattle.wl_sigs.specs.declared.signature.Side.TheVariants.{Request as request_side}
 use Rattle.wl_sigs.specs.declared.signature.Destroys.{Destroys}
-use Rattle.wl_sigs.specs.declared.signature.Destroys.TheVariants.{Nothing, Target}
-use Rattle.wl_sigs.specs.Tables.{Interface, Message, signature_at, message_of, destroys_target}
+use Rattle.wl_sigs.specs.declared.signature.Destroys.TheVariants.{Nothing, Target, Arg}
+use Rattle.wl_sigs.specs.Tables.{Interface, Message, signature_at, message_of, destroys_one}
 use Rattle.wl_sigs.specs.Fixed.{wl_display, display}
 use Rattle.wl_sigs.specs.Valid.{Valid}
-use Rattle.wl_message.specs.Cut.{usual_limit, front, Whole}
+use Rattle.wl_message.specs.Arrived.{in_front}
+use Rattle.wl_message.specs.Cut.{Whole}
 use Rattle.wl_message.specs.declared.inbox.Frame.{Frame}
 use Rattle.wl_message.specs.Arrived.{Tells}
 use Rattle.wl_message.specs.Outgoing.{room_of}
@@ -27,24 +28,29 @@ use Rattle.wl_objects.specs.declared.error.Fault.TheVariants as faults
 use Rattle.wl_objects.specs.declared.error.NextError.{NextError}
 use Rattle.wl_objects.specs.declared.error.NextError.TheVariants as errors
 use Rattle.wl_table.specs.declared.object.Entry.{Entry}
+use Rattle.wl_table.specs.declared.object.Object.{Object}
+use Rattle.wl_table.specs.declared.object.State.{State}
+use Rattle.wl_table.specs.declared.object.State.TheVariants.{Live, Zombie}
+use Rattle.wl_wire.specs.Argument.{Obj}
 use Rattle.wl_table.specs.View.{View, look}
 use Rattle.wl_objects.specs.declared.parsed.ParsedArg.{ParsedArg}
 use Rattle.wl_objects.specs.Parsed.{AreParsed, reported_in}
-use Rattle.wl_objects.specs.Reading.{descriptors, reports_of, Reported}
+use Rattle.wl_objects.specs.Reading.{Reader, in_state, descriptors, reports_of, Reported}
 use Rattle.wl_objects.specs.Messages.{Received, received, reader_of, is_bind}
 use Rattle.wl_end.specs.Core.{Core, HasDisplay}
 use Rattle.wl_end.specs.Receiving.{Found, found, found_at, found_in, header_of, takes}
 use Rattle.wl_end.specs.Sending.{delete_id_len, fits}
 use Rattle.wl_end.proofs.Receivings.{is_received}
 use Rattle.wl_end.proofs.Coming.{is_found}
+use Rattle.wl_end.proofs.Ends.{argument_received}
 use Rattle.wl_end.proofs.Descriptors.{fds, reports_stay}
 use Rattle.wl_server.specs.State.{Global}
-use Rattle.wl_server.specs.Requests.{request, judged, is_good_bind_of}
-use Rattle.wl_server.specs.Steps.{Step, step_of, step_found, front_step, state_of, pending_in, pending_of, CanTake}
+use Rattle.wl_server.specs.Requests.{request, judged, is_good_bind_of, object_in}
+use Rattle.wl_server.specs.Steps.{Step, step_of, step_found, front_step, state_of, pending_in, pending_of, step_ended, HasRow, CanTake}
 
 -- A whole message stands in front, of this header and body, with so many tokens waiting.
 pub record Stands (core : Core) (h : Header) (body : List ℕ) (waiting : ℕ) : Type 0 where
-  pub whole : front usual_limit core.inbox.bytes ≡ Whole h.size
+  pub whole : in_front core.inbox ≡ Whole h.size
   pub bytes : take h.size core.inbox.bytes ≡ header_bytes h ++ body
   pub tokens : waiting ≡ length core.inbox.tokens
   pub header : IsHeader h
@@ -96,11 +102,11 @@ request_some : (core : Core) (globals : List Global) (h : Header) (body : List �
 request_some core globals h body waiting m s e b = request_is core globals h body waiting s (Ok m) e ∙ rw b refl
 
 pub answers_full : (core : Core) (globals : List Global) (h : Header) (body : List ℕ) (waiting : ℕ) (m : Received) → Stands core h body waiting → Ok m ≡ read_by core h body waiting
-    → is_bad core.tables globals h.opcode m ≡ false → (destroys_target m.signature.destroys && nat_lt (room_of core.outbox) delete_id_len) ≡ true → Answers core globals (Err errors.OutFull)
+    → is_bad core.tables globals h.opcode m ≡ false → (destroys_one m.signature.destroys && nat_lt (room_of core.outbox) delete_id_len) ≡ true → Answers core globals (Err errors.OutFull)
 answers_full core globals h body waiting m s e b f = answers_as core globals (Ok (Some (the_found h m))) _ (request_some core globals h body waiting m s e b) (rw f refl)
 
 front_ok : (core : Core) (globals : List Global) (h : Header) (body : List ℕ) (waiting : ℕ) (m : Received) → Stands core h body waiting → Ok m ≡ read_by core h body waiting
-    → is_bad core.tables globals h.opcode m ≡ false → (destroys_target m.signature.destroys && nat_lt (room_of core.outbox) delete_id_len) ≡ false
+    → is_bad core.tables globals h.opcode m ≡ false → (destroys_one m.signature.destroys && nat_lt (room_of core.outbox) delete_id_len) ≡ false
     → front_step (state_of core globals) ≡ Ok (Some (step_of core (the_found h m)))
 front_ok core globals h body waiting m s e b f = ap (step_found core) (request_some core globals h body waiting m s e b) ∙ rw f refl
 
@@ -124,26 +130,76 @@ display_lasts : (tables : List Interface) → Valid tables → (view : View) →
 display_lasts tables v view d id opcode entry m r s t e =
     let row : Some entry ≡ look view 1 = sym r ∙ ap (look view) e in
     let iface : entry.iface ≡ display = let both = row ∙ d in cc both in
-    let first : signature_at tables 0 request_side opcode ≡ slice_get wl_display.requests opcode = ap (option_and_then (message_of request_side opcode)) v.fixed_three.display in
+    let first : signature_at tables 0 request_side opcode ≡ slice_get wl_display.requests opcode = ap (option_and_then (message_of request_side opcode)) v.fixed_four.display in
     nothing_of opcode m (sym first ∙ (ap (λ (i : Iface). signature_at tables i.0 request_side opcode) (sym iface) ∙ s)) t
 
-room_for : (core : Core) (d : Destroys) → (destroys_target d && nat_lt (room_of core.outbox) delete_id_len) ≡ false → d ≡ Target → IsTrue (fits core.outbox delete_id_len 0)
-room_for core Nothing f t = cc t
+room_for : (core : Core) (d : Destroys) → (destroys_one d && nat_lt (room_of core.outbox) delete_id_len) ≡ false → destroys_one d ≡ true → IsTrue (fits core.outbox delete_id_len 0)
+room_for core Nothing f t = absurd (cc t)
 room_for core Target f t = grind (arith, common_steps, nat_tests, f)
+room_for core (Arg place) f t = grind (arith, common_steps, nat_tests, f)
 
-pub can_take : (core : Core) (h : Header) (body : List ℕ) (waiting : ℕ) (m : Received) (args : List ParsedArg) → Valid core.tables → HasDisplay core.view → Stands core h body waiting → Ok m ≡ read_by core h body waiting
-    → (destroys_target m.signature.destroys && nat_lt (room_of core.outbox) delete_id_len) ≡ false → CanTake core (pending_in core (pending_of core.tables core.view.births h m args))
-can_take core h body waiting m args v d s e f =
+-- the reported object of a row that is there
+in_either : (s : State) (object : Object) → object_in (Some (Obj (in_state s object))) ≡ object
+in_either Live object = refl
+in_either Zombie object = refl
+
+-- the object that a request's argument names, as it is reported
+pub named_object : (r : Reader) (tokens : List ℕ) (id : ℕ) (entry : Entry) → nat_eq id 0 ≡ false → r.object id ≡ Some entry
+    → object_in (slice_get (reports_of r tokens (Obj id ∷ [])) 0) ≡ record { id = id; birth = entry.birth }
+named_object r tokens id entry z e = rw (z, e) (in_either entry.state (record { id = id; birth = entry.birth }))
+
+-- what is known of the object that a request destroys
+record IsEnded (core : Core) (object : Object) : Type 0 where
+  row : HasRow core.view object
+  other : object.id ≢ 1
+
+ended_target : (core : Core) (h : Header) (body : List ℕ) (waiting : ℕ) (m : Received) → Valid core.tables → HasDisplay core.view → Ok m ≡ read_by core h body waiting → m.signature.destroys ≡ Target → IsEnded core m.target
+ended_target core h body waiting m v d e t =
     let r = is_received core.tables request_side (reader_of core.view) h body waiting m (sym e) in
     let row : look core.view m.target.id ≡ Some m.entry = ap (look core.view) r.id ∙ r.row in
+    record {
+      row = record { entry = m.entry; row = row; birth = sym r.birth };
+      other = display_lasts core.tables v core.view d m.target.id h.opcode m.entry m.signature row r.signature t;
+    }
+
+-- a registry is not wl_display
+registry_lasts : (view : View) (id : ℕ) (entry : Entry) → HasDisplay view → look view id ≡ Some entry → entry.iface.0 ≡ 1 → id ≢ 1
+registry_lasts view id entry d row is e =
+    let one = sym row ∙ (ap (look view) e ∙ d) in
+    let iface : entry.iface ≡ display = cc one in
+    let no : 1 ≡ 0 = sym is ∙ ap (λ (i : Iface). i.0) iface in
+    cc no
+
+ended_argument : (core : Core) (h : Header) (body : List ℕ) (waiting : ℕ) (m : Received) (k : ℕ) → Valid core.tables → HasDisplay core.view → Ok m ≡ read_by core h body waiting → m.signature.destroys ≡ Arg k
+    → IsEnded core (object_in (slice_get (reports_of (reader_of core.view) core.inbox.tokens m.values) k))
+ended_argument core h body waiting m k v d e t =
+    let a = argument_received core.tables (reader_of core.view) h body waiting m k v (sym e) t in
+    let n = a.1 in
+    let object : Object = record { id = n.id; birth = n.entry.birth } in
+    let same : object_in (slice_get (reports_of (reader_of core.view) core.inbox.tokens m.values) k) ≡ object =
+    (λ i. object_in (slice_get (reports_of (reader_of core.view) core.inbox.tokens (n.are i)) (a.0 i)))
+    ∙ named_object (reader_of core.view) core.inbox.tokens n.id n.entry n.some n.there in
+    subst (IsEnded core) (sym same) (record { row = record { entry = n.entry; row = n.there; birth = refl }; other = registry_lasts core.view n.id n.entry d n.there n.registers })
+
+ended_there : (core : Core) (h : Header) (body : List ℕ) (waiting : ℕ) (m : Received) → Valid core.tables → HasDisplay core.view → Ok m ≡ read_by core h body waiting → destroys_one m.signature.destroys ≡ true
+    → IsEnded core (step_ended (step_of core (the_found h m)))
+ended_there core h body waiting m v d e one = by_what m.signature.destroys refl
+  where
+    by_what : (what : Destroys) → m.signature.destroys ≡ what → IsEnded core (step_ended (step_of core (the_found h m)))
+    by_what Nothing t = absurd (let no = sym (ap destroys_one t) ∙ one in cc no)
+    by_what Target t = rw t (ended_target core h body waiting m v d e t)
+    by_what (Arg k) t = rw t (ended_argument core h body waiting m k v d e t)
+
+can_take_found : (core : Core) (h : Header) (body : List ℕ) (waiting : ℕ) (m : Received) → Valid core.tables → HasDisplay core.view → Stands core h body waiting → Ok m ≡ read_by core h body waiting
+    → (destroys_one m.signature.destroys && nat_lt (room_of core.outbox) delete_id_len) ≡ false → CanTake core (step_of core (the_found h m))
+can_take_found core h body waiting m v d s e f =
+    let r = is_received core.tables request_side (reader_of core.view) h body waiting m (sym e) in
     record {
       whole = s.whole;
       tokens = omega (arith, r.tokens, s.tokens);
       few = omega (arith, fewer_kinds m.signature.kinds, few_kinds core.tables v m.entry.iface.0 h.opcode m.signature r.signature);
-      entry = m.entry;
-      row = row;
-      birth = sym r.birth;
-      not_display = λ t. display_lasts core.tables v core.view d m.target.id h.opcode m.entry m.signature row r.signature t;
+      row = λ one. (ended_there core h body waiting m v d e one).row;
+      not_display = λ one. (ended_there core h body waiting m v d e one).other;
       room = room_for core m.signature.destroys f;
     }
 
@@ -169,8 +225,12 @@ same_step core h body waiting m args s e a =
     (ap (λ (b : List ℕ). reported_in b core.view.births tokens args) rest
     ∙ (a.reported tokens ∙ tokens_enough core f (found_is core h body waiting s (Ok m) e)))
 
+pub can_take : (core : Core) (h : Header) (body : List ℕ) (waiting : ℕ) (m : Received) (args : List ParsedArg) → Valid core.tables → HasDisplay core.view → Stands core h body waiting → Ok m ≡ read_by core h body waiting
+    → AreParsed (reader_of core.view) body args m.values → (destroys_one m.signature.destroys && nat_lt (room_of core.outbox) delete_id_len) ≡ false → CanTake core (pending_in core (pending_of core.tables core.view.births h m args))
+can_take core h body waiting m args v d s e a f = subst (CanTake core) (sym (same_step core h body waiting m args s e a)) (can_take_found core h body waiting m v d s e f)
+
 pub answers_ok : (core : Core) (globals : List Global) (h : Header) (body : List ℕ) (waiting : ℕ) (m : Received) (args : List ParsedArg) → Stands core h body waiting → Ok m ≡ read_by core h body waiting
-    → is_bad core.tables globals h.opcode m ≡ false → (destroys_target m.signature.destroys && nat_lt (room_of core.outbox) delete_id_len) ≡ false → AreParsed (reader_of core.view) body args m.values
+    → is_bad core.tables globals h.opcode m ≡ false → (destroys_one m.signature.destroys && nat_lt (room_of core.outbox) delete_id_len) ≡ false → AreParsed (reader_of core.view) body args m.values
     → Answers core globals (Ok (Some (pending_in core (pending_of core.tables core.view.births h m args))))
 answers_ok core globals h body waiting m args s e b f a =
     ap (λ (x : Step). let it : Result (Option Step) NextError = Ok (Some x) in it) (same_step core h body waiting m args s e a) ∙ sym (front_ok core globals h body waiting m s e b f)

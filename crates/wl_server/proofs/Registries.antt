@@ -10,8 +10,8 @@ use Rattle.wl_wire.specs.declared.kind.Kind.TheVariants as kinds
 use Rattle.wl_wire.specs.Argument.{Argument}
 use Rattle.wl_sigs.specs.declared.signature.Side.TheVariants.{Event}
 use Rattle.wl_sigs.specs.declared.signature.Destroys.{Destroys}
-use Rattle.wl_sigs.specs.declared.signature.Destroys.TheVariants.{Nothing, Target}
-use Rattle.wl_sigs.specs.Tables.{Interface, Message, interface_at, new_objects}
+use Rattle.wl_sigs.specs.declared.signature.Destroys.TheVariants.{Nothing, Target, Arg}
+use Rattle.wl_sigs.specs.Tables.{Interface, Message, interface_at, new_objects, destroys_one}
 use Rattle.wl_sigs.specs.Fixed.{display, registry}
 use Rattle.wl_sigs.specs.Valid.{Valid}
 use Rattle.wl_table.specs.declared.object.Object.{Object}
@@ -25,14 +25,15 @@ use Rattle.wl_objects.specs.Writing.{Given}
 use Rattle.wl_objects.specs.Messages.{Made, made, opens, same_iface, checked, is_hidden, live_row, Server, after}
 use Rattle.wl_objects.specs.Writing.{is_live_as}
 use Rattle.wl_objects.proofs.Wholes.{passes}
-use Rattle.wl_end.specs.Core.{Core}
+use Rattle.wl_end.specs.Core.{Core, past, with_view}
 use Rattle.wl_end.specs.Sending.{after_send, after_checked, made_at, version_at, fits, delete_id_len}
 use Rattle.wl_server.specs.State.{Registry, untold}
 use Rattle.wl_server.specs.Registries.{without_registry, registry_birth, IsAmong, IsRegistry, IsFresh, HasRegistries, BirthsAreOnce}
 use Rattle.wl_server.specs.Requests.{registries_after}
 use Rattle.wl_server.specs.Calls.{ends_by_event, drop_at, drop_refusal, after_drop}
 use Rattle.wl_server.specs.Announcing.{Due, marked_in, all_marked}
-use Rattle.wl_server.specs.Steps.{Step, core_by, registries_by, CanTake}
+use Rattle.wl_end.proofs.Ends.{no_event}
+use Rattle.wl_server.specs.Steps.{Step, step_ended, HasRow, core_without, core_by, registries_by, CanTake}
 use Rattle.wl_server.specs.Tellings.{IsTold}
 use Rattle.wl_server.specs.declared.announce.Announced.{Announced}
 use Rattle.wl_server.proofs.Risings.{rise-without}
@@ -222,32 +223,35 @@ births_closed v id h = record {
 
 -- ---- a request is read
 
-pub has_step : (core : Core) (rs : List Registry) (step : Step) → CanTake core step → IsFresh core.view step.made → BirthsAreOnce core.view → HasRegistries core.view rs
+has_step : (core : Core) (rs : List Registry) (step : Step) → CanTake core step → IsFresh core.view step.made → BirthsAreOnce core.view → HasRegistries core.view rs
     → HasRegistries (core_by core step).view (registries_by core rs step)
-has_step core rs step can f b h = by_case step.destroys
+has_step core rs step can f b h = by_test (destroys_one step.destroys) can.row
   where
-    by_case : (d : Destroys) → HasRegistries (core_by core (record step { destroys = d })).view (registries_by core rs (record step { destroys = d }))
-    by_case Nothing = has_opened core rs step.made f h
-    by_case Target = has_closed (opens core.view step.made) (registries_after core rs step.made) step.report.target.id step.report.target.birth can.entry
-        (births_opened core.view step.made b) (row_kept core.view step.made step.report.target.id can.entry f can.row) can.birth (has_opened core rs step.made f h)
+    object : Object
+    object = step_ended step
 
-pub births_step : (core : Core) (step : Step) → BirthsAreOnce core.view → BirthsAreOnce (core_by core step).view
-births_step core step h = by_case step.destroys
+    by_test : (b : Bool) → (b ≡ true → HasRow core.view object) → HasRegistries (core_without b object.id (past (with_view core (opens core.view step.made)) step.size step.tokens)).view (without_registry registry_birth b object.birth (registries_after core rs step.made))
+    by_test false r = has_opened core rs step.made f h
+    by_test true r =
+        let is = r refl in
+        has_closed (opens core.view step.made) (registries_after core rs step.made) object.id object.birth is.entry
+        (births_opened core.view step.made b) (row_kept core.view step.made object.id is.entry f is.row) is.birth (has_opened core rs step.made f h)
+
+births_step : (core : Core) (step : Step) → BirthsAreOnce core.view → BirthsAreOnce (core_by core step).view
+births_step core step h = by_test (destroys_one step.destroys)
   where
-    by_case : (d : Destroys) → BirthsAreOnce (core_by core (record step { destroys = d })).view
-    by_case Nothing = births_opened core.view step.made h
-    by_case Target = births_closed (opens core.view step.made) step.report.target.id (births_opened core.view step.made h)
+    by_test : (b : Bool) → BirthsAreOnce (core_without b (step_ended step).id (past (with_view core (opens core.view step.made)) step.size step.tokens)).view
+    by_test false = births_opened core.view step.made h
+    by_test true = births_closed (opens core.view step.made) (step_ended step).id (births_opened core.view step.made h)
 
--- the same, where memory may have been refused
-pub has_applied : {X E : Type 0} (r : Result X E) (core now : Core) (rs ms : List Registry) (step : Step) → CanTake core step → OnOk r (now ≡ core_by core step) → OnOk r (ms ≡ registries_by core rs step)
-    → OnErr r ((now ≡ core) × (ms ≡ rs)) → OnOk r (IsFresh core.view step.made) → BirthsAreOnce core.view → HasRegistries core.view rs → HasRegistries now.view ms
-has_applied (Ok x) core now rs ms step can c m err f b h =
+-- the same of an end and a list that are these
+pub has_now : (core now : Core) (rs ms : List Registry) (step : Step) → CanTake core step → now ≡ core_by core step → ms ≡ registries_by core rs step
+    → IsFresh core.view step.made → BirthsAreOnce core.view → HasRegistries core.view rs → HasRegistries now.view ms
+has_now core now rs ms step can c m f b h =
     subst (λ (k : Core). HasRegistries k.view ms) (sym c) (subst (HasRegistries (core_by core step).view) (sym m) (has_step core rs step can f b h))
-has_applied (Err x) core now rs ms step can c m err f b h = subst (λ (k : Core). HasRegistries k.view ms) (sym err.0) (subst (HasRegistries core.view) (sym err.1) h)
 
-pub births_applied : {X E : Type 0} (r : Result X E) (core now : Core) (rs ms : List Registry) (step : Step) → OnOk r (now ≡ core_by core step) → OnErr r ((now ≡ core) × (ms ≡ rs)) → BirthsAreOnce core.view → BirthsAreOnce now.view
-births_applied (Ok x) core now rs ms step c err b = subst (λ (k : Core). BirthsAreOnce k.view) (sym c) (births_step core step b)
-births_applied (Err x) core now rs ms step c err b = subst (λ (k : Core). BirthsAreOnce k.view) (sym err.0) b
+pub births_now : (core now : Core) (step : Step) → now ≡ core_by core step → BirthsAreOnce core.view → BirthsAreOnce now.view
+births_now core now step c b = subst (λ (k : Core). BirthsAreOnce k.view) (sym c) (births_step core step b)
 
 -- ---- an event is written
 
@@ -266,19 +270,19 @@ makes_none tables version (kinds.New iface ∷ ks) (v ∷ values) h = absurd (cc
 makes_none tables version (kinds.Array ∷ ks) (v ∷ values) h = makes_none tables version ks values h
 makes_none tables version (kinds.Fd ∷ ks) (v ∷ values) h = makes_none tables version ks values h
 
-none_made : (core : Core) (target : Object) (opcode : ℕ) (list : List Given) (m : Message) → Valid core.tables → checked core.tables Event core.view target opcode list ≡ Ok m → made_at core target m list ≡ None
+none_made : (core : Core) (target : Object) (opcode : ℕ) (list : List Given) (m : Message) → Valid core.tables → checked core.outbox.limit.bytes core.tables Event core.view target opcode list ≡ Ok m → made_at core target m list ≡ None
 none_made core target opcode list m v e =
-    let p = passes core.tables Event core.view target opcode list m e in
+    let p = passes core.outbox.limit.bytes core.tables Event core.view target opcode list m e in
     makes_none core.tables (version_at (look core.view target.id)) m.kinds _ (v.few_objects_made.events p.entry.iface.0 opcode m p.exists)
 
 -- what is sent to is no registry
 not_sent_to : (iface : Iface) (opcode : ℕ) → is_hidden Event iface opcode ≡ false → iface ≢ registry
 not_sent_to iface opcode h is = let no : is_hidden Event registry opcode ≡ false = subst (λ (i : Iface). is_hidden Event i opcode ≡ false) is h in cc no
 
-not_target : (core : Core) (target : Object) (opcode : ℕ) (list : List Given) (m : Message) → checked core.tables Event core.view target opcode list ≡ Ok m
+not_target : (core : Core) (target : Object) (opcode : ℕ) (list : List Given) (m : Message) → checked core.outbox.limit.bytes core.tables Event core.view target opcode list ≡ Ok m
     → (d : Entry) → look core.view target.id ≡ Some d → d.iface ≢ registry
 not_target core target opcode list m e d row is =
-    let p = passes core.tables Event core.view target opcode list m e in
+    let p = passes core.outbox.limit.bytes core.tables Event core.view target opcode list m e in
     let same = sym p.row ∙ row in
     let one : p.entry ≡ d = cc same in
     not_sent_to p.entry.iface opcode p.shown (ap (λ (x : Entry). x.iface) one ∙ is)
@@ -288,16 +292,17 @@ abbrev After : Core → Object → Core → Type 0
 After core target now = (now.view ≡ core.view) ⊎ ((now.view ≡ closed core.view target.id) × ((d : Entry) → look core.view target.id ≡ Some d → d.iface ≢ registry))
 
 after_event : (core : Core) (target : Object) (opcode : ℕ) (list : List Given) → Valid core.tables → After core target (after_send core Event target opcode list)
-after_event core target opcode list v = by_result (checked core.tables Event core.view target opcode list) refl
+after_event core target opcode list v = by_result (checked core.outbox.limit.bytes core.tables Event core.view target opcode list) refl
   where
-    by_what : (m : Message) (what : Destroys) → made_at core target m list ≡ None → ((d : Entry) → look core.view target.id ≡ Some d → d.iface ≢ registry)
+    by_what : (m : Message) (what : Destroys) → ((k : ℕ) → what ≡ Arg k → ⊥) → made_at core target m list ≡ None → ((d : Entry) → look core.view target.id ≡ Some d → d.iface ≢ registry)
         → After core target (after_checked core Event target opcode list (Ok (record m { destroys = what })))
-    by_what m Nothing e f = inl (ap (λ (o : Option Made). after Server core.view o Nothing target.id) e)
-    by_what m Target e f = inr (ap (λ (o : Option Made). after Server core.view o Target target.id) e, f)
+    by_what m Nothing n e f = inl (ap (λ (o : Option Made). after Server core.view o Nothing target.id) e)
+    by_what m Target n e f = inr (ap (λ (o : Option Made). after Server core.view o Target target.id) e, f)
+    by_what m (Arg k) n e f = absurd (n k refl)
 
-    by_result : (x : Result Message SendError) → checked core.tables Event core.view target opcode list ≡ x → After core target (after_checked core Event target opcode list x)
+    by_result : (x : Result Message SendError) → checked core.outbox.limit.bytes core.tables Event core.view target opcode list ≡ x → After core target (after_checked core Event target opcode list x)
     by_result (Err why) e = inl refl
-    by_result (Ok m) e = by_what m m.destroys (none_made core target opcode list m v e) (not_target core target opcode list m e)
+    by_result (Ok m) e = by_what m m.destroys (λ k d. (let p = passes core.outbox.limit.bytes core.tables Event core.view target opcode list m e in no_event core.tables p.entry.iface.0 opcode m k v p.exists d)) (none_made core target opcode list m v e) (not_target core target opcode list m e)
 
 pub has_sent : (core now : Core) (rs : List Registry) (target : Object) (opcode : ℕ) (list : List Given) → Valid core.tables → now ≡ after_send core Event target opcode list → HasRegistries core.view rs → HasRegistries now.view rs
 has_sent core now rs target opcode list v e h =
@@ -316,7 +321,7 @@ births_sent core now target opcode list v e h =
 -- ---- an object is dropped
 
 no_registry : (tables : List Interface) → Valid tables → ends_by_event (interface_at tables registry.0) ≡ false
-no_registry tables v = rw v.fixed_three.registry refl
+no_registry tables v = rw v.fixed_four.registry refl
 
 -- what can be dropped is no registry
 not_dropped : (core : Core) (object : Object) → Valid core.tables → drop_refusal core object ≡ None → (d : Entry) → look core.view object.id ≡ Some d → d.iface ≢ registry

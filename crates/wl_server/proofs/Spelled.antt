@@ -16,6 +16,7 @@ use Rattle.wl_sigs.specs.Valid.{Valid, IsNameByte}
 use Rattle.wl_objects.specs.declared.error.Fault.{Fault}
 use Rattle.wl_objects.specs.declared.error.Fault.TheVariants as faults
 use Rattle.wl_objects.specs.Writing.{error_values, message_bytes}
+use Rattle.wl_message.specs.Cut.{usual_limit}
 use Rattle.wl_end.specs.Spelled.{MessageSpells}
 use Rattle.wl_end.proofs.Spelled.{own-spelled}
 use Rattle.wl_server.specs.Calls.{is_error_text}
@@ -28,18 +29,18 @@ kinds_in : (o : Option Message) (m signature : Message) → o ≡ Some m → o �
 kinds_in o m signature e there = let same = sym e ∙ there in let is : m ≡ signature = cc same in ap (λ (x : Message). x.kinds) is
 
 by_display : (tables : List Interface) (opcode : ℕ) (m : Message) (object : ℕ) (values : List Argument) → (Valid tables → signature_at tables 0 Event opcode ≡ Some m)
-    → MessageSpells m.kinds object opcode values (message_bytes object opcode values) → IsSpelled tables 0 object opcode values
+    → MessageSpells usual_limit m.kinds object opcode values (message_bytes object opcode values) → IsSpelled tables 0 object opcode values
 by_display tables opcode m object values e s v signature there =
-    subst (λ (ks : List Kind). MessageSpells ks object opcode values (message_bytes object opcode values)) (kinds_in _ m signature (e v) there) s
+    subst (λ (ks : List Kind). MessageSpells usual_limit ks object opcode values (message_bytes object opcode values)) (kinds_in _ m signature (e v) there) s
 
 by_registry : (tables : List Interface) (opcode : ℕ) (m : Message) (object : ℕ) (values : List Argument) → (Valid tables → signature_at tables 1 Event opcode ≡ Some m)
-    → (Valid tables → MessageSpells m.kinds object opcode values (message_bytes object opcode values)) → IsSpelled tables 1 object opcode values
+    → (Valid tables → MessageSpells usual_limit m.kinds object opcode values (message_bytes object opcode values)) → IsSpelled tables 1 object opcode values
 by_registry tables opcode m object values e s v signature there =
-    subst (λ (ks : List Kind). MessageSpells ks object opcode values (message_bytes object opcode values)) (kinds_in _ m signature (e v) there) (s v)
+    subst (λ (ks : List Kind). MessageSpells usual_limit ks object opcode values (message_bytes object opcode values)) (kinds_in _ m signature (e v) there) (s v)
 
 pub delete_spells : (tables : List Interface) (id : ℕ) → DeleteSpells tables id
 delete_spells tables id low =
-    by_display tables 1 _ 1 (Uint id ∷ []) (λ v. ap (option_and_then (message_of Event 1)) v.fixed_three.display) (own-spelled (uint ∷ []) 1 1 (Uint id ∷ []) (low, tt) (lit≤ tt))
+    by_display tables 1 _ 1 (Uint id ∷ []) (λ v. ap (option_and_then (message_of Event 1)) v.fixed_four.display) (own-spelled (uint ∷ []) 1 1 (Uint id ∷ []) (low, tt) (lit≤ tt))
 
 -- ---- wl_display.error
 
@@ -56,7 +57,7 @@ pub error_spells : (tables : List Interface) (object code : ℕ) (text : List �
 error_spells tables object code text some low word plain =
     let parts = and_parts (nat_le (length text) 40) _ plain in
     let short : length text ≤ 40 = leb-true (length text) 40 parts.0 in
-    by_display tables 0 _ 1 (error_values object code text) (λ v. ap (option_and_then (message_of Event 0)) v.fixed_three.display)
+    by_display tables 0 _ 1 (error_values object code text) (λ v. ap (option_and_then (message_of Event 0)) v.fixed_four.display)
     (own-spelled (any_object ∷ uint ∷ string ∷ []) 1 0 (error_values object code text)
     ((low, λ z. absurd (omega (arith, z, some))), (word, (record { no_nul = no_zero text parts.1; len = omega (arith, short) }, tt))) (omega (arith, short)))
 
@@ -98,9 +99,9 @@ due_spells tables due = by_owing due.owing
   where
     by_owing : (o : Owing) → DueSpells tables (record due { owing = o })
     by_owing (Removal name) w =
-        by_registry tables 1 _ due.object.id (Uint name ∷ []) (λ v. ap (option_and_then (message_of Event 1)) v.fixed_three.registry) (λ v. own-spelled (uint ∷ []) due.object.id 1 (Uint name ∷ []) (w, tt) (lit≤ tt))
+        by_registry tables 1 _ due.object.id (Uint name ∷ []) (λ v. ap (option_and_then (message_of Event 1)) v.fixed_four.registry) (λ v. own-spelled (uint ∷ []) due.object.id 1 (Uint name ∷ []) (w, tt) (lit≤ tt))
     by_owing (Telling name global) w =
         let text = name_at tables global.iface in
         let values = Uint name ∷ Str (Some text) ∷ Uint global.version ∷ [] in
-        by_registry tables 0 _ due.object.id values (λ v. ap (option_and_then (message_of Event 0)) v.fixed_three.registry)
+        by_registry tables 0 _ due.object.id values (λ v. ap (option_and_then (message_of Event 0)) v.fixed_four.registry)
         (λ v. (let t = name_text tables global.iface v in let short = t.short in own-spelled (uint ∷ string ∷ uint ∷ []) due.object.id 0 values (w.0, (t.is, (w.1, tt))) (omega (arith, short))))

@@ -5,8 +5,8 @@ use Rattle.std.specs.List.{filter}
 use Rattle.std.specs.declared.result.Result.{Result}
 use Rattle.std.specs.declared.result.Result.TheVariants.{Ok, Err}
 use Rattle.wl_sigs.specs.declared.signature.Destroys.{Destroys}
-use Rattle.wl_sigs.specs.declared.signature.Destroys.TheVariants.{Nothing, Target}
-use Rattle.wl_sigs.specs.Tables.{Interface}
+use Rattle.wl_sigs.specs.declared.signature.Destroys.TheVariants.{Nothing, Target, Arg}
+use Rattle.wl_sigs.specs.Tables.{Interface, destroys_one}
 use Rattle.wl_wire.specs.declared.kind.Kind.{Kind}
 use Rattle.wl_table.specs.declared.object.Entry.{Entry}
 use Rattle.wl_objects.specs.declared.error.Fault.{Fault}
@@ -18,7 +18,7 @@ use Rattle.wl_objects.specs.Messages.{Made, made, opens, same_iface, reader_of}
 use Rattle.wl_sigs.specs.Fixed.{registry}
 use Rattle.wl_wire.specs.Word.{header_bytes}
 use Rattle.wl_wire.specs.declared.header.Header.{Header}
-use Rattle.wl_message.specs.Cut.{usual_limit, front, Whole}
+use Rattle.wl_message.specs.Cut.{front, Whole}
 use Rattle.wl_message.specs.Arrived.{Arrived, without_first}
 use Rattle.wl_end.specs.Core.{Core, past, with_view}
 use Rattle.wl_end.specs.Receiving.{Found, is_none}
@@ -28,7 +28,7 @@ use Rattle.wl_server.specs.State.{State, Global, Registry, RiseFrom, with_core, 
 use Rattle.wl_server.specs.Requests.{Report, request, made_in, is_out_full, next_answer, after_next, answer_found, state_found, state_past, registries_after, needs_memory, opens_object, IsNext, IsLentNext}
 use Rattle.wl_server.specs.Registries.{without_registry, registry_birth}
 use Rattle.wl_server.specs.declared.pending.PendingRequest.{PendingRequest}
-use Rattle.wl_server.specs.Steps.{Step, pending_in, report_over, taken_report, step_of, step_found, front_step, checked_front, after_front, after_step, report_by, core_by, core_told, core_without, state_of}
+use Rattle.wl_server.specs.Steps.{Step, step_ended, pending_in, report_over, taken_report, step_of, step_found, front_step, checked_front, after_front, after_step, report_by, core_by, core_told, core_without, state_of}
 use Rattle.wl_server.proofs.Risings.{rise-below, rise-new}
 
 -- ---- the registries
@@ -90,6 +90,7 @@ left-by state f false e = rw (e) (after-past state f)
         by_case : (d : Destroys) → after_step state (record (step_of state.core f) { destroys = d }) ≡ state_past state (record f { message = record f.message { signature = record f.message.signature { destroys = d } } })
         by_case Nothing = refl
         by_case Target = refl
+        by_case (Arg place) = refl
 
 left-found : (state : State) (x : Result (Option Found) Fault) → after_front state (step_found state.core x) ≡ state_found state x
 left-found state (Err fault) = refl
@@ -195,12 +196,12 @@ some-args f (x ∷ xs) h = refl
 
 -- ---- what was taken last
 
-inbox-without : (d : Destroys) (id : ℕ) (core : Core) → (core_without d id core).inbox ≡ core.inbox
-inbox-without Nothing id core = refl
-inbox-without Target id core = refl
+inbox-without : (b : Bool) (id : ℕ) (core : Core) → (core_without b id core).inbox ≡ core.inbox
+inbox-without false id core = refl
+inbox-without true id core = refl
 
 pub inbox-taken : (core : Core) (step : Step) → (core_by core step).inbox ≡ without_first core.inbox step.size step.tokens
-inbox-taken core step = inbox-without step.destroys step.report.target.id (past (with_view core (opens core.view step.made)) step.size step.tokens)
+inbox-taken core step = inbox-without (destroys_one step.destroys) (step_ended step).id (past (with_view core (opens core.view step.made)) step.size step.tokens)
 
 -- ---- the tokens of a request in front
 
@@ -214,8 +215,8 @@ first-taken (suc n) (x ∷ a) (y ∷ b) p q f =
     λ i. one i ∷ more i
 
 -- the body of the message in front
-pub body-front : (bytes body : List ℕ) (n : ℕ) (h : Header) → front usual_limit bytes ≡ Whole n → front usual_limit bytes ≡ Whole h.size → take h.size bytes ≡ header_bytes h ++ body → body ≡ drop 8 (take n bytes)
-body-front bytes body n h f g t =
+pub body-front : (limit : ℕ) (bytes body : List ℕ) (n : ℕ) (h : Header) → front limit bytes ≡ Whole n → front limit bytes ≡ Whole h.size → take h.size bytes ≡ header_bytes h ++ body → body ≡ drop 8 (take n bytes)
+body-front limit bytes body n h f g t =
     let both = sym f ∙ g in
     let same : n ≡ h.size = cc both in
     sym (ap (λ (k : ℕ). drop 8 (take k bytes)) same ∙ ap (drop 8) t)

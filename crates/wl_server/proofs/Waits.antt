@@ -22,7 +22,7 @@ use Rattle.wl_end.proofs.Receivings.{some_report}
 use Rattle.wl_server.specs.declared.request.OwnedRequest.{OwnedRequest}
 use Rattle.wl_server.specs.Seen.{report_of, report_in}
 use Rattle.wl_server.specs.State.{State}
-use Rattle.wl_server.specs.Requests.{Report, IsNext, needs_memory, report, judged, request, destroys_it, made_in, is_out_full, state_past, answer_found, next_answer, state_found, after_next}
+use Rattle.wl_server.specs.Requests.{Report, IsNext, needs_memory, report, judged, request, destroys_it, ended, made_in, is_out_full, state_past, answer_found, next_answer, state_found, after_next}
 use Rattle.wl_end.specs.Reads.{arrived, Reads, none, fault, full, last, next, nothing, ReadsUntil, ReadsReport, ReadsNothing, ReadsNext}
 use Rattle.wl_server.specs.Streams.{reading}
 use Rattle.wl_server.proofs.Comings.{read, answers, leaves, not_failed, waits_past, answer_stays, after_stays}
@@ -37,8 +37,8 @@ open_after false id core = refl
 pub sound_after : (state : State) (r : Report) → next_answer state ≡ Ok (Some r) → (after_next state).core.failed ≡ false
 sound_after state r e =
     let m = read state r e in
-    let view = after server state.core.view (made_in state.core m.message.message) m.message.message.signature.destroys m.message.message.target.id in
-    ap (λ (s : State). s.core.failed) m.leaves ∙ open_after (destroys_it m.message.message) m.message.message.target.id (with_view (past_found state.core m.message) view) ∙ m.sound
+    let view = after server state.core.view (made_in state.core m.message.message) m.message.message.signature.destroys (ended state.core m.message).id in
+    ap (λ (s : State). s.core.failed) m.leaves ∙ open_after (destroys_it m.message.message) (ended state.core m.message).id (with_view (past_found state.core m.message) view) ∙ m.sound
 
 pub sound_none : (state : State) → next_answer state ≡ Ok None → state.core.failed ≡ false
 sound_none state e = not_failed state state.core.failed refl (λ h. cc (h, e))
@@ -68,7 +68,7 @@ pub none_leaves : (state : State) → next_answer state ≡ Ok None → after_ne
 none_leaves state e = leaves state (sound_none state e) ∙ ap (state_found state) (no_request state e)
 
 -- where no whole message waits, less waits than the longest one has
-pub none_waits : (state : State) → next_answer state ≡ Ok None → length state.core.inbox.bytes < 4096
+pub none_waits : (state : State) → next_answer state ≡ Ok None → length state.core.inbox.bytes < state.core.inbox.limit.bytes
 none_waits state e = none_short state.core request_side (unjudged state (found state.core request_side) refl (no_request state e))
 
 -- a message that is read has bytes

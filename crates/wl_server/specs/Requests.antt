@@ -1,16 +1,19 @@
 -- What a server reads, and what it makes of it.
-use Rattle.std.specs.Prelude.{ℕ, Bool, false, ◌&&◌, not, nat_lt, nat_le, bytes_eq, if◌then◌else◌, List, [], ◌∷◌, codes, is_some, Option, Some, None}
+use Rattle.std.specs.Prelude.{ℕ, slice_get, Bool, false, ◌&&◌, not, nat_lt, nat_le, bytes_eq, if◌then◌else◌, List, [], ◌∷◌, codes, is_some, Option, Some, None}
 use Rattle.std.specs.declared.result.Result.{Result}
 use Rattle.std.specs.declared.result.Result.TheVariants.{Ok, Err}
-use Rattle.wl_wire.specs.Argument.{Argument, Uint, NewNamed}
+use Rattle.wl_wire.specs.Argument.{Argument, Uint, Obj, NewNamed}
+use Rattle.wl_sigs.specs.declared.signature.Destroys.{Destroys}
+use Rattle.wl_sigs.specs.declared.signature.Destroys.TheVariants.{Nothing, Target, Arg}
 use Rattle.wl_sigs.specs.declared.signature.Side.TheVariants.{Request as request_side}
-use Rattle.wl_sigs.specs.Tables.{Interface, interface_at, destroys_target}
+use Rattle.wl_sigs.specs.Tables.{Interface, interface_at, destroys_one}
 use Rattle.wl_message.specs.Outgoing.{room_of}
 use Rattle.wl_table.specs.declared.object.Object.{Object}
 use Rattle.wl_objects.specs.declared.error.Fault.{Fault}
 use Rattle.wl_objects.specs.declared.error.Fault.TheVariants as faults
 use Rattle.wl_objects.specs.declared.error.NextError.{NextError}
 use Rattle.wl_objects.specs.declared.error.NextError.TheVariants as errors
+use Rattle.wl_objects.specs.declared.argument.Named.TheVariants as named_as
 use Rattle.wl_objects.specs.Reading.{Reported}
 use Rattle.wl_objects.specs.Messages.{Received, Made, made, is_bind, Server as server, after}
 use Rattle.wl_end.specs.Core.{Core, with_view}
@@ -33,13 +36,13 @@ name_fits name None = false
 name_fits name (Some i) = bytes_eq i.name name
 
 -- whether a bind names a global that was ever advertised, withdrawn or not, by its interface and a version from 1 to the advertised one
-abbrev pub bind_fits : List Interface → List ℕ → ℕ → Option Global → Bool
-bind_fits tables iface version None = false
-bind_fits tables iface version (Some global) =
+abbrev pub can_bind : List Interface → List ℕ → ℕ → Option Global → Bool
+can_bind tables iface version None = false
+can_bind tables iface version (Some global) =
     name_fits iface (interface_at tables global.iface.0) && (nat_le 1 version && nat_le version global.version)
 
 abbrev pub is_good_bind_of : List Interface → List Global → List Argument → Bool
-is_good_bind_of tables globals (Uint name ∷ NewNamed iface version id ∷ []) = bind_fits tables iface version (global_of globals name)
+is_good_bind_of tables globals (Uint name ∷ NewNamed iface version id ∷ []) = can_bind tables iface version (global_of globals name)
 is_good_bind_of tables globals _ = false
 
 abbrev pub is_good_bind : State → List Argument → Bool
@@ -86,13 +89,32 @@ abbrev pub made_in : Core → Received → Option Made
 made_in core message = made core.tables message.entry.version message.signature.kinds message.values
 
 abbrev pub destroys_it : Received → Bool
-destroys_it message = destroys_target message.signature.destroys
+destroys_it message = destroys_one message.signature.destroys
+
+-- the object that a reported argument names
+abbrev pub object_in : Option Reported → Object
+object_in (Some (Obj (named_as.Live object))) = object
+object_in (Some (Obj (named_as.Dead object))) = object
+object_in _ = record { id = 0; birth = 0 }
+
+-- the object that a request destroys, if it destroys one, by what is reported of the request: its target, or the object that an
+-- argument names
+abbrev pub ended_object : Destroys → Report → Object
+ended_object Nothing report = report.target
+ended_object Target report = report.target
+ended_object (Arg place) report = object_in (slice_get report.args place)
+
+abbrev pub report : Core → Found → Report
+report core f = record { target = f.message.target; opcode = f.opcode; args = reported core f.message }
+
+abbrev pub ended : Core → Found → Object
+ended core f = ended_object f.message.signature.destroys (report core f)
 
 -- the end after a request: the message is taken, its objects are opened and closed, and delete_id follows a destroying one
 abbrev pub core_after : Core → Found → Core
 core_after core f =
-    with_following (destroys_it f.message) f.message.target.id
-    (with_view (past_found core f) (after server core.view (made_in core f.message) f.message.signature.destroys f.message.target.id))
+    with_following (destroys_it f.message) (ended core f).id
+    (with_view (past_found core f) (after server core.view (made_in core f.message) f.message.signature.destroys (ended core f).id))
 
 -- a new registry was told nothing yet
 abbrev pub registries_after : Core → List Registry → Option Made → List Registry
@@ -102,13 +124,10 @@ registries_after core registries (Some m) = with_registry m.iface (untold (recor
 abbrev pub state_past : State → Found → State
 state_past state f = record state {
   core = core_after state.core f;
-  registries = without_registry registry_birth (destroys_it f.message) f.message.target.birth (registries_after state.core state.registries (made_in state.core f.message));
+  registries = without_registry registry_birth (destroys_it f.message) (ended state.core f).birth (registries_after state.core state.registries (made_in state.core f.message));
 }
 
 -- ---- reading the next message, where no memory is needed
-
-abbrev pub report : Core → Found → Report
-report core f = record { target = f.message.target; opcode = f.opcode; args = reported core f.message }
 
 -- whether a report needs memory, which is for its arguments
 abbrev pub needs_memory : Report → Bool

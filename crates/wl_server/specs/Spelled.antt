@@ -5,6 +5,7 @@ use Rattle.wl_sigs.specs.declared.signature.Side.TheVariants.{Event}
 use Rattle.wl_sigs.specs.Tables.{Interface, Message, signature_at}
 use Rattle.wl_sigs.specs.Valid.{Valid}
 use Rattle.wl_objects.specs.Writing.{error_values, message_bytes}
+use Rattle.wl_message.specs.Cut.{usual_limit}
 use Rattle.wl_end.specs.Spelled.{MessageSpells}
 use Rattle.wl_server.specs.Calls.{is_error_text}
 use Rattle.wl_server.specs.Announcing.{Due, Owing, Removal, Telling, opcode_of, values_of}
@@ -14,7 +15,8 @@ use Rattle.wl_server.specs.Announcing.{Due, Owing, Removal, Telling, opcode_of, 
 abbrev pub IsSpelled : List Interface → (place object opcode : ℕ) → List Argument → Type 0
 IsSpelled tables place object opcode values =
     Valid tables → (signature : Message) → signature_at tables place Event opcode ≡ Some signature
-    → MessageSpells signature.kinds object opcode values (message_bytes object opcode values)
+    → MessageSpells usual_limit signature.kinds object opcode values
+    (message_bytes object opcode values)
 
 -- wl_display.delete_id
 abbrev pub DeleteSpells : List Interface → ℕ → Type 0

@@ -1,16 +1,17 @@
 -- How a server reads a request: what it makes of the message in front, and then what the reading leaves.
-use Rattle.std.specs.Prelude.{◌≡◌, ◌≢◌, ℕ, ◌≤◌, if◌then◌else◌, List, [], length, take, drop, Option, Some, None, IsTrue}
+use Rattle.std.specs.Prelude.{◌≡◌, ◌≢◌, ℕ, ◌≤◌, Bool, true, false, if◌then◌else◌, List, [], length, take, drop, Option, Some, None, IsTrue}
 use Rattle.std.specs.declared.result.Result.{Result}
 use Rattle.std.specs.declared.result.Result.TheVariants.{Ok, Err}
 use Rattle.wl_sigs.specs.declared.signature.Destroys.{Destroys}
-use Rattle.wl_sigs.specs.declared.signature.Destroys.TheVariants.{Nothing, Target}
-use Rattle.wl_sigs.specs.Tables.{Interface, destroys_target}
-use Rattle.wl_message.specs.Cut.{usual_limit, front, Whole}
+use Rattle.wl_sigs.specs.Tables.{Interface, destroys_one}
+use Rattle.wl_message.specs.Arrived.{in_front}
+use Rattle.wl_message.specs.Cut.{Whole}
 use Rattle.wl_table.specs.declared.object.Entry.{Entry}
 use Rattle.wl_objects.specs.declared.error.Fault.{Fault}
 use Rattle.wl_objects.specs.declared.error.NextError.{NextError}
 use Rattle.wl_objects.specs.declared.error.NextError.TheVariants as errors
-use Rattle.wl_table.specs.View.{look, closed}
+use Rattle.wl_table.specs.declared.object.Object.{Object}
+use Rattle.wl_table.specs.View.{View, look, closed}
 use Rattle.wl_wire.specs.declared.header.Header.{Header}
 use Rattle.wl_objects.specs.Reading.{descriptors}
 use Rattle.wl_objects.specs.declared.parsed.ParsedArg.{ParsedArg}
@@ -21,10 +22,10 @@ use Rattle.wl_end.specs.Receiving.{Found, takes}
 use Rattle.wl_end.specs.Sending.{with_delete_id, with_error_event, fits, delete_id_len}
 use Rattle.wl_server.specs.declared.pending.PendingRequest.{PendingRequest}
 use Rattle.wl_server.specs.State.{State, Global, Registry, with_core}
-use Rattle.wl_server.specs.Requests.{Report, request, report, made_in, is_out_full, registries_after, fault_code, fault_message}
+use Rattle.wl_server.specs.Requests.{Report, request, report, made_in, is_out_full, registries_after, ended_object, fault_code, fault_message}
 use Rattle.wl_server.specs.Registries.{without_registry, registry_birth}
 
--- what a request is and does: its report, its numbers of bytes and tokens, the object that it makes, and whether it destroys its target
+-- what a request is and does: its report, its numbers of bytes and tokens, the object that it makes, and what it destroys
 pub record Step : Type 0 where
   pub report : Report
   pub size : ℕ
@@ -34,6 +35,10 @@ pub record Step : Type 0 where
 
 abbrev pub step_of : Core → Found → Step
 step_of core f = record { report = report core f; size = f.size; tokens = takes f.message; made = made_in core f.message; destroys = f.message.signature.destroys }
+
+-- the object that it destroys, if it destroys one
+abbrev pub step_ended : Step → Object
+step_ended step = ended_object step.destroys step.report
 
 -- ---- a request that was read and not yet taken
 
@@ -88,17 +93,21 @@ step_found core (Ok (Some f)) = if is_out_full core f then Err errors.OutFull el
 abbrev pub front_step : State → Result (Option Step) NextError
 front_step state = step_found state.core (request state)
 
--- A step can be taken: its message stands in front, its tokens wait, its target has the row of its birth; and where it destroys that,
--- the target is not wl_display and there is room for the delete_id.
+-- an object has the row of its birth
+pub record HasRow (view : View) (object : Object) : Type 0 where
+  pub entry : Entry
+  pub row : look view object.id ≡ Some entry
+  pub birth : entry.birth ≡ object.birth
+
+-- A step can be taken: its message stands in front and its tokens wait. An object that it destroys has the row of its birth and is not
+-- wl_display, and there is room for its delete_id.
 pub record CanTake (core : Core) (step : Step) : Type 0 where
-  pub whole : front usual_limit core.inbox.bytes ≡ Whole step.size
+  pub whole : in_front core.inbox ≡ Whole step.size
   pub tokens : step.tokens ≤ length core.inbox.tokens
   pub few : step.tokens ≤ 20
-  pub entry : Entry
-  pub row : look core.view step.report.target.id ≡ Some entry
-  pub birth : entry.birth ≡ step.report.target.birth
-  pub not_display : step.destroys ≡ Target → step.report.target.id ≢ 1
-  pub room : step.destroys ≡ Target → IsTrue (fits core.outbox delete_id_len 0)
+  pub row : destroys_one step.destroys ≡ true → HasRow core.view (step_ended step)
+  pub not_display : destroys_one step.destroys ≡ true → (step_ended step).id ≢ 1
+  pub room : destroys_one step.destroys ≡ true → IsTrue (fits core.outbox delete_id_len 0)
 
 -- the request in front, unless the server has failed
 abbrev pub checked_front : State → Result (Option Step) NextError
@@ -107,17 +116,17 @@ checked_front state = if state.core.failed then Err errors.Failed else front_ste
 -- ---- what the reading leaves
 
 -- the end without an object that a request destroys
-abbrev pub core_without : Destroys → ℕ → Core → Core
-core_without Nothing id core = core
-core_without Target id core = with_delete_id (with_view core (closed core.view id)) id
+abbrev pub core_without : Bool → ℕ → Core → Core
+core_without false id core = core
+core_without true id core = with_delete_id (with_view core (closed core.view id)) id
 
 -- the end after a request: its object is opened, the message taken, and what it destroys closed
 abbrev pub core_by : Core → Step → Core
-core_by core step = core_without step.destroys step.report.target.id (past (with_view core (opens core.view step.made)) step.size step.tokens)
+core_by core step = core_without (destroys_one step.destroys) (step_ended step).id (past (with_view core (opens core.view step.made)) step.size step.tokens)
 
 -- the registries after a request
 abbrev pub registries_by : Core → List Registry → Step → List Registry
-registries_by core registries step = without_registry registry_birth (destroys_target step.destroys) step.report.target.birth (registries_after core registries step.made)
+registries_by core registries step = without_registry registry_birth (destroys_one step.destroys) (step_ended step).birth (registries_after core registries step.made)
 
 abbrev pub after_step : State → Step → State
 after_step state step = record state { core = core_by state.core step; registries = registries_by state.core state.registries step }

@@ -4,11 +4,9 @@ ghost use Rattle.wl_server.specs.State.{untold};
 
 use std::alloc::{AllocError, Allocator, Global};
 use std::marker::Model;
+use wl_end::MAX_GLOBALS;
 use wl_objects::Object;
 use wl_wire::Iface;
-
-/// The most globals that a server advertises in its life.
-pub(crate) const MAX_GLOBALS: usize = 1024;
 
 /// A global. Its name is its place, counted from 1.
 #[derive(Clone, Copy, Debug)]

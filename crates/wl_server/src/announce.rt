@@ -14,10 +14,8 @@ use std::alloc::Allocator;
 use wl_end::Core;
 use wl_objects::{SendError, Table, encode_global, encode_number};
 use wl_sigs::Tables;
+use wl_sigs::event::wl_registry::GLOBAL_REMOVE;
 use wl_wire::Iface;
-
-/// The opcode of wl_registry.global_remove.
-const GLOBAL_REMOVE: u16 = 1;
 
 /// How many events were written, and whether these were all that were owed. Where they were not,
 /// the next does not fit.

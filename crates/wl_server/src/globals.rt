@@ -3,11 +3,12 @@ ghost use Rattle.std.specs.Prelude.{◌≡◌, OnOk, OnErr, true};
 ghost use Rattle.wl_end.specs.Outcomes.{Gives, refusal_in};
 ghost use Rattle.wl_server.specs.State.{global_of};
 ghost use Rattle.wl_server.specs.Calls.{add_answer, after_withdraw, can_be_global, version_in, with_global, withdraw_refusal};
-ghost use Rattle.wl_server.specs.Requests.{bind_fits, is_good_bind_of};
+ghost use Rattle.wl_server.specs.Requests.{can_bind, is_good_bind_of};
 
-use crate::advertised::{Advertised, MAX_GLOBALS};
+use crate::advertised::Advertised;
 use crate::request::GlobalError;
 use crate::server::Server;
+use wl_end::MAX_GLOBALS;
 use wl_objects::{DISPLAY, REGISTRY, Table, Values};
 use wl_sigs::Tables;
 use wl_wire::{Iface, ValueRef};
@@ -97,14 +98,16 @@ pub(crate) fn is_good_bind(tables: &Tables, globals: &[Advertised], values: &Val
     };
     match left.next() {
         Some(ValueRef::NewNamed { iface, version, .. }) => {
-            left.next().is_none() && bind_fits(tables, iface, version, global_of(globals, name))
+            left.next().is_none() && can_bind(tables, iface, version, global_of(globals, name))
         }
         _ => false,
     }
 }
 
-fn bind_fits(tables: &Tables, iface: &[u8], version: u32, global: Option<Advertised>) -> bool
-    ensures { result ≡ bind_fits tables.now iface.now version global }
+/// Whether a global, present or withdrawn, is of this interface and was advertised with at least this
+/// version.
+fn can_bind(tables: &Tables, iface: &[u8], version: u32, global: Option<Advertised>) -> bool
+    ensures { result ≡ can_bind tables.now iface.now version global }
 {
     match global {
         Some(global) => {

@@ -54,7 +54,8 @@ pub fn any_cut_reads()
 pub fn whole_messages_are_read()
     ensures { (state last : State) (reports : List Report) (stop : Option NextError)
         → Reads reading state reports stop last
-        → BeginWith state.core.inbox.bytes (length reports) last.core.inbox.bytes }
+        → BeginWith state.core.inbox.limit.bytes state.core.inbox.bytes (length reports)
+        last.core.inbox.bytes }
 {}
 
 /// What a server writes of itself is a spelling by the tables' signature: a delete_id, the error of

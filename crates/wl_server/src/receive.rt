@@ -3,8 +3,9 @@ ghost use Rattle.std.specs.Prelude.{◌≡◌, ◌≢◌, Some, None, [], IsTrue
 ghost use Rattle.std.specs.Borrow.{sem};
 ghost use Rattle.std.specs.Io.BufRead.{Rests};
 ghost use Rattle.wl_sigs.specs.declared.signature.Side.TheVariants.{Request as request_side};
-ghost use Rattle.wl_sigs.specs.Tables.{destroys_target};
+ghost use Rattle.wl_sigs.specs.Tables.{destroys_one};
 ghost use Rattle.wl_objects.specs.Messages.{is_bind, opens};
+ghost use Rattle.wl_objects.specs.Reading.{descriptors};
 ghost use Rattle.wl_objects.specs.Seen.{message_of};
 ghost use Rattle.wl_table.specs.View.{is_held};
 ghost use Rattle.wl_end.specs.Core.{with_view};
@@ -26,10 +27,10 @@ use crate::server::Server;
 use std::alloc::{AllocError, Allocator};
 use wl_end::{Core, DELETE_ID_LEN, MAX_TOKENS};
 use wl_objects::{
-    Args, Fault, Made, NextError, Object, REGISTRY, Received, Table, descriptors, is_bind,
+    Args, Fault, Held, Made, NextError, Object, REGISTRY, Received, Table, is_bind,
     made_by_message, receive,
 };
-use wl_sigs::{Destroys, Side, Tables};
+use wl_sigs::{Side, Tables};
 use wl_table::DISPLAY_ID;
 use wl_wire::Header;
 
@@ -98,7 +99,8 @@ impl<'t, T: Table> Server<'t, T> {
         ensures answer { pendings_in self.old.core result ≡ checked_front self.old }
         ensures state { self.new ≡ with_core self.old (core_unless self.old.core result) }
         ensures can { IfOk result
-            (λ found. IfSome found (λ request. CanTake self.old.core (pending_in self.old.core request))) }
+            (λ found. IfSome found
+            (λ request. CanTake self.old.core (pending_in self.old.core request))) }
     {
         if self.core.failed {
             return Err(NextError::Failed);
@@ -112,8 +114,8 @@ impl<'t, T: Table> Server<'t, T> {
         }
     }
 
-    /// Takes a request that stands in front. If there is no memory for the object that it opens,
-    /// nothing changes.
+    /// Takes the request in front out, opens the object that it makes and closes the one that it
+    /// destroys. If there is no memory for the object that it makes, nothing changes.
     fn take_request(&mut self, request: &PendingRequest) -> Result<(), AllocError>
         requires { CanTake self.old.core (pending_in self.old.core request.now) }
         ensures ok { OnOk result
@@ -121,7 +123,19 @@ impl<'t, T: Table> Server<'t, T> {
         ensures err { OnErr result (self.new ≡ self.old) }
         ensures wants { OnErr result (request.now.made ≢ None) }
     {
-        apply_request(&mut self.core, &mut self.registries, &self.alloc, request)
+        open_new_object(
+            &mut self.core,
+            &mut self.registries,
+            &self.alloc,
+            request.made,
+        )?;
+        // Nothing is allocated from here on.
+        let mut tokens = [0; MAX_TOKENS];
+        self.core.pass(request.size, &mut tokens[..request.tokens]);
+        if request.destroys.destroys_one() {
+            close_object(&mut self.core, &mut self.registries, request.destroyed());
+        }
+        Ok(())
     }
 
     /// Copies the report of a request that stands in front. Nothing changes.
@@ -167,31 +181,6 @@ fn report_fault<T: Table>(core: &mut Core<'_, T>, why: NextError)
     if let NextError::Fault { fault, .. } = why {
         core.write_error(DISPLAY_ID, fault_code(fault), fault_message(fault));
     }
-}
-
-/// Takes the request in front out, opens the object that it opens and closes the one that it
-/// destroys. If there is no memory nothing changes.
-fn apply_request<T: Table>(
-    core: &mut Core<'_, T>,
-    registries: &mut Vec<OpenRegistry<T::Alloc>, T::Alloc>,
-    alloc: &T::Alloc,
-    request: &PendingRequest,
-) -> Result<(), AllocError>
-    requires { CanTake core.old (pending_in core.old request.now) }
-    ensures core { OnOk result (core.new ≡ core_by core.old (pending_in core.old request.now)) }
-    ensures registries { OnOk result (registries.new.items
-        ≡ registries_by core.old registries.old.items (pending_in core.old request.now)) }
-    ensures err { OnErr result
-        ((core.new ≡ core.old) × (registries.new.items ≡ registries.old.items)) }
-    ensures wants { OnErr result (request.now.made ≢ None) }
-    ensures fresh { OnOk result (IsFresh core.old.view request.now.made) }
-{
-    open_new_object(core, registries, alloc, request.made)?;
-    // Nothing is allocated from here on.
-    let mut tokens = [0; MAX_TOKENS];
-    core.pass(request.size, &mut tokens[..request.tokens]);
-    close_destroyed(core, registries, request.destroys, request.target);
-    Ok(())
 }
 
 /// Opens the object that a request makes, if it makes one.
@@ -247,29 +236,22 @@ fn open_object<T: Table>(
     Ok(())
 }
 
-/// Ends the target of a request that destroys it.
-fn close_destroyed<T: Table>(
+/// Closes an object that a request destroys, and writes its delete_id.
+fn close_object<T: Table>(
     core: &mut Core<'_, T>,
     registries: &mut Vec<OpenRegistry<T::Alloc>, T::Alloc>,
-    destroys: Destroys,
-    target: Object,
+    object: Object,
 )
-    requires held { IsTrue (is_held core.old.view target.id) }
-    requires not_display { destroys ≡ Destroys.Target → target.id ≢ 1 }
-    requires room { destroys ≡ Destroys.Target → IsTrue (fits core.old.outbox delete_id_len 0) }
-    ensures core { core.new ≡ core_without destroys target.id core.old }
+    requires held { IsTrue (is_held core.old.view object.id) }
+    requires not_display { object.id ≢ 1 }
+    requires room { IsTrue (fits core.old.outbox delete_id_len 0) }
+    ensures core { core.new ≡ core_without true object.id core.old }
     ensures registries { registries.new.items
-        ≡ without_registry registry_birth
-        (destroys_target destroys) target.birth registries.old.items }
+        ≡ without_registry registry_birth true object.birth registries.old.items }
 {
-    match destroys {
-        Destroys::Nothing => {}
-        Destroys::Target => {
-            core.close(target.id);
-            core.write_delete_id(target.id);
-            remove_registry(registries, target.birth);
-        }
-    }
+    core.close(object.id);
+    core.write_delete_id(object.id);
+    remove_registry(registries, object.birth);
 }
 
 /// Takes out the registry of this birth, if it is one.
@@ -302,10 +284,11 @@ pub(crate) fn find_request<T: Table>(
         }),
     };
     let header = frame.header;
+    let lookup = Held { table: &core.table };
     let received = match receive(
         core.tables,
         Side::Request,
-        &core.table,
+        &lookup,
         header,
         frame.body,
         frame.tokens,
@@ -342,9 +325,9 @@ fn is_bad_bind(
 /// Whether a message needs more room for its delete_id than there is.
 fn lacks_room(room: usize, message: &Received<'_, '_>) -> bool
     ensures { result
-        ≡ (destroys_target message.now.signature.now.destroys && nat_lt room delete_id_len) }
+        ≡ (destroys_one message.now.signature.now.destroys && nat_lt room delete_id_len) }
 {
-    message.signature.destroys() == Destroys::Target && room < DELETE_ID_LEN
+    message.signature.destroys().destroys_one() && room < DELETE_ID_LEN
 }
 
 /// A copy of a request's report, where these are its body and its tokens.
@@ -375,6 +358,7 @@ fn pending_of(
     header: Header,
     message: Received<'_, '_>,
 ) -> PendingRequest
+    requires tokens { message.tokens ≡ descriptors message.signature.now.kinds }
     ensures { result ≡ pending_of tables.now birth header (message_of message.entry)
         message.entry.args }
 {
@@ -384,7 +368,7 @@ fn pending_of(
         opcode: header.opcode,
         birth,
         size: header.size,
-        tokens: descriptors(kinds),
+        tokens: message.tokens,
         made: made_by_message(tables, message.entry.version, kinds, &message.values()),
         destroys: message.signature.destroys(),
         args: message.args,

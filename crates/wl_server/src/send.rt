@@ -27,8 +27,8 @@ impl<'t, T: Table> Server<'t, T> {
         args: &[Arg<'_>],
     ) -> Result<Option<Object>, SendError>
         ensures answer { Gives SendError.Memory
-            (opens_object (checked self.old.core.tables event_side self.old.core.view target opcode
-            (given args.now)))
+            (opens_object (checked self.old.core.outbox.limit.bytes self.old.core.tables event_side
+            self.old.core.view target opcode (given args.now)))
             (send_answer self.old.core event_side target opcode (given args.now)) result }
         ensures ok { OnOk result
             (self.new ≡ with_core self.old

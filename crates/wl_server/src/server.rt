@@ -1,7 +1,6 @@
 //! A server, and what it shares with the other end.
 ghost use Rattle.std.specs.Prelude.{◌≡◌, ◌≤◌, IfOk, length, take, drop, ◌++◌};
 ghost use Rattle.wl_message.specs.Arrived.{AreSizes};
-ghost use Rattle.wl_message.specs.Cut.{usual_limit};
 ghost use Rattle.wl_message.specs.Outgoing.{goes, waiting_bytes, waiting_tokens};
 ghost use Rattle.wl_end.specs.Core.{display_object, live, in_room, feeds, with_arrived, with_gone, is_drained};
 ghost use Rattle.wl_server.specs.State.{new_state, with_core};
@@ -108,7 +107,7 @@ impl<'t, T: Table> Server<'t, T> {
             ≡ with_core self.old
             (with_arrived self.old.core (take result.bytes bytes.now)
             (take result.tokens tokens.now)) }
-        ensures holds { usual_limit ≤ self.old.core.inbox.capacity }
+        ensures holds { self.old.core.inbox.limit.bytes ≤ self.old.core.inbox.capacity }
     {
         self.core.feed(bytes, tokens)
     }

@@ -42,11 +42,11 @@ following_box false id core = record { bytes = refl; tokens = refl }
 checked_box : (core : Core) (side : Side) (target : Object) (opcode : ℕ) (given : List Given) (r : Result Message SendError) → AsLarge (after_checked core side target opcode given r).inbox core.inbox
 checked_box core side target opcode given (Err why) = same_size core.inbox
 checked_box core side target opcode given (Ok signature) =
-    let f = following_box (following side signature.destroys) target.id _ in
+    let f = following_box (following side signature.destroys) _ _ in
     record { bytes = f.bytes; tokens = f.tokens }
 
 pub send_box : (core : Core) (side : Side) (target : Object) (opcode : ℕ) (given : List Given) → AsLarge (after_send core side target opcode given).inbox core.inbox
-send_box core side target opcode given = checked_box core side target opcode given (checked core.tables side core.view target opcode given)
+send_box core side target opcode given = checked_box core side target opcode given (checked core.outbox.limit.bytes core.tables side core.view target opcode given)
 
 dues_box : (core : Core) (dues : List Due) → AsLarge (with_dues core dues).inbox core.inbox
 dues_box core [] = same_size core.inbox
@@ -69,7 +69,7 @@ client_next_box state = next_client state state.core.failed
 
 request_box : (state : server.State) (b : Bool) (f : Found) → AsLarge (cond b state (requests.state_past state f)).core.inbox state.core.inbox
 request_box state true f = same_size state.core.inbox
-request_box state false f = let k = following_box (requests.destroys_it f.message) f.message.target.id _ in record { bytes = k.bytes; tokens = k.tokens }
+request_box state false f = let k = following_box (requests.destroys_it f.message) (requests.ended state.core f).id _ in record { bytes = k.bytes; tokens = k.tokens }
 
 read_box : (state : server.State) (r : Result (Option Found) Fault) → AsLarge (requests.state_found state r).core.inbox state.core.inbox
 read_box state (Err fault) = record { bytes = refl; tokens = refl }

@@ -9,7 +9,7 @@ ghost use Rattle.wl_check.specs.Session.{IsLawful, session_of};
 ghost use Rattle.wl_world.specs.World.{World, opening};
 ghost use Rattle.wl_world.specs.Pair.{new_pair, drained};
 ghost use Rattle.wl_world.specs.Stands.{Stands};
-ghost use Rattle.wl_link.specs.Linked.{Linked, up_to};
+ghost use Rattle.wl_link.specs.Linked.{Linked, limit_of, up_to};
 
 use std::alloc::{AllocError, Allocator};
 use std::marker::Model;
@@ -58,8 +58,8 @@ impl<'t, T: Table> Model for Pair<'t, T> {
 }
 
 impl<'t, T: Table + Drop> Pair<'t, T> {
-    /// Both ends as they begin: wl_display at each, empty boxes of these sizes, no globals. What a
-    /// carry needs beside the recording is made here.
+    /// Both ends as they begin: wl_display at each, empty boxes of these sizes, no globals. Both go
+    /// by one limit. What a carry needs beside the recording is made here.
     pub fn new(
         alloc: T::Alloc,
         tables: &'t Tables,
@@ -68,6 +68,7 @@ impl<'t, T: Table + Drop> Pair<'t, T> {
     ) -> Result<Self, AllocError>
         requires client { AreSizes client }
         requires server { AreSizes server }
+        requires one_limit { client.limit.bytes ≡ server.limit.bytes }
         ensures begins { IfOk result (λ pair. pair ≡ new_pair tables.now client server) }
         ensures stands { IfOk result (λ pair. Stands pair opening) }
         ensures linked { IfOk result (λ pair. Linked pair opening) }
@@ -112,7 +113,7 @@ impl<'t, T: Table> Pair<'t, T> {
         ensures lends { result.now ≡ self.now.recording }
         ensures lawful { (world : World) → Linked self.now world
             → IsLawful self.now.server.core.tables
-            (session_of (up_to self.now.ended_at result.now)) }
+            (session_of (limit_of self.now) (up_to self.now.ended_at result.now)) }
     {
         &self.recording
     }

@@ -6,4 +6,4 @@ use Rattle.wl_sigs.proofs.RulesDecide.{tested_valid}
 
 pub core_valid : Valid core_tables
 unfolding core_tables
-core_valid = tested_valid core_tables (record { display = refl; registry = refl; callback = refl }, refl)
+core_valid = tested_valid core_tables (record { display = refl; registry = refl; callback = refl; fixes = refl }, refl)

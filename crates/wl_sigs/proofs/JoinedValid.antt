@@ -16,8 +16,8 @@ use Rattle.wl_wire.specs.declared.kind.Kind.TheVariants as kinds
 use Rattle.wl_sigs.specs.declared.signature.Side.{Side}
 use Rattle.wl_sigs.specs.declared.signature.Side.TheVariants.{Request, Event}
 use Rattle.wl_sigs.specs.Rules.{is_empty}
-use Rattle.wl_sigs.specs.Tables.{Message, Interface, interface_at, messages_of, signature_at, new_objects, named_interface, has_destroying_event, destroys_target}
-use Rattle.wl_sigs.specs.Valid.{IsName, NamesAreDistinct, HasFixedThree, AreSmall, MakeFewObjects, UnnamedNewInBindAlone, NoAnyInRequests, SincesAreInRange, DestroyingEventsAreRaceFree, NamedInterfacesAreThere, Valid}
+use Rattle.wl_sigs.specs.Tables.{Message, Interface, interface_at, messages_of, signature_at, new_objects, named_interface, has_destroying_event, destroys_target, destroys_argument}
+use Rattle.wl_sigs.specs.Valid.{IsName, NamesAreDistinct, HasFixedFour, AreSmall, MakeFewObjects, UnnamedNewInBindAlone, NoAnyInRequests, SincesAreInRange, DestroyingEventsAreRaceFree, NamedInterfacesAreThere, ArgumentEndsInFixesAlone, Valid}
 use Rattle.wl_written.specs.Text.{WrittenMessage, WrittenInterface}
 use Rattle.wl_sigs.specs.Joined.{all_names, first_place, kind_placed, destroys_of, interface_placed, joined}
 use Rattle.wl_sigs.specs.Broken.{is_first, ended_of, first_broken}
@@ -44,13 +44,14 @@ keeps_at : (tables : List Interface) (written : List WrittenInterface) → NoneB
 keeps_at tables written none side k w o m at of = (none k w at).messages side o m of
 
 -- V2
-fixed_joined : (tables : List Interface) (written : List WrittenInterface) → HasFixedThree tables → HasFixedThree (joined tables written)
-fixed_joined tables written three =
+fixed_joined : (tables : List Interface) (written : List WrittenInterface) → HasFixedFour tables → HasFixedFour (joined tables written)
+fixed_joined tables written four =
     let new = map (placing tables written) written in
     record {
-      display = in_front tables new 0 _ three.display;
-      registry = in_front tables new 1 _ three.registry;
-      callback = in_front tables new 2 _ three.callback;
+      display = in_front tables new 0 _ four.display;
+      registry = in_front tables new 1 _ four.registry;
+      callback = in_front tables new 2 _ four.callback;
+      fixes = in_front tables new 18 _ four.fixes;
     }
 
 -- V4
@@ -316,12 +317,23 @@ race_free_joined tables written none inside old = record {
       | inr b ↦ absurd (let lt = inside iface (ap named_interface e) in let is = b.place_is in omega (arith, lt, is))
     ]
 
+-- V10
+argument_joined : (tables : List Interface) (written : List WrittenInterface) → ArgumentEndsInFixesAlone tables → ArgumentEndsInFixesAlone (joined tables written)
+argument_joined tables written old place side opcode m h = elim (either_message tables written place side opcode m h) as (λ _. (place ≡ 18) ⊎ (destroys_argument m.destroys ≡ false)) [
+  | inl front ↦ old place side opcode m front
+  | inr b ↦ inr (subst (λ (x : Message). destroys_argument x.destroys ≡ false) b.is (no_argument b.from.destroys))
+]
+  where
+    no_argument : (b : Bool) → destroys_argument (destroys_of b) ≡ false
+    no_argument true = refl
+    no_argument false = refl
+
 pub joined_valid : (tables : List Interface) (written : List WrittenInterface) → Valid tables → first_broken tables written ≡ None → Valid (joined tables written)
 joined_valid tables written valid none =
     let keeps = none_broken tables written none in
     record {
       names_distinct = names_joined_apart tables written keeps valid.names_distinct;
-      fixed_three = fixed_joined tables written valid.fixed_three;
+      fixed_four = fixed_joined tables written valid.fixed_four;
       small = small_joined tables written keeps valid.small;
       few_objects_made = few_joined tables written keeps valid.few_objects_made;
       unnamed_new_in_bind_alone = unnamed_joined tables written keeps valid.unnamed_new_in_bind_alone;
@@ -329,6 +341,7 @@ joined_valid tables written valid none =
       race_free = race_free_joined tables written keeps valid.interfaces_there valid.race_free;
       sinces_in_range = sinces_joined tables written keeps valid.sinces_in_range;
       interfaces_there = interfaces_joined tables written keeps valid.interfaces_there;
+      argument_ends = argument_joined tables written valid.argument_ends;
     }
 
 -- the places of joined tables fit a number of 16 bits

@@ -8,8 +8,8 @@ use Rattle.wl_wire.specs.declared.kind.Kind.TheVariants as kinds
 use Rattle.wl_wire.specs.declared.kind.Iface.{Iface}
 use Rattle.wl_sigs.specs.declared.signature.Side.{Side}
 use Rattle.wl_sigs.specs.declared.signature.Side.TheVariants.{Request, Event}
-use Rattle.wl_sigs.specs.Tables.{Message, Interface, interface_at, messages_of, message_of, signature_at, new_objects, has_destroying_event, named_interface}
-use Rattle.wl_sigs.specs.Valid.{EachInterface, EachMessage, IsNameByte, IsName, NamesAreDistinct, HasFixedThree, AreSmall, MakeFewObjects, IsBind, UnnamedNewInBindAlone, NoAnyInRequests, DestroyingEventsAreRaceFree, SincesAreInRange, NamedInterfacesAreThere, Valid}
+use Rattle.wl_sigs.specs.Tables.{Message, Interface, interface_at, messages_of, message_of, signature_at, new_objects, has_destroying_event, named_interface, destroys_argument}
+use Rattle.wl_sigs.specs.Valid.{EachInterface, EachMessage, IsNameByte, IsName, NamesAreDistinct, HasFixedFour, AreSmall, MakeFewObjects, IsBind, UnnamedNewInBindAlone, NoAnyInRequests, DestroyingEventsAreRaceFree, SincesAreInRange, NamedInterfacesAreThere, ArgumentEndsInFixesAlone, Valid}
 use Rattle.wl_sigs.specs.Rules as test
 use Rattle.wl_sigs.proofs.Deciding.{Decides-le, Decides-empty, Decides-list_all, Decides-each, Decides-both, Decides-message}
 use Rattle.wl_sigs.proofs.Lookups.{found, signature_from}
@@ -268,8 +268,46 @@ decides_interfaces tables =
 
 -- all rules
 
+-- what destroys an argument
+
+is_not : (b : Bool) → Decides (not b) (b ≡ false)
+is_not true = (λ h. cc, λ h. cc)
+is_not false = (λ h. refl, λ h. refl)
+
+abbrev FixesOrNone : ℕ → Interface → Type 0
+FixesOrNone place i = (place ≡ 18) ⊎ ((side : Side) (opcode : ℕ) (m : Message) → slice_get (messages_of side i) opcode ≡ Some m → destroys_argument m.destroys ≡ false)
+
+decides_place : (place : ℕ) (i : Interface) → Decides (nat_eq place 18 || test.both_sides (λ side. list_all test.ends_no_argument (messages_of side i))) (FixesOrNone place i)
+decides_place place i =
+    Decides-or (nat_eq place 18) (test.both_sides (λ side. list_all test.ends_no_argument (messages_of side i))) (Decides-eqb place 18)
+    (Decides-both (λ side. list_all test.ends_no_argument (messages_of side i)) (λ side. (opcode : ℕ) (m : Message) → slice_get (messages_of side i) opcode ≡ Some m → destroys_argument m.destroys ≡ false)
+    (λ side. Decides-each test.ends_no_argument (λ m. destroys_argument m.destroys ≡ false) (λ m. is_not (destroys_argument m.destroys)) (messages_of side i)))
+
+fixes_from : (side : Side) (opcode place : ℕ) (i : Interface) (m : Message) → FixesOrNone place i → slice_get (messages_of side i) opcode ≡ Some m → (place ≡ 18) ⊎ (destroys_argument m.destroys ≡ false)
+fixes_from side opcode place i m (inl p) h = inl p
+fixes_from side opcode place i m (inr f) h = inr (f side opcode m h)
+
+place_is : (b : Bool) (place : ℕ) → Decides b (place ≡ 18) → (P : Type 0) → ((b ≡ false) → P) → (place ≡ 18) ⊎ P
+place_is true place d P f = inl (d.0 refl)
+place_is false place d P f = inr (f refl)
+
+or_right : (A P : Type 0) → A ⊎ P → (A → ⊥) → P
+or_right A P (inl a) f = absurd (f a)
+or_right A P (inr p) f = p
+
+fixes_to : (place : ℕ) (i : Interface) → ((side : Side) (opcode : ℕ) (m : Message) → slice_get (messages_of side i) opcode ≡ Some m → (place ≡ 18) ⊎ (destroys_argument m.destroys ≡ false)) → FixesOrNone place i
+fixes_to place i all =
+    place_is (nat_eq place 18) place (Decides-eqb place 18) _ (λ e side opcode m h. or_right _ _ (all side opcode m h) (λ p. (let y = (Decides-eqb place 18).1 p in cc (e, y))))
+
+decides_argument : (tables : List Interface) → Decides (test.argument_ends_in_fixes_alone tables) (ArgumentEndsInFixesAlone tables)
+decides_argument tables =
+    Decides-like (test.argument_ends_in_fixes_alone tables)
+    (λ all place side opcode m h. let it = found tables place side opcode m h in fixes_from side opcode place it.interface m (all place it.interface it.at) it.of)
+    (λ all place i at. fixes_to place i (λ side opcode m of. all place side opcode m (signature_from tables place side opcode i m at of)))
+    (Decides-by_place (λ place i. nat_eq place 18 || test.both_sides (λ side. list_all test.ends_no_argument (messages_of side i))) FixesOrNone decides_place tables)
+
 pub decides_rules : (tables : List Interface) →
-    Decides (test.keep_rules tables) (NamesAreDistinct tables × AreSmall tables × MakeFewObjects tables × UnnamedNewInBindAlone tables × NoAnyInRequests tables × DestroyingEventsAreRaceFree tables × SincesAreInRange tables × NamedInterfacesAreThere tables)
+    Decides (test.keep_rules tables) (NamesAreDistinct tables × AreSmall tables × MakeFewObjects tables × UnnamedNewInBindAlone tables × NoAnyInRequests tables × DestroyingEventsAreRaceFree tables × SincesAreInRange tables × NamedInterfacesAreThere tables × ArgumentEndsInFixesAlone tables)
 decides_rules tables =
     let a = test.names_are_distinct tables in
     let b = test.are_small tables in
@@ -279,24 +317,26 @@ decides_rules tables =
     let f = test.destroying_events_are_race_free tables in
     let g = test.sinces_are_in_range tables in
     let h = test.named_interfaces_are_there tables in
-    Decides-like (test.keep_rules tables) (λ r. (r.0.0.0.0.0.0.0, r.0.0.0.0.0.0.1, r.0.0.0.0.0.1, r.0.0.0.0.1, r.0.0.0.1, r.0.0.1, r.0.1, r.1))
-    (λ r. (((((((r.0, r.1), r.2), r.3), r.4), r.5), r.6), r.7))
+    let k = test.argument_ends_in_fixes_alone tables in
+    Decides-like (test.keep_rules tables) (λ r. (r.0.0.0.0.0.0.0.0, r.0.0.0.0.0.0.0.1, r.0.0.0.0.0.0.1, r.0.0.0.0.0.1, r.0.0.0.0.1, r.0.0.0.1, r.0.0.1, r.0.1, r.1))
+    (λ r. ((((((((r.0, r.1), r.2), r.3), r.4), r.5), r.6), r.7), r.8))
+    (Decides-and (a && b && c && d && e && f && g && h) k
     (Decides-and (a && b && c && d && e && f && g) h
     (Decides-and (a && b && c && d && e && f) g
     (Decides-and (a && b && c && d && e) f
     (Decides-and (a && b && c && d) e
     (Decides-and (a && b && c) d
     (Decides-and (a && b) c (Decides-and a b (decides_names tables) (decides_small tables)) (decides_few_objects tables)) (decides_bind tables)) (decides_no_any tables)) (decides_race_free tables)) (decides_sinces tables))
-    (decides_interfaces tables))
+    (decides_interfaces tables)) (decides_argument tables))
 
-pub valid_tested : (tables : List Interface) → Valid tables → HasFixedThree tables × (test.keep_rules tables ≡ true)
+pub valid_tested : (tables : List Interface) → Valid tables → HasFixedFour tables × (test.keep_rules tables ≡ true)
 valid_tested tables v = (
-  v.fixed_three,
+  v.fixed_four,
   (decides_rules tables).1
-      (v.names_distinct, v.small, v.few_objects_made, v.unnamed_new_in_bind_alone, v.no_any_in_requests, v.race_free, v.sinces_in_range, v.interfaces_there),
+      (v.names_distinct, v.small, v.few_objects_made, v.unnamed_new_in_bind_alone, v.no_any_in_requests, v.race_free, v.sinces_in_range, v.interfaces_there, v.argument_ends),
 )
 
-pub tested_valid : (tables : List Interface) → HasFixedThree tables × (test.keep_rules tables ≡ true) → Valid tables
+pub tested_valid : (tables : List Interface) → HasFixedFour tables × (test.keep_rules tables ≡ true) → Valid tables
 tested_valid tables h =
     let r = (decides_rules tables).0 h.1 in
-    record { names_distinct = r.0; fixed_three = h.0; small = r.1; few_objects_made = r.2; unnamed_new_in_bind_alone = r.3; no_any_in_requests = r.4; race_free = r.5; sinces_in_range = r.6; interfaces_there = r.7 }
+    record { names_distinct = r.0; fixed_four = h.0; small = r.1; few_objects_made = r.2; unnamed_new_in_bind_alone = r.3; no_any_in_requests = r.4; race_free = r.5; sinces_in_range = r.6; interfaces_there = r.7; argument_ends = r.8 }

@@ -207,7 +207,7 @@ valid_unbroken tables written old valid =
     ended = ended_of tables written
 
     two : 2 ≤ length tables
-    two = let within = slice_get_within tables 1 _ old.fixed_three.registry in omega (arith, within)
+    two = let within = slice_get_within tables 1 _ old.fixed_four.registry in omega (arith, within)
 
     side_unbroken : (side : Side) (k : ℕ) (w : WrittenInterface) → slice_get written k ≡ Some w → side_broken place ended w side (written_of side w) ≡ None
     side_unbroken side k w at =

@@ -4,7 +4,7 @@ use Rattle.std.specs.Prelude.{List, [], ◌∷◌, codes, Some}
 use Rattle.wl_wire.specs.declared.kind.Iface.{Iface}
 use Rattle.wl_sigs.specs.declared.signature.Destroys.TheVariants.{Nothing, Target}
 use Rattle.wl_sigs.specs.Tables.{Interface}
-use Rattle.wl_sigs.specs.Fixed.{message, int, uint, fixed, string, array, fd, object, object_or_null, new, callback, wl_display, wl_registry, wl_callback}
+use Rattle.wl_sigs.specs.Fixed.{message, int, uint, fixed, string, array, fd, object, object_or_null, new, callback, wl_display, wl_registry, wl_callback, wl_fixes}
 
 -- the places of the further interfaces
 abbrev compositor : Iface
@@ -308,4 +308,5 @@ core_tables =
     wl_subsurface ∷
     wl_shell ∷
     wl_shell_surface ∷
+    wl_fixes ∷
     []

@@ -1,11 +1,11 @@
--- wl_display, wl_registry and wl_callback, which stand in all valid tables, and the words in which interfaces are written.
+-- wl_display, wl_registry, wl_callback and wl_fixes, which stand in all valid tables, and the words in which interfaces are written.
 -- Each message's line: its name, the version of its interface that brought it, the kinds of its arguments, what it destroys.
 use Rattle.std.specs.Prelude.{ℕ, List, [], ◌∷◌, codes, true, false, Option, Some, None}
 use Rattle.wl_wire.specs.declared.kind.Kind.{Kind}
 use Rattle.wl_wire.specs.declared.kind.Kind.TheVariants as kinds
 use Rattle.wl_wire.specs.declared.kind.Iface.{Iface}
 use Rattle.wl_sigs.specs.declared.signature.Destroys.{Destroys}
-use Rattle.wl_sigs.specs.declared.signature.Destroys.TheVariants.{Nothing, Target}
+use Rattle.wl_sigs.specs.declared.signature.Destroys.TheVariants.{Nothing, Target, Arg}
 use Rattle.wl_sigs.specs.Tables.{Message, Interface}
 
 abbrev pub message : List ℕ → ℕ → List Kind → Destroys → Message
@@ -87,4 +87,19 @@ wl_callback = record {
   events =
       message (codes "done") 1 (uint ∷ []) Target ∷
       [];
+}
+
+-- the place of wl_fixes
+abbrev pub fixes : Iface
+fixes = record { 0 = 18 }
+
+abbrev pub wl_fixes : Interface
+wl_fixes = record {
+  name = codes "wl_fixes";
+  version = 1;
+  requests =
+      message (codes "destroy") 1 ([]) Target ∷
+      message (codes "destroy_registry") 1 ((object registry) ∷ []) (Arg 0) ∷
+      [];
+  events = [];
 }

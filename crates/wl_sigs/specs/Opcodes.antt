@@ -19,6 +19,7 @@ use Rattle.wl_sigs.specs.declared.request.wl_subcompositor.TheConstants as reque
 use Rattle.wl_sigs.specs.declared.request.wl_subsurface.TheConstants as request_wl_subsurface
 use Rattle.wl_sigs.specs.declared.request.wl_shell.TheConstants as request_wl_shell
 use Rattle.wl_sigs.specs.declared.request.wl_shell_surface.TheConstants as request_wl_shell_surface
+use Rattle.wl_sigs.specs.declared.request.wl_fixes.TheConstants as request_wl_fixes
 use Rattle.wl_sigs.specs.declared.event.wl_display.TheConstants as event_wl_display
 use Rattle.wl_sigs.specs.declared.event.wl_registry.TheConstants as event_wl_registry
 use Rattle.wl_sigs.specs.declared.event.wl_callback.TheConstants as event_wl_callback
@@ -149,6 +150,10 @@ opcodes Request =
     named request_wl_shell_surface.SET_TITLE (codes "set_title") ∷
     named request_wl_shell_surface.SET_CLASS (codes "set_class") ∷
     []) ∷
+    in_interface (codes "wl_fixes") (
+    named request_wl_fixes.DESTROY (codes "destroy") ∷
+    named request_wl_fixes.DESTROY_REGISTRY (codes "destroy_registry") ∷
+    []) ∷
     []
 opcodes Event =
     in_interface (codes "wl_display") (
@@ -227,4 +232,5 @@ opcodes Event =
     named event_wl_shell_surface.CONFIGURE (codes "configure") ∷
     named event_wl_shell_surface.POPUP_DONE (codes "popup_done") ∷
     []) ∷
+    in_interface (codes "wl_fixes") [] ∷
     []

@@ -7,7 +7,7 @@ use Rattle.wl_wire.specs.declared.kind.Kind.TheVariants as kinds
 use Rattle.wl_wire.specs.declared.kind.Iface.{Iface}
 use Rattle.wl_sigs.specs.declared.signature.Side.{Side}
 use Rattle.wl_sigs.specs.declared.signature.Side.TheVariants.{Request, Event}
-use Rattle.wl_sigs.specs.Tables.{Message, Interface, interface_at, messages_of, new_objects, has_destroying_event, named_interface}
+use Rattle.wl_sigs.specs.Tables.{Message, Interface, interface_at, messages_of, new_objects, has_destroying_event, named_interface, destroys_argument}
 
 -- each element passes, given its place, where the first stands at n
 abbrev pub all_from : {X : Type 0} → (ℕ → X → Bool) → ℕ → List X → Bool
@@ -104,8 +104,16 @@ is_there tables (Some iface) = nat_lt iface.0 (length tables)
 abbrev pub named_interfaces_are_there : List Interface → Bool
 named_interfaces_are_there tables = both_sides (each_message (λ m. list_all (λ k. is_there tables (named_interface k)) m.kinds) tables)
 
+abbrev pub ends_no_argument : Message → Bool
+ends_no_argument m = not (destroys_argument m.destroys)
+
+-- V10
+abbrev pub argument_ends_in_fixes_alone : List Interface → Bool
+argument_ends_in_fixes_alone tables = all_from (λ place i. nat_eq place 18 || both_sides (λ side. list_all ends_no_argument (messages_of side i))) 0 tables
+
 -- all rules but V2
 abbrev pub keep_rules : List Interface → Bool
 keep_rules tables =
     names_are_distinct tables && are_small tables && make_few_objects tables && unnamed_new_in_bind_alone tables && no_any_in_requests tables
     && destroying_events_are_race_free tables && sinces_are_in_range tables && named_interfaces_are_there tables
+    && argument_ends_in_fixes_alone tables

@@ -5,7 +5,7 @@ use Rattle.wl_wire.specs.declared.kind.Kind.{Kind}
 use Rattle.wl_wire.specs.declared.kind.Kind.TheVariants as kinds
 use Rattle.wl_wire.specs.declared.kind.Iface.{Iface}
 use Rattle.wl_sigs.specs.declared.signature.Destroys.{Destroys}
-use Rattle.wl_sigs.specs.declared.signature.Destroys.TheVariants.{Nothing, Target}
+use Rattle.wl_sigs.specs.declared.signature.Destroys.TheVariants.{Nothing, Target, Arg}
 use Rattle.wl_sigs.specs.declared.signature.Side.{Side}
 use Rattle.wl_sigs.specs.declared.signature.Side.TheVariants.{Request, Event}
 
@@ -63,6 +63,19 @@ makes m = first (new_objects m.kinds)
 abbrev pub destroys_target : Destroys → Bool
 destroys_target Nothing = false
 destroys_target Target = true
+destroys_target (Arg place) = false
+
+-- whether a message destroys an object: its target, or one that an argument names
+abbrev pub destroys_one : Destroys → Bool
+destroys_one Nothing = false
+destroys_one Target = true
+destroys_one (Arg place) = true
+
+-- whether a message destroys the object that an argument names
+abbrev pub destroys_argument : Destroys → Bool
+destroys_argument Nothing = false
+destroys_argument Target = false
+destroys_argument (Arg place) = true
 
 -- whether an event of the interface destroys its object
 abbrev pub has_destroying_event : Interface → Bool

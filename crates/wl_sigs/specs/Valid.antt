@@ -1,12 +1,12 @@
--- The nine rules that make signature tables valid.
+-- The ten rules that make signature tables valid.
 use Rattle.std.specs.Prelude.{◌≡◌, ◌≢◌, ℕ, ◌≤◌, ◌<◌, ◌⊎◌, List, [], length, Bool, true, false, Some, None}
 use Rattle.std.specs.List.{All}
 use Rattle.wl_wire.specs.declared.kind.Kind.TheVariants as kinds
 use Rattle.wl_wire.specs.declared.kind.Iface.{Iface}
 use Rattle.wl_sigs.specs.declared.signature.Side.{Side}
 use Rattle.wl_sigs.specs.declared.signature.Side.TheVariants.{Request, Event}
-use Rattle.wl_sigs.specs.Tables.{Message, Interface, interface_at, messages_of, signature_at, new_objects, has_destroying_event, named_interface}
-use Rattle.wl_sigs.specs.Fixed.{wl_display, wl_registry, wl_callback}
+use Rattle.wl_sigs.specs.Tables.{Message, Interface, interface_at, messages_of, signature_at, new_objects, has_destroying_event, named_interface, destroys_argument}
+use Rattle.wl_sigs.specs.Fixed.{wl_display, wl_registry, wl_callback, wl_fixes}
 
 -- P holds of each interface
 abbrev pub EachInterface : List Interface → (Interface → Type 0) → Type 0
@@ -33,11 +33,13 @@ pub record NamesAreDistinct (tables : List Interface) : Type 0 where
   pub messages_named : (side : Side) → EachMessage tables side (λ m. IsName m.name)
   pub messages_distinct : (place : ℕ) (side : Side) (o p : ℕ) (m n : Message) → signature_at tables place side o ≡ Some m → signature_at tables place side p ≡ Some n → m.name ≡ n.name → o ≡ p
 
--- V2: wl_display, wl_registry and wl_callback stand exactly as always, and first, so that what names them by place names them
-pub record HasFixedThree (tables : List Interface) : Type 0 where
+-- V2: wl_display, wl_registry and wl_callback stand exactly as always, and first, and wl_fixes behind the other core interfaces, so
+-- that what names them by place names them
+pub record HasFixedFour (tables : List Interface) : Type 0 where
   pub display : interface_at tables 0 ≡ Some wl_display
   pub registry : interface_at tables 1 ≡ Some wl_registry
   pub callback : interface_at tables 2 ≡ Some wl_callback
+  pub fixes : interface_at tables 18 ≡ Some wl_fixes
 
 -- V3: at most 1,024 interfaces, 256 requests and 256 events in each, and 20 arguments in each message
 pub record AreSmall (tables : List Interface) : Type 0 where
@@ -80,10 +82,14 @@ pub record SincesAreInRange (tables : List Interface) : Type 0 where
 abbrev pub NamedInterfacesAreThere : List Interface → Type 0
 NamedInterfacesAreThere tables = (side : Side) → EachMessage tables side (λ m. All (λ k. (iface : Iface) → named_interface k ≡ Some iface → iface.0 < length tables) m.kinds)
 
+-- V10: what destroys an argument stands in wl_fixes alone, where that is destroy_registry with its only argument
+abbrev pub ArgumentEndsInFixesAlone : List Interface → Type 0
+ArgumentEndsInFixesAlone tables = (place : ℕ) (side : Side) (opcode : ℕ) (m : Message) → signature_at tables place side opcode ≡ Some m → (place ≡ 18) ⊎ (destroys_argument m.destroys ≡ false)
+
 -- Valid tables. A proof cites one of the rules.
 pub record Valid (tables : List Interface) : Type 0 where
   pub names_distinct : NamesAreDistinct tables
-  pub fixed_three : HasFixedThree tables
+  pub fixed_four : HasFixedFour tables
   pub small : AreSmall tables
   pub few_objects_made : MakeFewObjects tables
   pub unnamed_new_in_bind_alone : UnnamedNewInBindAlone tables
@@ -91,3 +97,4 @@ pub record Valid (tables : List Interface) : Type 0 where
   pub race_free : DestroyingEventsAreRaceFree tables
   pub sinces_in_range : SincesAreInRange tables
   pub interfaces_there : NamedInterfacesAreThere tables
+  pub argument_ends : ArgumentEndsInFixesAlone tables

@@ -23,13 +23,16 @@ pub(crate) struct CoreInterface {
 }
 
 // A message's name, the version of its interface that brought it, the kinds of its arguments, and
-// `destroys` where it destroys its target.
+// `destroys` where it destroys its target, or `destroys N` the object that its argument at N names.
 macro_rules! message {
     ($name:literal, $since:literal, [$($kind:expr),*]) => {
         CoreMessage { name: $name, since: $since, kinds: &[$($kind),*], destroys: Destroys::Nothing }
     };
     ($name:literal, $since:literal, [$($kind:expr),*], destroys) => {
         CoreMessage { name: $name, since: $since, kinds: &[$($kind),*], destroys: Destroys::Target }
+    };
+    ($name:literal, $since:literal, [$($kind:expr),*], destroys $place:literal) => {
+        CoreMessage { name: $name, since: $since, kinds: &[$($kind),*], destroys: Destroys::Arg($place) }
     };
 }
 
@@ -79,7 +82,7 @@ const WL_SUBSURFACE: Iface = Iface(15);
 const WL_SHELL_SURFACE: Iface = Iface(17);
 
 /// The core interfaces at their places.
-pub(crate) const CORE: [CoreInterface; 18] = [
+pub(crate) const CORE: [CoreInterface; 19] = [
     CoreInterface {
         name: b"wl_display",
         version: 1,
@@ -333,5 +336,14 @@ pub(crate) const CORE: [CoreInterface; 18] = [
             message!(b"configure", 1, [Uint, Int, Int]),
             message!(b"popup_done", 1, []),
         ],
+    },
+    CoreInterface {
+        name: b"wl_fixes",
+        version: 1,
+        requests: &[
+            message!(b"destroy", 1, [], destroys),
+            message!(b"destroy_registry", 1, [object!(WL_REGISTRY)], destroys 0),
+        ],
+        events: &[],
     },
 ];

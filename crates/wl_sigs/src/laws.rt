@@ -8,14 +8,14 @@ ghost use Rattle.wl_sigs.specs.Joined.{joined};
 ghost use Rattle.wl_sigs.specs.Opcodes.{opcodes, opcodes_in};
 ghost use Rattle.wl_sigs.specs.Rules.{keep_rules};
 ghost use Rattle.wl_sigs.specs.Tables.{Interface, interface_at, place_of};
-ghost use Rattle.wl_sigs.specs.Valid.{Valid, HasFixedThree};
+ghost use Rattle.wl_sigs.specs.Valid.{Valid, HasFixedFour};
 ghost use Rattle.wl_written.specs.Text.{WrittenInterface};
 
-/// Tables are valid exactly where wl_display, wl_registry and wl_callback stand in front and the
-/// tests of the other rules pass.
+/// Tables are valid exactly where wl_display, wl_registry and wl_callback stand in front, wl_fixes
+/// behind the other core interfaces, and the tests of the other rules pass.
 pub fn valid_where_tests_pass()
     ensures { (tables : List Interface)
-        → Valid tables ↔ (HasFixedThree tables × (keep_rules tables ≡ true)) }
+        → Valid tables ↔ (HasFixedFour tables × (keep_rules tables ≡ true)) }
 {}
 
 /// In valid tables each interface is the one that is found by its name.

@@ -142,3 +142,9 @@ pub mod wl_shell_surface {
 
     pub const SET_CLASS: u16 = 9;
 }
+
+pub mod wl_fixes {
+    pub const DESTROY: u16 = 0;
+
+    pub const DESTROY_REGISTRY: u16 = 1;
+}

@@ -2,6 +2,7 @@
 ghost use Rattle.std.specs.Prelude.{◌≡◌, ℕ, ◌<◌, List, IfOk, unwrap_or};
 ghost use Rattle.wl_sigs.specs.Joined.{kind_placed, destroys_of, message_placed};
 ghost use Rattle.wl_sigs.specs.Places.{place_in};
+ghost use Rattle.wl_sigs.specs.Tables.{destroys_one};
 ghost use Rattle.wl_sigs.specs.Written.{message_written};
 
 use crate::core_interfaces::CoreMessage;
@@ -19,6 +20,20 @@ pub enum Destroys {
     Nothing,
     /// The object that the message is for: it is a destructor.
     Target,
+    /// The object that the argument at this place names, counted from 0.
+    Arg(usize),
+}
+
+impl Destroys {
+    /// Whether the message destroys an object.
+    pub fn destroys_one(self) -> bool
+        ensures { result ≡ destroys_one self }
+    {
+        match self {
+            Destroys::Nothing => false,
+            Destroys::Target | Destroys::Arg(_) => true,
+        }
+    }
 }
 
 /// Who writes a message: a client writes requests, a server events.

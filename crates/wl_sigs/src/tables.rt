@@ -26,9 +26,9 @@ use wl_written::{TableFault, WrittenInterface, read_interfaces};
 /// Signature tables: interfaces, each at its place, with the signatures of their messages.
 ///
 /// Tables are always valid: names are distinct and spelled of `a` to `z`, `0` to `9` and `_`;
-/// wl_display, wl_registry and wl_callback come first; sizes are bounded; no event makes an object
-/// and no request more than one; and an object that an event may destroy is never named by a
-/// request.
+/// wl_display, wl_registry and wl_callback come first, and wl_fixes has its place; sizes are bounded;
+/// no event makes an object and no request more than one; an object that an event may destroy is
+/// never named by a request; and wl_fixes.destroy_registry alone destroys its argument.
 #[derive(Debug, Drop)]
 pub struct Tables<A: Allocator = Global> {
     interfaces: Vec<Entry<A>, A>,

@@ -4,6 +4,7 @@ use Rattle.std.specs.FinMap.{len as row_count}
 use Rattle.wl_table.specs.View.{View}
 use Rattle.wl_sigs.specs.Tables.{Interface}
 use Rattle.wl_recording.specs.Piece.{Piece}
+use Rattle.wl_message.specs.Cut.{usual_limit}
 use Rattle.wl_check.specs.Session.{session_of}
 use Rattle.wl_check.specs.Trace.{trace_of}
 use Rattle.wl_world.specs.Runs.{Agree}
@@ -28,4 +29,4 @@ pub record Shows (tables : List Interface) (text : List ℕ) : Type 0 where
   pub passed : List Piece
   pub objects : ℕ
   pub ends : Ends true objects
-  pub whole : text ≡ trace_of tables (session_of passed) ++ agreement_line true objects
+  pub whole : text ≡ trace_of tables (session_of usual_limit passed) ++ agreement_line true objects

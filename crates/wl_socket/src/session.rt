@@ -10,7 +10,7 @@ use crate::turn::{fill_all, flush_all};
 use std::alloc::Allocator;
 use std::io::{Read, Write};
 use wl_client::Client;
-use wl_message::Sizes;
+use wl_message::{Limit, Sizes};
 use wl_objects::{Arg, Object, SlotTable, Table};
 use wl_server::Server;
 use wl_session::{Direction, Recording, Tee, same_rows};
@@ -22,6 +22,7 @@ const SIZES: Sizes = Sizes {
     out_tokens: 64,
     in_bytes: 65_536,
     in_tokens: 64,
+    limit: Limit::USUAL,
 };
 
 /// How many bytes each reading side can copy in one turn.

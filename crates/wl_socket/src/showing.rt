@@ -7,6 +7,7 @@ use crate::session::{Played, socket_session};
 use std::alloc::{AllocError, Allocator};
 use std::io::{Read, Write};
 use wl_demo::write_agreement;
+use wl_message::Limit;
 use wl_session::trace;
 use wl_sigs::Tables;
 
@@ -29,7 +30,7 @@ where
     if !played.agree {
         return Err(SocketError::Failed);
     }
-    let (mut text, _verdict) = trace(alloc, &played.recording, tables)?;
+    let (mut text, _verdict) = trace(alloc, &played.recording, tables, Limit::USUAL)?;
     write_agreement(&mut text, true, played.objects)?;
     Ok(text)
 }

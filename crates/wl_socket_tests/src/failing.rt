@@ -4,7 +4,7 @@ use std::alloc::{AllocError, Allocator, Global};
 use std::cell::{Cell, RefCell};
 use std::io::{self, ErrorKind, Read, Write};
 use std::test::Fail;
-use wl_message::{ScriptReader, ScriptWriter, Step};
+use wl_message::{Limit, ScriptReader, ScriptWriter, Step};
 use wl_session::trace;
 use wl_sigs::Tables;
 use wl_socket::{Played, SocketError, socket_session, socket_text};
@@ -31,8 +31,8 @@ agree: 4 objects
 /// The bytes on their way in one direction, which wait in memory.
 type Way = RefCell<Vec<u8>>;
 
-/// A connection in memory. One call of its two streams fails, and at each other call at most so many
-/// bytes pass.
+/// A connection in memory. One call of its two streams fails, and at each other call at most this number
+/// of bytes passes.
 #[derive(Drop)]
 struct Connection {
     to_server: Way,
@@ -123,7 +123,7 @@ impl<'a> Write for Stream<'a> {
     }
 }
 
-/// Plays the session over a connection, with so many retries.
+/// Plays the session over a connection, with this number of retries.
 fn play(
     alloc: Global,
     tables: &Tables,
@@ -145,7 +145,7 @@ fn is_the_session(alloc: Global, tables: &Tables, played: &Played<Global>) -> bo
     let Some(lines) = SHOWN.strip_suffix(b"agree: 4 objects\n") else {
         return false;
     };
-    match trace(alloc, &played.recording, tables) {
+    match trace(alloc, &played.recording, tables, Limit::USUAL) {
         Ok((text, _verdict)) => played.agree && played.objects == 4 && text.as_slice() == lines,
         Err(_) => false,
     }

@@ -1,7 +1,7 @@
 // What a new server reads of a stream whose read fails in the middle of a message.
 use std::io::ErrorKind;
 use std::test::Fail;
-use wl_message::{FillError, ScriptReader, Sizes, Step};
+use wl_message::{FillError, Limit, ScriptReader, Sizes, Step};
 use wl_objects::{GotRef, Object, SlotTable, Table};
 use wl_server::Server;
 use wl_sigs::{Tables, request};
@@ -14,6 +14,7 @@ const SIZES: Sizes = Sizes {
     out_tokens: 64,
     in_bytes: 65_536,
     in_tokens: 64,
+    limit: Limit::USUAL,
 };
 
 /// Whether the next report is that get_registry made the registry 2/1.

@@ -4,9 +4,6 @@ use Rattle.std.specs.Prelude.{option_map}
 use Rattle.std.specs.declared.option.Option.{Option}
 use Rattle.std.specs.declared.option.Option.TheVariants.{None, Some}
 use Rattle.std.proofs.lemmas.Bool.Decides.{nat_tests}
-use Rattle.wl_sigs.specs.declared.signature.Destroys.{Destroys}
-use Rattle.wl_sigs.specs.declared.signature.Destroys.TheVariants.{Nothing, Target}
-use Rattle.wl_sigs.specs.Tables.{destroys_target}
 use Rattle.wl_wire.specs.Argument.{Int, Uint, Fixed, Str, Obj, New, NewNamed, Array, Fd}
 use Rattle.wl_table.specs.declared.object.Entry.{Entry}
 use Rattle.wl_table.specs.declared.object.State.{State}
@@ -14,7 +11,7 @@ use Rattle.wl_table.specs.declared.object.State.TheVariants as states
 use Rattle.wl_table.specs.View.{View, Sound, look, opened_at, closed, zombie}
 use Rattle.wl_table.specs.Views.{look-opened_at, row-opened_at, row-closed, row-zombied}
 use Rattle.wl_table.specs.Sounds.{Sound-opened_at, Sound-closed, Sound-zombied}
-use Rattle.wl_objects.specs.Messages.{Client, Server, after, opens}
+use Rattle.wl_objects.specs.Messages.{Client, Server, opens}
 use Rattle.wl_world.specs.Meant.{Born, Known, Arg, rearg, object_in, objects, new_in, made_in, or_else, token_in, tokens, plain}
 use Rattle.wl_world.specs.World.{Row, Open, Ending, IfThere, Each}
 use Rattle.wl_world.specs.Flight.{Rows, at, row, as_row, client_rows, server_rows, Fresh, Held}
@@ -22,6 +19,7 @@ use Rattle.wl_world.proofs.Wholes.{ThereRow, client_makes, client_ends, server_m
 use Rattle.wl_world.proofs.Sets.{there_kept}
 use Rattle.wl_world.proofs.Bridges.{client_opened, server_opened, server_closed, client_zombied, fresh_free, fresh_room}
 use Rattle.wl_world.proofs.Readings.{made_of}
+use Rattle.wl_world.proofs.Ended.{Mortal, ended_view}
 
 -- ---- what stands under a row
 
@@ -57,12 +55,12 @@ there_row v x h = let m = map_some plain (look v x.id) x.born h in record { entr
 
 -- ---- the rows
 
-pub server_after : (v : View) (x : Known) (n : Option Known) (what : Destroys) → IfThere (Fresh (server_rows v)) n
-    → server_rows (after Server v (option_map made_of n) what x.id) ≡ server_ends (destroys_target what) x (server_makes (server_rows v) n)
-server_after v x None Nothing g = refl
-server_after v x None Target g = server_closed v x.id
-server_after v x (Some y) Nothing g = server_opened v y g.birth
-server_after v x (Some y) Target g = server_closed (opened_at v y.id y.born.iface y.born.version) x.id ∙ ap (λ (r : Rows Born). at r x.id None) (server_opened v y g.birth)
+pub server_after : (v : View) (n o : Option Known) → IfThere (Fresh (server_rows v)) n
+    → server_rows (ended_view Server (opens v (option_map made_of n)) o) ≡ server_ends o (server_makes (server_rows v) n)
+server_after v None None g = refl
+server_after v None (Some x) g = server_closed v x.id
+server_after v (Some y) None g = server_opened v y g.birth
+server_after v (Some y) (Some x) g = server_closed (opened_at v y.id y.born.iface y.born.version) x.id ∙ ap (λ (r : Rows Born). at r x.id None) (server_opened v y g.birth)
 
 apart : (v : View) (y : Known) (id : ℕ) (e : Entry) → (client_rows v).rows y.id ≡ None → look v id ≡ Some e → look (opened_at v y.id y.born.iface y.born.version) id ≡ Some e
 apart v y id e f h =
@@ -71,12 +69,12 @@ apart v y id e f h =
     let b : eqb id y.id ≡ false = grind (arith, nat_tests) in
     look-opened_at v y.id y.born.iface y.born.version id ∙ rw b h
 
-pub client_after : (v : View) (x : Known) (n : Option Known) (what : Destroys) → IfThere (Fresh (client_rows v)) n → HeldRow v x
-    → client_rows (after Client v (option_map made_of n) what x.id) ≡ client_ends (destroys_target what) x (client_makes (client_rows v) n)
-client_after v x None Nothing g h = refl
-client_after v x None Target g h = client_zombied v x.id h.entry h.there ∙ ap (λ (b : Born). at (client_rows v) x.id (Some (Ending b))) h.same
-client_after v x (Some y) Nothing g h = client_opened v y g.birth
-client_after v x (Some y) Target g h =
+pub client_after : (v : View) (n o : Option Known) → IfThere (Fresh (client_rows v)) n → IfThere (HeldRow v) o
+    → client_rows (ended_view Client (opens v (option_map made_of n)) o) ≡ client_ends o (client_makes (client_rows v) n)
+client_after v None None g h = refl
+client_after v None (Some x) g h = client_zombied v x.id h.entry h.there ∙ ap (λ (b : Born). at (client_rows v) x.id (Some (Ending b))) h.same
+client_after v (Some y) None g h = client_opened v y g.birth
+client_after v (Some y) (Some x) g h =
     client_zombied (opened_at v y.id y.born.iface y.born.version) x.id h.entry (apart v y x.id h.entry g.free h.there)
     ∙ ap (λ (b : Born). at (client_rows (opened_at v y.id y.born.iface y.born.version)) x.id (Some (Ending b))) h.same
     ∙ ap (λ (r : Rows Row). at r x.id (Some (Ending x.born))) (client_opened v y g.birth)
@@ -91,19 +89,18 @@ server_opens_rows : (v : View) (n : Option Known) → IfThere (Fresh (server_row
 server_opens_rows v None g = refl
 server_opens_rows v (Some y) g = server_opened v y g.birth
 
-pub server_sound : (v : View) (x : Known) (n : Option Known) (what : Destroys) → Sound v → IfThere (Fresh (server_rows v)) n → ThereRow (server_rows v) x → (destroys_target what ≡ true → x.id ≢ 1)
-    → Sound (after Server v (option_map made_of n) what x.id)
-server_sound v x n Nothing s g h y = server_opens_sound v n s g
-server_sound v x n Target s g h y =
+pub server_sound : (v : View) (n o : Option Known) → Sound v → IfThere (Fresh (server_rows v)) n → IfThere (ThereRow (server_rows v)) o → IfThere Mortal o
+    → Sound (ended_view Server (opens v (option_map made_of n)) o)
+server_sound v n None s g h y = server_opens_sound v n s g
+server_sound v n (Some x) s g h y =
     let k = there_kept (server_rows v) n x g h in
     let r = there_row (opens v (option_map made_of n)) x (subst (λ (r : Rows Born). ThereRow r x) (sym (server_opens_rows v n g)) k) in
-    Sound-closed (opens v (option_map made_of n)) x.id (server_opens_sound v n s g) (some_is _ r.entry r.there) (y refl)
+    Sound-closed (opens v (option_map made_of n)) x.id (server_opens_sound v n s g) (some_is _ r.entry r.there) y
 
 -- a new object at the client is free to the tests: it is the next
-pub client_sound : (v : View) (x : Known) (n : Option Known) (what : Destroys) → Sound (opens v (option_map made_of n)) → (destroys_target what ≡ true → x.id ≢ 1)
-    → Sound (after Client v (option_map made_of n) what x.id)
-client_sound v x n Nothing s y = s
-client_sound v x n Target s y = Sound-zombied (opens v (option_map made_of n)) x.id s (y refl)
+pub client_sound : (v : View) (n o : Option Known) → Sound (opens v (option_map made_of n)) → IfThere Mortal o → Sound (ended_view Client (opens v (option_map made_of n)) o)
+client_sound v n None s y = s
+client_sound v n (Some x) s y = Sound-zombied (opens v (option_map made_of n)) x.id s y
 
 -- ---- the server's rows are live
 
@@ -114,9 +111,9 @@ opens_live : (v : View) (n : Option Known) → AllLive v → AllLive (opens v (o
 opens_live v None l = l
 opens_live v (Some y) l = λ id e h. ⊎_elim (λ p. ap (λ (d : Entry). d.state) p.1) (λ p. l id e p.1) (row-opened_at v y.id y.born.iface y.born.version id e h)
 
-pub server_live : (v : View) (x : ℕ) (n : Option Known) (what : Destroys) → AllLive v → AllLive (after Server v (option_map made_of n) what x)
-server_live v x n Nothing l = opens_live v n l
-server_live v x n Target l = λ id e h. opens_live v n l id e (row-closed (opens v (option_map made_of n)) x id e h).1
+pub server_live : (v : View) (n o : Option Known) → AllLive v → AllLive (ended_view Server (opens v (option_map made_of n)) o)
+server_live v n None l = opens_live v n l
+server_live v n (Some x) l = λ id e h. opens_live v n l id e (row-closed (opens v (option_map made_of n)) x.id id e h).1
 
 pub closed_live : (v : View) (x : ℕ) → AllLive v → AllLive (closed v x)
 closed_live v x l = λ id e h. l id e (row-closed v x id e h).1
@@ -193,22 +190,17 @@ kept_version : (b : Bool) (d : Entry) → (cond b (zombie d) d).version ≡ d.ve
 kept_version true d = refl
 kept_version false d = refl
 
-pub client_aged : (v : View) (x : ℕ) (n : Option Known) (what : Destroys) → IfThere (λ y. 1 ≤ y.born.version) n → Aged v → Aged (after Client v (option_map made_of n) what x)
-client_aged v x n Nothing g a = opens_aged v n g a
-client_aged v x n Target g a = λ id e h.
-    let z = row-zombied (opens v (option_map made_of n)) x id e h in
+pub client_aged : (v : View) (n o : Option Known) → IfThere (λ y. 1 ≤ y.born.version) n → Aged v → Aged (ended_view Client (opens v (option_map made_of n)) o)
+client_aged v n None g a = opens_aged v n g a
+client_aged v n (Some x) g a = λ id e h.
+    let z = row-zombied (opens v (option_map made_of n)) x.id id e h in
     let k = opens_aged v n g a id z.0 z.1.0 in
-    let q = ap (λ (d : Entry). d.version) z.1.1 ∙ kept_version (eqb id x) z.0 in
+    let q = ap (λ (d : Entry). d.version) z.1.1 ∙ kept_version (eqb id x.id) z.0 in
     omega (arith, k, q)
 
-pub server_aged : (v : View) (x : ℕ) (n : Option Known) (what : Destroys) → IfThere (λ y. 1 ≤ y.born.version) n → Aged v → Aged (after Server v (option_map made_of n) what x)
-server_aged v x n Nothing g a = opens_aged v n g a
-server_aged v x n Target g a = λ id e h. opens_aged v n g a id e (row-closed (opens v (option_map made_of n)) x id e h).1
+pub server_aged : (v : View) (n o : Option Known) → IfThere (λ y. 1 ≤ y.born.version) n → Aged v → Aged (ended_view Server (opens v (option_map made_of n)) o)
+server_aged v n None g a = opens_aged v n g a
+server_aged v n (Some x) g a = λ id e h. opens_aged v n g a id e (row-closed (opens v (option_map made_of n)) x.id id e h).1
 
 pub closed_aged : (v : View) (x : ℕ) → Aged v → Aged (closed v x)
 closed_aged v x a = λ id e h. a id e (row-closed v x id e h).1
-
--- what destroys nothing only opens
-pub only_opens : (v : View) (n : Option Known) (what : Destroys) (x : ℕ) → destroys_target what ≡ false → after Client v (option_map made_of n) what x ≡ opens v (option_map made_of n)
-only_opens v n Nothing x h = refl
-only_opens v n Target x h = absurd (cc h)

@@ -12,7 +12,7 @@ use Rattle.wl_wire.specs.Spelling.{IsText}
 use Rattle.wl_sigs.specs.declared.signature.Side.TheVariants.{Event as event_side}
 use Rattle.wl_sigs.specs.declared.signature.Destroys.TheVariants.{Nothing, Target}
 use Rattle.wl_sigs.specs.declared.signature.Destroys.{Destroys}
-use Rattle.wl_sigs.specs.Tables.{Interface, interface_at, place_of, destroys_target}
+use Rattle.wl_sigs.specs.Tables.{Interface, interface_at, place_of}
 use Rattle.wl_sigs.specs.Fixed.{registry, wl_registry}
 use Rattle.wl_sigs.specs.Fixed as fixed
 use Rattle.wl_sigs.specs.Valid.{Valid}
@@ -21,7 +21,7 @@ use Rattle.wl_objects.specs.declared.error.SendError.{SendError}
 use Rattle.wl_table.specs.declared.object.Object.{Object}
 use Rattle.wl_table.specs.View.{View, max_ids}
 use Rattle.wl_objects.specs.Messages.{Server as server_end, after}
-use Rattle.wl_objects.specs.Writing.{message_bytes}
+use Rattle.wl_objects.specs.Writing.{message_bytes, message_len}
 use Rattle.wl_end.specs.Core.{Core}
 use Rattle.wl_end.specs.Sending.{with_sent}
 use Rattle.wl_server.specs.State as server
@@ -39,6 +39,7 @@ use Rattle.wl_world.specs.Stands.{StandsBy, TellsFitly, IsGlobal}
 use Rattle.wl_world.proofs.Wholes.{ThereRow, each_more}
 use Rattle.wl_world.proofs.Afters.{there_row, made_map, Aged}
 use Rattle.wl_world.proofs.Calls.{row_low}
+use Rattle.wl_world.proofs.Ended.{born_ends}
 use Rattle.wl_world.proofs.ServerTells.{CanTell, told_core, tell_stands}
 use Rattle.wl_world.proofs.ServerSend.{tells_world}
 use Rattle.wl_world.proofs.Places.{place_there, name_text}
@@ -155,7 +156,7 @@ due_message tables d version = record {
   target = record { id = d.object.id; born = record { birth = d.object.birth; iface = registry; version = version } };
   opcode = opcode_of d.owing;
   args = due_args tables d.owing;
-  destroys = false;
+  ends = None;
 }
 
 due_wire : (tables : List Interface) (o : Owing) → map wire (due_args tables o) ≡ values_of tables o
@@ -214,15 +215,15 @@ pub due_fits : (tables : List Interface) → Valid tables → (given : List Glob
       target = record { id = d.object.id; born = record { birth = d.object.birth; iface = registry; version = version } };
       opcode = opcode_of o;
       args = due_args tables o;
-      destroys = false;
+      ends = None;
     })
 due_fits tables v given d version w low (Removal name) h e = record {
   fits = record {
     signature = fixed.message (codes "global_remove") 1 (fixed.uint ∷ []) Nothing;
-    there = rw v.fixed_three.registry refl;
+    there = rw v.fixed_four.registry refl;
     old_enough = w;
     args = ((omega (arith, h), tt), tt);
-    destroys = refl;
+    ends = refl;
     len = omega arith;
     low = low;
     opcode = omega arith;
@@ -239,10 +240,10 @@ due_fits tables v given d version w low (Telling name g) h e =
     record {
       fits = record {
         signature = fixed.message (codes "global") 1 (fixed.uint ∷ fixed.string ∷ fixed.uint ∷ []) Nothing;
-        there = rw v.fixed_three.registry refl;
+        there = rw v.fixed_four.registry refl;
         old_enough = w;
         args = ((omega (arith, h.0), tt), ((n.text, tt), ((h.2.word, tt), tt)));
-        destroys = refl;
+        ends = refl;
         len = omega (arith, n.few);
         low = low;
         opcode = omega arith;
@@ -254,6 +255,10 @@ due_fits tables v given d version w low (Telling name g) h e =
       no_delete_id = refl;
       tells = λ a b. record { name = name; iface = g.iface; version = g.version; args_are = refl; was_given = record { global = g; there = h.1; iface_is = refl; version_is = refl }; known = n.known };
     }
+
+due_short : (tables : List Interface) → Valid tables → (given : List Global) (o : Owing) → IsOwing tables given o → message_len (map wire (due_args tables o)) ≤ 4096
+due_short tables v given (Removal name) h = omega arith
+due_short tables v given (Telling name g) h = let n = named tables v g h.2 in omega (arith, n.few)
 
 -- ---- one event after another
 
@@ -267,7 +272,8 @@ due_can p w asked told s d i =
       fitly = due_fits p.server.core.tables s.valid p.server.globals d i.version i.some low d.owing i.owing refl;
       target = i.there;
       args = no_objects p.server.core.tables d.owing;
-      ends = λ h. absurd (cc h);
+      ends = tt;
+      short = let l = due_short p.server.core.tables s.valid p.server.globals d.owing i.owing in omega (arith, l, p.server.core.outbox.limit.in_range.0);
     }
   where
     no_objects : (tables : List Interface) (o : Owing) → Each (ThereRow (server_rows p.server.core.view)) (objects (due_args tables o))
@@ -281,14 +287,8 @@ one_told st d = record st {
   registries = marked_in d st.registries;
 }
 
-keeps_view : (what : Destroys) (v : View) (x : ℕ) → destroys_target what ≡ false → after server_end v None what x ≡ v
-keeps_view Nothing v x h = refl
-keeps_view Target v x h = absurd (cc h)
-
-core_is : (c : Core) (d : Due) (version : ℕ) (what : Destroys) → destroys_target what ≡ false
-    → told_core c (due_message c.tables d version) what ≡ with_sent c d.object.id (opcode_of d.owing) (values_of c.tables d.owing) []
-core_is c d version what h = λ i. record c {
-  view = keeps_view what c.view d.object.id h i;
+core_is : (c : Core) (d : Due) (version : ℕ) → told_core c (due_message c.tables d version) ≡ with_sent c d.object.id (opcode_of d.owing) (values_of c.tables d.owing) []
+core_is c d version = λ i. record c {
   outbox = record c.outbox {
     messages = (append-nil (c.outbox.messages ++ message (message_bytes d.object.id (opcode_of d.owing) (map wire (due_args c.tables d.owing))) (tokens (due_args c.tables d.owing)) ∷ [])
         ∙ (λ j. c.outbox.messages ++ message (message_bytes d.object.id (opcode_of d.owing) (due_wire c.tables d.owing j)) (due_tokens c.tables d.owing j) ∷ [])) i;
@@ -325,6 +325,9 @@ marked_stands p w asked told s d = record {
   registries = ap (mark_in (owed_of d)) s.registries ∙ sym (marks_marked d p.server.registries);
   remembers = s.remembers;
   globals = s.globals;
+  up_limit = s.up_limit;
+  down_limit = s.down_limit;
+  one_limit = s.one_limit;
   few_globals = s.few_globals;
   open_registries = has_marked p.server.core.view d p.server.registries s.open_registries;
 }
@@ -346,7 +349,7 @@ one_stands p w asked told s d i =
     let can = due_can p w asked told s d i in
     let m = due_message p.server.core.tables d i.version in
     let t = tell_stands p w asked told s m can in
-    let c = core_is p.server.core d i.version can.fitly.fits.signature.destroys (sym can.fitly.fits.destroys) in
+    let c = core_is p.server.core d i.version in
     marked_stands (with_server_core p (with_sent p.server.core d.object.id (opcode_of d.owing) (values_of p.server.core.tables d.owing) [])) (event_written w (renamed born_of m)) asked (told ++ (Event m ∷ []))
     (subst (λ (x : Core). StandsBy (with_server_core p x) (event_written w (renamed born_of m)) asked (told ++ (Event m ∷ []))) c t) d
 
@@ -357,7 +360,7 @@ writes_due p w asked told s d i =
     let m = due_message p.server.core.tables d i.version in
     record {
       message = renamed born_of m;
-      is = record { signature = can.fitly.fits.signature; there = can.fitly.fits.there; destroys = can.fitly.fits.destroys };
+      is = record { signature = can.fitly.fits.signature; there = can.fitly.fits.there; ends = born_ends m can.fitly.fits.signature.destroys can.fitly.fits.ends };
       target_is = refl;
       opcode_is = refl;
       args_are = due_births p.server.core.tables d.owing;
@@ -379,7 +382,7 @@ tell_all p w asked told s z (d ∷ ds) i =
       told = r.told;
       news = Event m ∷ r.news;
       added = r.added ∙ append_assoc told (Event m ∷ []) r.news;
-      below = each_more (IsBelow p.server.core.view.births) (tells (Event m)) (all_tells r.news) (event_below (server_rows p.server.core.view) p.server.core.view.births s.server_sets.below m can.target can.args) r.below;
+      below = each_more (IsBelow p.server.core.view.births) (tells (Event m)) (all_tells r.news) (event_below (server_rows p.server.core.view) p.server.core.view.births s.server_sets.below m can.target can.args tt) r.below;
       not_ended = r.not_ended;
       announces = more (writes_due p w asked told s d i.0) r.announces;
       stands_by = r.stands_by;

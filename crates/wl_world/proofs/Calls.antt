@@ -24,6 +24,7 @@ use Rattle.wl_objects.specs.declared.error.SendError.{SendError}
 use Rattle.wl_table.specs.View.{View, Sound, look, max_ids, next_id}
 use Rattle.wl_table.specs.Views
 use Rattle.wl_objects.specs.Reading.{is_of}
+use Rattle.wl_message.specs.Cut.{greatest_limit}
 use Rattle.wl_objects.specs.Writing.{Given, suits, has_no_nul, wrong_place, lost_place, is_live, is_live_as, row_is_of, can_name, wired, tokens_of, message_len}
 use Rattle.wl_objects.specs.Messages.{Made, made, live_row, checked, checked_by, checked_as, unless_hidden, unless_wrong, is_hidden}
 use Rattle.wl_world.specs.Meant.{Born, Known, Arg, rearg, born_of, birth_of, wire, tokens, new_in, made_in, or_else, objects, plain, live_entry}
@@ -34,7 +35,7 @@ use Rattle.wl_world.specs.Runs.{IsGiven}
 
 -- ---- what stands where nothing stands against a write
 
-pub record Checked (tables : List Interface) (side : Side) (view : View) (target : Object) (opcode : ℕ) (given : List Given) (signature : sigs.Message) : Type 0 where
+pub record Checked (limit : ℕ) (tables : List Interface) (side : Side) (view : View) (target : Object) (opcode : ℕ) (given : List Given) (signature : sigs.Message) : Type 0 where
   pub entry : Entry
   pub there : look view target.id ≡ Some entry
   pub birth : entry.birth ≡ target.birth
@@ -44,7 +45,7 @@ pub record Checked (tables : List Interface) (side : Side) (view : View) (target
   pub old_enough : signature.since ≤ entry.version
   pub suit : wrong_place 0 signature.kinds given ≡ None
   pub found : lost_place (look view) 0 signature.kinds given ≡ None
-  pub len : message_len (map (wired 0) given) ≤ 4096
+  pub len : message_len (map (wired 0) given) ≤ limit
 
 and_both : (a b : Bool) → (a && b) ≡ true → (a ≡ true) × (b ≡ true)
 and_both true b h = (refl, h)
@@ -72,47 +73,47 @@ of_len : (b : Bool) (signature s : sigs.Message) (why : SendError) → cond b (E
 of_len true signature s why h = absurd (cc h)
 of_len false signature s why h = (refl, cc h)
 
-pub record Fine (wrong lost : Option ℕ) (len : ℕ) (signature s : sigs.Message) : Type 0 where
+pub record Fine (limit : ℕ) (wrong lost : Option ℕ) (len : ℕ) (signature s : sigs.Message) : Type 0 where
   pub suit : wrong ≡ None
   pub found : lost ≡ None
-  pub short : len ≤ 4096
+  pub short : len ≤ limit
   pub same : signature ≡ s
 
-fine : (wrong lost : Option ℕ) (len : ℕ) (signature s : sigs.Message) → unless_wrong wrong lost len signature ≡ Ok s → Fine wrong lost len signature s
-fine None None len signature s h = let k = of_len (nat_lt 4096 len) signature s _ h in record { suit = refl; found = refl; short = ltb-false 4096 len k.0; same = k.1 }
-fine None (Some place) len signature s h = absurd (cc h)
-fine (Some place) lost len signature s h = absurd (cc h)
+fine : (limit : ℕ) (wrong lost : Option ℕ) (len : ℕ) (signature s : sigs.Message) → unless_wrong limit wrong lost len signature ≡ Ok s → Fine limit wrong lost len signature s
+fine limit None None len signature s h = let k = of_len (nat_lt limit len) signature s _ h in record { suit = refl; found = refl; short = ltb-false limit len k.0; same = k.1 }
+fine limit None (Some place) len signature s h = absurd (cc h)
+fine limit (Some place) lost len signature s h = absurd (cc h)
 
-record AsChecked (view : View) (given : List Given) (entry : Entry) (o : Option sigs.Message) (s : sigs.Message) : Type 0 where
+record AsChecked (limit : ℕ) (view : View) (given : List Given) (entry : Entry) (o : Option sigs.Message) (s : sigs.Message) : Type 0 where
   there : o ≡ Some s
   old_enough : s.since ≤ entry.version
   suit : wrong_place 0 s.kinds given ≡ None
   found : lost_place (look view) 0 s.kinds given ≡ None
-  len : message_len (map (wired 0) given) ≤ 4096
+  len : message_len (map (wired 0) given) ≤ limit
 
-not_old : (view : View) (given : List Given) (entry : Entry) (s t : sigs.Message) (b : Bool) (why : SendError) → nat_lt entry.version s.since ≡ b
-    → cond b (Err why) (unless_wrong (wrong_place 0 s.kinds given) (lost_place (look view) 0 s.kinds given) (message_len (map (wired 0) given)) s) ≡ Ok t → AsChecked view given entry (Some s) t
-not_old view given entry s t true why e h = absurd (cc h)
-not_old view given entry s t false why e h =
-    let f = fine _ _ _ s t h in
-    subst (λ (x : sigs.Message). AsChecked view given entry (Some s) x) f.same
+not_old : (limit : ℕ) (view : View) (given : List Given) (entry : Entry) (s t : sigs.Message) (b : Bool) (why : SendError) → nat_lt entry.version s.since ≡ b
+    → cond b (Err why) (unless_wrong limit (wrong_place 0 s.kinds given) (lost_place (look view) 0 s.kinds given) (message_len (map (wired 0) given)) s) ≡ Ok t → AsChecked limit view given entry (Some s) t
+not_old limit view given entry s t true why e h = absurd (cc h)
+not_old limit view given entry s t false why e h =
+    let f = fine limit _ _ _ s t h in
+    subst (λ (x : sigs.Message). AsChecked limit view given entry (Some s) x) f.same
     (record { there = refl; old_enough = ltb-false _ _ e; suit = f.suit; found = f.found; len = f.short })
 
-as_checked : (view : View) (given : List Given) (entry : Entry) (o : Option sigs.Message) (s : sigs.Message) → checked_as view given entry o ≡ Ok s → AsChecked view given entry o s
-as_checked view given entry None s h = absurd (cc h)
-as_checked view given entry (Some t) s h = not_old view given entry t s _ _ refl h
+as_checked : (limit : ℕ) (view : View) (given : List Given) (entry : Entry) (o : Option sigs.Message) (s : sigs.Message) → checked_as limit view given entry o ≡ Ok s → AsChecked limit view given entry o s
+as_checked limit view given entry None s h = absurd (cc h)
+as_checked limit view given entry (Some t) s h = not_old limit view given entry t s _ _ refl h
 
 not_hidden : (b : Bool) (o : Option sigs.Message) (s : sigs.Message) → unless_hidden b o ≡ Some s → (b ≡ false) × (o ≡ Some s)
 not_hidden true o s h = absurd (cc h)
 not_hidden false o s h = (refl, h)
 
-by_checked : (tables : List Interface) (side : Side) (view : View) (target : Object) (opcode : ℕ) (given : List Given) (s : sigs.Message) (o : Option Entry) → live_row view target ≡ o
-    → checked_by tables side view opcode given o ≡ Ok s → Checked tables side view target opcode given s
-by_checked tables side view target opcode given s None e h = absurd (cc h)
-by_checked tables side view target opcode given s (Some entry) e h =
+by_checked : (limit : ℕ) (tables : List Interface) (side : Side) (view : View) (target : Object) (opcode : ℕ) (given : List Given) (s : sigs.Message) (o : Option Entry) → live_row view target ≡ o
+    → checked_by limit tables side view opcode given o ≡ Ok s → Checked limit tables side view target opcode given s
+by_checked limit tables side view target opcode given s None e h = absurd (cc h)
+by_checked limit tables side view target opcode given s (Some entry) e h =
     let l = live_row_at target.birth (look view target.id) _ refl entry e in
     let k : l.0.entry ≡ entry = cc (l.0.there, l.1) in
-    let c = as_checked view given entry _ s h in
+    let c = as_checked limit view given entry _ s h in
     let n = not_hidden _ _ s c.there in
     record {
       entry = entry;
@@ -127,9 +128,9 @@ by_checked tables side view target opcode given s (Some entry) e h =
       len = c.len;
     }
 
-pub is_checked : (tables : List Interface) (side : Side) (view : View) (target : Object) (opcode : ℕ) (given : List Given) (s : sigs.Message) → checked tables side view target opcode given ≡ Ok s
-    → Checked tables side view target opcode given s
-is_checked tables side view target opcode given s h = by_checked tables side view target opcode given s _ refl h
+pub is_checked : (limit : ℕ) (tables : List Interface) (side : Side) (view : View) (target : Object) (opcode : ℕ) (given : List Given) (s : sigs.Message) → checked limit tables side view target opcode given ≡ Ok s
+    → Checked limit tables side view target opcode given s
+is_checked limit tables side view target opcode given s h = by_checked limit tables side view target opcode given s _ refl h
 
 -- ---- the message
 
@@ -328,7 +329,7 @@ row_low view id e s h = elim (Views.place_of view s id) [
   | Views.unused l t a ↦ absurd (cc (l, h))
 ]
 
-fit_one : (tables : List Interface) (view : View) (new : Known) (version : ℕ) (k : Kind) (a : Given) → Sound view → new.id < 2 ^ 32 → Right view k a → Matches new version k → IsGiven a → spelled_len (wired 0 a) ≤ 4096
+fit_one : (tables : List Interface) (view : View) (new : Known) (version : ℕ) (k : Kind) (a : Given) → Sound view → new.id < 2 ^ 32 → Right view k a → Matches new version k → IsGiven a → spelled_len (wired 0 a) ≤ greatest_limit
     → Suits k (wire (meant view new a)) × NamesRightly tables version k (meant view new a)
 fit_one tables view new version kinds.Int (Int z) s n r m g l = (g, tt)
 fit_one tables view new version kinds.Uint (Uint z) s n r m g l = (g, tt)
@@ -354,7 +355,7 @@ fit_one tables view new version kinds.Fd (Fd z) s n r m g l = (tt, tt)
 fit_one tables view new version _ _ s n r m g l = absurd (cc r.suit)
 
 pub fit_all : (tables : List Interface) (view : View) (new : Known) (version : ℕ) (ks : List Kind) (given : List Given) → Sound view → new.id < 2 ^ 32 → AllRight view ks given → Each (Matches new version) ks
-    → Each IsGiven given → message_len (map (wired 0) given) ≤ 4096 → AreOf tables version ks (map (meant view new) given)
+    → Each IsGiven given → message_len (map (wired 0) given) ≤ greatest_limit → AreOf tables version ks (map (meant view new) given)
 fit_all tables view new version [] [] s n r m g l = tt
 fit_all tables view new version [] (a ∷ given) s n r m g l = absurd r
 fit_all tables view new version (k ∷ ks) [] s n r m g l = absurd r

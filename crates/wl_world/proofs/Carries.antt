@@ -53,6 +53,9 @@ to_server_stands p w asked told most s = record {
   registries = s.registries;
   remembers = s.remembers;
   globals = s.globals;
+  up_limit = s.up_limit;
+  down_limit = s.down_limit;
+  one_limit = s.one_limit;
   few_globals = s.few_globals;
   open_registries = s.open_registries;
 }
@@ -87,6 +90,9 @@ to_client_stands p w asked told most s = record {
   registries = s.registries;
   remembers = s.remembers;
   globals = s.globals;
+  up_limit = s.up_limit;
+  down_limit = s.down_limit;
+  one_limit = s.one_limit;
   few_globals = s.few_globals;
   open_registries = s.open_registries;
 }

@@ -1,8 +1,8 @@
 -- What a write, a carry and a read do to the messages in flight.
 use Rattle.std.proofs.Common.{◌≡◌, ℕ, zero, suc, ◌-◌, ◌≤◌, List, [], ◌∷◌, ◌++◌, length, length-append, take, drop, refl, sym, ◌∙◌, ap, subst, arith}
 use Rattle.std.proofs.lemmas.List.{append_assoc, append-nil, take-append-le, drop-append-le, take_all, drop_all, take-append-drop, take_at}
-use Rattle.wl_message.specs.Cut.{front, More, Bad, Whole, usual_limit, IsMessage}
-use Rattle.wl_message.specs.Arrived.{Arrived, with_more, without_first}
+use Rattle.wl_message.specs.Cut.{front, More, Bad, Whole, IsMessage}
+use Rattle.wl_message.specs.Arrived.{Arrived, with_more, without_first, in_front}
 use Rattle.wl_message.specs.Outgoing.{Message, Outgoing, all_bytes, all_tokens, waiting_bytes, waiting_tokens, newly_begun, begun, after_taking, goes}
 use Rattle.wl_message.proofs.Cuts.{front_message, whole_stays, bad_stays, front_none}
 use Rattle.wl_message.proofs.Fronts.{front_stands}
@@ -21,13 +21,13 @@ all_tokens_more (x ∷ xs) ys = rw (all_tokens_more xs ys) (sym (append_assoc x.
 
 -- messages are written
 pub pushed : (o p : Outgoing) (i : Arrived) (ms more : List Message) → InFlight o i ms → p.left ≡ o.left → p.messages ≡ o.messages ++ more
-    → Each (λ m. IsMessage usual_limit m.bytes) more → InFlight p i (ms ++ more)
+    → Each (λ m. IsMessage i.limit.bytes m.bytes) more → InFlight p i (ms ++ more)
 pushed o p i ms more f l e w = record {
   begun = f.begun;
   all = ap (λ (x : List Message). x ++ more) f.all ∙ append_assoc f.begun o.messages more ∙ ap (λ (x : List Message). f.begun ++ x) (sym e);
   bytes = ap (λ (x : List ℕ). i.bytes ++ x) l ∙ f.bytes;
   tokens = f.tokens;
-  whole = each_more (λ (m : Message). IsMessage usual_limit m.bytes) ms more f.whole w;
+  whole = each_more (λ (m : Message). IsMessage i.limit.bytes m.bytes) ms more f.whole w;
 }
 
 -- how many bytes the messages begun by n bytes have: at least so many
@@ -112,21 +112,21 @@ front_nil : (xs ys : List ℕ) → xs ++ ys ≡ [] → xs ≡ []
 front_nil [] ys h = refl
 front_nil (x ∷ xs) ys h = cc
 
-pops_at : (o : Outgoing) (i : Arrived) (ms : List Message) (n : ℕ) (f : InFlight o i ms) (bs : List Message) → f.begun ≡ bs → front usual_limit i.bytes ≡ Whole n
+pops_at : (o : Outgoing) (i : Arrived) (ms : List Message) (n : ℕ) (f : InFlight o i ms) (bs : List Message) → f.begun ≡ bs → in_front i ≡ Whole n
     → Pops o i ms n
 pops_at o i ms n f [] e h =
     let z = front_nil i.bytes o.left (f.bytes ∙ ap all_bytes e) in
-    let w : front usual_limit i.bytes ≡ More = ap (front usual_limit) z ∙ front_none usual_limit in
+    let w : in_front i ≡ More = ap (front i.limit.bytes) z ∙ front_none i.limit.bytes in
     absurd (cc (w, h))
 pops_at o i ms n f (b ∷ bs) e h =
     let is : ms ≡ b ∷ (bs ++ o.messages) = f.all ∙ ap (λ l. l ++ o.messages) e in
     let eq : i.bytes ++ o.left ≡ b.bytes ++ all_bytes bs = f.bytes ∙ ap all_bytes e in
     let et : i.tokens ++ [] ≡ b.tokens ++ all_tokens bs = append-nil i.tokens ∙ f.tokens ∙ ap all_tokens e in
     let w = rw is at f.whole in
-    let p : front usual_limit (b.bytes ++ all_bytes bs) ≡ Whole (length b.bytes) = front_message usual_limit b.bytes (all_bytes bs) w.0 in
-    let q : front usual_limit (i.bytes ++ o.left) ≡ Whole n = whole_stays usual_limit i.bytes o.left n h in
-    let size : n ≡ length b.bytes = cc (p, q, ap (front usual_limit) eq) in
-    let there = (front_stands usual_limit i.bytes n h).there in
+    let p : front i.limit.bytes (b.bytes ++ all_bytes bs) ≡ Whole (length b.bytes) = front_message i.limit.bytes b.bytes (all_bytes bs) w.0 in
+    let q : front i.limit.bytes (i.bytes ++ o.left) ≡ Whole n = whole_stays i.limit.bytes i.bytes o.left n h in
+    let size : n ≡ length b.bytes = cc (p, q, ap (front i.limit.bytes) eq) in
+    let there = (front_stands i.limit.bytes i.bytes n h).there in
     let cutting = split i.bytes o.left b.bytes (all_bytes bs) n eq size there in
     let some : length b.tokens ≤ length i.tokens = omega (arith, simp length-append at (ap length et)) in
     let taking = split i.tokens [] b.tokens (all_tokens bs) (length b.tokens) et refl some in
@@ -142,24 +142,24 @@ pops_at o i ms n f (b ∷ bs) e h =
       stay = record { begun = bs; all = refl; bytes = cutting.1; tokens = sym (append-nil (drop (length b.tokens) i.tokens)) ∙ taking.1; whole = w.1 };
     }
 
-pub pops : (o : Outgoing) (i : Arrived) (ms : List Message) (n : ℕ) → InFlight o i ms → front usual_limit i.bytes ≡ Whole n → Pops o i ms n
+pub pops : (o : Outgoing) (i : Arrived) (ms : List Message) (n : ℕ) → InFlight o i ms → in_front i ≡ Whole n → Pops o i ms n
 pops o i ms n f h = pops_at o i ms n f f.begun refl h
 
 -- no bad header is met
-never_bad_at : (o : Outgoing) (i : Arrived) (ms bs : List Message) (n : ℕ) (f : InFlight o i ms) → f.begun ≡ bs → front usual_limit i.bytes ≡ Bad n → ⊥
+never_bad_at : (o : Outgoing) (i : Arrived) (ms bs : List Message) (n : ℕ) (f : InFlight o i ms) → f.begun ≡ bs → in_front i ≡ Bad n → ⊥
 never_bad_at o i ms [] n f e h =
     let z = front_nil i.bytes o.left (f.bytes ∙ ap all_bytes e) in
-    let w : front usual_limit i.bytes ≡ More = ap (front usual_limit) z ∙ front_none usual_limit in
+    let w : in_front i ≡ More = ap (front i.limit.bytes) z ∙ front_none i.limit.bytes in
     cc (w, h)
 never_bad_at o i ms (b ∷ bs) n f e h =
     let is : ms ≡ b ∷ (bs ++ o.messages) = f.all ∙ ap (λ l. l ++ o.messages) e in
     let eq : i.bytes ++ o.left ≡ b.bytes ++ all_bytes bs = f.bytes ∙ ap all_bytes e in
     let w = rw is at f.whole in
-    let p : front usual_limit (b.bytes ++ all_bytes bs) ≡ Whole (length b.bytes) = front_message usual_limit b.bytes (all_bytes bs) w.0 in
-    let q : front usual_limit (i.bytes ++ o.left) ≡ Bad n = bad_stays usual_limit i.bytes o.left n h in
-    cc (p, q, ap (front usual_limit) eq)
+    let p : front i.limit.bytes (b.bytes ++ all_bytes bs) ≡ Whole (length b.bytes) = front_message i.limit.bytes b.bytes (all_bytes bs) w.0 in
+    let q : front i.limit.bytes (i.bytes ++ o.left) ≡ Bad n = bad_stays i.limit.bytes i.bytes o.left n h in
+    cc (p, q, ap (front i.limit.bytes) eq)
 
-pub never_bad : (o : Outgoing) (i : Arrived) (ms : List Message) (n : ℕ) → InFlight o i ms → front usual_limit i.bytes ≡ Bad n → ⊥
+pub never_bad : (o : Outgoing) (i : Arrived) (ms : List Message) (n : ℕ) → InFlight o i ms → in_front i ≡ Bad n → ⊥
 never_bad o i ms n f h = never_bad_at o i ms f.begun n f refl h
 
 -- empty boxes: nothing is in flight
@@ -174,9 +174,9 @@ none_at o i ms (b ∷ bs) f e x y z =
     let l : length b.bytes ≡ 0 = ap length v in
     absurd (omega (arith, l, w.0.size.header))
 
-messages_empty : (ms : List Message) → Each (λ m. IsMessage usual_limit m.bytes) ms → all_bytes ms ≡ [] → ms ≡ []
-messages_empty [] w e = refl
-messages_empty (m ∷ ms) w e = let v = front_nil m.bytes (all_bytes ms) e in let l : length m.bytes ≡ 0 = ap length v in absurd (omega (arith, l, w.0.size.header))
+messages_empty : (limit : ℕ) (ms : List Message) → Each (λ m. IsMessage limit m.bytes) ms → all_bytes ms ≡ [] → ms ≡ []
+messages_empty limit [] w e = refl
+messages_empty limit (m ∷ ms) w e = let v = front_nil m.bytes (all_bytes ms) e in let l : length m.bytes ≡ 0 = ap length v in absurd (omega (arith, l, w.0.size.header))
 
 back_nil : (xs ys : List ℕ) → xs ++ ys ≡ [] → ys ≡ []
 back_nil [] ys h = h
@@ -185,5 +185,5 @@ back_nil (x ∷ xs) ys h = cc
 pub none_in_flight : (o : Outgoing) (i : Arrived) (ms : List Message) → InFlight o i ms → i.bytes ≡ [] → waiting_bytes o ≡ [] → ms ≡ []
 none_in_flight o i ms f x y =
     let l = front_nil o.left (all_bytes o.messages) y in
-    let w = each_rest (λ (m : Message). IsMessage usual_limit m.bytes) f.begun o.messages (subst (Each (λ m. IsMessage usual_limit m.bytes)) f.all f.whole) in
-    none_at o i ms f.begun f refl x l (messages_empty o.messages w (back_nil o.left (all_bytes o.messages) y))
+    let w = each_rest (λ (m : Message). IsMessage i.limit.bytes m.bytes) f.begun o.messages (subst (Each (λ m. IsMessage i.limit.bytes m.bytes)) f.all f.whole) in
+    none_at o i ms f.begun f refl x l (messages_empty i.limit.bytes o.messages w (back_nil o.left (all_bytes o.messages) y))

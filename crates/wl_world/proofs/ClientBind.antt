@@ -1,6 +1,6 @@
 -- A move of the client's binding.
 use Rattle.std.proofs.Common.{◌≡◌, ℕ, zero, suc, ◌≤◌, Bool, true, false, cond, List, [], ◌∷◌, ◌++◌, length, refl, sym, ap, subst, ◌∙◌, arith}
-use Rattle.std.specs.Prelude.{option_map, nat_le, bytes_eq, not, ◌&&◌, codes}
+use Rattle.std.specs.Prelude.{option_map, nat_le, bytes_eq, not, ◌&&◌, codes, is_some}
 use Rattle.std.specs.List.{find}
 use Rattle.std.specs.declared.option.Option.{Option}
 use Rattle.std.specs.declared.option.Option.TheVariants.{None, Some}
@@ -15,7 +15,7 @@ use Rattle.wl_wire.specs.Spelling.{IsText}
 use Rattle.wl_sigs.specs.declared.signature.Side.TheVariants.{Request}
 use Rattle.wl_sigs.specs.declared.signature.Destroys.{Destroys}
 use Rattle.wl_sigs.specs.declared.signature.Destroys.TheVariants.{Nothing}
-use Rattle.wl_sigs.specs.Tables.{Interface, interface_at, signature_at, place_of, destroys_target}
+use Rattle.wl_sigs.specs.Tables.{Interface, interface_at, signature_at, place_of}
 use Rattle.wl_sigs.specs.Fixed.{registry}
 use Rattle.wl_sigs.specs.Fixed as fixed
 use Rattle.wl_sigs.specs.Valid.{Valid}
@@ -34,7 +34,7 @@ use Rattle.wl_client.specs.State as client
 use Rattle.wl_client.specs.State.{is_named}
 use Rattle.wl_client.specs.Calls.{version_fits, can_bind, bind_values, iface_or, bound, bind_at, bind_answer, after_bind}
 use Rattle.wl_server.specs.State as server
-use Rattle.wl_server.specs.Requests.{bind_fits, name_fits}
+use Rattle.wl_server.specs.Requests.{can_bind as bind_fits, name_fits}
 use Rattle.wl_world.specs.Meant.{Known, Message, Coming, renamed, born_of, made_in, plain}
 use Rattle.wl_world.specs.World.{World, Open, Each, request_written}
 use Rattle.wl_world.specs.Pair.{PairState, ClientBind, with_client, Writes, accepted, refused, no_memory}
@@ -43,7 +43,7 @@ use Rattle.wl_world.specs.Answers as answers
 use Rattle.wl_world.specs.Flight.{client_rows, row, as_row}
 use Rattle.wl_world.specs.Stands.{StandsBy, WasGiven, IsGlobal}
 use Rattle.wl_world.proofs.Bridges.{next_fresh}
-use Rattle.wl_world.proofs.Afters.{only_opens}
+use Rattle.wl_world.proofs.Ended.{born_ends}
 use Rattle.wl_world.proofs.Registries.{registry_plain}
 use Rattle.wl_world.proofs.ServerReads.{test_of}
 use Rattle.wl_world.proofs.Calls.{live_as, row_low}
@@ -144,7 +144,7 @@ bind_message v entry target name iface version place = record {
   target = record { id = target.id; born = plain entry };
   opcode = 0;
   args = Uint name ∷ NewNamed iface version (the_bound v version place) ∷ [];
-  destroys = false;
+  ends = None;
 }
 
 same_is : (a b : Iface) → same_iface a b ≡ true → a ≡ b
@@ -182,7 +182,7 @@ bind_can p w asked told s target name iface version new b n can =
           there = bind_there;
           old_enough = s.versions target.id b.entry b.there;
           args = ((omega (arith, few, s.few_globals), tt), (((text, omega (arith, n.most, g.word, given.version_is), omega (arith, fresh.low)), ap (option_map (λ (i : Iface). record { id = next_id v; iface = i; version = version })) place), tt));
-          destroys = refl;
+          ends = refl;
           len = omega (arith, short);
           low = low.1;
           opcode = omega arith;
@@ -199,34 +199,29 @@ bind_can p w asked told s target name iface version new b n can =
       new = fresh;
       new_next = refl;
       new_can = can;
-      mortal = λ h. absurd (cc h);
+      mortal = tt;
+      short = omega (arith, short, p.client.core.outbox.limit.in_range.0);
     }
   where
     self : (xs : List ℕ) → bytes_eq xs xs ≡ true
     self xs = bytes_self xs
 
     registry_bind : (tables : List Interface) → Valid tables → signature_at tables 1 Request 0 ≡ Some (fixed.message (codes "bind") 1 (fixed.uint ∷ fixed.new None ∷ []) Nothing)
-    registry_bind tables v = rw v.fixed_three.registry refl
+    registry_bind tables v = rw v.fixed_four.registry refl
 
     bind_is : (tables : List Interface) (iface : List ℕ) (version : ℕ) (o : Option server.Global) (g : server.Global) → o ≡ Some g → name_fits iface (interface_at tables g.iface.0) ≡ true → 1 ≤ version → version ≤ g.version
         → bind_fits tables iface version o ≡ true
     bind_is tables iface version o g e a b c = ap (bind_fits tables iface version) e ∙ rw a (let x : (nat_le 1 version && nat_le version g.version) ≡ true = grind (arith, nat_tests, b, c) in x)
 
-left_by : (st : client.State) (entry : Entry) (target : Object) (name : ℕ) (iface : List ℕ) (version : ℕ) (g : Remembered) (what : Destroys) → client.global_of st.globals name ≡ Some g → destroys_target what ≡ false
-    → after_bind st target name iface version ≡ client.with_core st (asked_core st.core (bind_message st.core.view entry target name iface version g.iface) what)
-left_by st entry target name iface version g what e d =
-    (λ i. record st {
+left_by : (st : client.State) (entry : Entry) (target : Object) (name : ℕ) (iface : List ℕ) (version : ℕ) (g : Remembered) → client.global_of st.globals name ≡ Some g
+    → after_bind st target name iface version ≡ client.with_core st (asked_core st.core (bind_message st.core.view entry target name iface version g.iface))
+left_by st entry target name iface version g e =
+    λ i. record st {
       core = record st.core {
         view = opened_at st.core.view (next_id st.core.view) (iface_or (e i)) version;
         outbox = record st.core.outbox { messages = st.core.outbox.messages ++ message (message_bytes target.id 0 (bind_values name iface version (next_id st.core.view))) [] ∷ [] };
       };
-    })
-    ∙ (λ i. record st {
-      core = record st.core {
-        view = sym (only_opens st.core.view (made_in (bind_message st.core.view entry target name iface version g.iface).args) what target.id d) i;
-        outbox = record st.core.outbox { messages = st.core.outbox.messages ++ message (message_bytes target.id 0 (bind_values name iface version (next_id st.core.view))) [] ∷ [] };
-      };
-    })
+    }
 
 pub client_bind_keeps : (p : PairState) (w : World) (asked : List (Message Known)) (told : List (Coming Known)) → StandsBy p w asked told → NotEnded p w → (target : Object) (name : ℕ) (iface : List ℕ) (version : ℕ)
     → (reply : Result (Option Object) SendError) (p' : PairState)
@@ -243,14 +238,14 @@ client_bind_keeps p w asked told s z target name iface version reply p' (accepte
       world = request_written w (renamed born_of m);
       answers = before z (accepted h) (record {
         message = renamed born_of m;
-        is = record { signature = can.fitly.fits.signature; there = sig_there; destroys = can.fitly.fits.destroys };
+        is = record { signature = can.fitly.fits.signature; there = sig_there; ends = born_ends m can.fitly.fits.signature.destroys can.fitly.fits.ends };
         target_is = b.birth;
         opcode_is = refl;
         args_are = ap (λ (k : ℕ). answers.bound name iface version k) (sym s.births);
         new_is = ap (option_map birth_at) (sym o.is);
         steps = asks_world p w asked told s m can;
       });
-      outcome = subst (λ (x : client.State). Outcome p asked told (with_client p x) (request_written w (renamed born_of m))) (sym (left_by p.client b.entry target name iface version n.global can.fitly.fits.signature.destroys n.there (sym can.fitly.fits.destroys)))
+      outcome = subst (λ (x : client.State). Outcome p asked told (with_client p x) (request_written w (renamed born_of m))) (sym (left_by p.client b.entry target name iface version n.global n.there))
           (goes_on (asked ++ m ∷ []) told z (ask_stands p w asked told s m can) (asking m can (λ h. record { name = name; iface = iface; version = version; new = the_bound p.client.core.view version n.global.iface; args_are = refl; global = n.global; there = n.there; iface_is = refl; most = n.most })));
     }
 client_bind_keeps p w asked told s z target name iface version reply p' (refused h) = record { world = w; answers = before z (refused h) refl; outcome = goes_on asked told z s stays }

@@ -6,9 +6,10 @@ use Rattle.std.specs.declared.result.Result.{Result}
 use Rattle.std.specs.declared.result.Result.TheVariants.{Ok}
 use Rattle.std.proofs.lemmas.List.{take_at}
 use Rattle.wl_sigs.specs.declared.signature.Side.TheVariants.{Event as event_side}
-use Rattle.wl_sigs.specs.Tables.{Interface, destroys_target}
+use Rattle.wl_sigs.specs.Tables.{Interface}
 use Rattle.wl_sigs.specs.Tables as sigs
-use Rattle.wl_message.specs.Cut.{usual_limit, front, Front, More, Bad, Whole, HasMessage}
+use Rattle.wl_message.specs.Arrived.{in_front}
+use Rattle.wl_message.specs.Cut.{Front, More, Bad, Whole, HasMessage}
 use Rattle.wl_table.specs.declared.object.Entry.{Entry}
 use Rattle.wl_table.specs.declared.object.State.{State}
 use Rattle.wl_table.specs.declared.object.State.TheVariants as states
@@ -40,7 +41,7 @@ record Answered (p : PairState) (f : Found) : Type 0 where
 answer_is : (p : PairState) (f : Found) → p.client.core.failed ≡ false → found p.client.core event_side ≡ Ok (Some f) → Answered p f
 answer_is p f l r = record { answer = rw (l, r) refl; leaves = rw (l, r) refl }
 
-idle : (p : PairState) → p.client.core.failed ≡ false → front usual_limit p.client.core.inbox.bytes ≡ More → (next_answer p.client ≡ Ok None) × (after_next p.client ≡ p.client)
+idle : (p : PairState) → p.client.core.failed ≡ false → in_front p.client.core.inbox ≡ More → (next_answer p.client ≡ Ok None) × (after_next p.client ≡ p.client)
 idle p l e =
     let r : found p.client.core event_side ≡ Ok None = ap (found_at p.client.core event_side) e in
     (rw (l, r) refl, rw (l, r) refl)
@@ -73,23 +74,23 @@ reports_it : (p : PairState) (w : World) (m : Message Known) (cs : List (Coming 
     → ReportsComing w (Event (renamed born_of m)) (report p.client.core (the_found n m i.target.entry s.told_fit.0.fits.signature))
 reports_it p w m cs asked s n i =
     let f = s.told_fit.0.fits in
-    let a = event_answer p m n i.target.entry p.server.core.tables f s.told_fit.0.no_delete_id i.target.same in
+    let a = event_answer p m n i.target.entry p.server.core.tables f s.valid s.told_fit.0.no_delete_id i.target.same in
     let count : descriptors f.signature.kinds ≡ length (tokens m.args) = tokens_taken p.server.core.tables m.target.born.version f.signature.kinds m.args f.args in
     subst (ReportsComing w (Event (renamed born_of m))) (sym a.tells_it)
     (reports_as p w m i.more i.target.entry f.signature i.target.entry.state i.target.shown (ap birth_of i.target.same) i.tokens_are count
     (rw i.tokens_are (reports_right p.client.core.view w.client m.args i.more i.met)))
 
 keeps_event : (p : PairState) (w : World) (m : Message Known) (cs : List (Coming Known)) (asked : List (Message Known)) (s : StandsBy p w asked (Event m ∷ cs)) (n : ℕ) → NotEnded p w
-    → front usual_limit p.client.core.inbox.bytes ≡ Whole n → (i : InEvent p w m cs asked s n) → (reply : Result (Option Report) NextError) (p' : PairState)
+    → in_front p.client.core.inbox ≡ Whole n → (i : InEvent p w m cs asked s n) → (reply : Result (Option Report) NextError) (p' : PairState)
     → (Nexts needs_memory (next_answer p.client) p (with_client p (after_next p.client)) reply p')
     → Nexts needs_memory (Ok (Some (report p.client.core (the_found n m i.target.entry s.told_fit.0.fits.signature)))) p
-    (with_client p (after_event p.client m n s.told_fit.0.fits.signature.destroys (teaches m i.target.entry))) reply p'
+    (with_client p (after_event p.client m n (teaches m i.target.entry))) reply p'
     → Moves p w asked (Event m ∷ cs) ClientNext (ClientNext reply) p'
 keeps_event p w m cs asked s n z e i reply p' d answered = record {
   world = event_read p.client.core.tables w (renamed born_of m) (map (recoming born_of) cs);
   answers = before z d (record { waits = subst HasMessage (sym e) tt; coming = Event (renamed born_of m); steps = reads_event (renamed born_of m) (map (recoming born_of) cs) s.events; reports = reports_it p w m cs asked s n i });
   outcome = goes_on asked cs z (event_stands p w m cs asked s n i (event_mortal p w m cs asked s n i))
-      (reading_event m cs n s.told_fit.0.fits.signature.destroys i.target.entry refl e (sym s.told_fit.0.fits.destroys));
+      (reading_event m cs n i.target.entry refl e);
 }
 keeps_event p w m cs asked s n z e i reply p' d (no_memory {report = r} q h) =
     let same : report p.client.core (the_found n m i.target.entry s.told_fit.0.fits.signature) ≡ r = cc q in
@@ -101,14 +102,14 @@ keeps_event p w m cs asked s n z e i reply p' d (no_memory {report = r} q h) =
     }
 
 at_event : (p : PairState) (w : World) (m : Message Known) (cs : List (Coming Known)) (asked : List (Message Known)) (s : StandsBy p w asked (Event m ∷ cs)) (n : ℕ) → NotEnded p w
-    → front usual_limit p.client.core.inbox.bytes ≡ Whole n → (reply : Result (Option Report) NextError) (p' : PairState)
+    → in_front p.client.core.inbox ≡ Whole n → (reply : Result (Option Report) NextError) (p' : PairState)
     → (Nexts needs_memory (next_answer p.client) p (with_client p (after_next p.client)) reply p') → Moves p w asked (Event m ∷ cs) ClientNext (ClientNext reply) p'
 at_event p w m cs asked s n z e reply p' d =
     let i = in_event p w m cs asked s n e in
     let sig = s.told_fit.0.fits.signature in
     let f = the_found n m i.target.entry sig in
     let a = answer_is p f s.client_lives i.finds_it in
-    let b = event_answer p m n i.target.entry p.server.core.tables s.told_fit.0.fits s.told_fit.0.no_delete_id i.target.same in
+    let b = event_answer p m n i.target.entry p.server.core.tables s.told_fit.0.fits s.valid s.told_fit.0.no_delete_id i.target.same in
     keeps_event p w m cs asked s n z e i reply p' d
     (subst (λ st. Nexts needs_memory (Ok (Some (report p.client.core f))) p (with_client p st) reply p') (a.leaves ∙ b.leaves)
     (subst (λ x. Nexts needs_memory x p (with_client p (after_next p.client)) reply p') a.answer d))
@@ -116,7 +117,7 @@ at_event p w m cs asked s n z e reply p' d =
 -- ---- a delete
 
 keeps_delete : (p : PairState) (w : World) (x : Known) (cs : List (Coming Known)) (asked : List (Message Known)) (s : StandsBy p w asked (Delete x ∷ cs)) (n : ℕ) → NotEnded p w
-    → front usual_limit p.client.core.inbox.bytes ≡ Whole n → (i : InDelete p x cs s.meet.middle n) → (reply : Result (Option Report) NextError) (p' : PairState)
+    → in_front p.client.core.inbox ≡ Whole n → (i : InDelete p x cs s.meet.middle n) → (reply : Result (Option Report) NextError) (p' : PairState)
     → (Nexts needs_memory (next_answer p.client) p (with_client p (after_next p.client)) reply p')
     → Nexts needs_memory (Ok (Some (reports.Deleted (record { id = x.id; birth = i.entry.birth })))) p (with_client p (after_delete p.client x n)) reply p'
     → Moves p w asked (Delete x ∷ cs) ClientNext (ClientNext reply) p'
@@ -130,7 +131,7 @@ keeps_delete p w x cs asked s n z e i reply p' d (no_memory {report = r} q h) =
     absurd (cc (ap needs_memory same, h))
 
 at_delete : (p : PairState) (w : World) (x : Known) (cs : List (Coming Known)) (asked : List (Message Known)) (s : StandsBy p w asked (Delete x ∷ cs)) (n : ℕ) → NotEnded p w
-    → front usual_limit p.client.core.inbox.bytes ≡ Whole n → (reply : Result (Option Report) NextError) (p' : PairState)
+    → in_front p.client.core.inbox ≡ Whole n → (reply : Result (Option Report) NextError) (p' : PairState)
     → (Nexts needs_memory (next_answer p.client) p (with_client p (after_next p.client)) reply p') → Moves p w asked (Delete x ∷ cs) ClientNext (ClientNext reply) p'
 at_delete p w x cs asked s n z e reply p' d =
     let i = in_delete p w x cs asked s n e in
@@ -144,13 +145,13 @@ at_delete p w x cs asked s n z e reply p' d =
 -- ---- all fronts
 
 at_whole : (p : PairState) (w : World) (asked : List (Message Known)) (told : List (Coming Known)) (s : StandsBy p w asked told) (n : ℕ) → NotEnded p w
-    → front usual_limit p.client.core.inbox.bytes ≡ Whole n → (reply : Result (Option Report) NextError) (p' : PairState)
+    → in_front p.client.core.inbox ≡ Whole n → (reply : Result (Option Report) NextError) (p' : PairState)
     → (Nexts needs_memory (next_answer p.client) p (with_client p (after_next p.client)) reply p') → Moves p w asked told ClientNext (ClientNext reply) p'
 at_whole p w asked [] s n z e reply p' d = absurd (let q = pops p.server.core.outbox p.client.core.inbox [] n s.to_client e in cc q.is)
 at_whole p w asked (Event m ∷ cs) s n z e reply p' d = at_event p w m cs asked s n z e reply p' d
 at_whole p w asked (Delete x ∷ cs) s n z e reply p' d = at_delete p w x cs asked s n z e reply p' d
 
-keeps_idle : (p : PairState) (w : World) (asked : List (Message Known)) (told : List (Coming Known)) (s : StandsBy p w asked told) → NotEnded p w → front usual_limit p.client.core.inbox.bytes ≡ More
+keeps_idle : (p : PairState) (w : World) (asked : List (Message Known)) (told : List (Coming Known)) (s : StandsBy p w asked told) → NotEnded p w → in_front p.client.core.inbox ≡ More
     → (reply : Result (Option Report) NextError) (p' : PairState) → (Nexts needs_memory (next_answer p.client) p (with_client p (after_next p.client)) reply p')
     → Nexts needs_memory (Ok None) p p reply p' → Moves p w asked told ClientNext (ClientNext reply) p'
 keeps_idle p w asked told s z e reply p' d answered = record { world = w; answers = before z d (λ h. subst HasMessage e h, refl); outcome = goes_on asked told z s stays }
@@ -158,7 +159,7 @@ keeps_idle p w asked told s z e reply p' d (no_memory q h) = absurd (cc q)
 
 at_front : (p : PairState) (w : World) (asked : List (Message Known)) (told : List (Coming Known)) (s : StandsBy p w asked told) → NotEnded p w
     → (reply : Result (Option Report) NextError) (p' : PairState) → (Nexts needs_memory (next_answer p.client) p (with_client p (after_next p.client)) reply p')
-    → (f : Front) → front usual_limit p.client.core.inbox.bytes ≡ f → Moves p w asked told ClientNext (ClientNext reply) p'
+    → (f : Front) → in_front p.client.core.inbox ≡ f → Moves p w asked told ClientNext (ClientNext reply) p'
 at_front p w asked told s z reply p' d More e =
     let i = idle p s.client_lives e in
     keeps_idle p w asked told s z e reply p' d

@@ -7,14 +7,14 @@ use Rattle.std.specs.declared.result.Result.TheVariants.{Ok}
 use Rattle.std.proofs.lemmas.Bool.{ne_eqb}
 use Rattle.wl_wire.specs.Argument.{Uint}
 use Rattle.wl_sigs.specs.declared.signature.Side.TheVariants.{Event as event_side}
-use Rattle.wl_sigs.specs.declared.signature.Destroys.{Destroys}
-use Rattle.wl_sigs.specs.declared.signature.Destroys.TheVariants.{Nothing, Target}
-use Rattle.wl_sigs.specs.Tables.{Interface, destroys_target, signature_at, message_of}
+use Rattle.wl_sigs.specs.declared.signature.Destroys.TheVariants.{Nothing}
+use Rattle.wl_sigs.specs.Tables.{Interface, signature_at, message_of}
+use Rattle.wl_sigs.specs.Valid.{Valid}
 use Rattle.wl_sigs.specs.Tables as sigs
 use Rattle.wl_sigs.specs.Fixed.{display, registry, wl_display}
 use Rattle.wl_sigs.specs.Fixed as fixed
-use Rattle.wl_message.specs.Arrived.{without_first}
-use Rattle.wl_message.specs.Cut.{usual_limit, front, Whole}
+use Rattle.wl_message.specs.Arrived.{without_first, in_front}
+use Rattle.wl_message.specs.Cut.{Whole}
 use Rattle.wl_message.specs.Outgoing as boxes
 use Rattle.wl_table.specs.declared.object.Entry.{Entry}
 use Rattle.wl_table.specs.declared.object.State.{State}
@@ -24,15 +24,15 @@ use Rattle.wl_table.specs.Views.{look-closed, look-zombied}
 use Rattle.wl_table.specs.Sounds.{Sound-closed}
 use Rattle.wl_objects.specs.Writing.{is_live}
 use Rattle.wl_objects.specs.Reading.{descriptors}
-use Rattle.wl_objects.specs.Messages.{is_error, is_delete_id, same_iface, Client as client_end, after, after_delete_id}
+use Rattle.wl_objects.specs.Messages.{is_error, is_delete_id, same_iface, Client as client_end, after, ended_id, after_delete_id}
 use Rattle.wl_end.specs.Core.{Core}
 use Rattle.wl_end.specs.Receiving.{found, is_none}
 use Rattle.wl_client.specs.declared.globals.Global.{Global as Remembered}
 use Rattle.wl_client.specs.State as client
 use Rattle.wl_client.specs.Reports.{Report, state_past, core_after, view_after, globals_after, globals_told, report}
 use Rattle.wl_client.specs.Reports as reports
-use Rattle.wl_world.specs.Meant.{Born, Known, Message, Coming, Event, Delete, renamed, recoming, rearg, born_of, birth_of, wire, tokens, spelled, spelled_coming, objects, plain, live_entry}
-use Rattle.wl_world.specs.World.{World, display_born, Row, Each, event_read, delete_read, ending, put, is_open, is_registry, learned, nameless}
+use Rattle.wl_world.specs.Meant.{Born, Known, Message, Coming, Event, Delete, renamed, recoming, rearg, born_of, birth_of, wire, tokens, spelled, spelled_coming, objects, plain, live_entry, ended_by}
+use Rattle.wl_world.specs.World.{World, display_born, Row, Each, event_read, delete_read, ending, put, is_open, is_registry, learned, nameless, IfThere}
 use Rattle.wl_world.specs.Pair.{PairState, with_client}
 use Rattle.wl_world.specs.Flight.{Rows, Held, Reads, all_tells, client_rows, row, as_row}
 use Rattle.wl_world.specs.Stands.{StandsBy, Fits, TellsFitly, TellsGiven, InFlight, Shows, birth_in}
@@ -45,6 +45,7 @@ use Rattle.wl_world.proofs.Readings.{HeldAt, AllMet, tokens_taken}
 use Rattle.wl_world.proofs.Findings.{the_found, the_message, finds, all_met, news_none}
 use Rattle.wl_world.proofs.Learning.{Gave, told_same, told_keeps}
 use Rattle.wl_world.proofs.ServerReads.{test_of}
+use Rattle.wl_world.proofs.Ended.{Mortal, ended_view, after_is, ends_as, ended_has, if_by, both_if}
 
 -- ---- what the client holds
 
@@ -74,7 +75,7 @@ pub record InEvent (p : PairState) (w : World) (m : Message Known) (cs : List (C
   pub target : SeenAt p.client.core.view w.client m.target
   pub met : AllMet p.client.core.view w.client m.args
   pub finds_it : found p.client.core event_side ≡ Ok (Some (the_found n m target.entry s.told_fit.0.fits.signature))
-  pub tells_it : TellsAt (test_of p) (all_tells cs) (client_rows p.client.core.view) s.meet.middle m.target (objects m.args) m.destroys
+  pub tells_it : TellsAt (test_of p) (all_tells cs) (client_rows p.client.core.view) s.meet.middle m.target (objects m.args) m.ends
   pub down : InFlight p.server.core.outbox (without_first p.client.core.inbox n (length (tokens m.args))) (map spelled_coming cs)
   pub more : List ℕ
   pub tokens_are : p.client.core.inbox.tokens ≡ tokens m.args ++ more
@@ -83,12 +84,12 @@ fits_at : (t u : List Interface) (m : Message Known) → t ≡ u → Fits t even
 fits_at t u m e f = subst (λ (x : List Interface). Fits x event_side m) e f
 
 pub in_event : (p : PairState) (w : World) (m : Message Known) (cs : List (Coming Known)) (asked : List (Message Known)) (s : StandsBy p w asked (Event m ∷ cs)) (n : ℕ)
-    → front usual_limit p.client.core.inbox.bytes ≡ Whole n → InEvent p w m cs asked s n
+    → in_front p.client.core.inbox ≡ Whole n → InEvent p w m cs asked s n
 in_event p w m cs asked s n e =
     let q = pops p.server.core.outbox p.client.core.inbox (map spelled_coming (Event m ∷ cs)) n s.to_client e in
     let first : q.first ≡ spelled m = cc q.is in
     let rest : q.rest ≡ map spelled_coming cs = cc q.is in
-    let t = tells_at m.target (objects m.args) m.destroys s.meet.reads in
+    let t = tells_at m.target (objects m.args) m.ends s.meet.reads in
     let r = seen_at p.client.core.view w.client s.client_sets m.target t.target in
     let f = s.told_fit.0.fits in
     let met = all_met p.server.core.tables m.target.born.version p.client.core.view w.client (Held (client_rows p.client.core.view)) (held_at_client p.client.core.view w.client s.client_sets)
@@ -110,10 +111,10 @@ in_event p w m cs asked s n e =
     }
 
 -- the client as an event leaves it
-abbrev pub after_event : client.State → Message Known → ℕ → Destroys → Bool → client.State
-after_event st m n what teaches = record {
+abbrev pub after_event : client.State → Message Known → ℕ → Bool → client.State
+after_event st m n teaches = record {
   core = record st.core {
-    view = after client_end st.core.view None what m.target.id;
+    view = ended_view client_end st.core.view m.ends;
     inbox = without_first st.core.inbox n (length (tokens m.args));
     read = min (st.core.read + n) 18446744073709551615;
     failed = false;
@@ -127,22 +128,23 @@ teaches m entry = is_registry m.target.born && is_live entry.state
 -- what is told of an event that is neither wl_display.error nor delete_id
 pub record EventAnswer (p : PairState) (m : Message Known) (n : ℕ) (entry : Entry) (signature : sigs.Message) : Type 0 where
   pub tells_it : report p.client.core (the_found n m entry signature) ≡ reports.plain_report p.client.core m.opcode (the_message m entry signature) entry.state
-  pub leaves : state_past p.client (the_found n m entry signature) ≡ after_event p.client m n signature.destroys (teaches m entry)
+  pub leaves : state_past p.client (the_found n m entry signature) ≡ after_event p.client m n (teaches m entry)
 
-pub event_answer : (p : PairState) (m : Message Known) (n : ℕ) (entry : Entry) (tables : List Interface) (f : Fits tables event_side m) → is_delete_id event_side m.target.born.iface m.opcode ≡ false → plain entry ≡ m.target.born
+pub event_answer : (p : PairState) (m : Message Known) (n : ℕ) (entry : Entry) (tables : List Interface) (f : Fits tables event_side m) → Valid tables → is_delete_id event_side m.target.born.iface m.opcode ≡ false → plain entry ≡ m.target.born
     → EventAnswer p m n entry f.signature
-event_answer p m n entry tables f d s =
+event_answer p m n entry tables f valid d s =
     let error : is_error event_side entry.iface m.opcode ≡ false = ap (λ (b : Born). is_error event_side b.iface m.opcode) s ∙ f.no_error in
     let delete : is_delete_id event_side entry.iface m.opcode ≡ false = ap (λ (b : Born). is_delete_id event_side b.iface m.opcode) s ∙ d in
     let count : descriptors f.signature.kinds ≡ length (tokens m.args) = tokens_taken tables m.target.born.version f.signature.kinds m.args f.args in
     let registers : same_iface entry.iface registry ≡ is_registry m.target.born = ap is_registry s in
     let v = p.client.core.view in
-    let a = after client_end v None f.signature.destroys m.target.id in
+    let a = after client_end v None f.signature.destroys (ended_id f.signature.destroys m.target.id (map wire m.args)) in
+    let left : a ≡ ended_view client_end v m.ends = after_is client_end v None f.signature.destroys _ m.ends (ends_as tables event_side m f valid) in
     record {
       tells_it = rw (error, delete) refl;
       leaves = λ i. record {
         core = record p.client.core {
-          view = cond (error i) v (cond (delete i) (after_delete_id v (reports.deleted_id (the_found n m entry f.signature))) a);
+          view = cond (error i) v (cond (delete i) (after_delete_id v (reports.deleted_id (the_found n m entry f.signature))) (left i));
           inbox = without_first p.client.core.inbox n (count i);
           read = min (p.client.core.read + n) 18446744073709551615;
           failed = error i;
@@ -157,13 +159,13 @@ open_is : (s : State) (b : Born) → is_open (Some (as_row s b)) ≡ is_live s
 open_is states.Live b = refl
 open_is states.Zombie b = refl
 
-display_kept : (v : View) (x : ℕ) (what : Destroys) → look v 1 ≡ Some (live_entry display_born) → (destroys_target what ≡ true → x ≢ 1) → look (after client_end v None what x) 1 ≡ Some (live_entry display_born)
-display_kept v x Nothing h y = h
-display_kept v x Target h y = let b : nat_eq 1 x ≡ false = ne_eqb 1 x (λ e. y refl (sym e)) in look-zombied v x 1 ∙ rw b h
+display_kept : (v : View) (o : Option Known) → look v 1 ≡ Some (live_entry display_born) → IfThere Mortal o → look (ended_view client_end v o) 1 ≡ Some (live_entry display_born)
+display_kept v None h y = h
+display_kept v (Some x) h y = let b : nat_eq 1 x.id ≡ false = ne_eqb 1 x.id (λ e. y (sym e)) in look-zombied v x.id 1 ∙ rw b h
 
-no_births : (v : View) (x : ℕ) (what : Destroys) → (after client_end v None what x).births ≡ v.births
-no_births v x Nothing = refl
-no_births v x Target = refl
+no_births : (v : View) (o : Option Known) → (ended_view client_end v o).births ≡ v.births
+no_births v None = refl
+no_births v (Some x) = refl
 
 learned_is : (p : PairState) (w : World) (m : Message Known) (asked : List (Message Known)) (told : List (Coming Known)) (s : StandsBy p w asked told) (t : SeenAt p.client.core.view w.client m.target)
     → learned p.client.core.tables w.client (renamed born_of m) w.remembered ≡ cond (teaches m t.entry) (globals_told p.client.core.tables p.client.globals m.opcode (map wire m.args)) p.client.globals
@@ -187,29 +189,27 @@ learns p w m asked told s f true h =
     s.remembers (nat_eq m.opcode 0) (nat_eq m.opcode 1) refl
 
 pub event_stands : (p : PairState) (w : World) (m : Message Known) (cs : List (Coming Known)) (asked : List (Message Known)) (s : StandsBy p w asked (Event m ∷ cs)) (n : ℕ) (i : InEvent p w m cs asked s n)
-    → (m.destroys ≡ true → m.target.id ≢ 1)
-    → StandsBy (with_client p (after_event p.client m n s.told_fit.0.fits.signature.destroys (teaches m i.target.entry))) (event_read p.client.core.tables w (renamed born_of m) (map (recoming born_of) cs)) asked cs
+    → IfThere Mortal m.ends
+    → StandsBy (with_client p (after_event p.client m n (teaches m i.target.entry))) (event_read p.client.core.tables w (renamed born_of m) (map (recoming born_of) cs)) asked cs
 event_stands p w m cs asked s n i y =
     let f = s.told_fit.0.fits in
-    let what = f.signature.destroys in
-    let d : destroys_target what ≡ m.destroys = sym f.destroys in
+    let d : ended_by f.signature.destroys m.target m.args ≡ m.ends = sym f.ends in
     let v = p.client.core.view in
     let t = i.tells_it in
-    let r : HeldRow v m.target = held_row v m.target t.target in
-    let rows : client_rows (after client_end v None what m.target.id) ≡ client_ends m.destroys m.target (client_rows v) =
-    client_after v m.target None what tt r ∙ ap (λ (b : Bool). client_ends b m.target (client_rows v)) d in
-    let sets = client_ended (client_rows v) w.client m.destroys m.target s.client_sets t.target in
+    let held : IfThere (Held (client_rows v)) m.ends = subst (λ (o : Option Known). IfThere (Held (client_rows v)) o) d (ended_has (Held (client_rows v)) f.signature.destroys m.target m.args t.target t.args) in
+    let rows : client_rows (ended_view client_end v m.ends) ≡ client_ends m.ends (client_rows v) = client_after v None m.ends tt (if_by (held_row v) m.ends held) in
+    let sets = client_ended (client_rows v) w.client m.ends s.client_sets held in
     record {
       same_tables = s.same_tables;
       valid = s.valid;
       deletes_follow = s.deletes_follow.1;
-      client_sets = subst (λ (x : Rows Row). Shows birth_in x.rows x.births (ending m.destroys m.target.born w.client)) (sym rows) sets;
+      client_sets = subst (λ (x : Rows Row). Shows birth_in x.rows x.births (ending (option_map born_of m.ends) w.client)) (sym rows) sets;
       server_sets = s.server_sets;
-      births = s.births ∙ sym (no_births v m.target.id what);
-      client_sound = client_sound v m.target None what s.client_sound (λ e. y (sym d ∙ e));
-      versions = client_aged v m.target.id None what tt s.versions;
+      births = s.births ∙ sym (no_births v m.ends);
+      client_sound = client_sound v None m.ends s.client_sound y;
+      versions = client_aged v None m.ends tt s.versions;
       server_sound = s.server_sound;
-      client_display = display_kept v m.target.id what s.client_display (λ e. y (sym d ∙ e));
+      client_display = display_kept v m.ends s.client_display y;
       server_display = s.server_display;
       server_versions = s.server_versions;
       server_live = s.server_live;
@@ -231,6 +231,9 @@ event_stands p w m cs asked s n i y =
       registries = s.registries;
       remembers = learns p w m asked (Event m ∷ cs) s s.told_fit.0 (teaches m i.target.entry) (both_true (is_registry m.target.born) (is_live i.target.entry.state));
       globals = s.globals;
+      up_limit = s.up_limit;
+      down_limit = s.down_limit;
+      one_limit = s.one_limit;
       few_globals = s.few_globals;
       open_registries = s.open_registries;
     }
@@ -238,18 +241,27 @@ event_stands p w m cs asked s n i y =
 -- ---- a delete
 
 -- wl_display does not end by an event, so what does is not id 1
-pub event_mortal : (p : PairState) (w : World) (m : Message Known) (cs : List (Coming Known)) (asked : List (Message Known)) (s : StandsBy p w asked (Event m ∷ cs)) (n : ℕ) → InEvent p w m cs asked s n
-    → m.destroys ≡ true → m.target.id ≢ 1
-event_mortal p w m cs asked s n i d one =
-    let e : Some i.target.entry ≡ Some (live_entry display_born) = sym i.target.there ∙ ap (look p.client.core.view) one ∙ s.client_display in
-    let entry : i.target.entry ≡ live_entry display_born = cc e in
-    let born : m.target.born ≡ display_born = sym i.target.same ∙ ap plain entry in
-    let plain_display : test_of p display_born ≡ false = rw s.valid.fixed_three.display refl in
-    let no : true ≡ false = sym (i.tells_it.ends_it d) ∙ ap (test_of p) born ∙ plain_display in
+held_mortal : (p : PairState) (w : World) (asked : List (Message Known)) (told : List (Coming Known)) → StandsBy p w asked told → (x : Known) → Held (client_rows p.client.core.view) x
+    → test_of p x.born ≡ true → x.id ≢ 1
+held_mortal p w asked told s x h d one =
+    let r = held_row p.client.core.view x h in
+    let e : Some r.entry ≡ Some (live_entry display_born) = sym r.there ∙ ap (look p.client.core.view) one ∙ s.client_display in
+    let entry : r.entry ≡ live_entry display_born = cc e in
+    let born : x.born ≡ display_born = sym r.same ∙ ap plain entry in
+    let plain_display : test_of p display_born ≡ false = rw s.valid.fixed_four.display refl in
+    let no : true ≡ false = sym d ∙ ap (test_of p) born ∙ plain_display in
     cc no
 
+pub event_mortal : (p : PairState) (w : World) (m : Message Known) (cs : List (Coming Known)) (asked : List (Message Known)) (s : StandsBy p w asked (Event m ∷ cs)) (n : ℕ) → InEvent p w m cs asked s n
+    → IfThere Mortal m.ends
+event_mortal p w m cs asked s n i =
+    let t = i.tells_it in
+    let f = s.told_fit.0.fits in
+    both_if (held_mortal p w asked (Event m ∷ cs) s) m.ends
+    (subst (λ (o : Option Known). IfThere (Held (client_rows p.client.core.view)) o) (sym f.ends) (ended_has (Held (client_rows p.client.core.view)) f.signature.destroys m.target m.args t.target t.args)) t.ends_it
+
 abbrev pub deleting : Known → Message Known
-deleting x = record { target = record { id = 1; born = display_born }; opcode = 1; args = Uint x.id ∷ []; destroys = false }
+deleting x = record { target = record { id = 1; born = display_born }; opcode = 1; args = Uint x.id ∷ []; ends = None }
 
 pub delete_signature : (tables : List Interface) → signature_at tables 0 event_side 1 ≡ Some (fixed.message (codes "delete_id") 1 (fixed.uint ∷ []) Nothing) → (x : Known) → x.id ≤ 1048576 → Fits tables event_side (deleting x)
 delete_signature tables e x h = record {
@@ -257,7 +269,7 @@ delete_signature tables e x h = record {
   there = e;
   old_enough = omega arith;
   args = ((omega (arith, h), tt), tt);
-  destroys = refl;
+  ends = refl;
   len = omega arith;
   low = omega arith;
   opcode = omega arith;
@@ -279,7 +291,7 @@ pub record InDelete (p : PairState) (x : Known) (cs : List (Coming Known)) (midd
   pub down : InFlight p.server.core.outbox (without_first p.client.core.inbox n 0) (map spelled_coming cs)
 
 pub in_delete : (p : PairState) (w : World) (x : Known) (cs : List (Coming Known)) (asked : List (Message Known)) (s : StandsBy p w asked (Delete x ∷ cs)) (n : ℕ)
-    → front usual_limit p.client.core.inbox.bytes ≡ Whole n → InDelete p x cs s.meet.middle n
+    → in_front p.client.core.inbox ≡ Whole n → InDelete p x cs s.meet.middle n
 unfolding delete_signature
 in_delete p w x cs asked s n e =
     let q = pops p.server.core.outbox p.client.core.inbox (map spelled_coming (Delete x ∷ cs)) n s.to_client e in
@@ -287,7 +299,7 @@ in_delete p w x cs asked s n e =
     let rest : q.rest ≡ map spelled_coming cs = cc q.is in
     let t = deletes_at x s.meet.reads in
     let r = held_row p.client.core.view x t.held in
-    let display_there : signature_at p.server.core.tables 0 event_side 1 ≡ Some (fixed.message (codes "delete_id") 1 (fixed.uint ∷ []) Nothing) = rw s.valid.fixed_three.display refl in
+    let display_there : signature_at p.server.core.tables 0 event_side 1 ≡ Some (fixed.message (codes "delete_id") 1 (fixed.uint ∷ []) Nothing) = rw s.valid.fixed_four.display refl in
     let f = delete_signature p.server.core.tables display_there x s.told_fit.0 in
     let bytes : take n p.client.core.inbox.bytes ≡ (spelled (deleting x)).bytes = q.bytes ∙ ap (λ (y : boxes.Message). y.bytes) first in
     let own : q.first.tokens ≡ [] = ap (λ (y : boxes.Message). y.tokens) first in
@@ -379,6 +391,9 @@ delete_stands p w x cs asked s n i =
       registries = s.registries;
       remembers = s.remembers;
       globals = s.globals;
+      up_limit = s.up_limit;
+      down_limit = s.down_limit;
+      one_limit = s.one_limit;
       few_globals = s.few_globals;
       open_registries = s.open_registries;
     }

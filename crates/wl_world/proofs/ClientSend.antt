@@ -9,6 +9,9 @@ use Rattle.wl_sigs.specs.declared.signature.Side.{Side}
 use Rattle.wl_sigs.specs.declared.signature.Side.TheVariants.{Request}
 use Rattle.wl_sigs.specs.Tables.{Interface, destroys_target, signature_at}
 use Rattle.wl_sigs.specs.Tables as sigs
+use Rattle.wl_sigs.specs.declared.signature.Destroys.{Destroys}
+use Rattle.wl_sigs.specs.declared.signature.Destroys.TheVariants.{Nothing, Target, Arg as ends_arg}
+use Rattle.wl_wire.specs.Argument.{Obj}
 use Rattle.wl_sigs.specs.Valid.{Valid}
 use Rattle.wl_message.specs.Outgoing.{message}
 use Rattle.wl_table.specs.declared.object.Object.{Object}
@@ -16,10 +19,10 @@ use Rattle.wl_table.specs.declared.object.Entry.{Entry}
 use Rattle.wl_objects.specs.declared.error.SendError.{SendError}
 use Rattle.wl_table.specs.View.{View, Sound, look, next_id, can_open}
 use Rattle.wl_objects.specs.Writing.{Given, wired, message_bytes}
-use Rattle.wl_objects.specs.Messages.{Made, made, Client as client_end, after, checked}
+use Rattle.wl_objects.specs.Messages.{Made, made, ended_id, Client as client_end, after, checked}
 use Rattle.wl_end.specs.Core.{Core}
 use Rattle.wl_end.specs.Sending.{send_answer, after_send, after_checked, made_at, version_at, opens_object}
-use Rattle.wl_world.specs.Meant.{Born, Known, Message, Coming, renamed, born_of, birth_of, made_in, objects, plain, live_entry}
+use Rattle.wl_world.specs.Meant.{Born, Known, Arg, object_at, ended_by, tokens, wire, Message, Coming, renamed, born_of, birth_of, made_in, objects, plain, live_entry}
 use Rattle.wl_world.specs.World.{World, display_born, Open, Each, IfThere, IsOpen, request_written, Steps, writes_request, WriteRequest}
 use Rattle.wl_world.specs.Pair.{PairState, ClientSend, with_client_core, Writes, accepted, refused, no_memory}
 use Rattle.wl_world.specs.Answers.{NotEnded, WritesThat, handed, birth_at, before}
@@ -32,8 +35,9 @@ use Rattle.wl_world.proofs.Afters.{made_map, objects_map, each_map}
 use Rattle.wl_world.proofs.Readings.{made_of}
 use Rattle.wl_world.proofs.Calls.{Checked, is_checked, LiveAt, handed_all, tokens_all}
 use Rattle.wl_world.proofs.Rules.{target_plain, objects_plain, display_lasts}
-use Rattle.wl_world.proofs.Written.{the_made, the_new, the_call, new_id, new_birth, CallIs, call_is, accepted_call, Opens, opens}
+use Rattle.wl_world.proofs.Written.{the_made, the_new, the_call, new_id, new_birth, CallIs, call_is, call_ends, accepted_call, Opens, opens}
 use Rattle.wl_world.proofs.ClientSends.{CanAsk, asked_core, ask_stands}
+use Rattle.wl_world.proofs.Ended.{Mortal, ended_view, after_is, argument_is, born_ends}
 use Rattle.wl_world.proofs.Happenings.{Moves, Outcome, goes_on, stays, asking}
 
 -- the same by other tables
@@ -43,7 +47,7 @@ moved t u side m e f = record {
   there = subst (λ (x : List Interface). signature_at x m.target.born.iface.0 side m.opcode ≡ Some f.signature) e f.there;
   old_enough = f.old_enough;
   args = subst (λ (x : List Interface). AreOf x m.target.born.version f.signature.kinds m.args) e f.args;
-  destroys = f.destroys;
+  ends = f.ends;
   len = f.len;
   low = f.low;
   opcode = f.opcode;
@@ -86,11 +90,39 @@ pub made_same : (core : Core) (target : Object) (given : List Given) (signature 
 made_same core target given signature entry h = ap (λ o. made core.tables (version_at o) signature.kinds (map (wired (next_id core.view)) given)) h
 
 signed_there : (p : PairState) (w : World) (asked : List (Message Known)) (told : List (Coming Known)) (s : StandsBy p w asked told) (target : Object) (opcode : ℕ) (given : List Given) (signature : sigs.Message)
-    → (c : Checked p.client.core.tables Request p.client.core.view target opcode given signature) → signature_at p.server.core.tables c.entry.iface.0 Request opcode ≡ Some signature
+    → (c : Checked p.client.core.outbox.limit.bytes p.client.core.tables Request p.client.core.view target opcode given signature) → signature_at p.server.core.tables c.entry.iface.0 Request opcode ≡ Some signature
 signed_there p w asked told s target opcode given signature c = subst (λ (t : List Interface). signature_at t c.entry.iface.0 Request opcode ≡ Some signature) s.same_tables c.signed
 
+-- a registry is not wl_display
+registry_mortal : (p : PairState) (w : World) (asked : List (Message Known)) (told : List (Coming Known)) → StandsBy p w asked told → (x : Known) → LiveAt p.client.core.view x → x.born.iface.0 ≡ 1 → x.id ≢ 1
+registry_mortal p w asked told s x l h one =
+    let e : Some l.entry ≡ Some (live_entry display_born) = sym l.there ∙ ap (look p.client.core.view) one ∙ s.client_display in
+    let same : l.entry ≡ live_entry display_born = cc e in
+    let no : 1 ≡ 0 = sym h ∙ ap (λ (b : Born). b.iface.0) (sym l.same ∙ ap plain same) in
+    cc no
+
+-- what a call destroys is not wl_display
+call_mortal : (p : PairState) (w : World) (asked : List (Message Known)) (told : List (Coming Known)) → StandsBy p w asked told → (target : Object) (opcode : ℕ) (given : List Given) (signature : sigs.Message)
+    → (c : Checked p.client.core.outbox.limit.bytes p.client.core.tables Request p.client.core.view target opcode given signature) (k : CallIs p.client.core Request target opcode given signature c.entry)
+    → signature_at p.server.core.tables c.entry.iface.0 Request opcode ≡ Some signature → IfThere Mortal (the_call p.client.core c.entry target opcode given signature).ends
+call_mortal p w asked told s target opcode given signature c k there = by_what signature.destroys refl
+  where
+    m : Message Known
+    m = the_call p.client.core c.entry target opcode given signature
+
+    by_what : (what : Destroys) → signature.destroys ≡ what → IfThere Mortal (ended_by what m.target m.args)
+    by_what Nothing d = tt
+    by_what Target d = not_display p w asked told s target.id opcode c.entry signature c.there there (ap destroys_target d)
+    by_what (ends_arg n) d =
+        let signed = c.signed in
+        let same : k.fits_it.signature ≡ signature = cc (k.fits_it.there, signed) in
+        let a = argument_is p.client.core.tables Request m k.fits_it n (valid_client p w asked told s) (ap (λ (x : sigs.Message). x.destroys) same ∙ d) in
+        let live : LiveAt p.client.core.view a.1.it = (subst (λ (l : List (Arg Known)). Each (LiveAt p.client.core.view) (objects l)) a.1.are k.live).0 in
+        subst (λ (l : List (Arg Known)). IfThere Mortal (object_at l n)) (sym a.1.are)
+        (subst (λ (z : ℕ). IfThere Mortal (object_at (Obj (Some a.1.it) ∷ []) z)) (sym a.0) (registry_mortal p w asked told s a.1.it live a.1.registers))
+
 pub client_can : (p : PairState) (w : World) (asked : List (Message Known)) (told : List (Coming Known)) (s : StandsBy p w asked told) (target : Object) (opcode : ℕ) (given : List Given) (signature : sigs.Message) (new : Option Object)
-    → (c : Checked p.client.core.tables Request p.client.core.view target opcode given signature) (k : CallIs p.client.core Request target opcode given signature c.entry)
+    → (c : Checked p.client.core.outbox.limit.bytes p.client.core.tables Request p.client.core.view target opcode given signature) (k : CallIs p.client.core Request target opcode given signature c.entry)
     → Opens p.client.core (made_at p.client.core target signature given) new
     → CanAsk p (the_call p.client.core c.entry target opcode given signature)
 client_can p w asked told s target opcode given signature new c k o =
@@ -111,21 +143,28 @@ client_can p w asked told s target opcode given signature new c k o =
       new = n.0;
       new_next = n.1;
       new_can = can;
-      mortal = not_display p w asked told s target.id opcode c.entry signature c.there there;
+      mortal = call_mortal p w asked told s target opcode given signature c k there;
+      short = k.short;
     }
 
 -- the pair is as the call leaves it
-left_by : (core : Core) (target : Object) (opcode : ℕ) (given : List Given) (signature : sigs.Message) (entry : Entry) → checked core.tables Request core.view target opcode given ≡ Ok signature → look core.view target.id ≡ Some entry
-    → CallIs core Request target opcode given signature entry
-    → after_send core Request target opcode given ≡ asked_core core (the_call core entry target opcode given signature) signature.destroys
-left_by core target opcode given signature entry e l k =
-    let mk = made_same core target given signature entry l ∙ k.made_is in
-    let t = sym (tokens_all core.view (the_new core entry given signature) given) in
+left_by : (core : Core) (target : Object) (opcode : ℕ) (given : List Given) (signature : sigs.Message) → Valid core.tables → checked core.outbox.limit.bytes core.tables Request core.view target opcode given ≡ Ok signature
+    → (c : Checked core.outbox.limit.bytes core.tables Request core.view target opcode given signature) (k : CallIs core Request target opcode given signature c.entry)
+    → after_send core Request target opcode given ≡ asked_core core (the_call core c.entry target opcode given signature)
+left_by core target opcode given signature v e c k =
+    let m = the_call core c.entry target opcode given signature in
+    let mk = made_same core target given signature c.entry c.there ∙ k.made_is in
+    let t = sym (tokens_all core.view (the_new core c.entry given signature) given) in
+    let id = ended_id signature.destroys target.id (map (wired 0) given) in
     ap (after_checked core Request target opcode given) e
-    ∙ (λ i. record core {
-      view = after client_end core.view (mk i) signature.destroys target.id;
+    ∙ ((λ i. record core {
+      view = after client_end core.view (mk i) signature.destroys id;
       outbox = record core.outbox { messages = core.outbox.messages ++ message (message_bytes target.id opcode (k.wire_is i)) (t i) ∷ [] };
     })
+    ∙ (λ i. record core {
+      view = after_is client_end core.view (option_map made_of (made_in m.args)) signature.destroys id m.ends (call_ends core Request target opcode given signature v c k) i;
+      outbox = record core.outbox { messages = core.outbox.messages ++ message (message_bytes target.id opcode (map wire m.args)) (tokens m.args) ∷ [] };
+    }))
 
 new_births : (o : Option Known) (births id : ℕ) → IfThere (λ x. x.born.birth ≡ births) o
     → option_map birth_of (option_map born_of o) ≡ option_map birth_at (option_map (λ (m : Made). record { id = id; birth = births }) (option_map made_of o))
@@ -151,7 +190,7 @@ asks_world p w asked told s m c =
     (rw (made_map born_of m.args, s.births) (if_born v.births (made_in m.args) births))
 
 pub sends_that : (p : PairState) (w : World) (asked : List (Message Known)) (told : List (Coming Known)) (s : StandsBy p w asked told) (target : Object) (opcode : ℕ) (given : List Given) (signature : sigs.Message) (new : Option Object)
-    → (c : Checked p.client.core.tables Request p.client.core.view target opcode given signature) (k : CallIs p.client.core Request target opcode given signature c.entry)
+    → (c : Checked p.client.core.outbox.limit.bytes p.client.core.tables Request p.client.core.view target opcode given signature) (k : CallIs p.client.core Request target opcode given signature c.entry)
     → (o : Opens p.client.core (made_at p.client.core target signature given) new) → CanAsk p (the_call p.client.core c.entry target opcode given signature)
     → WritesThat p.client.core.tables Request w target.birth opcode (map (handed w.births) given) new (request_written w (renamed born_of (the_call p.client.core c.entry target opcode given signature)))
 sends_that p w asked told s target opcode given signature new c k o can =
@@ -161,7 +200,7 @@ sends_that p w asked told s target opcode given signature new c k o can =
     let births = fresh_births v (made_in m.args) can.new in
     record {
       message = renamed born_of m;
-      is = record { signature = signature; there = c.signed; destroys = refl };
+      is = record { signature = signature; there = c.signed; ends = born_ends m signature.destroys refl };
       target_is = c.birth;
       opcode_is = refl;
       args_are = handed_all v (the_new core c.entry given signature) w.births signature.kinds given (new_birth v (the_made core c.entry given signature) ∙ sym s.births) k.right;
@@ -172,23 +211,21 @@ sends_that p w asked told s target opcode given signature new c k o can =
 
 pub client_send_keeps : (p : PairState) (w : World) (asked : List (Message Known)) (told : List (Coming Known)) → StandsBy p w asked told → NotEnded p w → (target : Object) (opcode : ℕ) (given : List Given) → Each IsGiven given
     → (reply : Result (Option Object) SendError) (p' : PairState)
-    → Writes (send_answer p.client.core Request target opcode given) (opens_object (checked p.client.core.tables Request p.client.core.view target opcode given)) p
+    → Writes (send_answer p.client.core Request target opcode given) (opens_object (checked p.client.core.outbox.limit.bytes p.client.core.tables Request p.client.core.view target opcode given)) p
     (with_client_core p (after_send p.client.core Request target opcode given)) reply p'
     → Moves p w asked told (ClientSend target opcode given) (ClientSend reply) p'
 client_send_keeps p w asked told s z target opcode given g reply p' (accepted {new = new} h) =
     let core = p.client.core in
     let a = accepted_call core Request target opcode given new s.client_lives h in
-    let c = is_checked core.tables Request core.view target opcode given a.signature a.checks in
+    let c = is_checked core.outbox.limit.bytes core.tables Request core.view target opcode given a.signature a.checks in
     let k = call_is core Request target opcode given a.signature (valid_client p w asked told s) s.client_sound g c in
     let o = opens core (made_at core target a.signature given) new a.opens_it in
     let can = client_can p w asked told s target opcode given a.signature new c k o in
     let m = the_call core c.entry target opcode given a.signature in
-    let there = signed_there p w asked told s target opcode given a.signature c in
-    let e : can.fitly.fits.signature ≡ a.signature = cc (can.fitly.fits.there, there) in
     record {
       world = request_written w (renamed born_of m);
       answers = before z (accepted h) (sends_that p w asked told s target opcode given a.signature new c k o can);
-      outcome = subst (λ (x : Core). Outcome p asked told (with_client_core p x) (request_written w (renamed born_of m))) (sym (left_by core target opcode given a.signature c.entry a.checks c.there k ∙ ap (λ (x : sigs.Message). asked_core core m x.destroys) (sym e)))
+      outcome = subst (λ (x : Core). Outcome p asked told (with_client_core p x) (request_written w (renamed born_of m))) (sym (left_by core target opcode given a.signature (valid_client p w asked told s) a.checks c k))
           (goes_on (asked ++ m ∷ []) told z (ask_stands p w asked told s m can) (asking m can (λ h. absurd (cc (h, c.hidden)))));
     }
 client_send_keeps p w asked told s z target opcode given g reply p' (refused h) = record { world = w; answers = before z (refused h) refl; outcome = goes_on asked told z s stays }

@@ -1,31 +1,30 @@
 -- The client writes a request.
-use Rattle.std.proofs.Common.{◌≡◌, ◌≢◌, ℕ, Bool, true, false, List, [], ◌∷◌, ◌++◌, map, inl, refl, sym, ap, subst, ◌∙◌}
+use Rattle.std.proofs.Common.{◌≡◌, ◌≢◌, ◌≤◌, ℕ, Bool, true, false, List, [], ◌∷◌, ◌++◌, map, inl, refl, sym, ap, subst, ◌∙◌}
 use Rattle.std.specs.Prelude.{option_map, nat_eq}
 use Rattle.std.specs.declared.option.Option.{Option}
 use Rattle.std.specs.declared.option.Option.TheVariants.{None, Some}
 use Rattle.std.proofs.lemmas.Bool.{ne_eqb}
 use Rattle.std.proofs.lemmas.List.{map-append}
-use Rattle.wl_sigs.specs.declared.signature.Destroys.{Destroys}
-use Rattle.wl_sigs.specs.declared.signature.Destroys.TheVariants.{Nothing, Target}
-use Rattle.wl_sigs.specs.Tables.{destroys_target}
 use Rattle.wl_message.specs.Outgoing as boxes
 use Rattle.wl_table.specs.declared.object.Entry.{Entry}
+use Rattle.wl_objects.specs.Writing.{message_len}
 use Rattle.wl_table.specs.View.{View, Sound, look, next_id, can_open, opened_at}
 use Rattle.wl_table.specs.Views.{look-opened_at, look-zombied}
 use Rattle.wl_table.specs.Sounds.{Sound-opened}
-use Rattle.wl_objects.specs.Messages.{Client as client_end, after, opens as opens_view}
+use Rattle.wl_objects.specs.Messages.{Client as client_end, opens as opens_view}
 use Rattle.wl_end.specs.Core.{Core}
-use Rattle.wl_world.specs.Meant.{Born, Known, Message, Coming, renamed, rearg, born_of, wire, spelled, made_in, objects, live_entry}
+use Rattle.wl_world.specs.Meant.{Born, Known, Message, Coming, renamed, rearg, born_of, wire, spelled, made_in, objects, live_entry, ended_by}
 use Rattle.wl_world.specs.World.{World, display_born, Row, Open, Each, IfThere, request_written, born_into, ending, counted}
 use Rattle.wl_world.specs.Pair.{PairState, with_client_core}
 use Rattle.wl_world.specs.Flight.{Rows, Fresh, Meets, asks, all_asks, all_tells, client_rows, server_rows, row}
 use Rattle.wl_world.specs.Stands.{StandsBy, AsksFitly, InFlight, Shows, birth_in}
-use Rattle.wl_world.proofs.Wholes.{OpenRow, client_makes, client_ends, ask_meets, all_asks_more, each_more, live_made}
+use Rattle.wl_world.proofs.Wholes.{OpenRow, client_makes, client_ends, ask_meets, all_asks_more, each_more, live_made, live_made_if}
 use Rattle.wl_world.proofs.Sets.{client_made, client_ended}
 use Rattle.wl_world.proofs.Channels.{pushed}
 use Rattle.wl_world.proofs.Afters.{held_row, client_after, client_sound, client_aged, made_map}
 use Rattle.wl_world.proofs.Readings.{made_of, bytes_whole}
 use Rattle.wl_world.proofs.ServerReads.{test_of}
+use Rattle.wl_world.proofs.Ended.{Mortal, ended_view, ended_has, if_by}
 
 -- ---- any request that fits and whose objects are open
 
@@ -38,17 +37,18 @@ pub record CanAsk (p : PairState) (m : Message Known) : Type 0 where
   pub new : IfThere (Fresh (client_rows p.client.core.view)) (made_in m.args)
   pub new_next : IfThere (λ x. x.id ≡ next_id p.client.core.view) (made_in m.args)
   pub new_can : IfThere (λ x. can_open p.client.core.view ≡ true) (made_in m.args)
-  pub mortal : m.destroys ≡ true → m.target.id ≢ 1
+  pub mortal : IfThere Mortal m.ends
+  pub short : message_len (map wire m.args) ≤ p.client.core.outbox.limit.bytes
 
 -- the client's core with it
-abbrev pub asked_core : Core → Message Known → Destroys → Core
-asked_core c m what = record c {
-  view = after client_end c.view (option_map made_of (made_in m.args)) what m.target.id;
+abbrev pub asked_core : Core → Message Known → Core
+asked_core c m = record c {
+  view = ended_view client_end (opens_view c.view (option_map made_of (made_in m.args))) m.ends;
   outbox = record c.outbox { messages = c.outbox.messages ++ spelled m ∷ [] };
 }
 
-abbrev pub asked_pair : PairState → Message Known → Destroys → PairState
-asked_pair p m what = with_client_core p (asked_core p.client.core m what)
+abbrev pub asked_pair : PairState → Message Known → PairState
+asked_pair p m = with_client_core p (asked_core p.client.core m)
 
 opens_sound : (v : View) (n : Option Known) → Sound v → IfThere (λ x. x.id ≡ next_id v) n → IfThere (λ (x : Known). can_open v ≡ true) n → Sound (opens_view v (option_map made_of n))
 opens_sound v None s e c = s
@@ -61,58 +61,58 @@ display_opens v (Some x) e f h = look-opened_at v x.id x.born.iface x.born.versi
     other : (i : ℕ) → (client_rows v).rows i ≡ None → nat_eq 1 i ≡ false
     other i g = ne_eqb 1 i (λ k. (let q : ◌≡◌ {A = Option Row} (Some (row e)) None = ap (option_map row) (sym h ∙ ap (look v) k) ∙ g in cc q))
 
-display_after : (v : View) (n : Option Known) (x : ℕ) (what : Destroys) (e : Entry) → IfThere (Fresh (client_rows v)) n → look v 1 ≡ Some e → (destroys_target what ≡ true → x ≢ 1)
-    → look (after client_end v (option_map made_of n) what x) 1 ≡ Some e
-display_after v n x Nothing e f h y = display_opens v n e f h
-display_after v n x Target e f h y =
-    let b : nat_eq 1 x ≡ false = ne_eqb 1 x (λ k. y refl (sym k)) in look-zombied (opens_view v (option_map made_of n)) x 1 ∙ rw b (display_opens v n e f h)
+display_after : (v : View) (n o : Option Known) (e : Entry) → IfThere (Fresh (client_rows v)) n → look v 1 ≡ Some e → IfThere Mortal o
+    → look (ended_view client_end (opens_view v (option_map made_of n)) o) 1 ≡ Some e
+display_after v n None e f h y = display_opens v n e f h
+display_after v n (Some x) e f h y =
+    let b : nat_eq 1 x.id ≡ false = ne_eqb 1 x.id (λ k. y (sym k)) in look-zombied (opens_view v (option_map made_of n)) x.id 1 ∙ rw b (display_opens v n e f h)
 
-births_after : (v : View) (n : Option Known) (x : ℕ) (what : Destroys) → (after client_end v (option_map made_of n) what x).births ≡ counted n v.births
-births_after v None x Nothing = refl
-births_after v None x Target = refl
-births_after v (Some y) x Nothing = refl
-births_after v (Some y) x Target = refl
+births_after : (v : View) (n o : Option Known) → (ended_view client_end (opens_view v (option_map made_of n)) o).births ≡ counted n v.births
+births_after v None None = refl
+births_after v None (Some x) = refl
+births_after v (Some y) None = refl
+births_after v (Some y) (Some x) = refl
 
 counted_map : (f : Known → Born) (n : Option Known) (b : ℕ) → counted (option_map f n) b ≡ counted n b
 counted_map f None b = refl
 counted_map f (Some x) b = refl
 
 pub ask_stands : (p : PairState) (w : World) (asked : List (Message Known)) (told : List (Coming Known)) (s : StandsBy p w asked told) (m : Message Known) (c : CanAsk p m)
-    → StandsBy (asked_pair p m c.fitly.fits.signature.destroys) (request_written w (renamed born_of m)) (asked ++ m ∷ []) told
+    → StandsBy (asked_pair p m) (request_written w (renamed born_of m)) (asked ++ m ∷ []) told
 ask_stands p w asked told s m c =
     let f = c.fitly.fits in
-    let what = f.signature.destroys in
-    let d : destroys_target what ≡ m.destroys = sym f.destroys in
+    let d : ended_by f.signature.destroys m.target m.args ≡ m.ends = sym f.ends in
     let v = p.client.core.view in
     let new = made_in m.args in
-    let e = held_row v m.target (inl c.target) in
-    let rows : client_rows (after client_end v (option_map made_of new) what m.target.id) ≡ client_ends m.destroys m.target (client_makes (client_rows v) new) =
-    client_after v m.target new what c.new e ∙ ap (λ (b : Bool). client_ends b m.target (client_makes (client_rows v) new)) d in
     let world_new : made_in (map (rearg born_of) m.args) ≡ option_map born_of new = made_map born_of m.args in
-    let sets = client_ended _ _ m.destroys m.target (client_made (client_rows v) w.client new s.client_sets c.new) (inl (live_made (client_rows v) new m.target c.new c.target)) in
+    let opened : IfThere (OpenRow (client_rows v)) m.ends = subst (λ (o : Option Known). IfThere (OpenRow (client_rows v)) o) d (ended_has (OpenRow (client_rows v)) f.signature.destroys m.target m.args c.target c.args) in
+    let no_event : IfThere (λ x. test_of p x.born ≡ false) m.ends = subst (λ (o : Option Known). IfThere (λ x. test_of p x.born ≡ false) o) d (ended_has (λ x. test_of p x.born ≡ false) f.signature.destroys m.target m.args c.target_plain c.args_plain) in
+    let rows : client_rows (ended_view client_end (opens_view v (option_map made_of new)) m.ends) ≡ client_ends m.ends (client_makes (client_rows v) new) =
+    client_after v new m.ends c.new (if_by (λ x h. held_row v x (inl h)) m.ends opened) in
+    let sets = client_ended _ _ m.ends (client_made (client_rows v) w.client new s.client_sets c.new) (if_by (λ x h. inl h) m.ends (live_made_if (client_rows v) new m.ends c.new opened)) in
     record {
       same_tables = s.same_tables;
       valid = s.valid;
       deletes_follow = s.deletes_follow;
-      client_sets = rw world_new (subst (λ (x : Rows Row). Shows birth_in x.rows x.births (ending m.destroys m.target.born (born_into Open (option_map born_of new) w.client))) (sym rows) sets);
+      client_sets = rw world_new (subst (λ (x : Rows Row). Shows birth_in x.rows x.births (ending (option_map born_of m.ends) (born_into Open (option_map born_of new) w.client))) (sym rows) sets);
       server_sets = s.server_sets;
-      births = ap (λ o. counted o w.births) world_new ∙ counted_map born_of new w.births ∙ ap (counted new) s.births ∙ sym (births_after v new m.target.id what);
-      client_sound = client_sound v m.target new what (opens_sound v new s.client_sound c.new_next c.new_can) (λ h. c.mortal (sym d ∙ h));
+      births = ap (λ o. counted o w.births) world_new ∙ counted_map born_of new w.births ∙ ap (counted new) s.births ∙ sym (births_after v new m.ends);
+      client_sound = client_sound v new m.ends (opens_sound v new s.client_sound c.new_next c.new_can) c.mortal;
       server_sound = s.server_sound;
-      versions = client_aged v m.target.id new what f.new_version s.versions;
-      client_display = display_after v new m.target.id what (live_entry display_born) c.new s.client_display (λ h. c.mortal (sym d ∙ h));
+      versions = client_aged v new m.ends f.new_version s.versions;
+      client_display = display_after v new m.ends (live_entry display_born) c.new s.client_display c.mortal;
       server_display = s.server_display;
       server_versions = s.server_versions;
       server_live = s.server_live;
       requests = ap (λ (l : List (Message Born)). l ++ renamed born_of m ∷ []) s.requests ∙ sym (map-append (renamed born_of) asked (m ∷ []));
       events = s.events;
-      to_server = subst (λ (l : List boxes.Message). InFlight (asked_core p.client.core m what).outbox p.server.core.inbox l) (sym (map-append spelled asked (m ∷ [])))
-          (pushed p.client.core.outbox (asked_core p.client.core m what).outbox p.server.core.inbox (map spelled asked) (spelled m ∷ []) s.to_server refl refl (bytes_whole m.target.id m.opcode (map wire m.args) f.opcode f.len, tt));
+      to_server = subst (λ (l : List boxes.Message). InFlight (asked_core p.client.core m).outbox p.server.core.inbox l) (sym (map-append spelled asked (m ∷ [])))
+          (pushed p.client.core.outbox (asked_core p.client.core m).outbox p.server.core.inbox (map spelled asked) (spelled m ∷ []) s.to_server refl refl (bytes_whole p.server.core.inbox.limit m.target.id m.opcode (map wire m.args) f.opcode (subst (λ (l : ℕ). message_len (map wire m.args) ≤ l) s.up_limit c.short), tt));
       to_client = s.to_client;
       asked_fit = each_more (AsksFitly p.server.core.tables p.server.globals) asked (m ∷ []) s.asked_fit (c.fitly, tt);
       told_fit = s.told_fit;
       meet = rw (all_asks_more asked m) (subst (λ (x : Rows Row). Meets (test_of p) (all_tells told) (all_asks asked ++ asks m) x (server_rows p.server.core.view)) (sym rows)
-          (ask_meets m.target (objects m.args) new m.destroys s.meet c.target c.target_plain c.args c.args_plain c.new c.mortal));
+          (ask_meets m.target (objects m.args) new m.ends s.meet c.target c.target_plain c.args c.args_plain c.new opened no_event c.mortal));
       client_lives = s.client_lives;
       server_lives = s.server_lives;
       remembered = s.remembered;
@@ -120,6 +120,9 @@ ask_stands p w asked told s m c =
       registries = s.registries;
       remembers = s.remembers;
       globals = s.globals;
+      up_limit = s.up_limit;
+      down_limit = s.down_limit;
+      one_limit = s.one_limit;
       few_globals = s.few_globals;
       open_registries = s.open_registries;
     }

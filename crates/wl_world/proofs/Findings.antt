@@ -9,7 +9,8 @@ use Rattle.wl_wire.specs.Argument.{Int, Uint, Fixed, Str, Obj, New, NewNamed, Ar
 use Rattle.wl_sigs.specs.declared.signature.Side.{Side}
 use Rattle.wl_sigs.specs.Tables.{Interface}
 use Rattle.wl_sigs.specs.Tables as sigs
-use Rattle.wl_message.specs.Cut.{usual_limit, front, Whole}
+use Rattle.wl_message.specs.Arrived.{in_front}
+use Rattle.wl_message.specs.Cut.{front, Whole}
 use Rattle.wl_table.specs.declared.object.Entry.{Entry}
 use Rattle.wl_table.specs.View.{View, Sound, look}
 use Rattle.wl_objects.specs.Writing.{spelled as spelled_values, message_bytes}
@@ -32,7 +33,7 @@ abbrev pub the_found : ℕ → Message Known → Entry → sigs.Message → Foun
 the_found n m entry signature = record { size = n; opcode = m.opcode; message = the_message m entry signature }
 
 pub finds : (core : Core) (side : Side) (m : Message Known) (n : ℕ) (rows : ℕ → Option Row) (entry : Entry) (f : Fits core.tables side m)
-    → front usual_limit core.inbox.bytes ≡ Whole n → take n core.inbox.bytes ≡ (spelled m).bytes → look core.view m.target.id ≡ Some entry → plain entry ≡ m.target.born
+    → in_front core.inbox ≡ Whole n → take n core.inbox.bytes ≡ (spelled m).bytes → look core.view m.target.id ≡ Some entry → plain entry ≡ m.target.born
     → AllMet core.view rows m.args → length (tokens m.args) ≤ length core.inbox.tokens
     → found core side ≡ Ok (Some (the_found n m entry f.signature))
 finds core side m n rows entry f e b l s k t =

@@ -9,7 +9,7 @@ use Rattle.wl_wire.specs.declared.kind.Iface.{Iface}
 use Rattle.wl_sigs.specs.Tables.{Interface}
 use Rattle.wl_server.specs.State as server
 use Rattle.wl_server.specs.State.{Global, global_of, max_globals}
-use Rattle.wl_server.specs.Requests.{bind_fits}
+use Rattle.wl_server.specs.Requests.{can_bind as bind_fits}
 use Rattle.wl_server.specs.Calls.{can_be_global, add_refusal, withdraw_refusal, with_global, next_name, withdrawn, without_at, after_withdraw}
 use Rattle.wl_client.specs.declared.globals.Global.{Global as Remembered}
 use Rattle.wl_world.specs.Meant.{Known, Message, Coming, Event, Delete}
@@ -97,6 +97,9 @@ given_stands p w asked told s more g e l = record {
   remembers = each_by (λ (x : Remembered). WasGiven p.server.globals x.name x.iface x.version) (λ (x : Remembered). WasGiven more x.name x.iface x.version)
       (λ x h. was_given p.server.globals more g x.name x.iface x.version h) p.client.globals s.remembers;
   globals = e;
+  up_limit = s.up_limit;
+  down_limit = s.down_limit;
+  one_limit = s.one_limit;
   few_globals = l;
   open_registries = s.open_registries;
 }

@@ -1,11 +1,11 @@
 -- What one move does with a pair and with what is in flight, told in full.
 use Rattle.std.proofs.Common.{◌≡◌, ℕ, ◌<◌, ◌≤◌, Bool, true, false, List, [], ◌∷◌, ◌++◌, map, length}
-use Rattle.std.specs.declared.option.Option.TheVariants.{Some}
+use Rattle.std.specs.declared.option.Option.{Option}
+use Rattle.std.specs.declared.option.Option.TheVariants.{None, Some}
 use Rattle.wl_wire.specs.Argument.{Uint, NewNamed}
 use Rattle.wl_sigs.specs.declared.signature.Side.TheVariants.{Request as request_side}
-use Rattle.wl_sigs.specs.declared.signature.Destroys.{Destroys}
-use Rattle.wl_sigs.specs.Tables.{destroys_target}
-use Rattle.wl_message.specs.Cut.{usual_limit, front, Whole}
+use Rattle.wl_message.specs.Arrived.{in_front}
+use Rattle.wl_message.specs.Cut.{Whole}
 use Rattle.wl_message.specs.Outgoing.{Outgoing}
 use Rattle.wl_table.specs.View.{View}
 use Rattle.wl_table.specs.declared.object.Entry.{Entry}
@@ -14,7 +14,7 @@ use Rattle.wl_client.specs.declared.globals.Global.{Global as Remembered}
 use Rattle.wl_client.specs.State as client
 use Rattle.wl_server.specs.State.{Global, Registry}
 use Rattle.wl_world.specs.Meant.{Known, Message, Coming, Event, Delete, Arg, objects}
-use Rattle.wl_world.specs.World.{World, Each, delete}
+use Rattle.wl_world.specs.World.{World, Each, IfThere, delete}
 use Rattle.wl_world.specs.Pair.{PairState, Move, Reply, with_client, with_server, carries, after_carry_to_server, after_carry_to_client}
 use Rattle.wl_world.specs.Flight.{Rows, Name, ends, tells, all_tells, IsBelow}
 use Rattle.wl_world.specs.Answers.{NotEnded, Answers}
@@ -47,19 +47,19 @@ names_below : (s : Rows Born) (births : ℕ) → Below s births → (xs : List K
 names_below s births b [] h = tt
 names_below s births b (x ∷ xs) h = (b x.id x.born h.0, names_below s births b xs h.1)
 
-ends_below : (births : ℕ) (b : Bool) (x : Known) → x.born.birth < births → Each (IsBelow births) (ends b x)
-ends_below births false x h = tt
-ends_below births true x h = (h, tt)
+ends_below : (births : ℕ) (o : Option Known) → IfThere (λ x. x.born.birth < births) o → Each (IsBelow births) (ends o)
+ends_below births None h = tt
+ends_below births (Some x) h = (h, tt)
 
-pub delete_below : (births : ℕ) (b : Bool) (x : Known) → x.born.birth < births → Each (IsBelow births) (all_tells (delete b x))
-delete_below births false x h = tt
-delete_below births true x h = (h, tt)
+pub delete_below : (births : ℕ) (o : Option Known) → IfThere (λ x. x.born.birth < births) o → Each (IsBelow births) (all_tells (delete o))
+delete_below births None h = tt
+delete_below births (Some x) h = (h, tt)
 
 -- an event that names what is there
-pub event_below : (s : Rows Born) (births : ℕ) → Below s births → (m : Message Known) → ThereRow s m.target → Each (ThereRow s) (objects m.args) → Each (IsBelow births) (tells (Event m))
-event_below s births b m h hs =
+pub event_below : (s : Rows Born) (births : ℕ) → Below s births → (m : Message Known) → ThereRow s m.target → Each (ThereRow s) (objects m.args) → IfThere (λ x. x.born.birth < births) m.ends → Each (IsBelow births) (tells (Event m))
+event_below s births b m h hs e =
     let t = b m.target.id m.target.born h in
-    (t, each_more (IsBelow births) (map Name (objects m.args)) (ends m.destroys m.target) (names_below s births b (objects m.args) hs) (ends_below births m.destroys m.target t))
+    (t, each_more (IsBelow births) (map Name (objects m.args)) (ends m.ends) (names_below s births b (objects m.args) hs) (ends_below births m.ends e))
 
 -- ---- what happens
 
@@ -74,18 +74,18 @@ pub data Happens (p : PairState) (asked : List (Message Known)) (told : List (Co
   giving : (more : List Global) → Happens p asked told (with_server p (record p.server { globals = more })) asked told
   -- the client wrote a request
   asking : (m : Message Known) (c : CanAsk p m) → (is_bind request_side m.target.born.iface m.opcode ≡ true → BindsRemembered p.client.globals m.args)
-      → Happens p asked told (asked_pair p m c.fitly.fits.signature.destroys) (asked ++ m ∷ []) told
+      → Happens p asked told (asked_pair p m) (asked ++ m ∷ []) told
   -- the server wrote events or deletes, of births that it has counted
   telling : (view : View) (outbox : Outgoing) (registries : List Registry) (news : List (Coming Known)) → view.births ≡ p.server.core.view.births
       → Each (IsBelow p.server.core.view.births) (all_tells news) → Happens p asked told (told_pair p view outbox registries) asked (told ++ news)
   -- the server read the first request, and wrote the delete of what it destroys
-  reading_request : (m : Message Known) (ms : List (Message Known)) (n : ℕ) (what : Destroys) → asked ≡ m ∷ ms → front usual_limit p.server.core.inbox.bytes ≡ Whole n
-      → m.target.born.birth < p.server.core.view.births
-      → Happens p asked told (with_server p (left_state p.server m n what)) ms (told ++ delete m.destroys m.target)
+  reading_request : (m : Message Known) (ms : List (Message Known)) (n : ℕ) → asked ≡ m ∷ ms → in_front p.server.core.inbox ≡ Whole n
+      → IfThere (λ x. x.born.birth < p.server.core.view.births) m.ends
+      → Happens p asked told (with_server p (left_state p.server m n)) ms (told ++ delete m.ends)
   -- the client read the first of what comes
-  reading_event : (m : Message Known) (cs : List (Coming Known)) (n : ℕ) (what : Destroys) (entry : Entry) → told ≡ Event m ∷ cs → front usual_limit p.client.core.inbox.bytes ≡ Whole n
-      → destroys_target what ≡ m.destroys → Happens p asked told (with_client p (after_event p.client m n what (teaches m entry))) asked cs
-  reading_delete : (x : Known) (cs : List (Coming Known)) (n : ℕ) → told ≡ Delete x ∷ cs → front usual_limit p.client.core.inbox.bytes ≡ Whole n
+  reading_event : (m : Message Known) (cs : List (Coming Known)) (n : ℕ) (entry : Entry) → told ≡ Event m ∷ cs → in_front p.client.core.inbox ≡ Whole n
+      → Happens p asked told (with_client p (after_event p.client m n (teaches m entry))) asked cs
+  reading_delete : (x : Known) (cs : List (Coming Known)) (n : ℕ) → told ≡ Delete x ∷ cs → in_front p.client.core.inbox ≡ Whole n
       → Happens p asked told (with_client p (after_delete p.client x n)) asked cs
   carrying_to_server : (most : ℕ) → Happens p asked told (after_carry_to_server p (carries p.client.core p.server.core most)) asked told
   carrying_to_client : (most : ℕ) → Happens p asked told (after_carry_to_client p (carries p.server.core p.client.core most)) asked told
@@ -93,6 +93,7 @@ pub data Happens (p : PairState) (asked : List (Message Known)) (told : List (Co
 -- the pair as the first error leaves its recording: marked at its end
 pub record IsMarked (p p' : PairState) : Type 0 where
   pub tables : p'.server.core.tables ≡ p.server.core.tables
+  pub limit : p'.server.core.inbox.limit.bytes ≡ p.server.core.inbox.limit.bytes
   pub pieces : p'.recording ≡ p.recording
   pub mark : p'.ended_at ≡ Some (length p.recording)
 

@@ -31,3 +31,4 @@ pub mod Steps
 pub mod Plain
 pub mod Worlds
 pub mod Samples
+pub mod Ended

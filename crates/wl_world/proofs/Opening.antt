@@ -60,8 +60,8 @@ opening_aged false e h = absurd (cc h)
 nothing_flies : (from : Outgoing) (to : Arrived) → from.left ≡ [] → from.messages ≡ [] → to.bytes ≡ [] → to.tokens ≡ [] → InFlight from to []
 nothing_flies from to a b c d = record { begun = []; all = sym b; bytes = rw (c, a) refl; tokens = d; whole = tt }
 
-pub new_stands_by : (tables : List Interface) (client_sizes server_sizes : Sizes) → Valid tables → StandsBy (new_pair tables client_sizes server_sizes) opening [] []
-new_stands_by tables client_sizes server_sizes v = record {
+pub new_stands_by : (tables : List Interface) (client_sizes server_sizes : Sizes) → client_sizes.limit.bytes ≡ server_sizes.limit.bytes → Valid tables → StandsBy (new_pair tables client_sizes server_sizes) opening [] []
+new_stands_by tables client_sizes server_sizes one v = record {
   same_tables = refl;
   valid = v;
   deletes_follow = tt;
@@ -89,6 +89,9 @@ new_stands_by tables client_sizes server_sizes v = record {
   registries = refl;
   remembers = tt;
   globals = tt;
+  up_limit = one;
+  down_limit = sym one;
+  one_limit = one;
   few_globals = lit≤ tt;
   open_registries = has_none;
 }
@@ -101,8 +104,8 @@ new_stands_by tables client_sizes server_sizes v = record {
     both None h = refl
     both (Some e) h = ap Some (live_row e e.state (h e refl))
 
-pub new_stands : (tables : List Interface) (client_sizes server_sizes : Sizes) → Valid tables → Stands (new_pair tables client_sizes server_sizes) opening
-new_stands tables client_sizes server_sizes v = stands [] [] (refl, refl) (new_stands_by tables client_sizes server_sizes v)
+pub new_stands : (tables : List Interface) (client_sizes server_sizes : Sizes) → client_sizes.limit.bytes ≡ server_sizes.limit.bytes → Valid tables → Stands (new_pair tables client_sizes server_sizes) opening
+new_stands tables client_sizes server_sizes one v = stands [] [] (refl, refl) (new_stands_by tables client_sizes server_sizes one v)
 
 -- ---- drained ends
 

@@ -18,7 +18,8 @@ use Rattle.wl_wire.specs.Reading.{reading}
 use Rattle.wl_wire.proofs.Canonicals.{reading-canonical, canonical-len, header_at-bytes}
 use Rattle.wl_sigs.specs.declared.signature.Side.{Side}
 use Rattle.wl_sigs.specs.Tables.{Interface, signature_at}
-use Rattle.wl_message.specs.Cut.{usual_limit, IsMessage}
+use Rattle.wl_message.specs.declared.limit.Limit.{Limit}
+use Rattle.wl_message.specs.Cut.{IsMessage, greatest_limit}
 use Rattle.wl_table.specs.declared.object.Object.{Object}
 use Rattle.wl_table.specs.declared.object.Entry.{Entry}
 use Rattle.wl_table.specs.declared.object.State.{State}
@@ -280,12 +281,12 @@ sized (v ∷ vs) = let s = sized vs in record {
 pub bytes_len : (id opcode : ℕ) (vs : List Argument) → length (message_bytes id opcode vs) ≡ message_len vs
 bytes_len id opcode vs = let s = sized vs in omega (arith, s.len)
 
-pub bytes_whole : (id opcode : ℕ) (vs : List Argument) → opcode < 65536 → message_len vs ≤ 4096 → IsMessage usual_limit (message_bytes id opcode vs)
-bytes_whole id opcode vs o h =
+pub bytes_whole : (limit : Limit) (id opcode : ℕ) (vs : List Argument) → opcode < 65536 → message_len vs ≤ limit.bytes → IsMessage limit.bytes (message_bytes id opcode vs)
+bytes_whole limit id opcode vs o h =
     let s = sized vs in
     let l = bytes_len id opcode vs in
     record {
-      told = omega (arith, l, o, h);
+      told = omega (arith, l, o, h, limit.in_range.1);
       size = record { header = omega (arith, l, s.len); words = ap (λ (n : ℕ). n % 4) l ∙ s.words; within = omega (arith, l, h) };
     }
 
@@ -294,7 +295,7 @@ pub record Parted (bytes : List ℕ) (id opcode : ℕ) (vs : List Argument) : Ty
   pub object : (header_at bytes).object ≡ id
   pub opcode_is : (header_at bytes).opcode ≡ opcode
 
-pub parted : (bytes more : List ℕ) (id opcode : ℕ) (vs : List Argument) → bytes ≡ message_bytes id opcode vs ++ more → id < 2 ^ 32 → opcode < 65536 → message_len vs ≤ 4096 → Parted bytes id opcode vs
+pub parted : (bytes more : List ℕ) (id opcode : ℕ) (vs : List Argument) → bytes ≡ message_bytes id opcode vs ++ more → id < 2 ^ 32 → opcode < 65536 → message_len vs ≤ greatest_limit → Parted bytes id opcode vs
 parted bytes more id opcode vs e i o h =
     let header : Header = record { object = id; size = message_len vs; opcode = opcode } in
     let w : bytes ≡ header_bytes header ++ (spelled_values vs ++ more) = e ∙ append_assoc (header_bytes header) (spelled_values vs) more in

@@ -1,17 +1,15 @@
 -- The open registries, by ids and by births.
 use Rattle.std.proofs.Common.{◌≡◌, ◌≢◌, ℕ, Bool, true, false, cond, List, [], ◌∷◌, ◌++◌, map, refl, sym, ap, subst, ◌∙◌}
-use Rattle.std.specs.Prelude.{option_map, nat_eq}
+use Rattle.std.specs.Prelude.{option_map, nat_eq, is_some}
 use Rattle.std.specs.declared.option.Option.{Option}
 use Rattle.std.specs.declared.option.Option.TheVariants.{None, Some}
 use Rattle.wl_wire.specs.declared.kind.Iface.{Iface}
-use Rattle.wl_sigs.specs.Tables.{Interface, interface_at, destroys_target}
+use Rattle.wl_sigs.specs.Tables.{Interface, interface_at}
 use Rattle.wl_sigs.specs.Fixed.{registry}
 use Rattle.wl_sigs.specs.Valid.{Valid}
-use Rattle.wl_sigs.specs.declared.signature.Destroys.{Destroys}
-use Rattle.wl_sigs.specs.declared.signature.Destroys.TheVariants.{Nothing, Target}
 use Rattle.wl_table.specs.declared.object.Entry.{Entry}
 use Rattle.wl_table.specs.View.{View, Sound, look, closed}
-use Rattle.wl_objects.specs.Messages.{same_iface, opens, Server as server_end, after}
+use Rattle.wl_objects.specs.Messages.{same_iface, opens, Server as server_end}
 use Rattle.wl_end.specs.Core.{Core}
 use Rattle.wl_server.specs.State as server
 use Rattle.wl_server.specs.State.{untold}
@@ -20,13 +18,14 @@ use Rattle.wl_server.specs.Requests.{registries_after}
 use Rattle.wl_server.proofs.Registries.{has_opened, has_closed, has_fewer, row_kept, births_opened, births_of_sound}
 use Rattle.wl_server.specs.Calls.{ends_by_event}
 use Rattle.wl_world.specs.Meant.{Born, Known, born_of, plain}
-use Rattle.wl_world.specs.World.{Marks, IfThere, marks_birth, registries_after as marks_after}
+use Rattle.wl_world.specs.World.{Marks, IfThere, marks_birth, registries_without, registries_after as marks_after}
 use Rattle.wl_world.specs.Flight.{server_rows, Fresh}
 use Rattle.wl_world.specs.Answers.{marks_of}
 use Rattle.wl_world.specs.Stands.{by_event}
 use Rattle.wl_world.proofs.Wholes.{ThereRow}
 use Rattle.wl_world.proofs.Readings.{made_of}
 use Rattle.wl_world.proofs.Afters.{HeldRow, there_row}
+use Rattle.wl_world.proofs.Ended.{ended_view}
 
 -- ---- the marks
 
@@ -54,10 +53,23 @@ marks_without true birth (r ∷ rs) =
     marks_cond (nat_eq r.object.birth birth) (without_registry registry_birth true birth rs) (r ∷ without_registry registry_birth true birth rs)
     ∙ ap (λ (l : List Marks). cond (nat_eq r.object.birth birth) l (marks_of r ∷ l)) (marks_without true birth rs)
 
+-- the open registries after a message that destroys this
+abbrev pub registries_left : Option Known → List server.Registry → List server.Registry
+registries_left None rs = rs
+registries_left (Some x) rs = without_registry registry_birth true x.born.birth rs
+
+pub marks_left : (o : Option Known) (rs : List server.Registry) → map marks_of (registries_left o rs) ≡ registries_without (option_map born_of o) (map marks_of rs)
+marks_left None rs = refl
+marks_left (Some x) rs = marks_without true x.born.birth rs
+
+pub left_are : (b : Bool) (birth : ℕ) (o : Option Known) (rs : List server.Registry) → b ≡ is_some o → IfThere (λ x. x.born.birth ≡ birth) o → without_registry registry_birth b birth rs ≡ registries_left o rs
+left_are b birth None rs f h = ap (λ (c : Bool). without_registry registry_birth c birth rs) f
+left_are b birth (Some x) rs f h = λ i. without_registry registry_birth (f i) (sym h i) rs
+
 -- ---- an object with a destroying event is no registry
 
 pub registry_plain : (tables : List Interface) → Valid tables → ends_by_event (interface_at tables 1) ≡ false
-registry_plain tables v = rw v.fixed_three.registry refl
+registry_plain tables v = rw v.fixed_four.registry refl
 
 pub no_registry : (tables : List Interface) → Valid tables → (v : View) (x : Known) → ThereRow (server_rows v) x → by_event tables x.born ≡ true → (d : Entry) → look v x.id ≡ Some d → d.iface ≢ registry
 no_registry tables valid v x t e d row is =
@@ -78,20 +90,14 @@ pub fresh_row : (v : View) (n : Option Known) → IfThere (Fresh (server_rows v)
 fresh_row v None f = tt
 fresh_row v (Some x) f = fresh_look (look v x.id) f.free
 
-pub has_read : (c : Core) (rs : List server.Registry) (n : Option Known) (x : Known) (what : Destroys) (b : Bool) → destroys_target what ≡ b → Sound c.view → IsFresh c.view (option_map made_of n) → HeldRow c.view x
-    → HasRegistries c.view rs
-    → HasRegistries (after server_end c.view (option_map made_of n) what x.id) (without_registry registry_birth b x.born.birth (registries_after c rs (option_map made_of n)))
-has_read c rs n x Nothing b d s f r h =
-    subst (λ (k : Bool). HasRegistries (opens c.view (option_map made_of n)) (without_registry registry_birth k x.born.birth (registries_after c rs (option_map made_of n)))) d
-    (has_opened c rs (option_map made_of n) f h)
-has_read c rs n x Target b d s f r h =
+pub has_read : (c : Core) (rs : List server.Registry) (n o : Option Known) → Sound c.view → IsFresh c.view (option_map made_of n) → IfThere (HeldRow c.view) o → HasRegistries c.view rs
+    → HasRegistries (ended_view server_end (opens c.view (option_map made_of n)) o) (registries_left o (registries_after c rs (option_map made_of n)))
+has_read c rs n None s f r h = has_opened c rs (option_map made_of n) f h
+has_read c rs n (Some x) s f r h =
     let made = option_map made_of n in
-    let v = opens c.view made in
-    subst (λ (k : Bool). HasRegistries (closed v x.id) (without_registry registry_birth k x.born.birth (registries_after c rs made))) d
-    (has_closed v (registries_after c rs made) x.id x.born.birth r.entry (births_opened c.view made (births_of_sound c.view s)) (row_kept c.view made x.id r.entry f r.there)
-    (ap (λ (b : Born). b.birth) r.same) (has_opened c rs made f h))
+    has_closed (opens c.view made) (registries_after c rs made) x.id x.born.birth r.entry (births_opened c.view made (births_of_sound c.view s)) (row_kept c.view made x.id r.entry f r.there)
+    (ap (λ (b : Born). b.birth) r.same) (has_opened c rs made f h)
 
-pub has_told_one : (v : View) (rs : List server.Registry) (what : Destroys) (id : ℕ) (b : Bool) → destroys_target what ≡ b → (b ≡ true → (d : Entry) → look v id ≡ Some d → d.iface ≢ registry) → HasRegistries v rs
-    → HasRegistries (after server_end v None what id) rs
-has_told_one v rs Nothing id b d f h = h
-has_told_one v rs Target id b d f h = has_fewer v rs id (f (sym d)) h
+pub has_told_one : (v : View) (rs : List server.Registry) (o : Option Known) → IfThere (λ (x : Known). (d : Entry) → look v x.id ≡ Some d → d.iface ≢ registry) o → HasRegistries v rs → HasRegistries (ended_view server_end v o) rs
+has_told_one v rs None f h = h
+has_told_one v rs (Some x) f h = has_fewer v rs x.id f h

@@ -145,7 +145,7 @@ display_keeps (suc zero) m h = subst KeepsTarget h refl
 display_keeps (suc (suc n)) m h = absurd (cc h)
 
 pub display_lasts : (tables : List Interface) → Valid tables → (opcode : ℕ) (m : Message) → signature_at tables 0 Request opcode ≡ Some m → destroys_target m.destroys ≡ false
-display_lasts tables v opcode m h = display_keeps opcode m (ap (option_and_then (message_of Request opcode)) (sym v.fixed_three.display) ∙ h)
+display_lasts tables v opcode m h = display_keeps opcode m (ap (option_and_then (message_of Request opcode)) (sym v.fixed_four.display) ∙ h)
 
 -- an interface with a destroying event has one
 event_ends : (i : Interface) (opcode : ℕ) (m : Message) → slice_get i.events opcode ≡ Some m → destroys_target m.destroys ≡ true → has_destroying_event i ≡ true
@@ -161,4 +161,4 @@ pub no_event_new : (tables : List Interface) → Valid tables → (place opcode 
 no_event_new tables v place opcode m h = let e = ap length (v.few_objects_made.events place opcode m h) in omega (arith, e)
 
 pub display_plain : (tables : List Interface) → Valid tables → ends_by_event (interface_at tables 0) ≡ false
-display_plain tables v = rw v.fixed_three.display refl
+display_plain tables v = rw v.fixed_four.display refl

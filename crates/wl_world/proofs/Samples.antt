@@ -1,9 +1,9 @@
--- The two histories are histories.
+-- The three histories are histories.
 use Rattle.std.proofs.Common.{List, [], ◌∷◌, refl}
 use Rattle.wl_sigs.specs.Tables.{Interface}
 use Rattle.wl_world.specs.Meant.{Delete}
 use Rattle.wl_world.specs.World.{put, nothing, writes_request, reads_request, writes_event, reads_event, reads_delete}
-use Rattle.wl_world.specs.Samples.{CallbackLives, sync, done, called, DeadArgument, enter, destroy, pointer}
+use Rattle.wl_world.specs.Samples.{CallbackLives, sync, done, called, DeadArgument, enter, destroy, pointer, DeadRegistry, tell, destroy_registry, registered}
 
 pub callback_lives : (tables : List Interface) → CallbackLives tables
 unfolding put nothing
@@ -30,4 +30,20 @@ dead_argument tables = record {
   reports = ((pointer, refl), refl, refl, refl);
   reads = reads_request destroy [] refl;
   deletes = refl;
+}
+
+pub dead_registry : (tables : List Interface) → DeadRegistry tables
+unfolding put nothing
+dead_registry tables = record {
+  tells = writes_event tell refl tt;
+  asks = writes_request destroy_registry refl (refl, tt) tt;
+  sees = reads_event tell [] refl;
+  reports = ((registered, refl), refl, refl, refl);
+  teaches_nothing = refl;
+  reads = reads_request destroy_registry [] refl;
+  owes_nothing = refl;
+  deletes = refl;
+  forgets = reads_delete registered [] refl;
+  not_at_client = refl;
+  not_at_server = refl;
 }

@@ -7,7 +7,8 @@ use Rattle.std.specs.declared.result.Result.{Result}
 use Rattle.std.specs.declared.result.Result.TheVariants.{Ok, Err}
 use Rattle.std.proofs.lemmas.Bool.{ltb-true, ltb-false}
 use Rattle.wl_sigs.specs.declared.signature.Side.TheVariants.{Request as request_side}
-use Rattle.wl_message.specs.Cut.{usual_limit, front, Front, More, Bad, Whole, HasMessage}
+use Rattle.wl_message.specs.Arrived.{in_front}
+use Rattle.wl_message.specs.Cut.{front, Front, More, Bad, Whole, HasMessage}
 use Rattle.wl_message.specs.Outgoing.{room_of}
 use Rattle.wl_objects.specs.declared.error.NextError.{NextError}
 use Rattle.wl_objects.specs.declared.error.NextError.TheVariants as errors
@@ -16,19 +17,22 @@ use Rattle.wl_end.specs.Receiving.{Found, found_at, is_none}
 use Rattle.wl_end.specs.Sending.{delete_id_len}
 use Rattle.wl_server.specs.Requests.{Report, judged, request, report, needs_memory, is_out_full, next_answer, after_next, state_past}
 use Rattle.wl_world.specs.Meant.{Known, Born, Message, Coming, renamed, born_of, birth_of}
-use Rattle.wl_world.specs.World.{World, request_read, reads_request, delete}
+use Rattle.wl_world.specs.World.{World, IfThere, request_read, reads_request, delete}
 use Rattle.wl_world.specs.Pair.{PairState, ServerNext, with_server, Nexts, answered, no_memory}
 use Rattle.wl_world.specs.Answers.{NotEnded, before, ReportsRequest, rows_of_server, IsOutFull}
 use Rattle.wl_world.specs.Stands.{StandsBy}
 use Rattle.wl_world.proofs.Channels.{pops, never_bad}
 use Rattle.wl_world.proofs.Readings.{reports_right}
 use Rattle.wl_world.proofs.Findings.{the_found}
+use Rattle.wl_world.proofs.Ended.{ends_as, some_map, ended_has, if_by}
+use Rattle.wl_world.proofs.Wholes.{ThereRow}
+use Rattle.wl_world.specs.Flight.{server_rows}
 use Rattle.wl_world.proofs.ServerReads.{InRequest, in_request, left_state, left_is, server_read_stands}
 use Rattle.wl_world.proofs.Happenings.{Moves, goes_on, stays, reading_request}
 
 -- ---- nothing in front
 
-idle : (p : PairState) (w : World) (asked : List (Message Known)) (told : List (Coming Known)) (s : StandsBy p w asked told) → front usual_limit p.server.core.inbox.bytes ≡ More
+idle : (p : PairState) (w : World) (asked : List (Message Known)) (told : List (Coming Known)) (s : StandsBy p w asked told) → in_front p.server.core.inbox ≡ More
     → (request p.server ≡ Ok None) × (next_answer p.server ≡ Ok None) × (after_next p.server ≡ p.server)
 idle p w asked told s e =
     let r : request p.server ≡ Ok None = ap (λ (f : Front). judged p.server (found_at p.server.core request_side f)) e in
@@ -68,9 +72,9 @@ and_not true b h e = h
 and_not false b h e = absurd (cc e)
 
 keeps_out_full : (p : PairState) (w : World) (m : Message Known) (ms : List (Message Known)) (told : List (Coming Known)) (s : StandsBy p w (m ∷ ms) told) (n : ℕ) → NotEnded p w
-    → front usual_limit p.server.core.inbox.bytes ≡ Whole n → InRequest p w m ms told s n → (reply : Result (Option Report) NextError) (p' : PairState)
+    → in_front p.server.core.inbox ≡ Whole n → InRequest p w m ms told s n → (reply : Result (Option Report) NextError) (p' : PairState)
     → (Nexts needs_memory (next_answer p.server) p (with_server p (after_next p.server)) reply p')
-    → (m.destroys ≡ true) × (room_of p.server.core.outbox < delete_id_len)
+    → IsOutFull p (renamed born_of m)
     → Nexts needs_memory (Err errors.OutFull) p p reply p' → Moves p w (m ∷ ms) told ServerNext (ServerNext reply) p'
 keeps_out_full p w m ms told s n z e i reply p' d full answered = record {
   world = w;
@@ -79,18 +83,25 @@ keeps_out_full p w m ms told s n z e i reply p' d full answered = record {
 }
 keeps_out_full p w m ms told s n z e i reply p' d full (no_memory q h) = absurd (cc q)
 
+request_there : (p : PairState) (w : World) (m : Message Known) (ms : List (Message Known)) (told : List (Coming Known)) (s : StandsBy p w (m ∷ ms) told) (n : ℕ) → InRequest p w m ms told s n
+    → IfThere (ThereRow (server_rows p.server.core.view)) m.ends
+request_there p w m ms told s n i =
+    let there = ThereRow (server_rows p.server.core.view) in
+    let f = s.asked_fit.0.fits in
+    subst (IfThere there) (sym f.ends) (ended_has there f.signature.destroys m.target m.args i.asks_it.target i.asks_it.args)
+
 keeps_read : (p : PairState) (w : World) (m : Message Known) (ms : List (Message Known)) (told : List (Coming Known)) (s : StandsBy p w (m ∷ ms) told) (n : ℕ) → NotEnded p w
-    → front usual_limit p.server.core.inbox.bytes ≡ Whole n → (i : InRequest p w m ms told s n) → (reply : Result (Option Report) NextError) (p' : PairState)
+    → in_front p.server.core.inbox ≡ Whole n → (i : InRequest p w m ms told s n) → (reply : Result (Option Report) NextError) (p' : PairState)
     → (Nexts needs_memory (next_answer p.server) p (with_server p (after_next p.server)) reply p')
     → (IsOutFull p (renamed born_of m) → ⊥)
     → Nexts needs_memory (Ok (Some (report p.server.core (the_found n m i.entry s.asked_fit.0.fits.signature)))) p
-    (with_server p (left_state p.server m n s.asked_fit.0.fits.signature.destroys)) reply p'
+    (with_server p (left_state p.server m n)) reply p'
     → Moves p w (m ∷ ms) told ServerNext (ServerNext reply) p'
 keeps_read p w m ms told s n z e i reply p' d room answered = record {
   world = request_read w (renamed born_of m) (map (renamed born_of) ms);
   answers = before z d (record { waits = subst HasMessage (sym e) tt; message = renamed born_of m; steps = reads_request (renamed born_of m) (map (renamed born_of) ms) s.requests; reports = reports p w m ms told s n i; has_room = room });
-  outcome = goes_on ms (told ++ delete m.destroys m.target) z (server_read_stands p w m ms told s n i.asks_it i.up)
-      (reading_request m ms n s.asked_fit.0.fits.signature.destroys refl e (s.server_sets.below m.target.id m.target.born i.asks_it.target));
+  outcome = goes_on ms (told ++ delete m.ends) z (server_read_stands p w m ms told s n i.asks_it i.up)
+      (reading_request m ms n refl e (if_by (λ x h. s.server_sets.below x.id x.born h) m.ends (request_there p w m ms told s n i)));
 }
 keeps_read p w m ms told s n z e i reply p' d room (no_memory {report = r} q h) =
     let same : report p.server.core (the_found n m i.entry s.asked_fit.0.fits.signature) ≡ r = cc q in
@@ -102,32 +113,34 @@ keeps_read p w m ms told s n z e i reply p' d room (no_memory {report = r} q h) 
     }
 
 at_request : (p : PairState) (w : World) (m : Message Known) (ms : List (Message Known)) (told : List (Coming Known)) (s : StandsBy p w (m ∷ ms) told) (n : ℕ) → NotEnded p w
-    → front usual_limit p.server.core.inbox.bytes ≡ Whole n → (i : InRequest p w m ms told s n) → (reply : Result (Option Report) NextError) (p' : PairState)
+    → in_front p.server.core.inbox ≡ Whole n → (i : InRequest p w m ms told s n) → (reply : Result (Option Report) NextError) (p' : PairState)
     → (Nexts needs_memory (next_answer p.server) p (with_server p (after_next p.server)) reply p')
     → (b : Bool) → is_out_full p.server.core (the_found n m i.entry s.asked_fit.0.fits.signature) ≡ b → Moves p w (m ∷ ms) told ServerNext (ServerNext reply) p'
 at_request p w m ms told s n z e i reply p' d true h =
     let a = answer_is p m (the_found n m i.entry s.asked_fit.0.fits.signature) true s.server_lives i.finds_it h in
     let k = and_both _ _ h in
-    keeps_out_full p w m ms told s n z e i reply p' d (s.asked_fit.0.fits.destroys ∙ k.0, ltb-true _ _ k.1)
+    let flag = some_map born_of m.ends ∙ sym (ends_as p.server.core.tables request_side m s.asked_fit.0.fits s.valid).flag in
+    keeps_out_full p w m ms told s n z e i reply p' d (flag ∙ k.0, ltb-true _ _ k.1)
     (subst (λ st. Nexts needs_memory (Err errors.OutFull) p (with_server p st) reply p') a.leaves
     (subst (λ x. Nexts needs_memory x p (with_server p (after_next p.server)) reply p') a.answer d))
 at_request p w m ms told s n z e i reply p' d false h =
     let f = the_found n m i.entry s.asked_fit.0.fits.signature in
     let a = answer_is p m f false s.server_lives i.finds_it h in
+    let flag = some_map born_of m.ends ∙ sym (ends_as p.server.core.tables request_side m s.asked_fit.0.fits s.valid).flag in
     keeps_read p w m ms told s n z e i reply p' d
-    (λ full. (let no = ltb-false _ _ (and_not _ _ h (sym s.asked_fit.0.fits.destroys ∙ full.0)) in absurd (omega (arith, no, full.1))))
-    (subst (λ st. Nexts needs_memory (Ok (Some (report p.server.core f))) p (with_server p st) reply p') (a.leaves ∙ left_is p.server m n i.entry s.asked_fit.0.fits i.same_target)
+    (λ full. (let no = ltb-false _ _ (and_not _ _ h (sym flag ∙ full.0)) in absurd (omega (arith, no, full.1))))
+    (subst (λ st. Nexts needs_memory (Ok (Some (report p.server.core f))) p (with_server p st) reply p') (a.leaves ∙ left_is p.server m n i.entry s.asked_fit.0.fits s.valid i.same_target i.asks_it.target i.asks_it.args)
     (subst (λ x. Nexts needs_memory x p (with_server p (after_next p.server)) reply p') a.answer d))
 
 at_whole : (p : PairState) (w : World) (asked : List (Message Known)) (told : List (Coming Known)) (s : StandsBy p w asked told) (n : ℕ) → NotEnded p w
-    → front usual_limit p.server.core.inbox.bytes ≡ Whole n → (reply : Result (Option Report) NextError) (p' : PairState)
+    → in_front p.server.core.inbox ≡ Whole n → (reply : Result (Option Report) NextError) (p' : PairState)
     → (Nexts needs_memory (next_answer p.server) p (with_server p (after_next p.server)) reply p') → Moves p w asked told ServerNext (ServerNext reply) p'
 at_whole p w [] told s n z e reply p' d = absurd (let q = pops p.client.core.outbox p.server.core.inbox [] n s.to_server e in cc q.is)
 at_whole p w (m ∷ ms) told s n z e reply p' d =
     let i = in_request p w m ms told s n e in
     at_request p w m ms told s n z e i reply p' d _ refl
 
-keeps_idle : (p : PairState) (w : World) (asked : List (Message Known)) (told : List (Coming Known)) (s : StandsBy p w asked told) → NotEnded p w → front usual_limit p.server.core.inbox.bytes ≡ More
+keeps_idle : (p : PairState) (w : World) (asked : List (Message Known)) (told : List (Coming Known)) (s : StandsBy p w asked told) → NotEnded p w → in_front p.server.core.inbox ≡ More
     → (reply : Result (Option Report) NextError) (p' : PairState) → (Nexts needs_memory (next_answer p.server) p (with_server p (after_next p.server)) reply p')
     → Nexts needs_memory (Ok None) p p reply p' → Moves p w asked told ServerNext (ServerNext reply) p'
 keeps_idle p w asked told s z e reply p' d answered = record { world = w; answers = before z d (λ h. subst HasMessage e h, refl); outcome = goes_on asked told z s stays }
@@ -135,7 +148,7 @@ keeps_idle p w asked told s z e reply p' d (no_memory q h) = absurd (cc q)
 
 at_front : (p : PairState) (w : World) (asked : List (Message Known)) (told : List (Coming Known)) (s : StandsBy p w asked told) → NotEnded p w
     → (reply : Result (Option Report) NextError) (p' : PairState) → (Nexts needs_memory (next_answer p.server) p (with_server p (after_next p.server)) reply p')
-    → (f : Front) → front usual_limit p.server.core.inbox.bytes ≡ f → Moves p w asked told ServerNext (ServerNext reply) p'
+    → (f : Front) → in_front p.server.core.inbox ≡ f → Moves p w asked told ServerNext (ServerNext reply) p'
 at_front p w asked told s z reply p' d More e =
     let i = idle p w asked told s e in
     keeps_idle p w asked told s z e reply p' d

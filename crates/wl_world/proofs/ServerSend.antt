@@ -1,15 +1,16 @@
 -- Moves of the server's writing.
-use Rattle.std.proofs.Common.{◌≡◌, ℕ, Bool, true, false, cond, List, [], ◌∷◌, ◌++◌, length, refl, sym, ap, subst, ◌∙◌}
+use Rattle.std.proofs.Common.{◌≡◌, ℕ, Bool, true, false, cond, List, [], ◌∷◌, ◌++◌, map, length, ◌<◌, refl, sym, ap, subst, ◌∙◌}
 use Rattle.std.specs.Prelude.{option_map, not, ◌||◌}
 use Rattle.std.specs.declared.option.Option.{Option}
 use Rattle.std.specs.declared.option.Option.TheVariants.{None, Some}
 use Rattle.std.specs.declared.result.Result.{Result}
 use Rattle.std.specs.declared.result.Result.TheVariants.{Ok}
 use Rattle.wl_sigs.specs.declared.signature.Side.TheVariants.{Event}
-use Rattle.wl_sigs.specs.Tables.{Interface, interface_at, destroys_target}
+use Rattle.wl_sigs.specs.Tables.{Interface, interface_at, signature_at, destroys_target, destroys_one}
+use Rattle.wl_sigs.specs.Valid.{Valid}
 use Rattle.wl_sigs.specs.Tables as sigs
 use Rattle.wl_sigs.specs.declared.signature.Destroys.{Destroys}
-use Rattle.wl_sigs.specs.declared.signature.Destroys.TheVariants.{Nothing, Target}
+use Rattle.wl_sigs.specs.declared.signature.Destroys.TheVariants.{Nothing, Target, Arg as ends_arg}
 use Rattle.wl_sigs.specs.Fixed.{display, registry}
 use Rattle.wl_message.specs.Outgoing.{message}
 use Rattle.wl_table.specs.declared.object.Object.{Object}
@@ -17,17 +18,18 @@ use Rattle.wl_table.specs.declared.object.Entry.{Entry}
 use Rattle.wl_objects.specs.declared.error.SendError.{SendError}
 use Rattle.wl_objects.specs.declared.error.SendError.TheVariants as refusals
 use Rattle.wl_table.specs.View.{View, look, next_id, closed}
-use Rattle.wl_objects.specs.Writing.{Given, message_bytes, is_live_as}
-use Rattle.wl_objects.specs.Messages.{Made, Server as server_end, after, checked, live_row, same_iface}
+use Rattle.wl_objects.specs.Writing.{Given, wired, message_bytes, is_live_as}
+use Rattle.wl_objects.specs.Messages.{Made, ended_id, Server as server_end, after, checked, live_row, same_iface}
 use Rattle.wl_end.specs.Core.{Core}
 use Rattle.wl_end.specs.Sending.{send_answer, after_send, after_checked, made_at, opens_object, with_following}
+use Rattle.wl_end.proofs.Ends.{no_event}
 use Rattle.wl_server.specs.Calls.{drop_refusal, drop_at, ends_by_event, after_drop, error_refusal}
-use Rattle.wl_world.specs.Meant.{Known, Message, Coming, Event as event_of, Delete, renamed, born_of, birth_of, spelled, made_in, objects, plain}
-use Rattle.wl_world.specs.World.{World, Each, IsThere, delete, event_written, dropped, Steps, writes_event, drops, WriteEvent}
+use Rattle.wl_world.specs.Meant.{Known, Arg, ended_by, Message, Coming, Event as event_of, Delete, renamed, born_of, birth_of, spelled, made_in, objects, plain}
+use Rattle.wl_world.specs.World.{World, Each, IfThere, IsThere, delete, event_written, dropped, Steps, writes_event, drops, WriteEvent}
 use Rattle.wl_world.specs.Pair.{marked, after_post, PairState, ServerSend, ServerDrop, PostError, with_server_core, Writes, accepted, refused, no_memory, Calls, done}
 use Rattle.wl_world.specs.Answers.{NotEnded, birth_at, before}
 use Rattle.wl_world.specs.Flight.{IsBelow, server_rows, tells, all_tells}
-use Rattle.wl_world.specs.Stands.{StandsBy}
+use Rattle.wl_world.specs.Stands.{StandsBy, by_event}
 use Rattle.wl_world.specs.Runs.{IsGiven}
 use Rattle.wl_world.proofs.Wholes.{ThereRow, each_by, each_more}
 use Rattle.wl_world.proofs.Afters.{made_map, objects_map, each_map}
@@ -35,8 +37,9 @@ use Rattle.wl_world.proofs.Readings.{made_of}
 use Rattle.wl_world.proofs.ServerReads.{followed}
 use Rattle.wl_world.proofs.Calls.{Checked, is_checked, LiveAt, live_as, handed_none, no_made, tokens_all, row_low}
 use Rattle.wl_world.proofs.Rules.{ends_so, no_event_new}
-use Rattle.wl_world.proofs.Written.{the_new, the_args, the_call, CallIs, call_is, accepted_call, opens, no_delete}
+use Rattle.wl_world.proofs.Written.{the_new, the_args, the_call, CallIs, call_is, call_ends, accepted_call, opens, no_delete}
 use Rattle.wl_world.proofs.ClientSend.{made_same}
+use Rattle.wl_world.proofs.Ended.{ended_view, ended_has, after_is, if_by, born_ends}
 use Rattle.wl_world.proofs.ServerTells.{CanTell, told_core, dropped_core, tell_stands, drop_stands}
 use Rattle.wl_world.proofs.Happenings.{Happens, Moves, Outcome, goes_on, ends_it, stays, telling, event_below, delete_below}
 
@@ -47,8 +50,17 @@ no_registry : (a b : Bool) → (a || b) ≡ false → b ≡ false
 no_registry true b h = absurd (cc h)
 no_registry false b h = h
 
+event_ends : (tables : List Interface) → Valid tables → (x : Known) (args : List (Arg Known)) (opcode : ℕ) (m : sigs.Message) → signature_at tables x.born.iface.0 Event opcode ≡ Some m
+    → IfThere (λ y. by_event tables y.born ≡ true) (ended_by m.destroys x args)
+event_ends tables v x args opcode m h = by_what m.destroys refl
+  where
+    by_what : (what : Destroys) → m.destroys ≡ what → IfThere (λ y. by_event tables y.born ≡ true) (ended_by what x args)
+    by_what Nothing d = tt
+    by_what Target d = ends_so tables x.born opcode m h (ap destroys_target d)
+    by_what (ends_arg k) d = absurd (no_event tables x.born.iface.0 opcode m k v h d)
+
 pub server_can : (p : PairState) (w : World) (asked : List (Message Known)) (told : List (Coming Known)) (s : StandsBy p w asked told) (target : Object) (opcode : ℕ) (given : List Given) (signature : sigs.Message)
-    → (c : Checked p.server.core.tables Event p.server.core.view target opcode given signature) (k : CallIs p.server.core Event target opcode given signature c.entry)
+    → (c : Checked p.server.core.outbox.limit.bytes p.server.core.tables Event p.server.core.view target opcode given signature) (k : CallIs p.server.core Event target opcode given signature c.entry)
     → (made_in (the_args p.server.core c.entry given signature) ≡ None) → CanTell p (the_call p.server.core c.entry target opcode given signature)
 server_can p w asked told s target opcode given signature c k n =
     let v = p.server.core.view in
@@ -62,25 +74,32 @@ server_can p w asked told s target opcode given signature c k n =
       };
       target = there_live v m.target (record { entry = c.entry; there = c.there; same = refl; live = c.live });
       args = each_by (LiveAt v) (ThereRow (server_rows v)) (there_live v) (objects m.args) k.live;
-      ends = ends_so p.server.core.tables (plain c.entry) opcode signature c.signed;
+      ends = event_ends p.server.core.tables s.valid m.target m.args opcode signature c.signed;
+      short = k.short;
     }
 
-left_by : (core : Core) (target : Object) (opcode : ℕ) (given : List Given) (signature : sigs.Message) (entry : Entry) → checked core.tables Event core.view target opcode given ≡ Ok signature → look core.view target.id ≡ Some entry
-    → CallIs core Event target opcode given signature entry → made_in (the_args core entry given signature) ≡ None
-    → after_send core Event target opcode given ≡ told_core core (the_call core entry target opcode given signature) signature.destroys
-left_by core target opcode given signature entry e l k n =
-    let mk : made_at core target signature given ≡ None = made_same core target given signature entry l ∙ k.made_is ∙ ap (option_map made_of) n in
-    let t = sym (tokens_all core.view (the_new core entry given signature) given) in
-    let x : Known = record { id = target.id; born = plain entry } in
+left_by : (core : Core) (target : Object) (opcode : ℕ) (given : List Given) (signature : sigs.Message) → Valid core.tables → checked core.outbox.limit.bytes core.tables Event core.view target opcode given ≡ Ok signature
+    → (c : Checked core.outbox.limit.bytes core.tables Event core.view target opcode given signature) (k : CallIs core Event target opcode given signature c.entry) → made_in (the_args core c.entry given signature) ≡ None
+    → after_send core Event target opcode given ≡ told_core core (the_call core c.entry target opcode given signature)
+left_by core target opcode given signature v e c k n =
+    let m = the_call core c.entry target opcode given signature in
+    let mk : made_at core target signature given ≡ None = made_same core target given signature c.entry c.there ∙ k.made_is ∙ ap (option_map made_of) n in
+    let t = sym (tokens_all core.view (the_new core c.entry given signature) given) in
+    let id = ended_id signature.destroys target.id (map (wired 0) given) in
+    let ended = call_ends core Event target opcode given signature v c k in
     ap (after_checked core Event target opcode given) e
-    ∙ (λ i. with_following (destroys_target signature.destroys) target.id (record core {
-      view = after server_end core.view (mk i) signature.destroys target.id;
+    ∙ (λ i. with_following (destroys_one signature.destroys) id (record core {
+      view = after server_end core.view (mk i) signature.destroys id;
       outbox = record core.outbox { messages = core.outbox.messages ++ message (message_bytes target.id opcode (k.wire_is i)) (t i) ∷ [] };
     }))
-    ∙ followed (destroys_target signature.destroys) x (record core {
-      view = after server_end core.view None signature.destroys target.id;
-      outbox = record core.outbox { messages = core.outbox.messages ++ spelled (the_call core entry target opcode given signature) ∷ [] };
-    })
+    ∙ (λ i. with_following (destroys_one signature.destroys) id (record core {
+      view = after_is server_end core.view None signature.destroys id m.ends ended i;
+      outbox = record core.outbox { messages = core.outbox.messages ++ spelled m ∷ [] };
+    }))
+    ∙ followed (destroys_one signature.destroys) id m.ends (record core {
+      view = ended_view server_end core.view m.ends;
+      outbox = record core.outbox { messages = core.outbox.messages ++ spelled m ∷ [] };
+    }) ended.flag ended.same
 
 -- in the world it is a step
 pub tells_world : (p : PairState) (w : World) (asked : List (Message Known)) (told : List (Coming Known)) (s : StandsBy p w asked told) (m : Message Known) → CanTell p m
@@ -90,44 +109,46 @@ tells_world p w asked told s m c =
     writes_event (renamed born_of m) (s.server_sets.shown m.target.id m.target.born c.target)
     (rw (objects_map born_of m.args) (each_map born_of (IsThere w.server) (objects m.args) (each_by (ThereRow (server_rows v)) (λ (x : Known). IsThere w.server x.born) (λ x h. s.server_sets.shown x.id x.born h) (objects m.args) c.args)))
 
-same_births : (v : View) (x : ℕ) (what : Destroys) → (after server_end v None what x).births ≡ v.births
-same_births v x Nothing = refl
-same_births v x Target = refl
+same_births : (v : View) (o : Option Known) → (ended_view server_end v o).births ≡ v.births
+same_births v None = refl
+same_births v (Some x) = refl
 
 -- what is told of it
 tells_one : (p : PairState) (w : World) (asked : List (Message Known)) (told : List (Coming Known)) → StandsBy p w asked told → (m : Message Known) (c : CanTell p m)
-    → Happens p asked told (with_server_core p (told_core p.server.core m c.fitly.fits.signature.destroys)) asked (told ++ (event_of m ∷ delete m.destroys m.target))
+    → Happens p asked told (with_server_core p (told_core p.server.core m)) asked (told ++ (event_of m ∷ delete m.ends))
 tells_one p w asked told s m c =
     let v = p.server.core.view in
-    let what = c.fitly.fits.signature.destroys in
-    let news = event_of m ∷ delete m.destroys m.target in
+    let f = c.fitly.fits in
+    let there : IfThere (ThereRow (server_rows v)) m.ends =
+    subst (λ (o : Option Known). IfThere (ThereRow (server_rows v)) o) (sym f.ends) (ended_has (ThereRow (server_rows v)) f.signature.destroys m.target m.args c.target c.args) in
+    let news = event_of m ∷ delete m.ends in
     let below = s.server_sets.below in
-    telling (after server_end v None what m.target.id) (told_core p.server.core m what).outbox p.server.registries news (same_births v m.target.id what)
-    (each_more (IsBelow v.births) (tells (event_of m)) (all_tells (delete m.destroys m.target)) (event_below (server_rows v) v.births below m c.target c.args)
-    (delete_below v.births m.destroys m.target (below m.target.id m.target.born c.target)))
+    let ended : IfThere (λ x. x.born.birth < v.births) m.ends = if_by (λ x h. below x.id x.born h) m.ends there in
+    telling (ended_view server_end v m.ends) (told_core p.server.core m).outbox p.server.registries news (same_births v m.ends)
+    (each_more (IsBelow v.births) (tells (event_of m)) (all_tells (delete m.ends)) (event_below (server_rows v) v.births below m c.target c.args ended)
+    (delete_below v.births m.ends ended))
 
 pub server_send_keeps : (p : PairState) (w : World) (asked : List (Message Known)) (told : List (Coming Known)) → StandsBy p w asked told → NotEnded p w → (target : Object) (opcode : ℕ) (given : List Given) → Each IsGiven given
     → (reply : Result (Option Object) SendError) (p' : PairState)
-    → Writes (send_answer p.server.core Event target opcode given) (opens_object (checked p.server.core.tables Event p.server.core.view target opcode given)) p
+    → Writes (send_answer p.server.core Event target opcode given) (opens_object (checked p.server.core.outbox.limit.bytes p.server.core.tables Event p.server.core.view target opcode given)) p
     (with_server_core p (after_send p.server.core Event target opcode given)) reply p'
     → Moves p w asked told (ServerSend target opcode given) (ServerSend reply) p'
 server_send_keeps p w asked told s z target opcode given g reply p' (accepted {new = new} h) =
     let core = p.server.core in
     let a = accepted_call core Event target opcode given new s.server_lives h in
-    let c = is_checked core.tables Event core.view target opcode given a.signature a.checks in
+    let c = is_checked core.outbox.limit.bytes core.tables Event core.view target opcode given a.signature a.checks in
     let k = call_is core Event target opcode given a.signature s.valid s.server_sound g c in
     let o = opens core (made_at core target a.signature given) new a.opens_it in
     let args = the_args core c.entry given a.signature in
     let n : made_in args ≡ None = no_made core.view (the_new core c.entry given a.signature) a.signature.kinds given k.right (no_event_new core.tables s.valid c.entry.iface.0 opcode a.signature c.signed) in
     let can = server_can p w asked told s target opcode given a.signature c k n in
     let m = the_call core c.entry target opcode given a.signature in
-    let e : can.fitly.fits.signature ≡ a.signature = cc (can.fitly.fits.there, c.signed) in
     let none : new ≡ None = o.is ∙ ap (option_map (λ (y : Made). record { id = next_id core.view; birth = core.view.births })) (made_same core target given a.signature c.entry c.there ∙ k.made_is ∙ ap (option_map made_of) n) in
     record {
       world = event_written w (renamed born_of m);
       answers = before z (accepted h) (record {
         message = renamed born_of m;
-        is = record { signature = a.signature; there = c.signed; destroys = refl };
+        is = record { signature = a.signature; there = c.signed; ends = born_ends m a.signature.destroys refl };
         target_is = c.birth;
         opcode_is = refl;
         args_are = handed_none core.view (the_new core c.entry given a.signature) w.births a.signature.kinds given n k.right;
@@ -135,8 +156,8 @@ server_send_keeps p w asked told s z target opcode given g reply p' (accepted {n
         steps = tells_world p w asked told s m can;
       });
       outcome = subst (λ (x : Core). Outcome p asked told (with_server_core p x) (event_written w (renamed born_of m)))
-          (sym (left_by core target opcode given a.signature c.entry a.checks c.there k n ∙ ap (λ (x : sigs.Message). told_core core m x.destroys) (sym e)))
-          (goes_on asked (told ++ (event_of m ∷ delete m.destroys m.target)) z (tell_stands p w asked told s m can) (tells_one p w asked told s m can));
+          (sym (left_by core target opcode given a.signature s.valid a.checks c k n))
+          (goes_on asked (told ++ (event_of m ∷ delete m.ends)) z (tell_stands p w asked told s m can) (tells_one p w asked told s m can));
     }
 server_send_keeps p w asked told s z target opcode given g reply p' (refused h) = record { world = w; answers = before z (refused h) refl; outcome = goes_on asked told z s stays }
 server_send_keeps p w asked told s z target opcode given g reply p' (no_memory h o) = record { world = w; answers = before z (no_memory h o) refl; outcome = goes_on asked told z s stays }
@@ -194,5 +215,5 @@ server_drop_keeps p w asked told s z object reply p' (refused h) = record { worl
 
 pub post_error_keeps : (p : PairState) (w : World) (asked : List (Message Known)) (told : List (Coming Known)) → StandsBy p w asked told → NotEnded p w → (object : Object) (code : ℕ) (text : List ℕ) (reply : Result (Unit {0}) SendError) (p' : PairState)
     → Calls (error_refusal p.server.core object text) p (after_post p object code text) reply p' → Moves p w asked told (PostError object code text) (PostError reply) p'
-post_error_keeps p w asked told s z object code text reply p' (done h) = record { world = record w { ended = true }; answers = before z (done h) refl; outcome = ends_it refl (record { tables = refl; pieces = refl; mark = ap (λ (o : Option ℕ). marked o (length p.recording)) z.1 }) }
+post_error_keeps p w asked told s z object code text reply p' (done h) = record { world = record w { ended = true }; answers = before z (done h) refl; outcome = ends_it refl (record { tables = refl; limit = refl; pieces = refl; mark = ap (λ (o : Option ℕ). marked o (length p.recording)) z.1 }) }
 post_error_keeps p w asked told s z object code text reply p' (refused h) = record { world = w; answers = before z (refused h) refl; outcome = goes_on asked told z s stays }

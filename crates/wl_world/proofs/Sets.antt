@@ -3,7 +3,7 @@ use Rattle.std.proofs.Common.{◌≡◌, ℕ, ◌+◌, Bool, true, false, inl, i
 use Rattle.std.specs.declared.option.Option.{Option}
 use Rattle.std.specs.declared.option.Option.TheVariants.{None, Some}
 use Rattle.std.specs.Prelude.{option_map}
-use Rattle.wl_world.specs.Meant.{Born, Known, birth_of}
+use Rattle.wl_world.specs.Meant.{Born, Known, birth_of, born_of}
 use Rattle.wl_world.specs.World.{Row, Open, Ending, put, nothing, born_into, same, ending, gone, counted, IfThere}
 use Rattle.wl_world.specs.Flight.{Rows, at, Held, Fresh}
 use Rattle.wl_world.specs.Stands.{Shows, birth_in}
@@ -49,9 +49,9 @@ module _ {X : Type 0} (birth : X → ℕ) where
 
 -- ---- the client's
 
-pub births_ends : (b : Bool) (x : Known) (v : Rows Row) → (client_ends b x v).births ≡ v.births
-births_ends true x v = refl
-births_ends false x v = refl
+pub births_ends : (o : Option Known) (v : Rows Row) → (client_ends o v).births ≡ v.births
+births_ends (Some x) v = refl
+births_ends None v = refl
 
 pub births_makes : (v : Rows Row) (n : Option Known) → (client_makes v n).births ≡ counted n v.births
 births_makes v None = refl
@@ -62,10 +62,10 @@ pub client_made : (v : Rows Row) (w : ℕ → Option Row) (n : Option Known) →
 client_made v w None s c = s
 client_made v w (Some n) s c = shows_make birth_in v.rows v.births w n.id (Open n.born) s c.free c.birth
 
-pub client_ended : (v : Rows Row) (w : ℕ → Option Row) (b : Bool) (x : Known) → Shows birth_in v.rows v.births w → Held v x
-    → Shows birth_in (client_ends b x v).rows (client_ends b x v).births (ending b x.born w)
-client_ended v w false x s h = s
-client_ended v w true x s h = elim h [
+pub client_ended : (v : Rows Row) (w : ℕ → Option Row) (o : Option Known) → Shows birth_in v.rows v.births w → IfThere (Held v) o
+    → Shows birth_in (client_ends o v).rows (client_ends o v).births (ending (option_map born_of o) w)
+client_ended v w None s h = s
+client_ended v w (Some x) s h = elim h [
   | inl p ↦ shows_put birth_in v.rows v.births w x.id (Open x.born) (Ending x.born) s p refl
   | inr p ↦ shows_put birth_in v.rows v.births w x.id (Ending x.born) (Ending x.born) s p refl
 ]
@@ -84,10 +84,10 @@ pub server_made : (s : Rows Born) (w : ℕ → Option Born) (n : Option Known) �
 server_made s w None h g = h
 server_made s w (Some n) h g = shows_make birth_of s.rows s.births w n.id n.born h g.free g.birth
 
-pub server_ended : (s : Rows Born) (w : ℕ → Option Born) (b : Bool) (x : Known) → Shows birth_of s.rows s.births w → ThereRow s x
-    → Shows birth_of (server_ends b x s).rows (server_ends b x s).births (gone b x.born w)
-server_ended s w false x h g = h
-server_ended s w true x h g = shows_drop birth_of s.rows s.births w x.id x.born h g
+pub server_ended : (s : Rows Born) (w : ℕ → Option Born) (o : Option Known) → Shows birth_of s.rows s.births w → IfThere (ThereRow s) o
+    → Shows birth_of (server_ends o s).rows (server_ends o s).births (gone (option_map born_of o) w)
+server_ended s w None h g = h
+server_ended s w (Some x) h g = shows_drop birth_of s.rows s.births w x.id x.born h g
 
 pub there_kept : (s : Rows Born) (n : Option Known) (x : Known) → IfThere (Fresh s) n → ThereRow s x → ThereRow (server_makes s n) x
 there_kept s None x g h = h

@@ -82,14 +82,14 @@ delete_of_tells k (c ∷ told) h = elim (in_either (Delete k) (tells c) (all_tel
     of_names [] i = i
     of_names (x ∷ xs) i = elim i [ inl p ↦ cc p | inr p ↦ of_names xs p ]
 
-    of_ends : (b : Bool) (x : Known) → In (Delete k) (ends b x) → ⊥
-    of_ends false x i = i
-    of_ends true x i = elim i [ inl p ↦ cc p | inr p ↦ p ]
+    of_ends : (o : Option Known) → In (Delete k) (ends o) → ⊥
+    of_ends None i = i
+    of_ends (Some x) i = elim i [ inl p ↦ cc p | inr p ↦ p ]
 
     of_one : (d : Coming Known) → In (Delete k) (tells d) → delete_of k ≡ d
     of_one (Event m) i = elim i [
       | inl p ↦ absurd (cc p)
-      | inr p ↦ elim (in_either (Delete k) (map Name (objects m.args)) (ends m.destroys m.target) p) [ inl q ↦ absurd (of_names (objects m.args) q) | inr q ↦ absurd (of_ends m.destroys m.target q) ]
+      | inr p ↦ elim (in_either (Delete k) (map Name (objects m.args)) (ends m.ends) p) [ inl q ↦ absurd (of_names (objects m.args) q) | inr q ↦ absurd (of_ends m.ends q) ]
     ]
     of_one (delete_of x) i = elim i [ inl p ↦ (let e : k ≡ x = cc p in ap delete_of e) | inr p ↦ absurd p ]
 
@@ -132,9 +132,9 @@ uses a (x ∷ xs) i = elim i [ inl p ↦ subst IsUse (sym p) tt | inr p ↦ uses
 make_asked : (k : Known) (m : Message Known) → In (Make k) (asks m) → made_in m.args ≡ Some k
 make_asked k m i = elim i [
   | inl p ↦ absurd (cc p)
-  | inr p ↦ elim (in_either (Make k) (map Use (objects m.args)) (makes (made_in m.args) ++ destroys m.destroys m.target) p) [
+  | inr p ↦ elim (in_either (Make k) (map Use (objects m.args)) (makes (made_in m.args) ++ destroys m.ends) p) [
     | inl q ↦ absurd (uses (Make k) (objects m.args) q)
-    | inr q ↦ elim (in_either (Make k) (makes (made_in m.args)) (destroys m.destroys m.target) q) [ inl r ↦ of_made (made_in m.args) r | inr r ↦ absurd (of_destroyed m.destroys r) ]
+    | inr q ↦ elim (in_either (Make k) (makes (made_in m.args)) (destroys m.ends) q) [ inl r ↦ of_made (made_in m.args) r | inr r ↦ absurd (of_destroyed m.ends r) ]
   ]
 ]
   where
@@ -142,16 +142,16 @@ make_asked k m i = elim i [
     of_made None j = absurd j
     of_made (Some x) j = elim j [ inl p ↦ (let e : k ≡ x = cc p in ap Some (sym e)) | inr p ↦ absurd p ]
 
-    of_destroyed : (b : Bool) → In (Make k) (destroys b m.target) → ⊥
-    of_destroyed false j = j
-    of_destroyed true j = elim j [ inl p ↦ cc p | inr p ↦ p ]
+    of_destroyed : (o : Option Known) → In (Make k) (destroys o) → ⊥
+    of_destroyed None j = j
+    of_destroyed (Some x) j = elim j [ inl p ↦ cc p | inr p ↦ p ]
 
-destroy_asked : (k : Known) (m : Message Known) → In (Destroy k) (asks m) → (m.destroys ≡ true) × (m.target ≡ k)
+destroy_asked : (k : Known) (m : Message Known) → In (Destroy k) (asks m) → m.ends ≡ Some k
 destroy_asked k m i = elim i [
   | inl p ↦ absurd (cc p)
-  | inr p ↦ elim (in_either (Destroy k) (map Use (objects m.args)) (makes (made_in m.args) ++ destroys m.destroys m.target) p) [
+  | inr p ↦ elim (in_either (Destroy k) (map Use (objects m.args)) (makes (made_in m.args) ++ destroys m.ends) p) [
     | inl q ↦ absurd (uses (Destroy k) (objects m.args) q)
-    | inr q ↦ elim (in_either (Destroy k) (makes (made_in m.args)) (destroys m.destroys m.target) q) [ inl r ↦ absurd (of_made (made_in m.args) r) | inr r ↦ of_destroyed m.destroys m.target r ]
+    | inr q ↦ elim (in_either (Destroy k) (makes (made_in m.args)) (destroys m.ends) q) [ inl r ↦ absurd (of_made (made_in m.args) r) | inr r ↦ of_destroyed m.ends r ]
   ]
 ]
   where
@@ -159,19 +159,19 @@ destroy_asked k m i = elim i [
     of_made None j = j
     of_made (Some x) j = elim j [ inl p ↦ cc p | inr p ↦ p ]
 
-    of_destroyed : (b : Bool) (x : Known) → In (Destroy k) (destroys b x) → (b ≡ true) × (x ≡ k)
-    of_destroyed false x j = absurd j
-    of_destroyed true x j = elim j [ inl p ↦ (refl, cc p) | inr p ↦ absurd p ]
+    of_destroyed : (o : Option Known) → In (Destroy k) (destroys o) → o ≡ Some k
+    of_destroyed None j = absurd j
+    of_destroyed (Some x) j = elim j [ inl p ↦ (let e : k ≡ x = cc p in ap Some (sym e)) | inr p ↦ absurd p ]
 
 asked_make : (k : Known) (m : Message Known) → made_in m.args ≡ Some k → In (Make k) (asks m)
 asked_make k m e =
-    inr (in_right (Make k) (map Use (objects m.args)) (makes (made_in m.args) ++ destroys m.destroys m.target)
-    (in_left (Make k) (makes (made_in m.args)) (destroys m.destroys m.target) (subst (λ (o : Option Known). In (Make k) (makes o)) (sym e) (inl refl))))
+    inr (in_right (Make k) (map Use (objects m.args)) (makes (made_in m.args) ++ destroys m.ends)
+    (in_left (Make k) (makes (made_in m.args)) (destroys m.ends) (subst (λ (o : Option Known). In (Make k) (makes o)) (sym e) (inl refl))))
 
-asked_destroy : (m : Message Known) → m.destroys ≡ true → In (Destroy m.target) (asks m)
-asked_destroy m e =
-    inr (in_right (Destroy m.target) (map Use (objects m.args)) (makes (made_in m.args) ++ destroys m.destroys m.target)
-    (in_right (Destroy m.target) (makes (made_in m.args)) (destroys m.destroys m.target) (subst (λ (b : Bool). In (Destroy m.target) (destroys b m.target)) (sym e) (inl refl))))
+asked_destroy : (k : Known) (m : Message Known) → m.ends ≡ Some k → In (Destroy k) (asks m)
+asked_destroy k m e =
+    inr (in_right (Destroy k) (map Use (objects m.args)) (makes (made_in m.args) ++ destroys m.ends)
+    (in_right (Destroy k) (makes (made_in m.args)) (destroys m.ends) (subst (λ (o : Option Known). In (Destroy k) (destroys o)) (sym e) (inl refl))))
 
 -- ---- more of what is read
 
@@ -319,16 +319,16 @@ module _ (p : PairState) (w : World) (asked : List (Message Known)) (told : List
 
   destroy_comes : (k : Known) → In (Destroy k) (all_asks asked) → DestroyComes w k.born
   destroy_comes k h =
-      let a = asks_in (Destroy k) (λ m. (m.destroys ≡ true) × (m.target ≡ k)) (destroy_asked k) asked h in
-      record { request = renamed born_of a.message; there = request_in a.message a.there; destroys = a.is.0; target = ap born_of a.is.1 }
+      let a = asks_in (Destroy k) (λ m. m.ends ≡ Some k) (destroy_asked k) asked h in
+      record { request = renamed born_of a.message; there = request_in a.message a.there; ends = ap (option_map born_of) a.is }
 
   destroy_known : (x : Born) → DestroyComes w x → (k : Known) × (In (Destroy k) (all_asks asked) × (k.born ≡ x))
   destroy_known x h =
       let f = from_map (renamed born_of) h.request asked (subst (In h.request) s.requests h.there) in
       let m = f.it in
-      let d : m.destroys ≡ true = ap (λ (r : Message Born). r.destroys) f.is ∙ h.destroys in
-      let t : m.target.born ≡ x = ap (λ (r : Message Born). r.target) f.is ∙ h.target in
-      (m.target, (in_asks (Destroy m.target) m asked f.there (asked_destroy m d), t))
+      let e : option_map born_of m.ends ≡ Some x = ap (λ (r : Message Born). r.ends) f.is ∙ h.ends in
+      let k = map_some born_of m.ends x e in
+      (k.0, (in_asks (Destroy k.0) m asked f.there (asked_destroy k.0 m k.1), k.2))
 
   -- ---- rows
 
@@ -462,7 +462,7 @@ module _ (p : PairState) (w : World) (asked : List (Message Known)) (told : List
         | inl a ↦ at_name front rest k e b (Name m.target) m.target (inl refl) (tells_in (Name m.target) (Event m) rest i (inl refl)) a
         | inr a ↦ (let f = from_map born_of x (objects m.args) (subst (In x) (objects_map born_of m.args) a) in
             at_name front rest k e b (Name f.it) f.it (inl refl)
-            (tells_in (Name f.it) (Event m) rest i (inr (in_left (Name f.it) (map Name (objects m.args)) (ends m.destroys m.target) (in_map Name f.it (objects m.args) f.there)))) f.is)
+            (tells_in (Name f.it) (Event m) rest i (inr (in_left (Name f.it) (map Name (objects m.args)) (ends m.ends) (in_map Name f.it (objects m.args) f.there)))) f.is)
       ]
       at_coming front rest k e b (delete_of y) i n = at_name front rest k e b (Delete y) y (inr refl) (tells_in (Delete y) (delete_of y) rest i (inl refl)) n
 

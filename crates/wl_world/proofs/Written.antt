@@ -1,6 +1,6 @@
 -- The message of a call that nothing stands against.
 use Rattle.std.proofs.Common.{◌≡◌, ℕ, ◌<◌, ◌≤◌, ◌^◌, Bool, true, false, cond, List, map, ◌⊎◌, inl, inr, refl, sym, ap, subst, ◌∙◌, arith}
-use Rattle.std.specs.Prelude.{option_map, nat_eq, ◌&&◌, ◌||◌, if◌then◌else◌}
+use Rattle.std.specs.Prelude.{option_map, slice_get, nat_eq, ◌&&◌, ◌||◌, if◌then◌else◌}
 use Rattle.std.specs.declared.option.Option.{Option}
 use Rattle.std.specs.declared.option.Option.TheVariants.{None, Some}
 use Rattle.std.specs.declared.result.Result.{Result}
@@ -8,7 +8,12 @@ use Rattle.std.specs.declared.result.Result.TheVariants.{Ok, Err}
 use Rattle.wl_wire.specs.declared.kind.Iface.{Iface}
 use Rattle.wl_sigs.specs.declared.signature.Side.{Side}
 use Rattle.wl_sigs.specs.declared.signature.Side.TheVariants.{Request, Event}
-use Rattle.wl_sigs.specs.Tables.{Interface, destroys_target}
+use Rattle.wl_sigs.specs.Tables.{Interface}
+use Rattle.wl_sigs.specs.declared.signature.Destroys.{Destroys}
+use Rattle.wl_sigs.specs.declared.signature.Destroys.TheVariants.{Nothing, Target, Arg as ends_arg}
+use Rattle.std.proofs.lemmas.Option.{slice_get-map}
+use Rattle.wl_wire.specs.Argument.{Int, Uint, Fixed, Str, Obj, New, NewNamed, Array, Fd}
+use Rattle.wl_world.proofs.Ended.{EndsAs, ends_as}
 use Rattle.wl_sigs.specs.Tables as sigs
 use Rattle.wl_sigs.specs.Valid.{Valid}
 use Rattle.wl_table.specs.declared.object.Object.{Object}
@@ -19,10 +24,10 @@ use Rattle.wl_sigs.specs.Fixed.{display, registry}
 use Rattle.wl_table.specs.View.{View, Sound, next_id, can_open}
 use Rattle.wl_table.specs.Views.{free_is, free_or_next-next_id}
 use Rattle.wl_objects.specs.Writing.{Given, wired, message_len}
-use Rattle.wl_objects.specs.Messages.{Made, made, checked, is_hidden, is_error, is_delete_id, same_iface}
+use Rattle.wl_objects.specs.Messages.{id_named, id_at, ended_id, Made, made, checked, is_hidden, is_error, is_delete_id, same_iface}
 use Rattle.wl_end.specs.Core.{Core}
 use Rattle.wl_end.specs.Sending.{opening_answer, answer_of, send_answer, made_at}
-use Rattle.wl_world.specs.Meant.{Known, Message, Arg, wire, made_in, objects, plain}
+use Rattle.wl_world.specs.Meant.{Known, Message, Arg, wire, made_in, objects, plain, ended_by}
 use Rattle.wl_world.specs.World.{Each, IfThere}
 use Rattle.wl_world.specs.Stands.{Fits}
 use Rattle.wl_world.specs.Runs.{IsGiven}
@@ -44,7 +49,7 @@ the_call core entry target opcode given signature = record {
   target = record { id = target.id; born = plain entry };
   opcode = opcode;
   args = the_args core entry given signature;
-  destroys = destroys_target signature.destroys;
+  ends = ended_by signature.destroys (record { id = target.id; born = plain entry }) (the_args core entry given signature);
 }
 
 pub new_id : (view : View) (o : Option Made) → (new_known view o).id ≡ next_id view
@@ -78,13 +83,14 @@ pub record CallIs (core : Core) (side : Side) (target : Object) (opcode : ℕ) (
   pub new : (made_in (the_args core entry given signature) ≡ None) ⊎ (made_in (the_args core entry given signature) ≡ Some (the_new core entry given signature))
   pub wire_is : map (wired (next_id core.view)) given ≡ map wire (the_args core entry given signature)
   pub live : Each (LiveAt core.view) (objects (the_args core entry given signature))
+  pub short : message_len (map wire (the_args core entry given signature)) ≤ core.outbox.limit.bytes
 
 if_made : (P : Known → Type 0) (o : Option Known) (x : Known) → (o ≡ None) ⊎ (o ≡ Some x) → ((o ≡ None → ⊥) → P x) → IfThere P o
 if_made P None x h f = tt
 if_made P (Some y) x h f = elim h [ inl p ↦ absurd (cc p) | inr p ↦ subst (IfThere P) (sym p) (f (λ e. cc e)) ]
 
 pub call_is : (core : Core) (side : Side) (target : Object) (opcode : ℕ) (given : List Given) (signature : sigs.Message) → Valid core.tables → Sound core.view → Each IsGiven given
-    → (c : Checked core.tables side core.view target opcode given signature) → CallIs core side target opcode given signature c.entry
+    → (c : Checked core.outbox.limit.bytes core.tables side core.view target opcode given signature) → CallIs core side target opcode given signature c.entry
 call_is core side target opcode given signature v s g c =
     let r = all_right core.view 0 signature.kinds given c.suit c.found in
     let mk = the_made core c.entry given signature in
@@ -94,9 +100,10 @@ call_is core side target opcode given signature v s g c =
     let f = free_is core.view (next_id core.view) s (free_or_next-next_id core.view) in
     let low : new.id < 2 ^ 32 = omega (arith, id, f.at_most_next, s.ids_end) in
     let m = matches core.tables core.view c.entry.version (next_id core.view) signature.kinds given r (few_new core.tables v c.entry.iface.0 side opcode signature c.signed) (unnamed_none core.tables v c.entry.iface side opcode signature c.signed c.hidden) in
-    let a = fit_all core.tables core.view new c.entry.version signature.kinds given s low r m g c.len in
+    let a = fit_all core.tables core.view new c.entry.version signature.kinds given s low r m g (omega (arith, c.len, core.outbox.limit.in_range.1)) in
     let w : map wire args ≡ map (wired (next_id core.view)) given = wire_all core.view new given ∙ ap (λ (n : ℕ). map (wired n) given) id in
     let n = new_all core.view new given in
+    let short : message_len (map wire args) ≤ core.outbox.limit.bytes = let e = ap message_len (wire_all core.view new given) in omega (arith, e, len_all new.id given, c.len) in
     let since = v.sinces_in_range.from_one side c.entry.iface.0 opcode signature c.signed in
     record {
       right = r;
@@ -105,8 +112,8 @@ call_is core side target opcode given signature v s g c =
         there = c.signed;
         old_enough = c.old_enough;
         args = a;
-        destroys = refl;
-        len = let e = ap message_len (wire_all core.view new given) in omega (arith, e, len_all new.id given, c.len);
+        ends = refl;
+        len = omega (arith, short, core.outbox.limit.in_range.1);
         low = (row_low core.view target.id c.entry s c.there).1;
         opcode = opcode_low core.tables v c.entry.iface.0 side opcode signature c.signed;
         new_version = if_made (λ x. 1 ≤ x.born.version) (made_in args) new (made_new new args n)
@@ -118,20 +125,55 @@ call_is core side target opcode given signature v s g c =
       new = made_new new args n;
       wire_is = sym w;
       live = all_live core.view new signature.kinds given r;
+      short = short;
     }
+
+-- ---- what a call destroys
+
+at_wired : (n : ℕ) (given : List Given) (k : ℕ) → id_at (map (wired 0) given) k ≡ id_at (map (wired n) given) k
+at_wired n given k = ap id_named (slice_get-map (wired 0) given k) ∙ (one (slice_get given k) ∙ sym (ap id_named (slice_get-map (wired n) given k)))
+  where
+    one : (o : Option Given) → id_named (option_map (wired 0) o) ≡ id_named (option_map (wired n) o)
+    one None = refl
+    one (Some (Int z)) = refl
+    one (Some (Uint z)) = refl
+    one (Some (Fixed z)) = refl
+    one (Some (Str z)) = refl
+    one (Some (Obj None)) = refl
+    one (Some (Obj (Some z))) = refl
+    one (Some (New z)) = refl
+    one (Some (NewNamed name own z)) = refl
+    one (Some (Array z)) = refl
+    one (Some (Fd z)) = refl
+
+ids_wired : (what : Destroys) (id n : ℕ) (given : List Given) → ended_id what id (map (wired 0) given) ≡ ended_id what id (map (wired n) given)
+ids_wired Nothing id n given = refl
+ids_wired Target id n given = refl
+ids_wired (ends_arg k) id n given = at_wired n given k
+
+-- what a call destroys, by its id, is what its message means
+pub call_ends : (core : Core) (side : Side) (target : Object) (opcode : ℕ) (given : List Given) (signature : sigs.Message) → Valid core.tables → (c : Checked core.outbox.limit.bytes core.tables side core.view target opcode given signature)
+    (k : CallIs core side target opcode given signature c.entry) → EndsAs signature.destroys (ended_id signature.destroys target.id (map (wired 0) given)) (the_call core c.entry target opcode given signature).ends
+call_ends core side target opcode given signature v c k =
+    let m = the_call core c.entry target opcode given signature in
+    let there = c.signed in
+    let same : k.fits_it.signature ≡ signature = cc (k.fits_it.there, there) in
+    let ids = ids_wired signature.destroys target.id (next_id core.view) given ∙ ap (ended_id signature.destroys target.id) k.wire_is in
+    subst (λ (n : ℕ). EndsAs signature.destroys n m.ends) (sym ids)
+    (subst (λ (x : sigs.Message). EndsAs x.destroys (ended_id x.destroys target.id (map wire m.args)) m.ends) same (ends_as core.tables side m k.fits_it v))
 
 -- ---- what an accepted call answered
 
 pub record Accepted (core : Core) (side : Side) (target : Object) (opcode : ℕ) (given : List Given) (new : Option Object) : Type 0 where
   pub signature : sigs.Message
-  pub checks : checked core.tables side core.view target opcode given ≡ Ok signature
+  pub checks : checked core.outbox.limit.bytes core.tables side core.view target opcode given ≡ Ok signature
   pub opens_it : opening_answer core (made_at core target signature given) ≡ Ok new
 
 fitting : (b : Bool) (x : Result (Option Object) SendError) (new : Option Object) (why : SendError) → cond b x (Err why) ≡ Ok new → x ≡ Ok new
 fitting true x new why h = h
 fitting false x new why h = absurd (cc h)
 
-accepted_by : (core : Core) (side : Side) (target : Object) (opcode : ℕ) (given : List Given) (new : Option Object) (r : Result sigs.Message SendError) → checked core.tables side core.view target opcode given ≡ r
+accepted_by : (core : Core) (side : Side) (target : Object) (opcode : ℕ) (given : List Given) (new : Option Object) (r : Result sigs.Message SendError) → checked core.outbox.limit.bytes core.tables side core.view target opcode given ≡ r
     → answer_of core side target given r ≡ Ok new → Accepted core side target opcode given new
 accepted_by core side target opcode given new (Err why) e h = absurd (cc h)
 accepted_by core side target opcode given new (Ok signature) e h = record { signature = signature; checks = e; opens_it = fitting _ _ new _ h }
@@ -139,8 +181,8 @@ accepted_by core side target opcode given new (Ok signature) e h = record { sign
 pub accepted_call : (core : Core) (side : Side) (target : Object) (opcode : ℕ) (given : List Given) (new : Option Object) → core.failed ≡ false → send_answer core side target opcode given ≡ Ok new
     → Accepted core side target opcode given new
 accepted_call core side target opcode given new l h =
-    accepted_by core side target opcode given new (checked core.tables side core.view target opcode given) refl
-    (sym (ap (λ (b : Bool). if b then Err refusals.Failed else answer_of core side target given (checked core.tables side core.view target opcode given)) l) ∙ h)
+    accepted_by core side target opcode given new (checked core.outbox.limit.bytes core.tables side core.view target opcode given) refl
+    (sym (ap (λ (b : Bool). if b then Err refusals.Failed else answer_of core side target given (checked core.outbox.limit.bytes core.tables side core.view target opcode given)) l) ∙ h)
 
 -- an opening: it can be opened, and is the next
 pub record Opens (core : Core) (o : Option Made) (new : Option Object) : Type 0 where

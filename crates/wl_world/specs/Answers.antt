@@ -1,14 +1,14 @@
 -- What each move is answered in the world, and what it does there.
-use Rattle.std.specs.Prelude.{◌≡◌, ◌≢◌, ℕ, ◌+◌, ◌<◌, true, false, List, [], ◌∷◌, ◌++◌, length, map, take, Option, Some, None, option_map}
+use Rattle.std.specs.Prelude.{◌≡◌, ◌≢◌, ℕ, ◌+◌, ◌<◌, true, false, List, [], ◌∷◌, ◌++◌, length, map, take, Option, Some, None, is_some, option_map}
 use Rattle.std.specs.declared.result.Result.{Result}
 use Rattle.std.specs.declared.result.Result.TheVariants.{Ok, Err}
 use Rattle.wl_wire.specs.Argument.{reshaped, Uint, NewNamed}
 use Rattle.wl_sigs.specs.declared.signature.Side.{Side}
 use Rattle.wl_sigs.specs.declared.signature.Side.TheVariants.{Request as request_side, Event as event_side}
-use Rattle.wl_sigs.specs.Tables.{Interface, signature_at, destroys_target}
+use Rattle.wl_sigs.specs.Tables.{Interface, signature_at}
 use Rattle.wl_sigs.specs.Tables as sigs
-use Rattle.wl_message.specs.Cut.{usual_limit, front, HasMessage}
-use Rattle.wl_message.specs.Arrived.{Arrived}
+use Rattle.wl_message.specs.Cut.{HasMessage}
+use Rattle.wl_message.specs.Arrived.{Arrived, in_front}
 use Rattle.wl_message.specs.Outgoing.{room_of}
 use Rattle.wl_table.specs.declared.object.Object.{Object}
 use Rattle.wl_objects.specs.declared.argument.Named.{Named}
@@ -24,17 +24,17 @@ use Rattle.wl_server.specs.Requests as requests
 use Rattle.wl_server.specs.Calls.{without_at}
 use Rattle.wl_server.specs.Announcing.{Owing, Due, owed_to, marked_in, opcode_of, values_of}
 use Rattle.wl_recording.specs.Piece.{Piece}
-use Rattle.wl_world.specs.Meant.{Born, Message, Coming, Event, Delete, Arg, rearg, birth_of, made_in, tokens}
+use Rattle.wl_world.specs.Meant.{Born, Message, Coming, Event, Delete, Arg, rearg, birth_of, made_in, ended_by, tokens}
 use Rattle.wl_world.specs.World.{World, Row, Open, Ending, Marks, Deed, WriteRequest, ReadRequest, WriteEvent, Drop, ReadEvent, Steps}
 use Rattle.wl_world.specs.Pair.{PairState, Move, Reply, ClientSend, ClientBind, ServerSend, ServerDrop, PostError, AddGlobal, Withdraw, Announce, CarryToServer, CarryToClient, ClientNext, ServerNext, Does}
 
 -- ---- writes
 
--- whether a message destroys its target, by its signature
+-- what a message destroys, by its signature
 pub record IsMessageOf (tables : List Interface) (side : Side) (m : Message Born) : Type 0 where
   pub signature : sigs.Message
   pub there : signature_at tables m.target.iface.0 side m.opcode ≡ Some signature
-  pub destroys : m.destroys ≡ destroys_target signature.destroys
+  pub ends : m.ends ≡ ended_by signature.destroys m.target m.args
 
 abbrev pub birth_at : Object → ℕ
 birth_at object = object.birth
@@ -147,14 +147,14 @@ ReportsComing w _ report = ⊥
 
 -- no whole message waits
 abbrev pub HasNone : Arrived → Type 0
-HasNone inbox = HasMessage (front usual_limit inbox.bytes) → ⊥
+HasNone inbox = HasMessage (in_front inbox) → ⊥
 
 abbrev pub HasOne : Arrived → Type 0
-HasOne inbox = HasMessage (front usual_limit inbox.bytes)
+HasOne inbox = HasMessage (in_front inbox)
 
 -- a destroying request whose delete has no room
 abbrev pub IsOutFull : PairState → Message Born → Type 0
-IsOutFull p m = (m.destroys ≡ true) × (room_of p.server.core.outbox < delete_id_len)
+IsOutFull p m = (is_some m.ends ≡ true) × (room_of p.server.core.outbox < delete_id_len)
 
 pub record ReadsRequest (tables : List Interface) (p : PairState) (w : World) (report : requests.Report) (w' : World) : Type 0 where
   pub waits : HasOne p.server.core.inbox

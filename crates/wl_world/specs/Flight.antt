@@ -56,21 +56,21 @@ abbrev pub makes : Option Known → List Ask
 makes None = []
 makes (Some x) = Make x ∷ []
 
-abbrev pub destroys : Bool → Known → List Ask
-destroys false x = []
-destroys true x = Destroy x ∷ []
+abbrev pub destroys : Option Known → List Ask
+destroys None = []
+destroys (Some x) = Destroy x ∷ []
 
-abbrev pub ends : Bool → Known → List Tell
-ends false x = []
-ends true x = End x ∷ []
+abbrev pub ends : Option Known → List Tell
+ends None = []
+ends (Some x) = End x ∷ []
 
 -- a request uses its target and its objects, then makes, then destroys
 abbrev pub asks : Message Known → List Ask
-asks m = Use m.target ∷ (map Use (objects m.args) ++ (makes (made_in m.args) ++ destroys m.destroys m.target))
+asks m = Use m.target ∷ (map Use (objects m.args) ++ (makes (made_in m.args) ++ destroys m.ends))
 
 -- an event names its target and its objects, then ends its target
 abbrev pub tells : Coming Known → List Tell
-tells (Event m) = Name m.target ∷ (map Name (objects m.args) ++ ends m.destroys m.target)
+tells (Event m) = Name m.target ∷ (map Name (objects m.args) ++ ends m.ends)
 tells (delete_of x) = Delete x ∷ []
 
 abbrev pub all_asks : List (Message Known) → List Ask

@@ -1,6 +1,8 @@
 -- Messages as they are meant: by the objects that they name, and not by ids alone.
-use Rattle.std.specs.Prelude.{ℕ, Bool, List, [], ◌∷◌, ◌++◌, map, Option, Some, None, option_map}
+use Rattle.std.specs.Prelude.{ℕ, zero, suc, List, [], ◌∷◌, ◌++◌, map, Option, Some, None, option_map}
 use Rattle.wl_wire.specs.declared.kind.Iface.{Iface}
+use Rattle.wl_sigs.specs.declared.signature.Destroys.{Destroys}
+use Rattle.wl_sigs.specs.declared.signature.Destroys.TheVariants.{Nothing, Target, Arg as ends_arg}
 use Rattle.wl_wire.specs.Argument.{Argument, Shape, reshaped, Uint, Obj, New, NewNamed, Fd}
 use Rattle.wl_table.specs.declared.object.Entry.{Entry}
 use Rattle.wl_table.specs.declared.object.State.TheVariants as states
@@ -22,12 +24,12 @@ pub record Known : Type 0 where
 abbrev pub Arg : Type 0 → Type 0
 Arg O = Shape (Option O) O ℕ
 
--- a message: the object that it is for, its opcode, its arguments, and whether it destroys the object that it is for
+-- a message: the object that it is for, its opcode, its arguments, and the object that it destroys, if it destroys one
 pub record Message (O : Type 0) : Type 0 where
   pub target : O
   pub opcode : ℕ
   pub args : List (Arg O)
-  pub destroys : Bool
+  pub ends : Option O
 
 -- what comes to the client: an event, or the delete of an object
 pub data Coming (O : Type 0) : Type 0 where
@@ -40,7 +42,7 @@ abbrev pub rearg : {A B : Type 0} → (A → B) → Arg A → Arg B
 rearg f a = reshaped (option_map f) f (λ t. t) a
 
 abbrev pub renamed : {A B : Type 0} → (A → B) → Message A → Message B
-renamed f m = record { target = f m.target; opcode = m.opcode; args = map (rearg f) m.args; destroys = m.destroys }
+renamed f m = record { target = f m.target; opcode = m.opcode; args = map (rearg f) m.args; ends = option_map f m.ends }
 
 abbrev pub recoming : {A B : Type 0} → (A → B) → Coming A → Coming B
 recoming f (Event m) = Event (renamed f m)
@@ -62,6 +64,19 @@ object_in _ = []
 abbrev pub objects : {O : Type 0} → List (Arg O) → List O
 objects [] = []
 objects (a ∷ more) = object_in a ++ objects more
+
+-- the object that the argument at a place names
+abbrev pub object_at : {O : Type 0} → List (Arg O) → ℕ → Option O
+object_at [] place = None
+object_at (Obj (Some x) ∷ more) zero = Some x
+object_at (_ ∷ more) zero = None
+object_at (a ∷ more) (suc place) = object_at more place
+
+-- the object that a message destroys, by its signature
+abbrev pub ended_by : {O : Type 0} → Destroys → O → List (Arg O) → Option O
+ended_by Nothing target args = None
+ended_by Target target args = Some target
+ended_by (ends_arg place) target args = object_at args place
 
 -- the object that an argument makes
 abbrev pub new_in : {O : Type 0} → Arg O → Option O

@@ -168,12 +168,12 @@ pub data Carries (taken : Taken) (before after : PairState) : Carried → PairSt
 -- What both ends answer to a move, and leave.
 abbrev pub Does : PairState → Move → Reply → PairState → Type 0
 Does p (ClientSend target opcode given) (ClientSend reply) p' =
-    Writes (send_answer p.client.core Request target opcode given) (opens_object (checked p.client.core.tables Request p.client.core.view target opcode given))
+    Writes (send_answer p.client.core Request target opcode given) (opens_object (checked p.client.core.outbox.limit.bytes p.client.core.tables Request p.client.core.view target opcode given))
     p (with_client_core p (after_send p.client.core Request target opcode given)) reply p'
 Does p (ClientBind target name iface version) (ClientBind reply) p' =
     Writes (bind_answer p.client target name iface version) true p (with_client p (after_bind p.client target name iface version)) reply p'
 Does p (ServerSend target opcode given) (ServerSend reply) p' =
-    Writes (send_answer p.server.core Event target opcode given) (opens_object (checked p.server.core.tables Event p.server.core.view target opcode given))
+    Writes (send_answer p.server.core Event target opcode given) (opens_object (checked p.server.core.outbox.limit.bytes p.server.core.tables Event p.server.core.view target opcode given))
     p (with_server_core p (after_send p.server.core Event target opcode given)) reply p'
 Does p (ServerDrop object) (ServerDrop reply) p' = Calls (drop_refusal p.server.core object) p (with_server_core p (after_drop p.server.core object)) reply p'
 Does p (PostError object code text) (PostError reply) p' =

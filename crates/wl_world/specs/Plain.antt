@@ -42,8 +42,7 @@ pub record MakeComes (w : World) (x : Born) : Type 0 where
 pub record DestroyComes (w : World) (x : Born) : Type 0 where
   pub request : Message Born
   pub there : In request w.requests
-  pub destroys : request.destroys ≡ true
-  pub target : request.target ≡ x
+  pub ends : request.ends ≡ Some x
 
 -- its delete is on the way, it is open at the server, or it is made on the way
 abbrev pub IsSomewhere : World → Born → Type 0

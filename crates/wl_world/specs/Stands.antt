@@ -6,11 +6,11 @@ use Rattle.wl_wire.specs.Argument.{Uint, Str, Obj, New, NewNamed}
 use Rattle.wl_wire.specs.Spelling.{Suits}
 use Rattle.wl_sigs.specs.declared.signature.Side.{Side}
 use Rattle.wl_sigs.specs.declared.signature.Side.TheVariants.{Request as request_side, Event as event_side}
-use Rattle.wl_sigs.specs.Tables.{Interface, signature_at, interface_at, place_of, destroys_target}
+use Rattle.wl_sigs.specs.Tables.{Interface, signature_at, interface_at, place_of}
 use Rattle.wl_sigs.specs.Tables as sigs
 use Rattle.wl_sigs.specs.Fixed.{registry}
 use Rattle.wl_sigs.specs.Valid.{Valid}
-use Rattle.wl_message.specs.Cut.{usual_limit, IsMessage}
+use Rattle.wl_message.specs.Cut.{IsMessage, greatest_limit}
 use Rattle.wl_message.specs.Arrived.{Arrived}
 use Rattle.wl_message.specs.Outgoing as boxes
 use Rattle.wl_message.specs.Outgoing.{Outgoing, all_bytes, all_tokens}
@@ -23,10 +23,10 @@ use Rattle.wl_objects.specs.Messages.{made_by, is_error, is_delete_id, is_bind, 
 use Rattle.wl_server.specs.State as server
 use Rattle.wl_server.specs.State.{global_of, max_globals}
 use Rattle.wl_server.specs.Registries.{HasRegistries}
-use Rattle.wl_server.specs.Requests.{bind_fits}
+use Rattle.wl_server.specs.Requests.{can_bind}
 use Rattle.wl_server.specs.Calls.{ends_by_event, can_be_global}
 use Rattle.wl_server.specs.Announcing.{name_at}
-use Rattle.wl_world.specs.Meant.{Born, Known, Message, Coming, Event, Delete, Arg, renamed, recoming, born_of, birth_of, made_in, new_in, wire, spelled, spelled_coming, live_entry}
+use Rattle.wl_world.specs.Meant.{Born, Known, Message, Coming, Event, Delete, Arg, renamed, recoming, born_of, birth_of, made_in, new_in, ended_by, wire, spelled, spelled_coming, live_entry}
 use Rattle.wl_world.specs.World.{World, display_born, Row, Open, Ending, Each, IfThere}
 use Rattle.wl_world.specs.Pair.{PairState}
 use Rattle.wl_world.specs.Answers.{NotEnded, marks_of}
@@ -57,7 +57,7 @@ pub record InFlight (from : Outgoing) (to : Arrived) (messages : List boxes.Mess
   pub all : messages ≡ begun ++ from.messages
   pub bytes : to.bytes ++ from.left ≡ all_bytes begun
   pub tokens : to.tokens ≡ all_tokens begun
-  pub whole : Each (λ m. IsMessage usual_limit m.bytes) messages
+  pub whole : Each (λ m. IsMessage to.limit.bytes m.bytes) messages
 
 -- An argument fits its kind: its value is one of the kind, an object is of the interface that the kind asks for, and a new object is
 -- as its maker, of this version, makes it.
@@ -73,14 +73,15 @@ AreOf tables version [] [] = Unit {0}
 AreOf tables version (kind ∷ kinds) (a ∷ args) = (Suits kind (wire a) × NamesRightly tables version kind a) × AreOf tables version kinds args
 AreOf tables version _ _ = ⊥
 
--- A message in flight fits a signature of its target's interface and version, and is no wl_display.error.
+-- A message in flight fits a signature of its target's interface and version, and is no wl_display.error. Its size can be told in a
+-- header; that it is within the limit stands at what is in flight.
 pub record Fits (tables : List Interface) (side : Side) (m : Message Known) : Type 0 where
   pub signature : sigs.Message
   pub there : signature_at tables m.target.born.iface.0 side m.opcode ≡ Some signature
   pub old_enough : signature.since ≤ m.target.born.version
   pub args : AreOf tables m.target.born.version signature.kinds m.args
-  pub destroys : m.destroys ≡ destroys_target signature.destroys
-  pub len : message_len (map wire m.args) ≤ 4096
+  pub ends : m.ends ≡ ended_by signature.destroys m.target m.args
+  pub len : message_len (map wire m.args) ≤ greatest_limit
   pub low : m.target.id ≤ max_ids
   pub opcode : m.opcode < 65536
   pub new_version : IfThere (λ x. 1 ≤ x.born.version) (made_in m.args)
@@ -94,10 +95,10 @@ BeginsWithDelete x [] = ⊥
 BeginsWithDelete x (Event m ∷ coming) = ⊥
 BeginsWithDelete x (Delete y ∷ coming) = y ≡ x
 
--- each destroying event is directly followed by its target's delete
+-- each event that destroys an object is directly followed by that object's delete
 abbrev pub DeletesFollow : List (Coming Known) → Type 0
 DeletesFollow [] = Unit {0}
-DeletesFollow (Event m ∷ coming) = (m.destroys ≡ true → BeginsWithDelete m.target coming) × DeletesFollow coming
+DeletesFollow (Event m ∷ coming) = IfThere (λ x. BeginsWithDelete x coming) m.ends × DeletesFollow coming
 DeletesFollow (Delete x ∷ coming) = DeletesFollow coming
 
 -- ---- globals
@@ -125,7 +126,7 @@ pub record BindsGiven (tables : List Interface) (given : List server.Global) (ar
   pub version : ℕ
   pub new : Known
   pub args_are : args ≡ Uint name ∷ NewNamed iface version new ∷ []
-  pub was_given : bind_fits tables iface version (global_of given name) ≡ true
+  pub was_given : can_bind tables iface version (global_of given name) ≡ true
 
 pub record AsksFitly (tables : List Interface) (given : List server.Global) (m : Message Known) : Type 0 where
   pub fits : Fits tables request_side m
@@ -173,6 +174,10 @@ pub record StandsBy (p : PairState) (w : World) (asked : List (Message Known)) (
   pub events : w.events ≡ map (recoming born_of) told
   pub to_server : InFlight p.client.core.outbox p.server.core.inbox (map spelled asked)
   pub to_client : InFlight p.server.core.outbox p.client.core.inbox (map spelled_coming told)
+  -- both ends go by one limit
+  pub up_limit : p.client.core.outbox.limit.bytes ≡ p.server.core.inbox.limit.bytes
+  pub down_limit : p.server.core.outbox.limit.bytes ≡ p.client.core.inbox.limit.bytes
+  pub one_limit : p.client.core.inbox.limit.bytes ≡ p.server.core.inbox.limit.bytes
   -- each fits a signature; each bind and each global told is of a global that was given
   pub asked_fit : Each (AsksFitly p.server.core.tables p.server.globals) asked
   pub told_fit : Each (ComesFitly p.server.core.tables p.server.globals) told

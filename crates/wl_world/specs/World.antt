@@ -70,19 +70,19 @@ abbrev pub same : Born → Born
 same x = x
 
 -- from open to ending
-abbrev pub ending : Bool → Born → (ℕ → Option Row) → ℕ → Option Row
-ending false x client = client
-ending true x client = put client x.birth (Some (Ending x))
+abbrev pub ending : Option Born → (ℕ → Option Row) → ℕ → Option Row
+ending None client = client
+ending (Some x) client = put client x.birth (Some (Ending x))
 
 -- no longer there
-abbrev pub gone : {X : Type 0} → Bool → Born → (ℕ → Option X) → ℕ → Option X
-gone false x sets = sets
-gone true x sets = put sets x.birth None
+abbrev pub gone : {X : Type 0} → Option Born → (ℕ → Option X) → ℕ → Option X
+gone None sets = sets
+gone (Some x) sets = put sets x.birth None
 
 -- the delete that goes with the end of an object
-abbrev pub delete : {O : Type 0} → Bool → O → List (Coming O)
-delete false x = []
-delete true x = Delete x ∷ []
+abbrev pub delete : {O : Type 0} → Option O → List (Coming O)
+delete None = []
+delete (Some x) = Delete x ∷ []
 
 abbrev pub counted : {O : Type 0} → Option O → ℕ → ℕ
 counted None births = births
@@ -104,6 +104,11 @@ marks_birth r = r.birth
 abbrev pub registries_after : Option Born → List Marks → List Marks
 registries_after None registries = registries
 registries_after (Some x) registries = with_registry x.iface (untold x) registries
+
+-- a registry that is closed is owed nothing
+abbrev pub registries_without : Option Born → List Marks → List Marks
+registries_without None registries = registries
+registries_without (Some x) registries = without_registry marks_birth true x.birth registries
 
 -- ---- what the client learns of globals
 
@@ -133,28 +138,28 @@ abbrev pub request_written : World → Message Born → World
 request_written w m = record w {
   births = counted (made_in m.args) w.births;
   requests = w.requests ++ m ∷ [];
-  client = ending m.destroys m.target (born_into Open (made_in m.args) w.client);
+  client = ending m.ends (born_into Open (made_in m.args) w.client);
 }
 
 abbrev pub request_read : World → Message Born → List (Message Born) → World
 request_read w m rest = record w {
   requests = rest;
-  events = w.events ++ delete m.destroys m.target;
-  server = gone m.destroys m.target (born_into same (made_in m.args) w.server);
-  registries = without_registry marks_birth m.destroys m.target.birth (registries_after (made_in m.args) w.registries);
+  events = w.events ++ delete m.ends;
+  server = gone m.ends (born_into same (made_in m.args) w.server);
+  registries = registries_without m.ends (registries_after (made_in m.args) w.registries);
 }
 
 abbrev pub event_written : World → Message Born → World
 event_written w m = record w {
-  events = w.events ++ (Event m ∷ delete m.destroys m.target);
-  server = gone m.destroys m.target w.server;
+  events = w.events ++ (Event m ∷ delete m.ends);
+  server = gone m.ends w.server;
 }
 
 abbrev pub dropped : World → Born → World
 dropped w x = record w { events = w.events ++ Delete x ∷ []; server = put w.server x.birth None }
 
 abbrev pub event_read : List Interface → World → Message Born → List (Coming Born) → World
-event_read tables w m rest = record w { events = rest; client = ending m.destroys m.target w.client; remembered = learned tables w.client m w.remembered }
+event_read tables w m rest = record w { events = rest; client = ending m.ends w.client; remembered = learned tables w.client m w.remembered }
 
 abbrev pub delete_read : World → Born → List (Coming Born) → World
 delete_read w x rest = record w { events = rest; client = put w.client x.birth None }

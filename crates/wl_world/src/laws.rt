@@ -15,12 +15,13 @@ ghost use Rattle.wl_world.specs.World.{World, opening, Each, Ending, IsOpen, IsT
 ghost use Rattle.wl_world.specs.Pair.{PairState, Move, Reply, Does, new_pair, drained, carries, carried_bytes, carried_tokens, all_of};
 ghost use Rattle.wl_world.specs.Stands.{Stands, by_event};
 ghost use Rattle.wl_world.specs.Runs.{Runs, DoesAll, IsMove, Agree, Keeps};
-ghost use Rattle.wl_world.specs.Samples.{CallbackLives, DeadArgument};
+ghost use Rattle.wl_world.specs.Samples.{CallbackLives, DeadArgument, DeadRegistry};
 ghost use Rattle.wl_world.specs.Plain.{StandsIn, OfEach, OnTheWay, IsUnnamed, IsNowhere, IsHeld, IsSomewhere, DeleteComes, MakeComes, DestroyComes, IsLast, IsTold, IdsAreOf, BirthsAreOf};
 
-/// A new pair stands for the opening world.
+/// A new pair with one limit stands for the opening world.
 pub fn new_stands()
-    ensures { (tables : List Interface) (client server : Sizes) → Valid tables
+    ensures { (tables : List Interface) (client server : Sizes)
+        → client.limit.bytes ≡ server.limit.bytes → Valid tables
         → Stands (new_pair tables client server) opening }
 {}
 
@@ -175,4 +176,11 @@ pub fn callback_lives()
 /// with the object dead.
 pub fn dead_argument()
     ensures { (tables : List Interface) → DeadArgument tables }
+{}
+
+/// A history that there is: a registry is destroyed by wl_fixes while a `global` is on its way to it.
+/// The event is discarded and teaches nothing, the registry is owed nothing any more, and its delete
+/// follows.
+pub fn dead_registry()
+    ensures { (tables : List Interface) → DeadRegistry tables }
 {}

@@ -7,7 +7,7 @@ use Rattle.wl_check.proofs.frames.cut_on.Given as goal
 abbrev pub invariant-messages : goal.invariant-messages
 invariant-messages g l = record {
   within : l.place ≤ length l.bytes;
-  left : Left l.frames.items (cutting (length l.bytes) l.bytes l.place) l.direction l.tokens (l.initial.frames.items ++ map (framed l.direction l.tokens) (cutting (length l.bytes) l.bytes l.from).marks) (cutting (length l.bytes) l.bytes l.from);
+  left : Left l.frames.items (cutting l.limit.bytes (length l.bytes) l.bytes l.place) l.direction l.tokens (l.initial.frames.items ++ map (framed l.direction l.tokens) (cutting l.limit.bytes (length l.bytes) l.bytes l.from).marks) (cutting l.limit.bytes (length l.bytes) l.bytes l.from);
 }
 
 abbrev pub decreases-messages : goal.decreases-messages

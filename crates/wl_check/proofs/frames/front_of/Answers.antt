@@ -3,13 +3,13 @@ use Rattle.wl_check.proofs.Cutting.{front_short, front_bad, front_long, front_go
 use Rattle.wl_check.proofs.frames.front_of.Goals as goal
 
 pub returns-then-bytes-lt8 : goal.returns-then-bytes-lt8
-returns-then-bytes-lt8 c = front_short c.args.bytes.now (omega arith)
+returns-then-bytes-lt8 c = front_short c.args.limit.bytes c.args.bytes.now (omega arith)
 
-pub returns-then-not-is_size : goal.returns-then-not-is_size
-returns-then-not-is_size c = front_bad c.args.bytes.now _ c.header_of-size.ensures.size (omega arith) (cc)
+pub returns-then-not-allows : goal.returns-then-not-allows
+returns-then-not-allows c = front_bad c.args.limit.bytes c.args.bytes.now _ c.header_of-size.ensures.size (omega arith) (cc)
 
 pub returns-then-bytes-size : goal.returns-then-bytes-size
-returns-then-bytes-size c = front_long c.args.bytes.now _ c.header_of-size.ensures.size (omega arith) (cc) (omega arith)
+returns-then-bytes-size c = front_long c.args.limit.bytes c.args.bytes.now _ c.header_of-size.ensures.size (omega arith) (cc) (omega arith)
 
 pub returns : goal.returns
-returns c = front_good c.args.bytes.now _ c.header_of-size.ensures.size (omega arith) (cc) (omega arith)
+returns c = front_good c.args.limit.bytes c.args.bytes.now _ c.header_of-size.ensures.size (omega arith) (cc) (omega arith)

@@ -33,14 +33,14 @@ pieces-preserved g c =
     let is : slice_get ps k ≡ Some p = read_mapped plain c.args.pieces.now k _ c.piece-item.result c.pieces-test.true c.piece-item.is in
     elim c.match-piece.branch [
       | in-ToServer+in_ok-feed-in-ToServer w ↦ record {
-        server = rw w.to_server-is (fed_own ToServer ps k p c.pieces.to_server w.feed.new.stream is w.in-ToServer.is w.in_ok-feed-in-ToServer.ensures.few i.server w.in_ok-feed-in-ToServer.ensures.cut w.in_ok-feed-in-ToServer.ensures.bytes w.in_ok-feed-in-ToServer.ensures.tokens);
-        client = rw w.to_client-is (fed_other ToClient ps k p c.pieces.to_client is (rw w.in-ToServer.is refl) i.client);
-        frames_are = rw w.frames-is (frames_more ToServer ps k p c.pieces.to_server c.pieces.frames.items w.feed.new.frames.items is w.in-ToServer.is i.server i.frames_are w.in_ok-feed-in-ToServer.ensures.frames);
+        server = rw w.to_server-is (fed_own c.args.limit.bytes ToServer ps k p c.pieces.to_server w.feed.new.stream is w.in-ToServer.is w.in_ok-feed-in-ToServer.ensures.few i.server w.in_ok-feed-in-ToServer.ensures.cut w.in_ok-feed-in-ToServer.ensures.bytes w.in_ok-feed-in-ToServer.ensures.tokens);
+        client = rw w.to_client-is (fed_other c.args.limit.bytes ToClient ps k p c.pieces.to_client is (rw w.in-ToServer.is refl) i.client);
+        frames_are = rw w.frames-is (frames_more c.args.limit.bytes ToServer ps k p c.pieces.to_server c.pieces.frames.items w.feed.new.frames.items is w.in-ToServer.is i.server i.frames_are w.in_ok-feed-in-ToServer.ensures.frames);
       }
       | in-ToClient+in_ok-feed-in-ToClient w ↦ record {
-        server = rw w.to_server-is (fed_other ToServer ps k p c.pieces.to_server is (rw w.in-ToClient.is refl) i.server);
-        client = rw w.to_client-is (fed_own ToClient ps k p c.pieces.to_client w.feed-in-ToClient.new.stream is w.in-ToClient.is w.in_ok-feed-in-ToClient.ensures.few i.client w.in_ok-feed-in-ToClient.ensures.cut w.in_ok-feed-in-ToClient.ensures.bytes w.in_ok-feed-in-ToClient.ensures.tokens);
-        frames_are = rw w.frames-is (frames_more ToClient ps k p c.pieces.to_client c.pieces.frames.items w.feed-in-ToClient.new.frames.items is w.in-ToClient.is i.client i.frames_are w.in_ok-feed-in-ToClient.ensures.frames);
+        server = rw w.to_server-is (fed_other c.args.limit.bytes ToServer ps k p c.pieces.to_server is (rw w.in-ToClient.is refl) i.server);
+        client = rw w.to_client-is (fed_own c.args.limit.bytes ToClient ps k p c.pieces.to_client w.feed-in-ToClient.new.stream is w.in-ToClient.is w.in_ok-feed-in-ToClient.ensures.few i.client w.in_ok-feed-in-ToClient.ensures.cut w.in_ok-feed-in-ToClient.ensures.bytes w.in_ok-feed-in-ToClient.ensures.tokens);
+        frames_are = rw w.frames-is (frames_more c.args.limit.bytes ToClient ps k p c.pieces.to_client c.pieces.frames.items w.feed-in-ToClient.new.frames.items is w.in-ToClient.is i.client i.frames_are w.in_ok-feed-in-ToClient.ensures.frames);
       }
     ]
 
@@ -52,7 +52,7 @@ returns g c =
     let i = c.pieces.invariant in
     let ps = map plain c.args.pieces.now in
     let done : length c.args.pieces.now ≤ c.pieces.piece-index = omega arith in
-    let f = i.frames_are ∙ all_merged plain c.args.pieces.now c.pieces.piece-index done c.pieces.auto.piece-index-end in
-    let a = all_fed plain ToServer c.args.pieces.now c.pieces.piece-index c.pieces.to_server done i.server in
-    let b = all_fed plain ToClient c.args.pieces.now c.pieces.piece-index c.pieces.to_client done i.client in
-    session_is (map plain c.args.pieces.now) (record { frames = c.pieces.frames; to_server = c.pieces.to_server.bytes; to_client = c.pieces.to_client.bytes }) f a b
+    let f = i.frames_are ∙ all_merged c.args.limit.bytes plain c.args.pieces.now c.pieces.piece-index done c.pieces.auto.piece-index-end in
+    let a = all_fed c.args.limit.bytes plain ToServer c.args.pieces.now c.pieces.piece-index c.pieces.to_server done i.server in
+    let b = all_fed c.args.limit.bytes plain ToClient c.args.pieces.now c.pieces.piece-index c.pieces.to_client done i.client in
+    session_is (map plain c.args.pieces.now) (record { frames = c.pieces.frames; to_server = c.pieces.to_server.bytes; to_client = c.pieces.to_client.bytes; limit = c.args.limit }) f a b

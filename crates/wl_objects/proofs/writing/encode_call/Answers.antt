@@ -9,3 +9,8 @@ append-requires-clause-room g c =
     let at = len-at c.args.new_id c.arguments.arg-index c.args.args.now (Int (pos 0)) c.arguments-test.true in
     let least : 8 ≤ message_len (on_wire c.args.new_id (drop (c.arguments.arg-index + 1) c.args.args.now)) = len-least _ in
     rw c.wired.ensures (omega (arith, at, least, c.start.ensures.capacity))
+
+pub start-requires-clause-room : goal.start-requires-clause-room
+start-requires-clause-room g c =
+    let least : 8 ≤ message_len (on_wire c.args.new_id c.args.args.now) = len-least _ in
+    omega (arith, least, c.requires.len, c.requires.room)

@@ -5,7 +5,7 @@ use Rattle.wl_objects.proofs.writing.encode_call.Given as goal
 abbrev pub invariant-arguments : goal.invariant-arguments
 invariant-arguments g l = record {
   fits : EachFits (on_wire l.new_id (drop l.arg-index l.args));
-  len : vec_len l.store + message_len (on_wire l.new_id (drop l.arg-index l.args)) ≤ 4104;
+  len : vec_len l.store + message_len (on_wire l.new_id (drop l.arg-index l.args)) ≤ l.len + 8;
   message : l.store.items ++ spelled (on_wire l.new_id (drop l.arg-index l.args)) ≡ message_bytes l.object l.opcode (on_wire l.new_id l.args);
   room : vec_capacity l.initial.store ≤ vec_capacity l.store;
   old : vec_capacity l.fn.store ≤ vec_capacity l.initial.store;

@@ -4,4 +4,4 @@ use Rattle.wl_objects.proofs.writing.message_len.Given as goal
 
 -- what is counted, and what is left to count, which ends with the 8 bytes of the header
 abbrev pub invariant-arguments : goal.invariant-arguments
-invariant-arguments l = (l.len ≤ 4096) × (l.len + message_len (on_wire 0 (drop l.arg-index l.args)) ≡ message_len (on_wire 0 l.args) + 8)
+invariant-arguments l = (l.len ≤ l.limit) × (l.len + message_len (on_wire 0 (drop l.arg-index l.args)) ≡ message_len (on_wire 0 l.args) + 8)

@@ -1,11 +1,17 @@
-use Rattle.std.proofs.Common.{ℕ, List, subst, ap, ◌∙◌}
+use Rattle.std.proofs.Common.{ℕ, List, subst, ap, ◌∙◌, arith}
 use Rattle.wl_objects.specs.Writing.{global_values, message_bytes}
 use Rattle.wl_end.specs.Core.{Core}
+use Rattle.wl_end.proofs.Messages.{whole}
 use Rattle.wl_server.specs.State.{Global}
 use Rattle.wl_server.specs.Announcing.{Telling}
 use Rattle.wl_server.specs.Tellings.{IsWritten}
 use Rattle.wl_server.proofs.Tells.{push-written}
 use Rattle.wl_server.proofs.announce.write_global.Goals as goal
+
+pub push-requires : goal.push-requires
+push-requires g c =
+    rw (c.deref.ensures.value, c.encode_global.ensures.message)
+    (whole c.core.inside.outbox.limit c.args.registry 0 (global_values c.args.name _ c.global.inside.version) (omega arith) (omega (arith, c.name_at-iface.ensures.short)))
 
 pub returns : goal.returns
 returns g c =

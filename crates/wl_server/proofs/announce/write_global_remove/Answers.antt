@@ -1,9 +1,16 @@
-use Rattle.std.proofs.Common.{subst, ◌∙◌}
+use Rattle.std.proofs.Common.{[], ◌∷◌, subst, ◌∙◌, arith}
+use Rattle.wl_wire.specs.Argument.{Uint}
 use Rattle.wl_end.specs.Core.{Core}
+use Rattle.wl_end.proofs.Messages.{whole}
 use Rattle.wl_server.specs.Announcing.{Removal}
 use Rattle.wl_server.specs.Tellings.{IsWritten}
 use Rattle.wl_server.proofs.Tells.{push-written}
 use Rattle.wl_server.proofs.announce.write_global_remove.Goals as goal
+
+pub push-requires : goal.push-requires
+push-requires g c =
+    rw (c.deref.ensures.value, c.encode_number.ensures.message)
+    (whole c.core.inside.outbox.limit c.args.registry 1 (Uint c.args.name ∷ []) (omega arith) (omega arith))
 
 pub returns : goal.returns
 returns g c =

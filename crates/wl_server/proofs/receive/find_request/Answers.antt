@@ -1,6 +1,6 @@
 use Rattle.std.proofs.Common.{ℕ, Ok, Err, subst, sym, ◌∙◌, ap, Some}
 use Rattle.std.specs.Prelude.{◌&&◌, nat_lt}
-use Rattle.wl_sigs.specs.Tables.{destroys_target}
+use Rattle.wl_sigs.specs.Tables.{destroys_one}
 use Rattle.wl_objects.specs.declared.error.NextError.TheVariants.{Fault, OutFull}
 use Rattle.wl_objects.specs.declared.error.Fault.TheVariants.{BadBind}
 use Rattle.wl_objects.specs.Messages.{reader_of}
@@ -35,7 +35,7 @@ returns-then-lacks_room-clause-answer g c =
     let stands = stands_by core c.in-Ok-Some.field-0 frame c.in-Ok-Some.field-0-is c.in-Ok-Some.ensures.tells c.receive.ensures.header in
     subst (λ (k : Core). Answers k c.args.globals.now (Err OutFull)) c.core.view_is
     (answers_full core c.args.globals.now frame.header frame.body.now frame.tokens (message_of c.in-Ok.received) stands c.in-Ok.ensures.answer (sym c.is_bad_bind.ensures ∙ c.if-is_bad_bind.false)
-    (ap (λ (n : ℕ). destroys_target c.in-Ok.received.signature.now.destroys && nat_lt n delete_id_len) (sym c.room-room.ensures.room) ∙ (sym c.lacks_room.ensures ∙ c.if-lacks_room.true)))
+    (ap (λ (n : ℕ). destroys_one c.in-Ok.received.signature.now.destroys && nat_lt n delete_id_len) (sym c.room-room.ensures.room) ∙ (sym c.lacks_room.ensures ∙ c.if-lacks_room.true)))
 
 pub returns-clause-answer : goal.returns-clause-answer
 returns-clause-answer g c =
@@ -49,7 +49,7 @@ returns-clause-answer g c =
     (subst (λ (n : ℕ). Answers core c.args.globals.now (Ok (Some (pending_in core (pending_of core.tables n frame.header m c.in-Ok.received.args))))) (sym c.births-birth.ensures)
     (answers_ok core c.args.globals.now frame.header frame.body.now frame.tokens m c.in-Ok.received.args stands c.in-Ok.ensures.answer
     (sym c.is_bad_bind.ensures ∙ c.if-is_bad_bind.false)
-    (ap (λ (n : ℕ). destroys_target c.in-Ok.received.signature.now.destroys && nat_lt n delete_id_len) (sym c.room-room.ensures.room) ∙ (sym c.lacks_room.ensures ∙ c.if-lacks_room.false))
+    (ap (λ (n : ℕ). destroys_one c.in-Ok.received.signature.now.destroys && nat_lt n delete_id_len) (sym c.room-room.ensures.room) ∙ (sym c.lacks_room.ensures ∙ c.if-lacks_room.false))
     args)))
 
 pub returns-clause-can : goal.returns-clause-can
@@ -61,5 +61,5 @@ returns-clause-can g c =
     subst (λ (k : Core). CanTake k (pending_in k c.pending_of.result)) c.core.view_is
     (subst (λ p. CanTake core (pending_in core p)) (sym c.pending_of.ensures)
     (subst (λ (n : ℕ). CanTake core (pending_in core (pending_of core.tables n frame.header m c.in-Ok.received.args))) (sym c.births-birth.ensures)
-    (can_take core frame.header frame.body.now frame.tokens m c.in-Ok.received.args c.in-Ok.ensures.valid c.core.invariant.display stands c.in-Ok.ensures.answer
-    (ap (λ (n : ℕ). destroys_target c.in-Ok.received.signature.now.destroys && nat_lt n delete_id_len) (sym c.room-room.ensures.room) ∙ (sym c.lacks_room.ensures ∙ c.if-lacks_room.false)))))
+    (can_take core frame.header frame.body.now frame.tokens m c.in-Ok.received.args c.in-Ok.ensures.valid c.core.invariant.display stands c.in-Ok.ensures.answer c.in-Ok.ensures.args
+    (ap (λ (n : ℕ). destroys_one c.in-Ok.received.signature.now.destroys && nat_lt n delete_id_len) (sym c.room-room.ensures.room) ∙ (sym c.lacks_room.ensures ∙ c.if-lacks_room.false)))))

@@ -10,7 +10,7 @@ use Rattle.wl_end.proofs.shared.Core.write_bind.Goals as goal
 pub add-requires-clause-whole : goal.add-requires-clause-whole
 add-requires-clause-whole g c =
     rw (c.deref.ensures.value, c.encode_bind.ensures.message)
-    (whole c.args.registry 0 (bind_values c.args.name c.args.iface.now c.args.version c.args.id) (omega arith) c.requires.len)
+    (whole c.self.inside.outbox.limit c.args.registry 0 (bind_values c.args.name c.args.iface.now c.args.version c.args.id) (omega arith) c.requires.len)
 
 pub add-requires-clause-room : goal.add-requires-clause-room
 add-requires-clause-room g c =

@@ -1,15 +1,16 @@
-use Rattle.std.proofs.Common.{◌≡◌, ℕ, true, length, sym, subst, arith, ap, ◌∙◌}
+use Rattle.std.proofs.Common.{◌≡◌, ◌≤◌, ℕ, true, length, sym, subst, arith, ap, ◌∙◌}
 use Rattle.wl_objects.specs.Writing.{on_wire, message_len, id_of}
 use Rattle.wl_objects.proofs.Wholes.{length-message}
 use Rattle.wl_end.specs.Core.{Core}
 use Rattle.wl_end.specs.Sending.{fits}
-use Rattle.wl_end.proofs.Messages.{whole}
+use Rattle.wl_end.proofs.Messages.{whole_within}
 use Rattle.wl_end.proofs.shared.Core.write_call.Goals as goal
 
 pub add-requires-clause-whole : goal.add-requires-clause-whole
 add-requires-clause-whole g c =
+    let short : c.args.len ≤ c.self.inside.outbox.limit.bytes = subst (λ (core : Core). c.args.len ≤ core.outbox.limit.bytes) (sym c.self.view_is) c.requires.short in
     rw (c.deref.ensures.value, c.encode_call.ensures.message, c.id_of.ensures)
-    (whole c.args.target c.args.opcode (on_wire (id_of c.args.new) c.args.args.now) (omega (arith, c.ranges.opcode)) (omega (arith, c.requires.len, c.requires.short)))
+    (whole_within c.self.inside.outbox.limit c.args.target c.args.opcode (on_wire (id_of c.args.new) c.args.args.now) (omega (arith, c.ranges.opcode)) (omega (arith, c.requires.len, short)))
 
 pub add-requires-clause-room : goal.add-requires-clause-room
 add-requires-clause-room g c =

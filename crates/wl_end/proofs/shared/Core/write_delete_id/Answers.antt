@@ -1,7 +1,14 @@
-use Rattle.std.proofs.Common.{ap}
+use Rattle.std.proofs.Common.{ap, [], ◌∷◌, arith}
+use Rattle.wl_wire.specs.Argument.{Uint}
 use Rattle.wl_end.specs.Core.{Core}
 use Rattle.wl_end.specs.Sending.{with_delete_id}
+use Rattle.wl_end.proofs.Messages.{whole}
 use Rattle.wl_end.proofs.shared.Core.write_delete_id.Goals as goal
+
+pub add-requires-clause-whole : goal.add-requires-clause-whole
+add-requires-clause-whole g c =
+    rw (c.deref.ensures.value, c.encode_number.ensures.message)
+    (whole c.self.inside.outbox.limit 1 1 (Uint c.args.id ∷ []) (omega arith) (omega arith))
 
 pub returns : goal.returns
 returns g c =

@@ -1,0 +1,14 @@
+#!/usr/bin/env python3
+"""Writes the largest text of tables: 1,024 interfaces with those of the core, each of 256 requests that
+make an object of one interface and name one of another."""
+
+CORE = 19
+MOST = 1024
+MESSAGES = 256
+
+count = MOST - CORE
+for place in range(count):
+    print(f"interface i{place} 1")
+    for opcode in range(MESSAGES):
+        made, named = (place + opcode) % count, (place * opcode) % count
+        print(f"request m{opcode} n(i{made}) o(i{named}) u")

@@ -1,0 +1,41 @@
+//! How long a message may be.
+ghost use Rattle.std.specs.Prelude.{◌≡◌, ◌↔◌, IsSome, IfSome};
+ghost use Rattle.wl_message.specs.Cut.{IsLimit, is_size};
+
+use wl_wire::MAX_MESSAGE_LEN;
+
+/// The most bytes that a message has, its header counted: a multiple of 4 from 4096 to 65,532.
+///
+/// Both sides of a connection have to go by the same limit, for none is told on the wire.
+#[derive(Clone, Copy, Debug, PartialEq, Eq)]
+pub struct Limit {
+    pub bytes: u16,
+    pub ghost in_range: { IsLimit bytes },
+}
+
+impl Limit {
+    /// The limit where nobody chose another: 4096 bytes.
+    pub const USUAL: Limit = Limit {
+        bytes: MAX_MESSAGE_LEN,
+    };
+
+    /// The limit of this number of bytes; none where no limit has so many.
+    pub fn new(bytes: u32) -> Option<Limit>
+        ensures some { IsSome result ↔ IsLimit bytes }
+        ensures bytes { IfSome result (λ limit. limit.bytes ≡ bytes) }
+    {
+        if bytes < 4096 || bytes > 65_532 || bytes % 4 != 0 {
+            return None;
+        }
+        Some(Limit {
+            bytes: bytes as u16,
+        })
+    }
+
+    /// Whether a message may have this size.
+    pub fn allows(self, size: u16) -> bool
+        ensures { result ≡ is_size self.bytes size }
+    {
+        size >= 8 && size % 4 == 0 && size <= self.bytes
+    }
+}

@@ -1,0 +1,63 @@
+//! Reports that an end lends, as text.
+
+use crate::acting::Actor;
+use std::alloc::AllocError;
+use wl_client::{Incoming, OwnedIncoming};
+use wl_server::{OwnedRequest, Request};
+use wl_wire::Bytes;
+
+/// Appends what a client lent.
+pub(crate) fn write_lent_event(
+    actor: &mut Actor<'_>,
+    reply: &mut String,
+    report: Incoming<'_>,
+) -> Result<(), AllocError> {
+    let owned: OwnedIncoming = match report {
+        Incoming::Event {
+            target,
+            opcode,
+            args,
+        } => OwnedIncoming::Event {
+            target,
+            opcode,
+            args: args.to_owned(&actor.alloc)?,
+        },
+        Incoming::Discarded {
+            target,
+            opcode,
+            tokens,
+        } => {
+            let teller = actor.teller();
+            return teller.write_discarded(reply, target, opcode, tokens);
+        }
+        Incoming::Deleted { object } => OwnedIncoming::Deleted { object },
+        Incoming::Stray { id } => OwnedIncoming::Stray { id },
+        Incoming::Error {
+            id,
+            named,
+            code,
+            text,
+        } => OwnedIncoming::Error {
+            id,
+            named,
+            code,
+            text: Bytes::copy_of(actor.alloc, text)?,
+        },
+    };
+    actor.teller().write_incoming(reply, &owned)
+}
+
+/// Appends what a server lent, and adds the objects that it made.
+pub(crate) fn write_lent_request(
+    actor: &mut Actor<'_>,
+    reply: &mut String,
+    request: Request<'_>,
+) -> Result<(), AllocError> {
+    let owned = OwnedRequest {
+        target: request.target,
+        opcode: request.opcode,
+        args: request.args.to_owned(&actor.alloc)?,
+    };
+    actor.names.add_read(actor.tables, &owned)?;
+    actor.teller().write_request(reply, &owned)
+}
