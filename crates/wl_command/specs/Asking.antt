@@ -65,8 +65,8 @@ socket_command = with_rule (new_app (codes "socket")) path_argument
 abbrev pub program : App
 program =
     on_top
-        (λ (s : Shape). record s { has_version = true; subcommand_required = true })
-        (new_app (codes "waywire"))
+    (λ (s : Shape). record s { has_version = true; subcommand_required = true })
+    (new_app (codes "waywire"))
 
 abbrev pub command_line : App
 command_line =

@@ -19,7 +19,8 @@ const VERSION: &str = "0.1.0";
 
 /// What is said of a command line where the parser has no words for it: it takes each number in
 /// range for a limit.
-const USAGE: &str = "error: no command of this program, or a limit that is no multiple of 4\n\nUsage: waywire <COMMAND>\n";
+const USAGE: &str =
+    "error: no command of this program, or a limit that is no multiple of 4\n\nUsage: waywire <COMMAND>\n";
 
 /// One run of the program.
 #[derive(Debug, Drop)]
@@ -209,14 +210,22 @@ fn named(alloc: Global, name: &str, given: &ArgMatches<'_>) -> Result<Option<Job
                 return Ok(None);
             };
             let tables = word_of(alloc, given, "tables")?;
-            Ok(word_of(alloc, given, "FILE")?.map(|file| Job::Trace { tables, limit, file }))
+            Ok(word_of(alloc, given, "FILE")?.map(|file| Job::Trace {
+                tables,
+                limit,
+                file,
+            }))
         }
         "check" => {
             let Some(limit) = limit_of(given) else {
                 return Ok(None);
             };
             let tables = word_of(alloc, given, "tables")?;
-            Ok(word_of(alloc, given, "FILE")?.map(|file| Job::Check { tables, limit, file }))
+            Ok(word_of(alloc, given, "FILE")?.map(|file| Job::Check {
+                tables,
+                limit,
+                file,
+            }))
         }
         "demo" => Ok(number_of(given, "piece").map(|piece| Job::Demo { piece })),
         "socket" => Ok(word_of(alloc, given, "PATH")?.map(|path| Job::Socket { path })),

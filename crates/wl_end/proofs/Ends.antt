@@ -55,9 +55,9 @@ found_at Event opcode m k e d = absurd (cc e)
 pub is_the_destroy : (tables : List Interface) (place : ℕ) (side : Side) (opcode : ℕ) (m : Message) (k : ℕ) → Valid tables → signature_at tables place side opcode ≡ Some m → m.destroys ≡ ends_arg k → m ≡ the_destroy
 is_the_destroy tables place side opcode m k v e d = elim (v.argument_ends place side opcode m e) [
   | inl p ↦ (
-    let at : signature_at tables 18 side opcode ≡ Some m = subst (λ (n : ℕ). signature_at tables n side opcode ≡ Some m) p e in
-    let found : slice_get (messages_of side wl_fixes) opcode ≡ Some m = rw v.fixed_four.fixes at at in
-    found_at side opcode m k found d)
+      let at : signature_at tables 18 side opcode ≡ Some m = subst (λ (n : ℕ). signature_at tables n side opcode ≡ Some m) p e in
+      let found : slice_get (messages_of side wl_fixes) opcode ≡ Some m = rw v.fixed_four.fixes at at in
+      found_at side opcode m k found d)
   | inr never ↦ (let yes = ap destroys_argument d in absurd (cc (yes, never)))
 ]
 
@@ -65,9 +65,9 @@ is_the_destroy tables place side opcode m k v e d = elim (v.argument_ends place 
 pub ends_no_argument : (tables : List Interface) (place : ℕ) (opcode : ℕ) (m : Message) → Valid tables → signature_at tables place Event opcode ≡ Some m → destroys_argument m.destroys ≡ false
 ends_no_argument tables place opcode m v e = elim (v.argument_ends place Event opcode m e) [
   | inl p ↦ (
-    let at : signature_at tables 18 Event opcode ≡ Some m = subst (λ (n : ℕ). signature_at tables n Event opcode ≡ Some m) p e in
-    let found : slice_get (messages_of Event wl_fixes) opcode ≡ Some m = rw v.fixed_four.fixes at at in
-    absurd (cc found))
+      let at : signature_at tables 18 Event opcode ≡ Some m = subst (λ (n : ℕ). signature_at tables n Event opcode ≡ Some m) p e in
+      let found : slice_get (messages_of Event wl_fixes) opcode ≡ Some m = rw v.fixed_four.fixes at at in
+      absurd (cc found))
   | inr never ↦ never
 ]
 
@@ -169,6 +169,8 @@ argument_received tables reader h body waiting m k v e d =
     let signature = (is_received tables Request reader h body waiting m e).signature in
     let same : m.signature ≡ the_destroy = is_the_destroy tables m.entry.iface.0 Request h.opcode m.signature k v signature d in
     let place : ends_arg k ≡ ends_arg 0 = sym d ∙ ap (λ (s : Message). s.destroys) same in
-    let read = read_row tables Request reader h body waiting m (reader.object h.object) e in
-    (cc place, read_test reader (number_at body) m.values body (nat_lt (length body) 4) (nat_eq (number_at body) 0) refl
-    (subst (λ (s : Message). arguments_at (forgiving false reader) 0 s.kinds body ≡ Ok (m.values, [])) same read))
+    let read = read_row tables Request reader h body waiting m (reader.object h.object) e in (
+      cc place,
+      read_test reader (number_at body) m.values body (nat_lt (length body) 4) (nat_eq (number_at body) 0) refl
+          (subst (λ (s : Message). arguments_at (forgiving false reader) 0 s.kinds body ≡ Ok (m.values, [])) same read),
+    )
