@@ -10,8 +10,7 @@ use Rattle.wl_wire.specs.declared.kind.Iface.{Iface}
 use Rattle.wl_wire.specs.Argument.{Uint, Str}
 use Rattle.wl_wire.specs.Spelling.{IsText}
 use Rattle.wl_sigs.specs.declared.signature.Side.TheVariants.{Event as event_side}
-use Rattle.wl_sigs.specs.declared.signature.Destroys.TheVariants.{Nothing, Target}
-use Rattle.wl_sigs.specs.declared.signature.Destroys.{Destroys}
+use Rattle.wl_sigs.specs.declared.signature.Destroys.TheVariants.{Nothing}
 use Rattle.wl_sigs.specs.Tables.{Interface, interface_at, place_of}
 use Rattle.wl_sigs.specs.Fixed.{registry, wl_registry}
 use Rattle.wl_sigs.specs.Fixed as fixed
@@ -20,7 +19,6 @@ use Rattle.wl_message.specs.Outgoing.{message}
 use Rattle.wl_objects.specs.declared.error.SendError.{SendError}
 use Rattle.wl_table.specs.declared.object.Object.{Object}
 use Rattle.wl_table.specs.View.{View, max_ids}
-use Rattle.wl_objects.specs.Messages.{Server as server_end, after}
 use Rattle.wl_objects.specs.Writing.{message_bytes, message_len}
 use Rattle.wl_end.specs.Core.{Core}
 use Rattle.wl_end.specs.Sending.{with_sent}

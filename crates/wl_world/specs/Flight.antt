@@ -1,10 +1,12 @@
 -- What is in flight, taken apart to the smallest deeds, and what it leads to.
-use Rattle.std.specs.Prelude.{◌≡◌, ◌≢◌, ◌⊎◌, ℕ, ◌+◌, ◌<◌, ◌≤◌, Bool, true, false, cond, ltb, List, [], ◌∷◌, ◌++◌, map, Option, Some, None, option_map}
+use Rattle.std.specs.Prelude.{◌≡◌, ◌≢◌, ◌⊎◌, ℕ, ◌+◌, ◌<◌, ◌≤◌, Bool, true, false, cond, ltb, List}
+use Rattle.std.specs.Prelude.{[], ◌∷◌, ◌++◌, map, Option, Some, None, option_map}
 use Rattle.wl_table.specs.View.{View, look, max_ids, max_births}
 use Rattle.wl_table.specs.declared.object.Entry.{Entry}
 use Rattle.wl_table.specs.declared.object.State.{State}
 use Rattle.wl_table.specs.declared.object.State.TheVariants as states
-use Rattle.wl_world.specs.Meant.{Born, Known, Message, Coming, Event, Delete as delete_of, objects, made_in, plain}
+use Rattle.wl_world.specs.Meant.{Born, Known, Message, Coming, Event, Delete as delete_of, objects}
+use Rattle.wl_world.specs.Meant.{made_in, plain}
 use Rattle.wl_world.specs.World.{Row, Open, Ending, put}
 
 -- what an end's objects are: by id, with the number of ids used and of births counted
@@ -24,7 +26,7 @@ most a b = cond (ltb a b) b a
 abbrev pub made : {X : Type 0} → Rows X → ℕ → X → Rows X
 made s id x = record { rows = put s.rows id (Some x); used = most s.used id; births = s.births + 1 }
 
--- what a view is so
+-- an object in a table, by its state: open or ending
 abbrev pub as_row : State → Born → Row
 as_row states.Live x = Open x
 as_row states.Zombie x = Ending x
@@ -33,10 +35,18 @@ abbrev pub row : Entry → Row
 row e = as_row e.state (plain e)
 
 abbrev pub client_rows : View → Rows Row
-client_rows view = record { rows = λ id. option_map row (look view id); used = view.used; births = view.births }
+client_rows view = record {
+  rows = λ id. option_map row (look view id);
+  used = view.used;
+  births = view.births;
+}
 
 abbrev pub server_rows : View → Rows Born
-server_rows view = record { rows = λ id. option_map plain (look view id); used = view.used; births = view.births }
+server_rows view = record {
+  rows = λ id. option_map plain (look view id);
+  used = view.used;
+  births = view.births;
+}
 
 -- ---- deeds
 
@@ -68,7 +78,7 @@ ends (Some x) = End x ∷ []
 abbrev pub asks : Message Known → List Ask
 asks m = Use m.target ∷ (map Use (objects m.args) ++ (makes (made_in m.args) ++ destroys m.ends))
 
--- an event names its target and its objects, then ends its target
+-- an event names its target and its objects, then ends the object that it destroys
 abbrev pub tells : Coming Known → List Tell
 tells (Event m) = Name m.target ∷ (map Name (objects m.args) ++ ends m.ends)
 tells (delete_of x) = Delete x ∷ []
@@ -110,36 +120,47 @@ pub record Fresh {X : Type 0} (v : Rows X) (x : Known) : Type 0 where
 abbrev pub at_client : Option Born → Option Row
 at_client o = option_map Open o
 
--- The client at v can read all of these events: each object is there as it was meant, when its turn comes. Then it is at w.
--- The test says which objects have an interface with a destroying event.
+-- The client at v can read all of these events: each object is there as it was meant, when its turn
+-- comes. Then it is at w. The test says which objects have an interface with a destroying event.
 pub data Reads (by_event : Born → Bool) : List Tell → Rows Row → Rows Row → Type 0 where
   done : {v : Rows Row} → Reads by_event [] v v
   -- what an event names is held at the client, open or ending
-  name : {es : List Tell} {v w : Rows Row} {x : Known} → Held v x → Reads by_event es v w → Reads by_event (Name x ∷ es) v w
+  name : {es : List Tell} {v w : Rows Row} {x : Known} → Held v x
+      → Reads by_event es v w → Reads by_event (Name x ∷ es) v w
   -- an object that an event destroys has an interface with a destroying event, and becomes ending
   end : {es : List Tell} {v w : Rows Row} {x : Known} → by_event x.born ≡ true → Held v x
       → Reads by_event es (at v x.id (Some (Ending x.born))) w → Reads by_event (End x ∷ es) v w
-  -- a deleted object is held, is not id 1, and is ending where its interface has no destroying event; nothing names it afterwards
-  delete : {es : List Tell} {v w : Rows Row} {x : Known} → x.id ≢ 1 → Held v x → (by_event x.born ≡ true) ⊎ (v.rows x.id ≡ Some (Ending x.born))
+  -- a deleted object is held, is not id 1, and is ending where its interface has no destroying
+  -- event; nothing names it afterwards
+  delete : {es : List Tell} {v w : Rows Row} {x : Known} → x.id ≢ 1 → Held v x
+      → (by_event x.born ≡ true) ⊎ (v.rows x.id ≡ Some (Ending x.born))
       → Reads by_event es (at v x.id None) w → Reads by_event (Delete x ∷ es) v w
 
--- The server at s can read all of these requests, while the client, which will be at m once it has read all events written so far,
--- reads the deletes that they bring. In the end both have the same objects.
+-- The server at s can read all of these requests, while the client, which will be at m once it has
+-- read all events written so far, reads the deletes that they bring. In the end both have the same
+-- objects.
 pub data Tied (by_event : Born → Bool) : List Ask → Rows Born → Rows Row → Type 0 where
   -- nothing in flight: both have the same rows and counts
-  drained : {s : Rows Born} {m : Rows Row} → ((id : ℕ) → m.rows id ≡ at_client (s.rows id)) → m.used ≡ s.used → m.births ≡ s.births → Tied by_event [] s m
+  drained : {s : Rows Born} {m : Rows Row} → ((id : ℕ) → m.rows id ≡ at_client (s.rows id))
+      → m.used ≡ s.used → m.births ≡ s.births → Tied by_event [] s m
   -- what a request names is open at the server, and is of an interface without a destroying event
-  use_ : {qs : List Ask} {s : Rows Born} {m : Rows Row} {x : Known} → s.rows x.id ≡ Some x.born → by_event x.born ≡ false
+  use_ : {qs : List Ask} {s : Rows Born} {m : Rows Row} {x : Known}
+      → s.rows x.id ≡ Some x.born → by_event x.born ≡ false
       → Tied by_event qs s m → Tied by_event (Use x ∷ qs) s m
-  -- the births made in requests are, in order, those from the server's number on, and each one's id is free or next at the server
+  -- the births made in requests are, in order, those from the server's number on, and each one's id
+  -- is free or next at the server
   make : {qs : List Ask} {s : Rows Born} {m : Rows Row} {x : Known} → Fresh s x
       → Tied by_event qs (made s x.id x.born) m → Tied by_event (Make x ∷ qs) s m
   -- what a request destroys is open at the server and ending at the client; its delete will come
-  destroy : {qs : List Ask} {s : Rows Born} {m : Rows Row} {x : Known} → x.id ≢ 1 → s.rows x.id ≡ Some x.born → by_event x.born ≡ false
-      → m.rows x.id ≡ Some (Ending x.born) → Tied by_event qs (at s x.id None) (at m x.id None) → Tied by_event (Destroy x ∷ qs) s m
+  destroy : {qs : List Ask} {s : Rows Born} {m : Rows Row} {x : Known}
+      → x.id ≢ 1 → s.rows x.id ≡ Some x.born → by_event x.born ≡ false
+      → m.rows x.id ≡ Some (Ending x.born)
+      → Tied by_event qs (at s x.id None) (at m x.id None) → Tied by_event (Destroy x ∷ qs) s m
 
--- the events in flight lead the client to a middle at which the requests in flight lead the server to it
-pub record Meets (by_event : Born → Bool) (es : List Tell) (qs : List Ask) (v : Rows Row) (s : Rows Born) : Type 0 where
+-- Reading the events in flight leaves the client in the middle, and with that middle the server can
+-- read the requests in flight.
+pub record Meets (by_event : Born → Bool) (es : List Tell) (qs : List Ask) (v : Rows Row)
+    (s : Rows Born) : Type 0 where
   pub middle : Rows Row
   pub reads : Reads by_event es v middle
   pub tied : Tied by_event qs s middle

@@ -1,5 +1,6 @@
 -- Messages as they are meant: by the objects that they name, and not by ids alone.
-use Rattle.std.specs.Prelude.{ℕ, zero, suc, List, [], ◌∷◌, ◌++◌, map, Option, Some, None, option_map}
+use Rattle.std.specs.Prelude.{ℕ, zero, suc, List, [], ◌∷◌, ◌++◌, map, Option, Some, None}
+use Rattle.std.specs.Prelude.{option_map}
 use Rattle.wl_wire.specs.declared.kind.Iface.{Iface}
 use Rattle.wl_sigs.specs.declared.signature.Destroys.{Destroys}
 use Rattle.wl_sigs.specs.declared.signature.Destroys.TheVariants.{Nothing, Target, Arg as ends_arg}
@@ -24,7 +25,8 @@ pub record Known : Type 0 where
 abbrev pub Arg : Type 0 → Type 0
 Arg O = Shape (Option O) O ℕ
 
--- a message: the object that it is for, its opcode, its arguments, and the object that it destroys, if it destroys one
+-- a message: the object that it is for, its opcode, its arguments, and the object that it destroys,
+-- if it destroys one
 pub record Message (O : Type 0) : Type 0 where
   pub target : O
   pub opcode : ℕ
@@ -42,7 +44,12 @@ abbrev pub rearg : {A B : Type 0} → (A → B) → Arg A → Arg B
 rearg f a = reshaped (option_map f) f (λ t. t) a
 
 abbrev pub renamed : {A B : Type 0} → (A → B) → Message A → Message B
-renamed f m = record { target = f m.target; opcode = m.opcode; args = map (rearg f) m.args; ends = option_map f m.ends }
+renamed f m = record {
+  target = f m.target;
+  opcode = m.opcode;
+  args = map (rearg f) m.args;
+  ends = option_map f m.ends;
+}
 
 abbrev pub recoming : {A B : Type 0} → (A → B) → Coming A → Coming B
 recoming f (Event m) = Event (renamed f m)

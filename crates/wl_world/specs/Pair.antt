@@ -1,5 +1,7 @@
--- A client and a server with nothing between, what can be done with them, and what each call answers and leaves.
-use Rattle.std.specs.Prelude.{◌≡◌, ℕ, ◌<◌, Bool, true, false, min, List, [], ◌++◌, length, take, Option, Some, None}
+-- A client and a server with nothing between them, what can be done with them, and what each call
+-- answers and leaves.
+use Rattle.std.specs.Prelude.{◌≡◌, ℕ, ◌<◌, Bool, true, false, min, List, [], ◌++◌, length, take}
+use Rattle.std.specs.Prelude.{Option, Some, None}
 use Rattle.std.specs.declared.result.Result.{Result}
 use Rattle.std.specs.declared.result.Result.TheVariants.{Ok, Err}
 use Rattle.wl_wire.specs.declared.kind.Iface.{Iface}
@@ -26,7 +28,8 @@ use Rattle.wl_server.specs.declared.request.GlobalError.TheVariants as global_er
 use Rattle.wl_server.specs.State as server
 use Rattle.wl_server.specs.State.{max_globals, global_of}
 use Rattle.wl_server.specs.Requests as requests
-use Rattle.wl_server.specs.Calls.{drop_refusal, after_drop, error_refusal, after_error, add_refusal, withdraw_refusal, with_global, next_name, after_withdraw}
+use Rattle.wl_server.specs.Calls.{drop_refusal, after_drop, error_refusal, after_error, add_refusal}
+use Rattle.wl_server.specs.Calls.{withdraw_refusal, with_global, next_name, after_withdraw}
 use Rattle.wl_server.specs.Announcing.{Fitting, after_announce}
 use Rattle.wl_recording.specs.declared.piece.Direction.TheVariants.{ToServer, ToClient}
 use Rattle.wl_recording.specs.Piece.{Piece, passed}
@@ -34,13 +37,19 @@ use Rattle.wl_recording.specs.Piece.{Piece, passed}
 pub record PairState : Type 0 where
   pub client : client.State
   pub server : server.State
-  -- what was carried, piece by piece, and how many pieces these were when the first error was posted
+  -- what was carried, piece by piece, and how many pieces there were when the first error was
+  -- posted
   pub recording : List Piece
   pub ended_at : Option ℕ
 
 -- both ends as they begin
 abbrev pub new_pair : List Interface → Sizes → Sizes → PairState
-new_pair tables client_sizes server_sizes = record { client = client.new_state tables client_sizes; server = server.new_state tables server_sizes; recording = []; ended_at = None }
+new_pair tables client_sizes server_sizes = record {
+  client = client.new_state tables client_sizes;
+  server = server.new_state tables server_sizes;
+  recording = [];
+  ended_at = None;
+}
 
 -- what can be done with a pair
 pub data Move : Type 0 where
@@ -93,7 +102,8 @@ with_server_core p c = with_server p (server.with_core p.server c)
 
 -- ---- a carry
 
--- What goes from one end to the other: at most so many bytes, and at most what the other's inbox has room for.
+-- What goes from one end to the other: at most so many bytes, and at most what the other's inbox
+-- has room for.
 abbrev pub carries : Core → Core → ℕ → Taken
 carries from to most = goes from.outbox (min most (in_room to).bytes) (in_room to).tokens
 
@@ -110,13 +120,17 @@ all_of taken = record { bytes = taken.bytes; tokens = taken.tokens }
 abbrev pub after_carry_to_server : PairState → Taken → PairState
 after_carry_to_server p taken = record p {
   client = client.with_core p.client (with_gone p.client.core taken.bytes);
-  server = server.with_core p.server (with_arrived p.server.core (carried_bytes p.client.core taken) (carried_tokens p.client.core taken));
+  server = server.with_core p.server
+      (with_arrived p.server.core (carried_bytes p.client.core taken)
+      (carried_tokens p.client.core taken));
   recording = p.recording ++ passed ToServer (carried_bytes p.client.core taken) taken.tokens;
 }
 
 abbrev pub after_carry_to_client : PairState → Taken → PairState
 after_carry_to_client p taken = record p {
-  client = client.with_core p.client (with_arrived p.client.core (carried_bytes p.server.core taken) (carried_tokens p.server.core taken));
+  client = client.with_core p.client
+      (with_arrived p.client.core (carried_bytes p.server.core taken)
+      (carried_tokens p.server.core taken));
   server = server.with_core p.server (with_gone p.server.core taken.bytes);
   recording = p.recording ++ passed ToClient (carried_bytes p.server.core taken) taken.tokens;
 }
@@ -129,38 +143,55 @@ marked None count = Some count
 marked (Some first) count = Some first
 
 abbrev pub after_post : PairState → Object → ℕ → List ℕ → PairState
-after_post p object code text = record (with_server_core p (after_error p.server.core object code text)) { ended_at = marked p.ended_at (length p.recording) }
+after_post p object code text =
+    record (with_server_core p (after_error p.server.core object code text)) {
+      ended_at = marked p.ended_at (length p.recording);
+    }
 
 -- ---- what a call answers and leaves
 
--- A write is accepted or refused as its answer says; where it opens an object, memory may be wanted in place of an acceptance.
--- Only an accepted one changes the pair.
-pub data Writes (answer : Result (Option Object) SendError) (opens : Bool) (before after : PairState) : Result (Option Object) SendError → PairState → Type 0 where
-  accepted : {new : Option Object} → answer ≡ Ok new → Writes answer opens before after (Ok new) after
+-- A write is accepted or refused as its answer says; where it opens an object, memory may be wanted
+-- in place of an acceptance. Only an accepted one changes the pair.
+pub data Writes (answer : Result (Option Object) SendError) (opens : Bool)
+    (before after : PairState)
+    : Result (Option Object) SendError → PairState → Type 0 where
+  accepted : {new : Option Object} → answer ≡ Ok new
+      → Writes answer opens before after (Ok new) after
   refused : {why : SendError} → answer ≡ Err why → Writes answer opens before after (Err why) before
-  no_memory : {new : Option Object} → answer ≡ Ok new → opens ≡ true → Writes answer opens before after (Err refusals.Memory) before
+  no_memory : {new : Option Object} → answer ≡ Ok new → opens ≡ true
+      → Writes answer opens before after (Err refusals.Memory) before
 
 -- A call that answers no value is done, or refused as this says.
-pub data Calls {E : Type 0} (refusal : Option E) (before after : PairState) : Result (Unit {0}) E → PairState → Type 0 where
+pub data Calls {E : Type 0} (refusal : Option E) (before after : PairState)
+    : Result (Unit {0}) E → PairState → Type 0 where
   done : refusal ≡ None → Calls refusal before after (Ok tt) after
   refused : {why : E} → refusal ≡ Some why → Calls refusal before after (Err why) before
 
-pub data Adds (refusal : Option GlobalError) (name : ℕ) (before after : PairState) : Result ℕ GlobalError → PairState → Type 0 where
+pub data Adds (refusal : Option GlobalError) (name : ℕ) (before after : PairState)
+    : Result ℕ GlobalError → PairState → Type 0 where
   added : refusal ≡ None → Adds refusal name before after (Ok name) after
-  refused : {why : GlobalError} → refusal ≡ Some why → Adds refusal name before after (Err why) before
+  refused : {why : GlobalError}
+      → refusal ≡ Some why → Adds refusal name before after (Err why) before
   no_memory : refusal ≡ None → Adds refusal name before after (Err global_errors.Memory) before
 
 -- The longest beginning of what is owed is written that fits.
 pub data Announces (p : PairState) : Result ℕ SendError → PairState → Type 0 where
-  announced : {count : ℕ} → p.server.core.failed ≡ false → Fitting p.server count → Announces p (Ok count) (with_server p (after_announce p.server count))
+  announced : {count : ℕ}
+      → p.server.core.failed ≡ false → Fitting p.server count
+      → Announces p (Ok count) (with_server p (after_announce p.server count))
   refused : p.server.core.failed ≡ true → Announces p (Err refusals.Failed) p
 
--- A read answers and leaves as it says; or there is no memory for a report that needs some, and nothing changes.
-pub data Nexts {R : Type 0} (needs : R → Bool) (answer : Result (Option R) NextError) (before after : PairState) : Result (Option R) NextError → PairState → Type 0 where
+-- A read answers and leaves as it says; or there is no memory for a report that needs some, and
+-- nothing changes.
+pub data Nexts {R : Type 0} (needs : R → Bool) (answer : Result (Option R) NextError)
+    (before after : PairState)
+    : Result (Option R) NextError → PairState → Type 0 where
   answered : Nexts needs answer before after answer after
-  no_memory : {report : R} → answer ≡ Ok (Some report) → needs report ≡ true → Nexts needs answer before after (Err errors.Memory) before
+  no_memory : {report : R} → answer ≡ Ok (Some report) → needs report ≡ true
+      → Nexts needs answer before after (Err errors.Memory) before
 
--- A carry moves so much; or, only where something would move, there is no memory to record it, and nothing changes.
+-- A carry moves so much; or, only where something would move, there is no memory to record it, and
+-- nothing changes.
 pub data Carries (taken : Taken) (before after : PairState) : Carried → PairState → Type 0 where
   moved : Carries taken before after (Moved (all_of taken)) after
   no_memory : 0 < taken.bytes → Carries taken before after Memory before
@@ -168,28 +199,41 @@ pub data Carries (taken : Taken) (before after : PairState) : Carried → PairSt
 -- What both ends answer to a move, and leave.
 abbrev pub Does : PairState → Move → Reply → PairState → Type 0
 Does p (ClientSend target opcode given) (ClientSend reply) p' =
-    Writes (send_answer p.client.core Request target opcode given) (opens_object (checked p.client.core.outbox.limit.bytes p.client.core.tables Request p.client.core.view target opcode given))
+    Writes (send_answer p.client.core Request target opcode given)
+    (opens_object (checked p.client.core.outbox.limit.bytes p.client.core.tables Request
+    p.client.core.view target opcode given))
     p (with_client_core p (after_send p.client.core Request target opcode given)) reply p'
 Does p (ClientBind target name iface version) (ClientBind reply) p' =
-    Writes (bind_answer p.client target name iface version) true p (with_client p (after_bind p.client target name iface version)) reply p'
+    Writes (bind_answer p.client target name iface version) true p
+    (with_client p (after_bind p.client target name iface version)) reply p'
 Does p (ServerSend target opcode given) (ServerSend reply) p' =
-    Writes (send_answer p.server.core Event target opcode given) (opens_object (checked p.server.core.outbox.limit.bytes p.server.core.tables Event p.server.core.view target opcode given))
+    Writes (send_answer p.server.core Event target opcode given)
+    (opens_object (checked p.server.core.outbox.limit.bytes p.server.core.tables Event
+    p.server.core.view target opcode given))
     p (with_server_core p (after_send p.server.core Event target opcode given)) reply p'
-Does p (ServerDrop object) (ServerDrop reply) p' = Calls (drop_refusal p.server.core object) p (with_server_core p (after_drop p.server.core object)) reply p'
+Does p (ServerDrop object) (ServerDrop reply) p' =
+    Calls (drop_refusal p.server.core object) p
+    (with_server_core p (after_drop p.server.core object)) reply p'
 Does p (PostError object code text) (PostError reply) p' =
     Calls (error_refusal p.server.core object text) p (after_post p object code text) reply p'
 Does p (AddGlobal iface version) (AddGlobal reply) p' =
-    Adds (add_refusal p.server iface version) (next_name p.server) p (with_server p (with_global p.server iface version)) reply p'
-Does p (Withdraw name) (Withdraw reply) p' = Calls (withdraw_refusal p.server name) p (with_server p (after_withdraw p.server name)) reply p'
+    Adds (add_refusal p.server iface version) (next_name p.server) p
+    (with_server p (with_global p.server iface version)) reply p'
+Does p (Withdraw name) (Withdraw reply) p' =
+    Calls (withdraw_refusal p.server name) p (with_server p (after_withdraw p.server name)) reply p'
 Does p Announce (Announce reply) p' = Announces p reply p'
 Does p (CarryToServer most) (CarryToServer reply) p' =
-    Carries (carries p.client.core p.server.core most) p (after_carry_to_server p (carries p.client.core p.server.core most)) reply p'
+    Carries (carries p.client.core p.server.core most) p
+    (after_carry_to_server p (carries p.client.core p.server.core most)) reply p'
 Does p (CarryToClient most) (CarryToClient reply) p' =
-    Carries (carries p.server.core p.client.core most) p (after_carry_to_client p (carries p.server.core p.client.core most)) reply p'
+    Carries (carries p.server.core p.client.core most) p
+    (after_carry_to_client p (carries p.server.core p.client.core most)) reply p'
 Does p ClientNext (ClientNext reply) p' =
-    Nexts events.needs_memory (events.next_answer p.client) p (with_client p (events.after_next p.client)) reply p'
+    Nexts events.needs_memory (events.next_answer p.client) p
+    (with_client p (events.after_next p.client)) reply p'
 Does p ServerNext (ServerNext reply) p' =
-    Nexts requests.needs_memory (requests.next_answer p.server) p (with_server p (requests.after_next p.server)) reply p'
+    Nexts requests.needs_memory (requests.next_answer p.server) p
+    (with_server p (requests.after_next p.server)) reply p'
 Does p _ _ p' = ⊥
 
 -- nothing waits in any of the four boxes

@@ -1,8 +1,11 @@
 -- Words for what is in flight.
-use Rattle.std.specs.Prelude.{◌≡◌, ◌≢◌, ◌⊎◌, ◌↔◌, ℕ, ◌<◌, ◌≤◌, true, false, List, [], ◌∷◌, ◌++◌, map, Option, Some, None}
-use Rattle.wl_world.specs.Meant.{Born, Known, Message, Coming, Event, Delete as delete_of, id_of, birth_of, objects, made_in}
+use Rattle.std.specs.Prelude.{◌≡◌, ◌≢◌, ◌⊎◌, ◌↔◌, ℕ, ◌<◌, ◌≤◌, false, List, [], ◌∷◌, ◌++◌}
+use Rattle.std.specs.Prelude.{map, Option, Some, None}
+use Rattle.wl_world.specs.Meant.{Born, Known, Message, Coming, Event, Delete as delete_of, id_of}
+use Rattle.wl_world.specs.Meant.{birth_of, objects, made_in}
 use Rattle.wl_world.specs.World.{World, Open, Ending, IsThere, Each, marks_birth}
-use Rattle.wl_world.specs.Flight.{Ask, Use, Make, Destroy, Tell, Name, End, Delete, all_asks, all_tells}
+use Rattle.wl_world.specs.Flight.{Ask, Use, Make, Destroy, Tell, Name, End, Delete, all_asks}
+use Rattle.wl_world.specs.Flight.{all_tells}
 use Rattle.wl_world.specs.Pair.{PairState}
 use Rattle.wl_world.specs.Stands.{Stands, StandsBy}
 
@@ -55,7 +58,9 @@ Names x (delete_of y) = y ≡ x
 
 -- nothing that comes behind its delete names it
 abbrev pub IsLast : World → Born → Type 0
-IsLast w x = (before after : List (Coming Born)) (coming : Coming Born) → w.events ≡ before ++ delete_of x ∷ after → In coming after → Names x coming → ⊥
+IsLast w x =
+    (before after : List (Coming Born)) (coming : Coming Born)
+    → w.events ≡ before ++ delete_of x ∷ after → In coming after → Names x coming → ⊥
 
 -- a registry that is told of globals
 abbrev pub IsTold : World → Born → Type 0
@@ -81,11 +86,14 @@ news (m ∷ ms) = listed (made_in m.args) ++ news ms
 
 -- Of each pair that stands in a world, and each object.
 abbrev pub OfEach : (PairState → World → Born → Type 0) → Type 0
-OfEach P = (pair : PairState) (world : World) (object : Born) → StandsIn pair world → P pair world object
+OfEach P =
+    (pair : PairState) (world : World) (object : Born) → StandsIn pair world → P pair world object
 
 -- Of each pair that stands in a world, with these messages on the way.
 abbrev pub OnTheWay : (PairState → List (Message Known) → List (Coming Known) → Type 0) → Type 0
-OnTheWay P = (pair : PairState) (world : World) (asked : List (Message Known)) (told : List (Coming Known)) → StandsBy pair world asked told → P pair asked told
+OnTheWay P =
+    (pair : PairState) (world : World) (asked : List (Message Known)) (told : List (Coming Known))
+    → StandsBy pair world asked told → P pair asked told
 
 -- nothing that comes is about the id
 abbrev pub IsUnnamed : ℕ → List (Coming Known) → Type 0
@@ -95,10 +103,18 @@ IsUnnamed id told = Each (λ t. tell_id t ≢ id) (all_tells told)
 abbrev pub IsNowhere : ℕ → List (Message Known) → List (Coming Known) → Type 0
 IsNowhere id asked told = IsUnnamed id told × Each (λ a. ask_id a ≢ id) (all_asks asked)
 
--- The ids used at the client are those used at the server and those of the objects that these requests make.
+-- The ids used at the client are those used at the server and those of the objects that these
+-- requests make.
 abbrev pub IdsAreOf : PairState → List (Message Known) → Type 0
-IdsAreOf p asked = (id : ℕ) → 0 < id → (id ≤ p.client.core.view.used) ↔ ((id ≤ p.server.core.view.used) ⊎ In id (map id_of (news asked)))
+IdsAreOf p asked =
+    (id : ℕ) → 0 < id
+    → (id ≤ p.client.core.view.used)
+    ↔ ((id ≤ p.server.core.view.used) ⊎ In id (map id_of (news asked)))
 
--- The births counted at the client are those counted at the server and those of the objects that requests on the way make.
+-- The births counted at the client are those counted at the server and those of the objects that
+-- requests on the way make.
 abbrev pub BirthsAreOf : PairState → World → Type 0
-BirthsAreOf p w = (birth : ℕ) → (birth < p.client.core.view.births) ↔ ((birth < p.server.core.view.births) ⊎ In birth (map birth_of (news w.requests)))
+BirthsAreOf p w =
+    (birth : ℕ)
+    → (birth < p.client.core.view.births)
+    ↔ ((birth < p.server.core.view.births) ⊎ In birth (map birth_of (news w.requests)))

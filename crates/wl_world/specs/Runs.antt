@@ -11,17 +11,21 @@ use Rattle.wl_world.specs.Pair.{PairState, Move, Reply, ClientSend, ServerSend, 
 use Rattle.wl_world.specs.Answers.{Answers}
 use Rattle.wl_world.specs.Stands.{Stands}
 
--- The run of these moves: each pair stands in its world, and each reply is one that the world allows.
+-- The run of these moves: each pair stands in its world, and each reply is one that the world
+-- allows.
 abbrev pub Runs : PairState → World → List Move → List Reply → PairState → Type 0
 Runs pair world [] [] last = pair ≡ last
 Runs pair world (move ∷ moves) (reply ∷ replies) last =
-    (next : PairState) × (world' : World) × Answers pair world move reply next world' × Stands next world' × Runs next world' moves replies last
+    (next : PairState) × (world' : World)
+    × Answers pair world move reply next world' × Stands next world'
+    × Runs next world' moves replies last
 Runs pair world _ _ last = ⊥
 
 -- What both ends do at these moves, one after another.
 abbrev pub DoesAll : PairState → List Move → List Reply → PairState → Type 0
 DoesAll pair [] [] last = pair ≡ last
-DoesAll pair (move ∷ moves) (reply ∷ replies) last = (next : PairState) × Does pair move reply next × DoesAll next moves replies last
+DoesAll pair (move ∷ moves) (reply ∷ replies) last =
+    (next : PairState) × Does pair move reply next × DoesAll next moves replies last
 DoesAll pair _ _ last = ⊥
 
 -- numbers are those of 32 bits
@@ -45,7 +49,8 @@ pub record Agree (client server : View) : Type 0 where
   pub live : (id : ℕ) (e : Entry) → look client id ≡ Some e → e.state ≡ states.Live
 
 -- a step of the pair in its world
-pub record Keeps (p : PairState) (w : World) (move : Move) (reply : Reply) (p' : PairState) : Type 0 where
+pub record Keeps (p : PairState) (w : World) (move : Move) (reply : Reply) (p' : PairState)
+    : Type 0 where
   pub world : World
   pub answers : Answers p w move reply p' world
   pub stands : Stands p' world

@@ -1,5 +1,6 @@
 -- The world of births: what both ends mean, without ids, bytes and cuts.
-use Rattle.std.specs.Prelude.{◌≡◌, ℕ, ◌+◌, Bool, true, false, ◌&&◌, nat_eq, if◌then◌else◌, List, [], ◌∷◌, ◌++◌, map, replicate, Option, Some, None}
+use Rattle.std.specs.Prelude.{◌≡◌, ℕ, ◌+◌, Bool, true, false, ◌&&◌, nat_eq, if◌then◌else◌, List, []}
+use Rattle.std.specs.Prelude.{◌∷◌, ◌++◌, map, replicate, Option, Some, None}
 use Rattle.wl_wire.specs.Argument.{Argument, reshaped}
 use Rattle.wl_sigs.specs.Tables.{Interface, interface_at}
 use Rattle.wl_sigs.specs.Fixed.{display, registry}
@@ -16,7 +17,7 @@ pub data Row : Type 0 where
   Open : Born → Row
   Ending : Born → Row
 
--- what an open registry was told, and had removed
+-- an open registry: which globals it was told of, and which of them it was told are removed
 pub record Marks : Type 0 where
   pub birth : ℕ
   pub told : List Bool
@@ -31,7 +32,8 @@ pub record World : Type 0 where
   -- by birth: what is open or ending at the client, and what is open at the server
   pub client : ℕ → Option Row
   pub server : ℕ → Option Born
-  -- globals: those that the client remembers, those that the server gave, and what each open registry was told and had removed
+  -- globals: those that the client remembers, those that the server gave, and what each open
+  -- registry was told
   pub remembered : List Remembered
   pub given : List Global
   pub registries : List Marks
@@ -95,7 +97,11 @@ is_registry x = same_iface x.iface registry
 
 -- a new registry was told nothing
 abbrev pub untold : Born → Marks
-untold x = record { birth = x.birth; told = replicate max_globals false; removed = replicate max_globals false }
+untold x = record {
+  birth = x.birth;
+  told = replicate max_globals false;
+  removed = replicate max_globals false;
+}
 
 abbrev pub marks_birth : Marks → ℕ
 marks_birth r = r.birth
@@ -120,9 +126,12 @@ is_open (Some (Open x)) = true
 is_open _ = false
 
 -- an event of a registry that is open teaches the client
-abbrev pub learned : List Interface → (ℕ → Option Row) → Message Born → List Remembered → List Remembered
+abbrev pub learned : List Interface → (ℕ → Option Row) → Message Born → List Remembered
+    → List Remembered
 learned tables client m remembered =
-    if is_registry m.target && is_open (client m.target.birth) then globals_told tables remembered m.opcode (map nameless m.args) else remembered
+    if is_registry m.target && is_open (client m.target.birth)
+    then globals_told tables remembered m.opcode (map nameless m.args)
+    else remembered
 
 -- ---- the steps
 
@@ -159,26 +168,40 @@ abbrev pub dropped : World → Born → World
 dropped w x = record w { events = w.events ++ Delete x ∷ []; server = put w.server x.birth None }
 
 abbrev pub event_read : List Interface → World → Message Born → List (Coming Born) → World
-event_read tables w m rest = record w { events = rest; client = ending m.ends w.client; remembered = learned tables w.client m w.remembered }
+event_read tables w m rest = record w {
+  events = rest;
+  client = ending m.ends w.client;
+  remembered = learned tables w.client m w.remembered;
+}
 
 abbrev pub delete_read : World → Born → List (Coming Born) → World
 delete_read w x rest = record w { events = rest; client = put w.client x.birth None }
 
 -- What the world allows: by births alone.
 pub data Steps (tables : List Interface) (w : World) : Deed → World → Type 0 where
-  -- The target and the objects of a written request are open at the client, a new object is the next birth; it goes to the end.
-  writes_request : (m : Message Born) → IsOpen w.client m.target → Each (IsOpen w.client) (objects m.args)
-      → IfThere (λ x. x.birth ≡ w.births) (made_in m.args) → Steps tables w (WriteRequest m) (request_written w m)
-  -- The first request is read: its new object becomes open at the server, one that it destroys is closed, and its delete written.
-  reads_request : (m : Message Born) (rest : List (Message Born)) → w.requests ≡ m ∷ rest → Steps tables w (ReadRequest m) (request_read w m rest)
-  -- The target and the objects of a written event are open at the server. One that it destroys is closed, and its delete follows.
-  writes_event : (m : Message Born) → IsThere w.server m.target → Each (IsThere w.server) (objects m.args) → Steps tables w (WriteEvent m) (event_written w m)
+  -- The target and the objects of a written request are open at the client, and a new object is the
+  -- next birth. The request goes to the end, and one that it destroys becomes ending.
+  writes_request : (m : Message Born) → IsOpen w.client m.target
+      → Each (IsOpen w.client) (objects m.args)
+      → IfThere (λ x. x.birth ≡ w.births) (made_in m.args)
+      → Steps tables w (WriteRequest m) (request_written w m)
+  -- The first request is read: its new object becomes open at the server, and one that it destroys
+  -- is closed and its delete written.
+  reads_request : (m : Message Born) (rest : List (Message Born))
+      → w.requests ≡ m ∷ rest → Steps tables w (ReadRequest m) (request_read w m rest)
+  -- The target and the objects of a written event are open at the server. One that it destroys is
+  -- closed, and its delete follows.
+  writes_event : (m : Message Born) → IsThere w.server m.target
+      → Each (IsThere w.server) (objects m.args) → Steps tables w (WriteEvent m) (event_written w m)
   -- An object of an interface with a destroying event is closed without one.
-  drops : (x : Born) → IsThere w.server x → ends_by_event (interface_at tables x.iface.0) ≡ true → Steps tables w (Drop x) (dropped w x)
-  -- The first event is read: one that destroys makes its target ending.
-  reads_event : (m : Message Born) (rest : List (Coming Born)) → w.events ≡ Event m ∷ rest → Steps tables w (ReadEvent (Event m)) (event_read tables w m rest)
+  drops : (x : Born) → IsThere w.server x → ends_by_event (interface_at tables x.iface.0) ≡ true
+      → Steps tables w (Drop x) (dropped w x)
+  -- The first event is read: an object that it destroys becomes ending.
+  reads_event : (m : Message Born) (rest : List (Coming Born)) → w.events ≡ Event m ∷ rest
+      → Steps tables w (ReadEvent (Event m)) (event_read tables w m rest)
   -- A delete is read: its object is neither open nor ending.
-  reads_delete : (x : Born) (rest : List (Coming Born)) → w.events ≡ Delete x ∷ rest → Steps tables w (ReadEvent (Delete x)) (delete_read w x rest)
+  reads_delete : (x : Born) (rest : List (Coming Born)) → w.events ≡ Delete x ∷ rest
+      → Steps tables w (ReadEvent (Delete x)) (delete_read w x rest)
 
 abbrev pub display_born : Born
 display_born = record { birth = 0; iface = display; version = 1 }
