@@ -1,5 +1,6 @@
 -- What a server reads, and what it makes of it.
-use Rattle.std.specs.Prelude.{ℕ, slice_get, Bool, false, ◌&&◌, not, nat_lt, nat_le, bytes_eq, if◌then◌else◌, List, [], ◌∷◌, codes, is_some, Option, Some, None}
+use Rattle.std.specs.Prelude.{ℕ, slice_get, Bool, false, ◌&&◌, not, nat_lt, nat_le, bytes_eq}
+use Rattle.std.specs.Prelude.{if◌then◌else◌, List, [], ◌∷◌, codes, is_some, Option, Some, None}
 use Rattle.std.specs.declared.result.Result.{Result}
 use Rattle.std.specs.declared.result.Result.TheVariants.{Ok, Err}
 use Rattle.wl_wire.specs.Argument.{Argument, Uint, Obj, NewNamed}
@@ -35,14 +36,17 @@ abbrev pub name_fits : List ℕ → Option Interface → Bool
 name_fits name None = false
 name_fits name (Some i) = bytes_eq i.name name
 
--- whether a bind names a global that was ever advertised, withdrawn or not, by its interface and a version from 1 to the advertised one
+-- whether a bind names a global that was ever advertised, withdrawn or not, by its interface and a
+-- version from 1 to the advertised one
 abbrev pub can_bind : List Interface → List ℕ → ℕ → Option Global → Bool
 can_bind tables iface version None = false
 can_bind tables iface version (Some global) =
-    name_fits iface (interface_at tables global.iface.0) && (nat_le 1 version && nat_le version global.version)
+    name_fits iface (interface_at tables global.iface.0)
+    && (nat_le 1 version && nat_le version global.version)
 
 abbrev pub is_good_bind_of : List Interface → List Global → List Argument → Bool
-is_good_bind_of tables globals (Uint name ∷ NewNamed iface version id ∷ []) = can_bind tables iface version (global_of globals name)
+is_good_bind_of tables globals (Uint name ∷ NewNamed iface version id ∷ []) =
+    can_bind tables iface version (global_of globals name)
 is_good_bind_of tables globals _ = false
 
 abbrev pub is_good_bind : State → List Argument → Bool
@@ -51,7 +55,9 @@ is_good_bind state values = is_good_bind_of state.core.tables state.globals valu
 -- F9 comes after all other faults
 abbrev pub judged : State → Result (Option Found) Fault → Result (Option Found) Fault
 judged state (Ok (Some f)) =
-    if is_bind request_side f.message.entry.iface f.opcode && not (is_good_bind state f.message.values) then Err faults.BadBind else Ok (Some f)
+    if is_bind request_side f.message.entry.iface f.opcode
+    && not (is_good_bind state f.message.values)
+    then Err faults.BadBind else Ok (Some f)
 judged state other = other
 
 -- What stands in front of a server's waiting bytes.
@@ -80,7 +86,8 @@ fault_message faults.TooManyObjects = codes "too many objects"
 
 -- the server after a fault: the error event for object 1 comes after all else
 abbrev pub after_fault : State → Fault → State
-after_fault state fault = with_core state (with_error_event state.core 1 (fault_code fault) (fault_message fault))
+after_fault state fault =
+    with_core state (with_error_event state.core 1 (fault_code fault) (fault_message fault))
 
 -- ---- what a request leaves
 
@@ -97,34 +104,42 @@ object_in (Some (Obj (named_as.Live object))) = object
 object_in (Some (Obj (named_as.Dead object))) = object
 object_in _ = record { id = 0; birth = 0 }
 
--- the object that a request destroys, if it destroys one, by what is reported of the request: its target, or the object that an
--- argument names
+-- the object that a request destroys, if it destroys one, by what is reported of the request: its
+-- target, or the object that an argument names
 abbrev pub ended_object : Destroys → Report → Object
 ended_object Nothing report = report.target
 ended_object Target report = report.target
 ended_object (Arg place) report = object_in (slice_get report.args place)
 
 abbrev pub report : Core → Found → Report
-report core f = record { target = f.message.target; opcode = f.opcode; args = reported core f.message }
+report core f = record {
+  target = f.message.target;
+  opcode = f.opcode;
+  args = reported core f.message;
+}
 
 abbrev pub ended : Core → Found → Object
 ended core f = ended_object f.message.signature.destroys (report core f)
 
--- the end after a request: the message is taken, its objects are opened and closed, and delete_id follows a destroying one
+-- the end after a request: its message is taken, the object that it makes is opened, and the one
+-- that it destroys is closed and its delete_id written
 abbrev pub core_after : Core → Found → Core
 core_after core f =
     with_following (destroys_it f.message) (ended core f).id
-    (with_view (past_found core f) (after server core.view (made_in core f.message) f.message.signature.destroys (ended core f).id))
+    (with_view (past_found core f) (after server core.view (made_in core f.message)
+    f.message.signature.destroys (ended core f).id))
 
 -- a new registry was told nothing yet
 abbrev pub registries_after : Core → List Registry → Option Made → List Registry
 registries_after core registries None = registries
-registries_after core registries (Some m) = with_registry m.iface (untold (record { id = m.id; birth = core.view.births })) registries
+registries_after core registries (Some m) =
+    with_registry m.iface (untold (record { id = m.id; birth = core.view.births })) registries
 
 abbrev pub state_past : State → Found → State
 state_past state f = record state {
   core = core_after state.core f;
-  registries = without_registry registry_birth (destroys_it f.message) (ended state.core f).birth (registries_after state.core state.registries (made_in state.core f.message));
+  registries = without_registry registry_birth (destroys_it f.message) (ended state.core f).birth
+      (registries_after state.core state.registries (made_in state.core f.message));
 }
 
 -- ---- reading the next message, where no memory is needed
@@ -140,11 +155,14 @@ is_out_full core f = destroys_it f.message && nat_lt (room_of core.outbox) delet
 abbrev pub answer_found : Core → Result (Option Found) Fault → Result (Option Report) NextError
 answer_found core (Err fault) = Err (errors.Fault fault core.read)
 answer_found core (Ok None) = Ok None
-answer_found core (Ok (Some f)) = if is_out_full core f then Err errors.OutFull else Ok (Some (report core f))
+answer_found core (Ok (Some f)) =
+    if is_out_full core f then Err errors.OutFull else Ok (Some (report core f))
 
--- What `next` returns: what the first message is, nothing where none is whole, or why it cannot be read.
+-- What `next` returns: what the first message is, nothing where none is whole, or why it cannot be
+-- read.
 abbrev pub next_answer : State → Result (Option Report) NextError
-next_answer state = if state.core.failed then Err errors.Failed else answer_found state.core (request state)
+next_answer state =
+    if state.core.failed then Err errors.Failed else answer_found state.core (request state)
 
 abbrev pub state_found : State → Result (Option Found) Fault → State
 state_found state (Err fault) = after_fault state fault
@@ -155,9 +173,11 @@ state_found state (Ok (Some f)) = if is_out_full state.core f then state else st
 abbrev pub after_next : State → State
 after_next state = if state.core.failed then state else state_found state (request state)
 
--- What `next_owned` returns where memory can be refused: out of memory stands only in place of a report that needs some.
+-- What `next_owned` returns where memory can be refused: out of memory stands only in place of a
+-- report that needs some.
 abbrev pub IsNext : State → Result (Option Report) NextError → Type 0
-IsNext state result = Gives errors.Memory (answers_with needs_memory (next_answer state)) (next_answer state) result
+IsNext state result =
+    Gives errors.Memory (answers_with needs_memory (next_answer state)) (next_answer state) result
 
 -- whether what stands in front opens an object
 abbrev pub opens_object : Core → Result (Option Found) Fault → Bool
@@ -166,4 +186,5 @@ opens_object core _ = false
 
 -- The same for a lent report: no memory stands only in place of a request that opens an object.
 abbrev pub IsLentNext : State → Result (Option Report) NextError → Type 0
-IsLentNext state result = Gives errors.Memory (opens_object state.core (request state)) (next_answer state) result
+IsLentNext state result =
+    Gives errors.Memory (opens_object state.core (request state)) (next_answer state) result

@@ -1,5 +1,7 @@
--- How a server reads a request: what it makes of the message in front, and then what the reading leaves.
-use Rattle.std.specs.Prelude.{◌≡◌, ◌≢◌, ℕ, ◌≤◌, Bool, true, false, if◌then◌else◌, List, [], length, take, drop, Option, Some, None, IsTrue}
+-- How a server reads a request: what it makes of the message in front, and then what the reading
+-- leaves.
+use Rattle.std.specs.Prelude.{◌≡◌, ◌≢◌, ℕ, ◌≤◌, Bool, true, false, if◌then◌else◌, List, [], length}
+use Rattle.std.specs.Prelude.{take, drop, Option, Some, None, IsTrue}
 use Rattle.std.specs.declared.result.Result.{Result}
 use Rattle.std.specs.declared.result.Result.TheVariants.{Ok, Err}
 use Rattle.wl_sigs.specs.declared.signature.Destroys.{Destroys}
@@ -22,10 +24,12 @@ use Rattle.wl_end.specs.Receiving.{Found, takes}
 use Rattle.wl_end.specs.Sending.{with_delete_id, with_error_event, fits, delete_id_len}
 use Rattle.wl_server.specs.declared.pending.PendingRequest.{PendingRequest}
 use Rattle.wl_server.specs.State.{State, Global, Registry, with_core}
-use Rattle.wl_server.specs.Requests.{Report, request, report, made_in, is_out_full, registries_after, ended_object, fault_code, fault_message}
+use Rattle.wl_server.specs.Requests.{Report, request, report, made_in, is_out_full}
+use Rattle.wl_server.specs.Requests.{registries_after, ended_object, fault_code, fault_message}
 use Rattle.wl_server.specs.Registries.{without_registry, registry_birth}
 
--- what a request is and does: its report, its numbers of bytes and tokens, the object that it makes, and what it destroys
+-- what a request is and does: its report, its numbers of bytes and tokens, the object that it
+-- makes, and what it destroys
 pub record Step : Type 0 where
   pub report : Report
   pub size : ℕ
@@ -34,7 +38,13 @@ pub record Step : Type 0 where
   pub destroys : Destroys
 
 abbrev pub step_of : Core → Found → Step
-step_of core f = record { report = report core f; size = f.size; tokens = takes f.message; made = made_in core f.message; destroys = f.message.signature.destroys }
+step_of core f = record {
+  report = report core f;
+  size = f.size;
+  tokens = takes f.message;
+  made = made_in core f.message;
+  destroys = f.message.signature.destroys;
+}
 
 -- the object that it destroys, if it destroys one
 abbrev pub step_ended : Step → Object
@@ -44,7 +54,11 @@ step_ended step = ended_object step.destroys step.report
 
 -- its report, over a message's body and tokens
 abbrev pub report_over : List ℕ → List ℕ → PendingRequest → Report
-report_over body tokens p = record { target = p.target; opcode = p.opcode; args = reported_in body p.birth tokens p.args }
+report_over body tokens p = record {
+  target = p.target;
+  opcode = p.opcode;
+  args = reported_in body p.birth tokens p.args;
+}
 
 -- what it is and does, over the message in front of an end
 abbrev pub pending_in : Core → PendingRequest → Step
@@ -69,7 +83,8 @@ pending_of tables birth header message args = record {
   destroys = message.signature.destroys;
 }
 
-abbrev pub pendings_in : Core → Result (Option PendingRequest) NextError → Result (Option Step) NextError
+abbrev pub pendings_in : Core → Result (Option PendingRequest) NextError
+    → Result (Option Step) NextError
 pendings_in core (Err why) = Err why
 pendings_in core (Ok None) = Ok None
 pendings_in core (Ok (Some p)) = Ok (Some (pending_in core p))
@@ -87,7 +102,8 @@ state_of core globals = record { core = core; globals = globals; registries = []
 abbrev pub step_found : Core → Result (Option Found) Fault → Result (Option Step) NextError
 step_found core (Err fault) = Err (errors.Fault fault core.read)
 step_found core (Ok None) = Ok None
-step_found core (Ok (Some f)) = if is_out_full core f then Err errors.OutFull else Ok (Some (step_of core f))
+step_found core (Ok (Some f)) =
+    if is_out_full core f then Err errors.OutFull else Ok (Some (step_of core f))
 
 -- the request in front
 abbrev pub front_step : State → Result (Option Step) NextError
@@ -99,8 +115,8 @@ pub record HasRow (view : View) (object : Object) : Type 0 where
   pub row : look view object.id ≡ Some entry
   pub birth : entry.birth ≡ object.birth
 
--- A step can be taken: its message stands in front and its tokens wait. An object that it destroys has the row of its birth and is not
--- wl_display, and there is room for its delete_id.
+-- A step can be taken: its message stands in front and its tokens wait. An object that it destroys
+-- has the row of its birth and is not wl_display, and there is room for its delete_id.
 pub record CanTake (core : Core) (step : Step) : Type 0 where
   pub whole : in_front core.inbox ≡ Whole step.size
   pub tokens : step.tokens ≤ length core.inbox.tokens
@@ -122,18 +138,26 @@ core_without true id core = with_delete_id (with_view core (closed core.view id)
 
 -- the end after a request: its object is opened, the message taken, and what it destroys closed
 abbrev pub core_by : Core → Step → Core
-core_by core step = core_without (destroys_one step.destroys) (step_ended step).id (past (with_view core (opens core.view step.made)) step.size step.tokens)
+core_by core step =
+    core_without (destroys_one step.destroys) (step_ended step).id
+    (past (with_view core (opens core.view step.made)) step.size step.tokens)
 
 -- the registries after a request
 abbrev pub registries_by : Core → List Registry → Step → List Registry
-registries_by core registries step = without_registry registry_birth (destroys_one step.destroys) (step_ended step).birth (registries_after core registries step.made)
+registries_by core registries step =
+    without_registry registry_birth (destroys_one step.destroys) (step_ended step).birth
+    (registries_after core registries step.made)
 
 abbrev pub after_step : State → Step → State
-after_step state step = record state { core = core_by state.core step; registries = registries_by state.core state.registries step }
+after_step state step = record state {
+  core = core_by state.core step;
+  registries = registries_by state.core state.registries step;
+}
 
 -- the end after the client is told of a fault
 abbrev pub core_told : Core → NextError → Core
-core_told core (errors.Fault fault offset) = with_error_event core 1 (fault_code fault) (fault_message fault)
+core_told core (errors.Fault fault offset) =
+    with_error_event core 1 (fault_code fault) (fault_message fault)
 core_told core why = core
 
 -- the same, where that was what the front came to
@@ -154,7 +178,8 @@ report_by (Ok (Some step)) = Ok (Some step.report)
 report_by (Err why) = Err why
 
 -- what a read returns, by the request that was taken
-abbrev pub taken_in : Core → Result (Option PendingRequest) NextError → Result (Option Report) NextError
+abbrev pub taken_in : Core → Result (Option PendingRequest) NextError
+    → Result (Option Report) NextError
 taken_in core (Err why) = Err why
 taken_in core (Ok None) = Ok None
 taken_in core (Ok (Some p)) = Ok (Some (taken_report core p))

@@ -1,12 +1,11 @@
 use Rattle.std.proofs.Common.{◌≡◌, sym, ap, subst, ◌∙◌, rules}
-use Rattle.std.specs.Prelude.{IsTrue, List, is_some}
+use Rattle.std.specs.Prelude.{IsTrue, is_some}
 use Rattle.wl_table.specs.declared.object.Object.{Object}
 use Rattle.wl_table.specs.View.{View, is_held}
 use Rattle.wl_objects.specs.Messages.{opens}
 use Rattle.wl_end.specs.Core.{Core, past, with_view}
-use Rattle.wl_server.specs.State.{Registry, State}
+use Rattle.wl_server.specs.State.{State}
 use Rattle.wl_server.specs.Registries.{registry_birth, without_registry}
-use Rattle.wl_server.specs.Requests.{registries_after}
 use Rattle.wl_server.specs.Steps.{CanTake, after_step, core_by, core_without, pending_in, registries_by, step_ended}
 use Rattle.wl_server.proofs.Taking.{held-opened}
 use Rattle.wl_server.proofs.Registries.{births_now, has_now}
