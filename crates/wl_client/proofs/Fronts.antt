@@ -19,7 +19,6 @@ use Rattle.wl_message.specs.Arrived.{in_front}
 use Rattle.wl_message.specs.Cut.{Whole}
 use Rattle.wl_table.specs.declared.object.State.{State as ObjectState}
 use Rattle.wl_table.specs.declared.object.State.TheVariants.{Live, Zombie}
-use Rattle.wl_table.specs.View.{View}
 use Rattle.wl_objects.specs.declared.error.Fault.{Fault}
 use Rattle.wl_objects.specs.Reading.{descriptors, is_descriptor_kind}
 use Rattle.wl_objects.specs.Messages.{Received, received, reader_of}

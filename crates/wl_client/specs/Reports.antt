@@ -1,5 +1,7 @@
 -- What a client reads, and what it makes of it.
-use Rattle.std.specs.Prelude.{ℕ, Bool, true, false, ◌&&◌, not, nat_eq, nat_lt, if◌then◌else◌, List, [], ◌∷◌, ◌++◌, length, map, filter, Option, Some, None, is_some, unwrap_or, slice_get}
+use Rattle.std.specs.Prelude.{ℕ, Bool, true, false, ◌&&◌, not, nat_eq, nat_lt, if◌then◌else◌, List}
+use Rattle.std.specs.Prelude.{[], ◌∷◌, ◌++◌, length, map, filter, Option, Some, None, is_some}
+use Rattle.std.specs.Prelude.{unwrap_or, slice_get}
 use Rattle.std.specs.declared.result.Result.{Result}
 use Rattle.std.specs.declared.result.Result.TheVariants.{Ok, Err}
 use Rattle.wl_wire.specs.declared.kind.Iface.{Iface}
@@ -18,7 +20,8 @@ use Rattle.wl_table.specs.declared.object.Entry.{Entry}
 use Rattle.wl_table.specs.View.{View, look, is_held}
 use Rattle.wl_objects.specs.Writing.{is_live}
 use Rattle.wl_objects.specs.Reading.{Reported, named_at}
-use Rattle.wl_objects.specs.Messages.{Received, reader_of, is_error, is_delete_id, same_iface, Client as client, after, after_delete_id, ended_id}
+use Rattle.wl_objects.specs.Messages.{Received, reader_of, is_error, is_delete_id, same_iface}
+use Rattle.wl_objects.specs.Messages.{Client as client, after, after_delete_id, ended_id}
 use Rattle.wl_end.specs.Core.{Core, with_view, with_failure}
 use Rattle.wl_end.specs.Outcomes.{Gives, answers_with}
 use Rattle.wl_end.specs.Receiving.{Found, found, reported, own_tokens, past_found, is_none}
@@ -34,7 +37,8 @@ pub data Report : Type 0 where
   Deleted : Object → Report
   -- delete_id of an id that names no object, or of wl_display's
   Stray : (id : ℕ) → Report
-  -- wl_display.error: the id that it gives, the object that the client has under it, the code and the text
+  -- wl_display.error: the id that it gives, the object that the client has under it, the code and
+  -- the text
   Error : (id : ℕ) (named : Named) (code : ℕ) (text : List ℕ) → Report
 
 -- ---- the report of a message
@@ -62,7 +66,9 @@ argument values place = unwrap_or (slice_get values place) (Uint 0)
 
 -- wl_display.error names its object by an id alone, which may be null or unknown
 abbrev pub error_report : Core → List Argument → Report
-error_report core values = Error (id_in (argument values 0)) (named_at (reader_of core.view) (id_in (argument values 0))) (number_in (argument values 1)) (text_in (argument values 2))
+error_report core values =
+    Error (id_in (argument values 0)) (named_at (reader_of core.view) (id_in (argument values 0)))
+    (number_in (argument values 1)) (text_in (argument values 2))
 
 -- whether delete_id of an id ends an object
 abbrev pub deletes : Core → ℕ → Bool
@@ -109,7 +115,8 @@ abbrev pub view_after : Core → Found → View
 view_after core f =
     if is_error_event f then core.view
     else if is_delete_event f then after_delete_id core.view (deleted_id f)
-    else after client core.view None f.message.signature.destroys (ended_id f.message.signature.destroys f.message.target.id f.message.values)
+    else after client core.view None f.message.signature.destroys
+    (ended_id f.message.signature.destroys f.message.target.id f.message.values)
 
 -- the globals without one of this name
 abbrev pub forgotten : ℕ → List Global → List Global
@@ -117,7 +124,8 @@ forgotten name globals = filter (λ global. not (is_named name global)) globals
 
 -- the globals with this one in the place of the other of its name
 abbrev pub replaced : Global → List Global → List Global
-replaced global globals = map (λ other. if is_named global.name other then global else other) globals
+replaced global globals =
+    map (λ other. if is_named global.name other then global else other) globals
 
 -- the globals with this one: in place of another of its name, else last, where there is room
 abbrev pub remembered : Global → List Global → List Global
@@ -129,12 +137,15 @@ remembered global globals =
 -- one whose interface is not in the tables is not remembered, and its name is taken out
 abbrev pub remembered_as : ℕ → ℕ → Option Iface → List Global → List Global
 remembered_as name version None globals = forgotten name globals
-remembered_as name version (Some iface) globals = remembered (record { name = name; iface = iface; version = version }) globals
+remembered_as name version (Some iface) globals =
+    remembered (record { name = name; iface = iface; version = version }) globals
 
--- the globals after an event of wl_registry: `global` (0) tells one, `global_remove` (1) takes it out
+-- the globals after an event of wl_registry: `global` (0) adds one, `global_remove` (1) removes one
 abbrev pub globals_told : List Interface → List Global → ℕ → List Argument → List Global
 globals_told tables globals opcode values =
-    if nat_eq opcode 0 then remembered_as (number_in (argument values 0)) (number_in (argument values 2)) (place_of tables (text_in (argument values 1))) globals
+    if nat_eq opcode 0
+    then remembered_as (number_in (argument values 0)) (number_in (argument values 2))
+    (place_of tables (text_in (argument values 1))) globals
     else if nat_eq opcode 1 then forgotten (number_in (argument values 0)) globals
     else globals
 
@@ -146,7 +157,9 @@ globals_after state f =
     else state.globals
 
 abbrev pub core_after : Core → Found → Core
-core_after core f = record (with_view (past_found core f) (view_after core f)) { failed = is_error_event f }
+core_after core f = record (with_view (past_found core f) (view_after core f)) {
+  failed = is_error_event f;
+}
 
 abbrev pub state_past : State → Found → State
 state_past state f = record { core = core_after state.core f; globals = globals_after state f }
@@ -158,19 +171,26 @@ answer_found core (Err fault) = Err (errors.Fault fault core.read)
 answer_found core (Ok None) = Ok None
 answer_found core (Ok (Some f)) = Ok (Some (report core f))
 
--- What `next` returns: what the first message is, nothing where none is whole, or why it cannot be read.
+-- What `next` returns: what the first message is, nothing where none is whole, or why it cannot be
+-- read.
 abbrev pub next_answer : State → Result (Option Report) NextError
-next_answer state = if state.core.failed then Err errors.Failed else answer_found state.core (found state.core event_side)
+next_answer state =
+    if state.core.failed then Err errors.Failed
+    else answer_found state.core (found state.core event_side)
 
 abbrev pub state_found : State → Result (Option Found) Fault → State
 state_found state (Err fault) = with_core state (with_failure state.core)
 state_found state (Ok None) = state
 state_found state (Ok (Some f)) = state_past state f
 
--- What `next` leaves: a fault makes the client fail, and so does wl_display.error once it is reported.
+-- What `next` leaves: a fault makes the client fail, and so does wl_display.error once it is
+-- reported.
 abbrev pub after_next : State → State
-after_next state = if state.core.failed then state else state_found state (found state.core event_side)
+after_next state =
+    if state.core.failed then state else state_found state (found state.core event_side)
 
--- What `next_owned` returns where memory can be refused: out of memory stands only in place of a report that needs some.
+-- What `next_owned` returns where memory can be refused: out of memory stands only in place of a
+-- report that needs some.
 abbrev pub IsNext : State → Result (Option Report) NextError → Type 0
-IsNext state result = Gives errors.Memory (answers_with needs_memory (next_answer state)) (next_answer state) result
+IsNext state result =
+    Gives errors.Memory (answers_with needs_memory (next_answer state)) (next_answer state) result
