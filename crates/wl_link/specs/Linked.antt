@@ -1,5 +1,6 @@
 -- When a pair, its world and its recording are linked.
-use Rattle.std.specs.Prelude.{◌≡◌, ℕ, ◌≤◌, true, List, [], ◌∷◌, ◌++◌, length, map, take, Option, Some, None}
+use Rattle.std.specs.Prelude.{◌≡◌, ℕ, ◌≤◌, true, List, [], ◌∷◌, ◌++◌, length, map, take, Option}
+use Rattle.std.specs.Prelude.{Some, None}
 use Rattle.wl_sigs.specs.Tables.{Interface}
 use Rattle.wl_recording.specs.declared.piece.Direction.TheVariants.{ToServer, ToClient}
 use Rattle.wl_recording.specs.Piece.{Piece}
@@ -29,9 +30,10 @@ judged_in p = judgements (limit_of p) p.server.core.tables p.recording
 abbrev pub knows : PairState → Knows
 knows p = knowledge p.server.core.tables (judged_in p)
 
--- These requests and events are in flight, and of each direction's the first were recorded and the others not. What was recorded goes on
--- lawfully, and a checker of it follows the ends.
-pub record LinkedBy (p : PairState) (w : World) (asked : List (Message Known)) (told : List (Coming Known)) : Type 0 where
+-- These requests and events are in flight, and of each direction's the first were recorded and the
+-- others not. What was recorded goes on lawfully, and a checker of it follows the ends.
+pub record LinkedBy (p : PairState) (w : World) (asked : List (Message Known))
+    (told : List (Coming Known)) : Type 0 where
   pub stands : StandsBy p w asked told
   pub asked_seen : List (Message Known)
   pub asked_later : List (Message Known)
@@ -40,10 +42,13 @@ pub record LinkedBy (p : PairState) (w : World) (asked : List (Message Known)) (
   pub asked_is : asked ≡ asked_seen ++ asked_later
   pub told_is : told ≡ told_seen ++ told_later
   -- each direction's stream, and its tokens
-  pub to_server : Recorded (limit_of p) ToServer p.recording p.server.core.inbox ((knows p).taken ToServer) (map spelled asked_seen)
-  pub to_client : Recorded (limit_of p) ToClient p.recording p.client.core.inbox ((knows p).taken ToClient) (map spelled_coming told_seen)
+  pub to_server : Recorded (limit_of p) ToServer p.recording p.server.core.inbox
+      ((knows p).taken ToServer) (map spelled asked_seen)
+  pub to_client : Recorded (limit_of p) ToClient p.recording p.client.core.inbox
+      ((knows p).taken ToClient) (map spelled_coming told_seen)
   -- what the checker knows, and how the ends differ from it
-  pub follows : Follows p.server.core.tables (judged_in p) asked_later told_seen (client_rows p.client.core.view) p.client.globals
+  pub follows : Follows p.server.core.tables (judged_in p) asked_later told_seen
+      (client_rows p.client.core.view) p.client.globals
   -- what an event in flight is about was counted by the server
   pub counted : Each (IsBelow p.server.core.view.births) (all_tells told)
 
@@ -59,20 +64,26 @@ pub record EndedLawful (p : PairState) : Type 0 where
   pub there : count ≤ length p.recording
   pub lawful : IsLawful p.server.core.tables (session_of (limit_of p) (take count p.recording))
 
--- The pair's recording is linked with its world. Once the world is ended this says only that what was recorded before the end is lawful.
+-- The pair's recording is linked with its world. Once the world is ended this says only that what
+-- was recorded before the end is lawful.
 pub data Linked (p : PairState) (w : World) : Type 0 where
   ended : w.ended ≡ true → EndedLawful p → Linked p w
-  linked : (asked : List (Message Known)) (told : List (Coming Known)) → NotEnded p w → LinkedBy p w asked told → Linked p w
+  linked : (asked : List (Message Known)) (told : List (Coming Known))
+      → NotEnded p w → LinkedBy p w asked told → Linked p w
 
--- The run of these moves: each pair is linked with its world, and each reply is one that the world allows.
+-- The run of these moves: each pair is linked with its world, and each reply is one that the world
+-- allows.
 abbrev pub RunsLinked : PairState → World → List Move → List Reply → PairState → Type 0
 RunsLinked pair world [] [] last = pair ≡ last
 RunsLinked pair world (move ∷ moves) (reply ∷ replies) last =
-    (next : PairState) × (world' : World) × Answers pair world move reply next world' × Linked next world' × RunsLinked next world' moves replies last
+    (next : PairState) × (world' : World)
+    × Answers pair world move reply next world' × Linked next world'
+    × RunsLinked next world' moves replies last
 RunsLinked pair world _ _ last = ⊥
 
 -- a step of a linked pair: the world allows the reply, and the pair is linked again
-pub record LinksOn (p : PairState) (w : World) (move : Move) (reply : Reply) (p' : PairState) : Type 0 where
+pub record LinksOn (p : PairState) (w : World) (move : Move) (reply : Reply) (p' : PairState)
+    : Type 0 where
   pub world : World
   pub answers : Answers p w move reply p' world
   pub links : Linked p' world

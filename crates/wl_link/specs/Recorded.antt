@@ -7,12 +7,13 @@ use Rattle.wl_recording.specs.declared.piece.Direction.{Direction}
 use Rattle.wl_recording.specs.Piece.{Piece}
 use Rattle.wl_check.specs.Merged.{cut, stream_of, tokens_of}
 
--- These messages were recorded whole and wait in the inbox. Behind them both the inbox and the direction's stream end with the same part
--- of the next message, which may be empty, and the stream has no bad size: the inbox goes by the limit by which the stream is cut. The
--- recorded messages took this many tokens, those of the messages that wait among them; so the tokens that the pieces brought beyond these
--- are those that wait for later messages.
-pub record Recorded (limit : ℕ) (direction : Direction) (pieces : List Piece) (inbox : Arrived) (taken : ℕ)
-    (seen : List boxes.Message) : Type 0 where
+-- These messages were recorded whole and wait in the inbox. Behind them both the inbox and the
+-- direction's stream end with the same part of the next message, which may be empty, and the stream
+-- has no bad size: the inbox goes by the limit by which the stream is cut. The recorded messages
+-- took this many tokens, those of the messages that wait among them; so the tokens that the pieces
+-- brought beyond these are those that wait for later messages.
+pub record Recorded (limit : ℕ) (direction : Direction) (pieces : List Piece)
+    (inbox : Arrived) (taken : ℕ) (seen : List boxes.Message) : Type 0 where
   pub same_limit : inbox.limit.bytes ≡ limit
   pub part : List ℕ
   pub sound : (cut limit (stream_of direction pieces)).is_bad ≡ false

@@ -18,8 +18,8 @@ pub fn new_linked()
         → Linked (new_pair tables client server) opening }
 {}
 
-/// Whatever one move does with a linked pair, its reply is one that the world allows, and the pair is
-/// linked again.
+/// Whatever one move does with a linked pair, its reply is one that the world allows, and the pair
+/// is linked again.
 pub fn step_links()
     ensures { (pair : PairState) (world : World) → Linked pair world
         → (move : Move) (reply : Reply) (next : PairState)
