@@ -20,4 +20,5 @@ emptied c = record c { bytes = [] }
 
 -- A read copies the bytes that it gives, and a read that fails none.
 abbrev pub Copies : {E : Type 0} → Copy → Result ℕ E → List ℕ → Copy → Type 0
-Copies before result given after = MatchResult result (λ n. after ≡ with_copied before (take n given)) (λ _. after ≡ before)
+Copies before result given after =
+    MatchResult result (λ n. after ≡ with_copied before (take n given)) (λ _. after ≡ before)

@@ -31,7 +31,8 @@ args_of list = map arg_of list
 
 abbrev pub move_of : {A : Type 0} → Move A → world.Move
 move_of (moves.ClientSend target opcode list) = world.ClientSend target opcode (args_of list.items)
-move_of (moves.ClientBind target name iface version) = world.ClientBind target name iface.items version
+move_of (moves.ClientBind target name iface version) =
+    world.ClientBind target name iface.items version
 move_of (moves.ServerSend target opcode list) = world.ServerSend target opcode (args_of list.items)
 move_of (moves.ServerDrop object) = world.ServerDrop object
 move_of (moves.PostError object code text) = world.PostError object code text.items

@@ -13,8 +13,8 @@ use wl_objects::{Entry, State, Table};
 use wl_server::Server;
 
 impl<'t, T: Table> Pair<'t, T> {
-    /// Whether both ends have the same objects under the same ids, and the client has destroyed none
-    /// of them. Where both are drained and no error was posted, they have.
+    /// Whether both ends have the same objects under the same ids, and the client has destroyed
+    /// none of them. Where both are drained and no error was posted, they have.
     pub fn agree(&self) -> bool
         ensures exact { IsTrue result ↔ Agree self.now.client.core.view self.now.server.core.view }
         ensures drained { (world : World) → Stands self.now world → world.ended ≡ false

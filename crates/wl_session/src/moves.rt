@@ -67,11 +67,11 @@ pub enum Move<A: Allocator = Global> {
     },
     /// The server announces its globals to the open registries.
     Announce,
-    /// At most this many bytes go from the client to the server, and at most what its inbox has room
-    /// for.
+    /// At most this many bytes go from the client to the server, and at most what its inbox has
+    /// room for.
     CarryToServer(usize),
-    /// At most this many bytes go from the server to the client, and at most what its inbox has room
-    /// for.
+    /// At most this many bytes go from the server to the client, and at most what its inbox has
+    /// room for.
     CarryToClient(usize),
     /// The client reads a message.
     ClientNext,

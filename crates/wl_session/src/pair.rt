@@ -48,7 +48,12 @@ impl<'t, T: Table> Model for Pair<'t, T> {
 
     ghost coded = { Prim.hlevel (codes, view_code) };
 
-    ghost view = { λ p. record { client = p.client; server = p.server; recording = p.recording; ended_at = p.ended_at } };
+    ghost view = { λ p. record {
+      client = p.client;
+      server = p.server;
+      recording = p.recording;
+      ended_at = p.ended_at;
+    } };
 
     ghost invariant = { λ p. record {
       client_fits : Holds (length p.bytes.items) (length p.tokens.items) p.client.core.inbox;

@@ -62,7 +62,8 @@ impl<A: Allocator> Copied<A> {
         let _ = self.bytes.extend_from_slice(bytes);
     }
 
-    /// Adds all of them to a recording as one piece, none where there are none, and then holds none.
+    /// Adds all of them to a recording as one piece, none where there are none, and then holds
+    /// none.
     fn move_to<B: Allocator + Clone>(
         &mut self,
         recording: &mut Recording<B>,
