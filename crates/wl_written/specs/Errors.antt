@@ -6,5 +6,6 @@ use Rattle.wl_written.specs.declared.fault.TableFault.TheVariants.{BadLine, BadT
 
 abbrev pub table_fault_text : TableFault → List ℕ
 table_fault_text (BadLine line) = codes "line " ++ decimal line ++ codes ": bad line"
-table_fault_text (BadTable line rule) = codes "line " ++ decimal line ++ codes ": breaks V" ++ decimal rule
+table_fault_text (BadTable line rule) =
+    codes "line " ++ decimal line ++ codes ": breaks V" ++ decimal rule
 table_fault_text Memory = codes "out of memory"
