@@ -1,5 +1,7 @@
 -- Which rules of valid tables the lines of a text break.
-use Rattle.std.specs.Prelude.{ℕ, ◌+◌, ◌==◌, ◌&&◌, ◌||◌, not, nat_le, nat_lt, List, [], ◌∷◌, ◌++◌, length, map, Bool, true, false, slice_get, Option, Some, None, option_map, if◌then◌else◌, is_some}
+use Rattle.std.specs.Prelude.{ℕ, ◌+◌, ◌==◌, ◌&&◌, ◌||◌, not, nat_le, nat_lt, List, [], ◌∷◌, ◌++◌}
+use Rattle.std.specs.Prelude.{length, map, Bool, true, false, slice_get, Option, Some, None}
+use Rattle.std.specs.Prelude.{option_map, if◌then◌else◌, is_some}
 use Rattle.std.specs.Option.{option_map_or}
 use Rattle.std.specs.List.{list_all, list_any, count_by}
 use Rattle.wl_wire.specs.declared.kind.Kind.{Kind}
@@ -16,7 +18,7 @@ pub record Broken : Type 0 where
   pub line : ℕ
   pub rule : ℕ
 
--- the name stands first at this place
+-- this is the first place of the name
 abbrev pub is_first : (List ℕ → Option ℕ) → List ℕ → ℕ → Bool
 is_first place name here = option_map_or (λ first. first == here) (place name) false
 
@@ -48,11 +50,13 @@ is_ended ended (Some place) = option_map_or (λ b. b) (slice_get ended place) fa
 
 -- an object of an interface with a destroying event
 abbrev pub takes_ended : (List ℕ → Option ℕ) → List Bool → WrittenKind → Bool
-takes_ended place ended k = is_object k.kind && option_map_or (λ name. is_ended ended (place name)) k.iface false
+takes_ended place ended k =
+    is_object k.kind && option_map_or (λ name. is_ended ended (place name)) k.iface false
 
 -- an interface that is not there
 abbrev pub names_missing : (List ℕ → Option ℕ) → WrittenKind → Bool
-names_missing place k = takes_interface k.kind && option_map_or (λ name. not (is_some (place name))) k.iface false
+names_missing place k =
+    takes_interface k.kind && option_map_or (λ name. not (is_some (place name))) k.iface false
 
 -- rules at one line
 
@@ -74,12 +78,15 @@ names_objects Request m = list_all (λ k. not (takes_any k)) m.kinds
 names_objects Event m = true
 
 -- V7 holds
-abbrev pub is_race_free : (List ℕ → Option ℕ) → List Bool → WrittenInterface → Side → WrittenMessage → Bool
+abbrev pub is_race_free : (List ℕ → Option ℕ) → List Bool → WrittenInterface → Side
+    → WrittenMessage → Bool
 is_race_free place ended i Request m = list_all (λ k. not (takes_ended place ended k)) m.kinds
 is_race_free place ended i Event m = not m.destroys || is_empty i.requests
 
--- the least rule that a message of the interface breaks, where `first` gives the opcodes of the first messages of their names
-abbrev pub message_rule : (List ℕ → Option ℕ) → List Bool → WrittenInterface → Side → (List ℕ → Option ℕ) → ℕ → WrittenMessage → Option ℕ
+-- the least rule that a message of the interface breaks, where `first` gives the opcodes of the
+-- first messages of their names
+abbrev pub message_rule : (List ℕ → Option ℕ) → List Bool → WrittenInterface → Side
+    → (List ℕ → Option ℕ) → ℕ → WrittenMessage → Option ℕ
 message_rule place ended i side first opcode m =
     if not (is_name m.name && is_first first m.name opcode) then Some 1
     else (if not (nat_lt opcode 256 && nat_le (length m.kinds) 20) then Some 3
@@ -94,7 +101,8 @@ message_rule place ended i side first opcode m =
 -- all lines
 
 abbrev pub broken_at : ℕ → Option ℕ → Option Broken
-broken_at line rule = option_map (λ r. let it : Broken = record { line = line; rule = r } in it) rule
+broken_at line rule =
+    option_map (λ r. let it : Broken = record { line = line; rule = r } in it) rule
 
 -- the one of the earlier line
 abbrev pub earlier : Option Broken → Option Broken → Option Broken
@@ -103,28 +111,40 @@ earlier (Some this) None = Some this
 earlier (Some this) (Some other) = if nat_lt other.line this.line then Some other else Some this
 
 -- the first line of messages that breaks a rule, where the first message has this opcode
-abbrev pub messages_broken : (ℕ → WrittenMessage → Option ℕ) → ℕ → List WrittenMessage → Option Broken
+abbrev pub messages_broken : (ℕ → WrittenMessage → Option ℕ) → ℕ → List WrittenMessage
+    → Option Broken
 messages_broken rule opcode [] = None
-messages_broken rule opcode (m ∷ more) = earlier (broken_at m.line (rule opcode m)) (messages_broken rule (opcode + 1) more)
+messages_broken rule opcode (m ∷ more) =
+    earlier (broken_at m.line (rule opcode m)) (messages_broken rule (opcode + 1) more)
 
 -- the messages of one side
-abbrev pub side_broken : (List ℕ → Option ℕ) → List Bool → WrittenInterface → Side → List WrittenMessage → Option Broken
-side_broken place ended i side messages = messages_broken (message_rule place ended i side (first_place (map (λ m. m.name) messages))) 0 messages
+abbrev pub side_broken : (List ℕ → Option ℕ) → List Bool → WrittenInterface → Side
+    → List WrittenMessage → Option Broken
+side_broken place ended i side messages =
+    messages_broken (message_rule place ended i side (first_place (map (λ m. m.name) messages)))
+    0 messages
 
 -- an interface with its messages
 abbrev pub interface_broken : (List ℕ → Option ℕ) → List Bool → ℕ → WrittenInterface → Option Broken
 interface_broken place ended here i =
-    earlier (broken_at i.line (interface_rule place here i)) (earlier (side_broken place ended i Request i.requests) (side_broken place ended i Event i.events))
+    earlier (broken_at i.line (interface_rule place here i))
+    (earlier (side_broken place ended i Request i.requests)
+    (side_broken place ended i Event i.events))
 
 -- the first line of interfaces that breaks a rule, where the first interface stands at this place
-abbrev pub interfaces_broken : (List ℕ → Option ℕ) → List Bool → ℕ → List WrittenInterface → Option Broken
+abbrev pub interfaces_broken : (List ℕ → Option ℕ) → List Bool → ℕ → List WrittenInterface
+    → Option Broken
 interfaces_broken place ended here [] = None
-interfaces_broken place ended here (i ∷ more) = earlier (interface_broken place ended here i) (interfaces_broken place ended (here + 1) more)
+interfaces_broken place ended here (i ∷ more) =
+    earlier (interface_broken place ended here i) (interfaces_broken place ended (here + 1) more)
 
 -- the interfaces that an event of theirs may end
 abbrev pub ended_of : List Interface → List WrittenInterface → List Bool
-ended_of tables written = map has_destroying_event tables ++ map (λ i. list_any (λ m. m.destroys) i.events) written
+ended_of tables written =
+    map has_destroying_event tables ++ map (λ i. list_any (λ m. m.destroys) i.events) written
 
 -- the first line of a text that breaks a rule, behind these tables, and the least rule there
 abbrev pub first_broken : List Interface → List WrittenInterface → Option Broken
-first_broken tables written = interfaces_broken (first_place (all_names tables written)) (ended_of tables written) (length tables) written
+first_broken tables written =
+    interfaces_broken (first_place (all_names tables written)) (ended_of tables written)
+    (length tables) written

@@ -1,10 +1,13 @@
--- The core interfaces of wayland.xml, at these versions, in this order. The data transfer interfaces are left out.
--- Each message's line: its name, the version of its interface that brought it, the kinds of its arguments, what it destroys.
+-- The core interfaces of wayland.xml, at these versions, in this order. The data transfer
+-- interfaces are left out. Of each message: its name, the version of its interface that brought it,
+-- the kinds of its arguments, and what it destroys.
 use Rattle.std.specs.Prelude.{List, [], ◌∷◌, codes, Some}
 use Rattle.wl_wire.specs.declared.kind.Iface.{Iface}
 use Rattle.wl_sigs.specs.declared.signature.Destroys.TheVariants.{Nothing, Target}
 use Rattle.wl_sigs.specs.Tables.{Interface}
-use Rattle.wl_sigs.specs.Fixed.{message, int, uint, fixed, string, array, fd, object, object_or_null, new, callback, wl_display, wl_registry, wl_callback, wl_fixes}
+use Rattle.wl_sigs.specs.Fixed.{message, int, uint, fixed, string, array, fd, object}
+use Rattle.wl_sigs.specs.Fixed.{object_or_null, new, callback, wl_display, wl_registry, wl_callback}
+use Rattle.wl_sigs.specs.Fixed.{wl_fixes}
 
 -- the places of the further interfaces
 abbrev compositor : Iface
@@ -81,7 +84,8 @@ wl_shm_pool = record {
   name = codes "wl_shm_pool";
   version = 2;
   requests =
-      message (codes "create_buffer") 1 ((new (Some buffer)) ∷ int ∷ int ∷ int ∷ int ∷ uint ∷ []) Nothing ∷
+      message (codes "create_buffer") 1
+      ((new (Some buffer)) ∷ int ∷ int ∷ int ∷ int ∷ uint ∷ []) Nothing ∷
       message (codes "destroy") 1 ([]) Target ∷
       message (codes "resize") 1 (int ∷ []) Nothing ∷
       [];
@@ -219,7 +223,8 @@ wl_output = record {
       message (codes "release") 3 ([]) Target ∷
       [];
   events =
-      message (codes "geometry") 1 (int ∷ int ∷ int ∷ int ∷ int ∷ string ∷ string ∷ int ∷ []) Nothing ∷
+      message (codes "geometry") 1
+      (int ∷ int ∷ int ∷ int ∷ int ∷ string ∷ string ∷ int ∷ []) Nothing ∷
       message (codes "mode") 1 (uint ∷ int ∷ int ∷ int ∷ []) Nothing ∷
       message (codes "done") 2 ([]) Nothing ∷
       message (codes "scale") 2 (int ∷ []) Nothing ∷
@@ -234,7 +239,8 @@ wl_subcompositor = record {
   version = 1;
   requests =
       message (codes "destroy") 1 ([]) Target ∷
-      message (codes "get_subsurface") 1 ((new (Some subsurface)) ∷ (object surface) ∷ (object surface) ∷ []) Nothing ∷
+      message (codes "get_subsurface") 1
+      ((new (Some subsurface)) ∷ (object surface) ∷ (object surface) ∷ []) Nothing ∷
       [];
   events = [];
 }
@@ -259,7 +265,8 @@ wl_shell = record {
   name = codes "wl_shell";
   version = 1;
   requests =
-      message (codes "get_shell_surface") 1 ((new (Some shell_surface)) ∷ (object surface) ∷ []) Nothing ∷
+      message (codes "get_shell_surface") 1
+      ((new (Some shell_surface)) ∷ (object surface) ∷ []) Nothing ∷
       [];
   events = [];
 }
@@ -275,7 +282,8 @@ wl_shell_surface = record {
       message (codes "set_toplevel") 1 ([]) Nothing ∷
       message (codes "set_transient") 1 ((object surface) ∷ int ∷ int ∷ uint ∷ []) Nothing ∷
       message (codes "set_fullscreen") 1 (uint ∷ uint ∷ (object_or_null output) ∷ []) Nothing ∷
-      message (codes "set_popup") 1 ((object seat) ∷ uint ∷ (object surface) ∷ int ∷ int ∷ uint ∷ []) Nothing ∷
+      message (codes "set_popup") 1
+      ((object seat) ∷ uint ∷ (object surface) ∷ int ∷ int ∷ uint ∷ []) Nothing ∷
       message (codes "set_maximized") 1 ((object_or_null output) ∷ []) Nothing ∷
       message (codes "set_title") 1 (string ∷ []) Nothing ∷
       message (codes "set_class") 1 (string ∷ []) Nothing ∷
@@ -287,7 +295,8 @@ wl_shell_surface = record {
       [];
 }
 
--- The interfaces, in their order. Proofs about tables go by the rules of valid tables, and do not open this list.
+-- The interfaces, in their order. Proofs about tables go by the rules of valid tables, and do not
+-- open this list.
 unfoldable pub core_tables : List Interface
 core_tables =
     wl_display ∷

@@ -1,5 +1,6 @@
--- wl_display, wl_registry, wl_callback and wl_fixes, which stand in all valid tables, and the words in which interfaces are written.
--- Each message's line: its name, the version of its interface that brought it, the kinds of its arguments, what it destroys.
+-- wl_display, wl_registry, wl_callback and wl_fixes, which stand in all valid tables, and the words
+-- in which interfaces are written. Of each message: its name, the version of its interface that
+-- brought it, the kinds of its arguments, and what it destroys.
 use Rattle.std.specs.Prelude.{ℕ, List, [], ◌∷◌, codes, true, false, Option, Some, None}
 use Rattle.wl_wire.specs.declared.kind.Kind.{Kind}
 use Rattle.wl_wire.specs.declared.kind.Kind.TheVariants as kinds
@@ -9,7 +10,12 @@ use Rattle.wl_sigs.specs.declared.signature.Destroys.TheVariants.{Nothing, Targe
 use Rattle.wl_sigs.specs.Tables.{Message, Interface}
 
 abbrev pub message : List ℕ → ℕ → List Kind → Destroys → Message
-message name since kinds destroys = record { name = name; since = since; kinds = kinds; destroys = destroys }
+message name since kinds destroys = record {
+  name = name;
+  since = since;
+  kinds = kinds;
+  destroys = destroys;
+}
 
 -- kinds of arguments
 abbrev pub int : Kind
@@ -42,7 +48,7 @@ any_object = kinds.Obj false None
 abbrev pub new : Option Iface → Kind
 new iface = kinds.New iface
 
--- the places of the three interfaces
+-- the places of wl_display, wl_registry and wl_callback
 abbrev pub display : Iface
 display = record { 0 = 0 }
 

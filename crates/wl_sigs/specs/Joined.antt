@@ -1,5 +1,6 @@
 -- The tables of a text behind others, with the names of their arguments' interfaces looked up.
-use Rattle.std.specs.Prelude.{ℕ, List, ◌++◌, length, map, bytes_eq, position, Option, option_map, unwrap_or, Bool, true, false}
+use Rattle.std.specs.Prelude.{ℕ, List, ◌++◌, length, map, bytes_eq, position, Option, option_map}
+use Rattle.std.specs.Prelude.{unwrap_or, Bool, true, false}
 use Rattle.wl_wire.specs.declared.kind.Kind.{Kind}
 use Rattle.wl_wire.specs.declared.kind.Kind.TheVariants as kinds
 use Rattle.wl_wire.specs.declared.kind.Iface.{Iface}
@@ -35,7 +36,12 @@ destroys_of true = Target
 destroys_of false = Nothing
 
 abbrev pub message_placed : (List ℕ → Option ℕ) → ℕ → WrittenMessage → Message
-message_placed place past m = record { name = m.name; since = m.since; kinds = map (kind_placed place past) m.kinds; destroys = destroys_of m.destroys }
+message_placed place past m = record {
+  name = m.name;
+  since = m.since;
+  kinds = map (kind_placed place past) m.kinds;
+  destroys = destroys_of m.destroys;
+}
 
 abbrev pub interface_placed : (List ℕ → Option ℕ) → ℕ → WrittenInterface → Interface
 interface_placed place past i = record {

@@ -59,7 +59,7 @@ opcodes_from n (m ∷ ms) = named n m.name ∷ opcodes_from (n + 1) ms
 abbrev pub opcodes_in : List Interface → Side → List Opcodes
 opcodes_in tables side = map (λ i. in_interface i.name (opcodes_from 0 (messages_of side i))) tables
 
--- each constant, with the names of its module and its own, in lower case
+-- each constant, by its module's name and its own, both in lower case
 abbrev pub opcodes : Side → List Opcodes
 opcodes Request =
     in_interface (codes "wl_display") (

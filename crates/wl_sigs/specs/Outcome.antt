@@ -9,15 +9,17 @@ use Rattle.wl_sigs.specs.Joined.{joined}
 use Rattle.wl_sigs.specs.Broken.{Broken, first_broken}
 
 -- the tables of a text's interfaces behind these, or the first line that breaks a rule
-abbrev pub joined_unless : List Interface → List WrittenInterface → Option Broken → Result (List Interface) TableFault
+abbrev pub joined_unless : List Interface → List WrittenInterface → Option Broken
+    → Result (List Interface) TableFault
 joined_unless tables written None = Ok (joined tables written)
 joined_unless tables written (Some it) = Err (BadTable it.line it.rule)
 
-abbrev pub outcome_of : List Interface → Result (List WrittenInterface) ℕ → Result (List Interface) TableFault
+abbrev pub outcome_of : List Interface → Result (List WrittenInterface) ℕ
+    → Result (List Interface) TableFault
 outcome_of tables (Err line) = Err (BadLine line)
 outcome_of tables (Ok written) = joined_unless tables written (first_broken tables written)
 
--- The tables of a text behind these; else the first line that has no form or is a message before any interface; else the first
--- line that breaks a rule, and the least rule there.
+-- The tables of a text behind these; else the first line that has no form or is a message before
+-- any interface; else the first line that breaks a rule, and the least rule there.
 abbrev pub outcome : List Interface → List ℕ → Result (List Interface) TableFault
 outcome tables text = outcome_of tables (listed 1 (lines text) [])

@@ -14,4 +14,5 @@ place_in places name = get_by (λ k. slice_cmp nat_cmp name k.now) places
 
 -- these are the first places of the names of the tables and of a text
 abbrev pub ArePlaces : (List ℕ → Option ℕ) → List Interface → List WrittenInterface → Type 0
-ArePlaces place tables written = (name : List ℕ) → place name ≡ first_place (all_names tables written) name
+ArePlaces place tables written =
+    (name : List ℕ) → place name ≡ first_place (all_names tables written) name

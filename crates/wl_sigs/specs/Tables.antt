@@ -1,5 +1,6 @@
 -- Signature tables, without where they lie in memory.
-use Rattle.std.specs.Prelude.{ℕ, List, [], ◌∷◌, Bool, true, false, slice_get, bytes_eq, position, Option, Some, None, option_map, option_and_then}
+use Rattle.std.specs.Prelude.{ℕ, List, [], ◌∷◌, Bool, true, false, slice_get, bytes_eq, position}
+use Rattle.std.specs.Prelude.{Option, Some, None, option_map, option_and_then}
 use Rattle.std.specs.List.{list_any}
 use Rattle.wl_wire.specs.declared.kind.Kind.{Kind}
 use Rattle.wl_wire.specs.declared.kind.Kind.TheVariants as kinds
@@ -9,7 +10,8 @@ use Rattle.wl_sigs.specs.declared.signature.Destroys.TheVariants.{Nothing, Targe
 use Rattle.wl_sigs.specs.declared.signature.Side.{Side}
 use Rattle.wl_sigs.specs.declared.signature.Side.TheVariants.{Request, Event}
 
--- a request or an event: its name, the version of its interface that brought it, the kinds of its arguments, and what it destroys
+-- a request or an event: its name, the version of its interface that brought it, the kinds of its
+-- arguments, and what it destroys
 pub record Message : Type 0 where
   pub name : List ℕ
   pub since : ℕ
@@ -38,13 +40,16 @@ message_of side opcode i = slice_get (messages_of side i) opcode
 
 -- the message at an opcode of one side of the interface at a place, if there are such
 abbrev pub signature_at : List Interface → ℕ → Side → ℕ → Option Message
-signature_at tables place side opcode = option_and_then (message_of side opcode) (interface_at tables place)
+signature_at tables place side opcode =
+    option_and_then (message_of side opcode) (interface_at tables place)
 
 -- the place of the first interface of this name, if there is one
 abbrev pub place_of : List Interface → List ℕ → Option Iface
-place_of tables name = option_map (λ place. record { 0 = place }) (position (λ i. bytes_eq i.name name) tables)
+place_of tables name =
+    option_map (λ place. record { 0 = place }) (position (λ i. bytes_eq i.name name) tables)
 
--- for each new object among the arguments, in order, its interface, or none where the signature gives none
+-- for each new object among the arguments, in order, its interface, or none where the signature
+-- gives none
 abbrev pub new_objects : List Kind → List (Option Iface)
 new_objects [] = []
 new_objects (kinds.New iface ∷ more) = iface ∷ new_objects more

@@ -1,11 +1,14 @@
 -- The ten rules that make signature tables valid.
-use Rattle.std.specs.Prelude.{◌≡◌, ◌≢◌, ℕ, ◌≤◌, ◌<◌, ◌⊎◌, List, [], length, Bool, true, false, Some, None}
+use Rattle.std.specs.Prelude.{◌≡◌, ◌≢◌, ℕ, ◌≤◌, ◌<◌, ◌⊎◌, List, [], length, Bool, true, false, Some}
+use Rattle.std.specs.Prelude.{None}
 use Rattle.std.specs.List.{All}
 use Rattle.wl_wire.specs.declared.kind.Kind.TheVariants as kinds
 use Rattle.wl_wire.specs.declared.kind.Iface.{Iface}
 use Rattle.wl_sigs.specs.declared.signature.Side.{Side}
 use Rattle.wl_sigs.specs.declared.signature.Side.TheVariants.{Request, Event}
-use Rattle.wl_sigs.specs.Tables.{Message, Interface, interface_at, messages_of, signature_at, new_objects, has_destroying_event, named_interface, destroys_argument}
+use Rattle.wl_sigs.specs.Tables.{Message, Interface, interface_at, messages_of, signature_at}
+use Rattle.wl_sigs.specs.Tables.{new_objects, has_destroying_event, named_interface}
+use Rattle.wl_sigs.specs.Tables.{destroys_argument}
 use Rattle.wl_sigs.specs.Fixed.{wl_display, wl_registry, wl_callback, wl_fixes}
 
 -- P holds of each interface
@@ -14,7 +17,8 @@ EachInterface tables P = (place : ℕ) (i : Interface) → interface_at tables p
 
 -- P holds of each message of the side
 abbrev pub EachMessage : List Interface → Side → (Message → Type 0) → Type 0
-EachMessage tables side P = (place opcode : ℕ) (m : Message) → signature_at tables place side opcode ≡ Some m → P m
+EachMessage tables side P =
+    (place opcode : ℕ) (m : Message) → signature_at tables place side opcode ≡ Some m → P m
 
 -- a byte of a name: a to z, 0 to 9 or _
 abbrev pub IsNameByte : ℕ → Type 0
@@ -26,22 +30,27 @@ pub record IsName (name : List ℕ) : Type 0 where
   pub few : length name ≤ 256
   pub bytes : All IsNameByte name
 
--- V1: interfaces and messages have names; those of interfaces are distinct, and those of messages within one interface and side
+-- V1: interfaces and messages have names; those of interfaces are distinct, and those of messages
+-- within one interface and side
 pub record NamesAreDistinct (tables : List Interface) : Type 0 where
   pub interfaces_named : EachInterface tables (λ i. IsName i.name)
-  pub interfaces_distinct : (p q : ℕ) (i j : Interface) → interface_at tables p ≡ Some i → interface_at tables q ≡ Some j → i.name ≡ j.name → p ≡ q
+  pub interfaces_distinct : (p q : ℕ) (i j : Interface)
+      → interface_at tables p ≡ Some i → interface_at tables q ≡ Some j
+      → i.name ≡ j.name → p ≡ q
   pub messages_named : (side : Side) → EachMessage tables side (λ m. IsName m.name)
-  pub messages_distinct : (place : ℕ) (side : Side) (o p : ℕ) (m n : Message) → signature_at tables place side o ≡ Some m → signature_at tables place side p ≡ Some n → m.name ≡ n.name → o ≡ p
+  pub messages_distinct : (place : ℕ) (side : Side) (o p : ℕ) (m n : Message)
+      → signature_at tables place side o ≡ Some m → signature_at tables place side p ≡ Some n
+      → m.name ≡ n.name → o ≡ p
 
--- V2: wl_display, wl_registry and wl_callback stand exactly as always, and first, and wl_fixes behind the other core interfaces, so
--- that what names them by place names them
+-- V2: wl_display, wl_registry and wl_callback stand first, and wl_fixes at place 18, exactly as
+-- always; so what names one of them by its place names it
 pub record HasFixedFour (tables : List Interface) : Type 0 where
   pub display : interface_at tables 0 ≡ Some wl_display
   pub registry : interface_at tables 1 ≡ Some wl_registry
   pub callback : interface_at tables 2 ≡ Some wl_callback
   pub fixes : interface_at tables 18 ≡ Some wl_fixes
 
--- V3: at most 1,024 interfaces, 256 requests and 256 events in each, and 20 arguments in each message
+-- V3: at most 1,024 interfaces, 256 requests and 256 events in each, 20 arguments in each message
 pub record AreSmall (tables : List Interface) : Type 0 where
   pub interfaces : length tables ≤ 1024
   pub messages : (side : Side) → EachInterface tables (λ i. length (messages_of side i) ≤ 256)
@@ -60,31 +69,46 @@ pub record IsBind (place : ℕ) (side : Side) (opcode : ℕ) : Type 0 where
 
 -- V5: a new object without an interface stands in wl_registry.bind alone
 abbrev pub UnnamedNewInBindAlone : List Interface → Type 0
-UnnamedNewInBindAlone tables = (place : ℕ) (side : Side) (opcode : ℕ) (m : Message) → signature_at tables place side opcode ≡ Some m → IsBind place side opcode ⊎ All (λ k. k ≢ kinds.New None) m.kinds
+UnnamedNewInBindAlone tables =
+    (place : ℕ) (side : Side) (opcode : ℕ) (m : Message)
+    → signature_at tables place side opcode ≡ Some m
+    → IsBind place side opcode ⊎ All (λ k. k ≢ kinds.New None) m.kinds
 
 -- V6: no request has an object argument of any interface
 abbrev pub NoAnyInRequests : List Interface → Type 0
-NoAnyInRequests tables = EachMessage tables Request (λ m. All (λ k. (null : Bool) → k ≢ kinds.Obj null None) m.kinds)
+NoAnyInRequests tables =
+    EachMessage tables Request (λ m. All (λ k. (null : Bool) → k ≢ kinds.Obj null None) m.kinds)
 
--- V7: an interface with a destroying event has no requests, and no request has an object argument of it.
--- Otherwise an honest request in flight could meet an object that an event has closed.
+-- V7: an interface with a destroying event has no requests, and no request has an object argument
+-- of it. Otherwise an honest request in flight could meet an object that an event has closed.
 pub record DestroyingEventsAreRaceFree (tables : List Interface) : Type 0 where
   pub no_requests : EachInterface tables (λ i. has_destroying_event i ≡ true → i.requests ≡ [])
-  pub no_arguments : EachMessage tables Request (λ m. All (λ k. (null : Bool) (iface : Iface) (i : Interface) → k ≡ kinds.Obj null (Some iface) → interface_at tables iface.0 ≡ Some i → has_destroying_event i ≡ false) m.kinds)
+  pub no_arguments : EachMessage tables Request (λ m.
+      All (λ k. (null : Bool) (iface : Iface) (i : Interface)
+      → k ≡ kinds.Obj null (Some iface) → interface_at tables iface.0 ≡ Some i
+      → has_destroying_event i ≡ false) m.kinds)
 
 -- V8: each version is at least 1, and each message came with a version of its interface from 1 on
 pub record SincesAreInRange (tables : List Interface) : Type 0 where
   pub versions : EachInterface tables (λ i. 1 ≤ i.version)
   pub from_one : (side : Side) → EachMessage tables side (λ m. 1 ≤ m.since)
-  pub to_version : (place : ℕ) (side : Side) (opcode : ℕ) (i : Interface) (m : Message) → interface_at tables place ≡ Some i → signature_at tables place side opcode ≡ Some m → m.since ≤ i.version
+  pub to_version : (place : ℕ) (side : Side) (opcode : ℕ) (i : Interface) (m : Message)
+      → interface_at tables place ≡ Some i → signature_at tables place side opcode ≡ Some m
+      → m.since ≤ i.version
 
 -- V9: each interface that an argument names is in the tables
 abbrev pub NamedInterfacesAreThere : List Interface → Type 0
-NamedInterfacesAreThere tables = (side : Side) → EachMessage tables side (λ m. All (λ k. (iface : Iface) → named_interface k ≡ Some iface → iface.0 < length tables) m.kinds)
+NamedInterfacesAreThere tables =
+    (side : Side) → EachMessage tables side (λ m.
+    All (λ k. (iface : Iface) → named_interface k ≡ Some iface → iface.0 < length tables) m.kinds)
 
--- V10: what destroys an argument stands in wl_fixes alone, where that is destroy_registry with its only argument
+-- V10: a message that destroys an argument stands in wl_fixes alone: it is destroy_registry, which
+-- destroys the registry that its only argument names
 abbrev pub ArgumentEndsInFixesAlone : List Interface → Type 0
-ArgumentEndsInFixesAlone tables = (place : ℕ) (side : Side) (opcode : ℕ) (m : Message) → signature_at tables place side opcode ≡ Some m → (place ≡ 18) ⊎ (destroys_argument m.destroys ≡ false)
+ArgumentEndsInFixesAlone tables =
+    (place : ℕ) (side : Side) (opcode : ℕ) (m : Message)
+    → signature_at tables place side opcode ≡ Some m
+    → (place ≡ 18) ⊎ (destroys_argument m.destroys ≡ false)
 
 -- Valid tables. A proof cites one of the rules.
 pub record Valid (tables : List Interface) : Type 0 where

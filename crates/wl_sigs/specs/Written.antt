@@ -5,7 +5,17 @@ use Rattle.wl_sigs.specs.declared.core_interfaces.CoreInterface.{CoreInterface}
 use Rattle.wl_sigs.specs.Tables.{Message, Interface}
 
 abbrev pub message_written : CoreMessage → Message
-message_written m = record { name = m.name.now; since = m.since; kinds = m.kinds.now; destroys = m.destroys }
+message_written m = record {
+  name = m.name.now;
+  since = m.since;
+  kinds = m.kinds.now;
+  destroys = m.destroys;
+}
 
 abbrev pub interface_written : CoreInterface → Interface
-interface_written i = record { name = i.name.now; version = i.version; requests = map message_written i.requests.now; events = map message_written i.events.now }
+interface_written i = record {
+  name = i.name.now;
+  version = i.version;
+  requests = map message_written i.requests.now;
+  events = map message_written i.events.now;
+}

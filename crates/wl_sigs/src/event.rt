@@ -1,7 +1,7 @@
 //! The opcodes of the core interfaces' events, which a server writes.
 //!
-//! `event::wl_callback::DONE` is the opcode of wl_callback.done in the core tables, and so each constant is
-//! that of the message of its name: the law `opcodes_are_of_their_names` says so.
+//! `event::wl_callback::DONE` is the opcode of wl_callback.done in the core tables, and so each
+//! constant is that of the message of its name: the law `opcodes_are_of_their_names` says so.
 
 pub mod wl_display {
     pub const ERROR: u16 = 0;

@@ -26,7 +26,12 @@ impl<A: Allocator> Model for Entry<A> {
 
     ghost Value = { Interface };
 
-    ghost view = { λ i. record { name = i.name.items; version = i.version; requests = i.requests.items; events = i.events.items } };
+    ghost view = { λ i. record {
+      name = i.name.items;
+      version = i.version;
+      requests = i.requests.items;
+      events = i.events.items;
+    } };
 }
 
 impl<A: Allocator> Entry<A> {

@@ -25,22 +25,22 @@ pub fn found_by_its_name()
         → place_of tables i.name ≡ Some (record { 0 = place }) }
 {}
 
-/// Each constant of `request` and `event` is the opcode at which the core tables have the message of
-/// its name, and each message of the core tables has its constant.
+/// Each constant of `request` and `event` is the opcode at which the core tables have the message
+/// of its name, and each message of the core tables has its constant.
 #[tactic(auto, unfolding(crate::specs::Core::core_tables))]
 pub fn opcodes_are_of_their_names()
     ensures { (side : Side) → opcodes side ≡ opcodes_in core_tables side }
 {}
 
-/// The interfaces of a text break no rule behind valid tables exactly where the tables are valid that
-/// both make together.
+/// The interfaces of a text break no rule behind valid tables exactly where the tables are valid
+/// that both make together.
 pub fn unbroken_where_valid()
     ensures { (tables : List Interface) (written : List WrittenInterface) → Valid tables
         → (first_broken tables written ≡ None) ↔ Valid (joined tables written) }
 {}
 
-/// The broken line of a text that is found breaks its rule and no lesser one, and no earlier line breaks
-/// any.
+/// The broken line of a text that is found breaks its rule and no lesser one, and no earlier line
+/// breaks any.
 pub fn first_broken_is_first()
     ensures { (tables : List Interface) (written : List WrittenInterface) (it : Broken)
         → first_broken tables written ≡ Some it → IsFirstBroken tables written it }

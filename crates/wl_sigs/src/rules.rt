@@ -126,7 +126,8 @@ fn none_ended<A: Allocator>(
     ended: &[bool],
     kinds: &[WrittenKind],
 ) -> bool
-    ensures { result ≡ list_all (λ k. not (takes_ended (place_in places.now) ended.now k)) kinds.now }
+    ensures { result
+        ≡ list_all (λ k. not (takes_ended (place_in places.now) ended.now k)) kinds.now }
 {
     kinds.iter().all(|k| !takes_ended(places, ended, k))
 }
@@ -226,7 +227,8 @@ fn message_rule<'t, A: Allocator>(
 
 // The one of the earlier line.
 fn earlier(this: Option<BrokenLine>, other: Option<BrokenLine>) -> Option<BrokenLine>
-    ensures { option_map broken result ≡ earlier (option_map broken this) (option_map broken other) }
+    ensures { option_map broken result
+        ≡ earlier (option_map broken this) (option_map broken other) }
 {
     match (this, other) {
         (Some(this), Some(other)) if other.line < this.line => Some(other),

@@ -59,7 +59,12 @@ impl<A: Allocator> Model for Signature<A> {
 
     ghost Value = { Message };
 
-    ghost view = { λ s. record { name = s.name.items; since = s.since; kinds = s.kinds.items; destroys = s.destroys } };
+    ghost view = { λ s. record {
+      name = s.name.items;
+      since = s.since;
+      kinds = s.kinds.items;
+      destroys = s.destroys;
+    } };
 }
 
 impl<A: Allocator> Signature<A> {

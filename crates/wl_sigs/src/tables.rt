@@ -26,9 +26,9 @@ use wl_written::{TableFault, WrittenInterface, read_interfaces};
 /// Signature tables: interfaces, each at its place, with the signatures of their messages.
 ///
 /// Tables are always valid: names are distinct and spelled of `a` to `z`, `0` to `9` and `_`;
-/// wl_display, wl_registry and wl_callback come first, and wl_fixes has its place; sizes are bounded;
-/// no event makes an object and no request more than one; an object that an event may destroy is
-/// never named by a request; and wl_fixes.destroy_registry alone destroys its argument.
+/// wl_display, wl_registry and wl_callback come first, and wl_fixes has its place; sizes are
+/// bounded; no event makes an object and no request more than one; an object that an event may
+/// destroy is never named by a request; and wl_fixes.destroy_registry alone destroys its argument.
 #[derive(Debug, Drop)]
 pub struct Tables<A: Allocator = Global> {
     interfaces: Vec<Entry<A>, A>,
@@ -119,8 +119,8 @@ impl<A: Allocator + Clone + Drop> Tables<A> {
     /// These tables followed by those of a text.
     ///
     /// The text is lines, each ended by a line feed, which the last may lack; one carriage return
-    /// before a line feed is dropped. An empty line and a line that begins with `#` are skipped. Each
-    /// other line is one of
+    /// before a line feed is dropped. An empty line and a line that begins with `#` are skipped.
+    /// Each other line is one of
     ///
     /// ```text
     /// "interface " name " " number
@@ -129,16 +129,17 @@ impl<A: Allocator + Clone + Drop> Tables<A> {
     /// arg  = i | u | f | s | ?s | a | h | o | ?o | o(name) | ?o(name) | n | n(name)
     /// ```
     ///
-    /// where the first number is the version of the interface, `D` marks a message that destroys its
-    /// target, and `@` gives the version that brought the message, 1 where it is missing. A name is one
-    /// or more bytes other than space, `(`, `)` and the line feed; a number is 1 to 10 decimal digits,
-    /// at most 4,294,967,295. `o` alone takes an object of any interface, and `n` alone makes one whose
-    /// interface only the bytes tell. A message belongs to the last interface line above it. An
-    /// argument may name an interface that stands further down; of equal names it names the first, those
-    /// of these tables counted as earlier.
+    /// where the first number is the version of the interface, `D` marks a message that destroys
+    /// its target, and `@` gives the version that brought the message, 1 where it is missing. A
+    /// name is one or more bytes other than space, `(`, `)` and the line feed; a number is 1 to 10
+    /// decimal digits, at most 4,294,967,295. `o` alone takes an object of any interface, and `n`
+    /// alone makes one whose interface only the bytes tell. A message belongs to the last interface
+    /// line above it. An argument may name an interface that stands further down; of equal names it
+    /// names the first, those of these tables counted as earlier.
     ///
-    /// `BadLine` (TB1) and `BadTable` (TB2) come as `TableFault` says; the first interface or message of
-    /// a name breaks no rule by it, the later does. `Memory` (TB3) may come in place of any answer.
+    /// `BadLine` (TB1) and `BadTable` (TB2) come as `TableFault` says; the first interface or
+    /// message of a name breaks no rule by it, the later does. `Memory` (TB3) may come in place of
+    /// any answer.
     pub fn read_more(&self, text: &[u8]) -> Result<Self, TableFault>
         ensures exact { (result ≡ outcome self.now text.now) ⊎ (result ≡ Err Memory) }
         ensures valid { IfOk result (λ tables. Valid tables) }
@@ -206,7 +207,8 @@ impl<A: Allocator + Clone + Drop> Tables<A> {
         &'n self,
         written: &[WrittenInterface<'n, A>],
     ) -> Result<Vec<&'n [u8], A>, AllocError>
-        ensures { IfOk result (λ names. map (λ n. n.now) names.items ≡ all_names self.now written.now) }
+        ensures { IfOk result (λ names.
+            map (λ n. n.now) names.items ≡ all_names self.now written.now) }
     {
         let alloc = self.interfaces.allocator();
         let mut names = Vec::new(alloc.clone()?);
