@@ -11,7 +11,7 @@ use Rattle.wl_message.specs.declared.limit.Limit.{Limit}
 use Rattle.wl_message.specs.Cut.{front, Front, More, Bad, Whole, told_size}
 
 -- An inbox: the bytes and the tokens that wait, how many of each may wait, how many bytes a message
--- may have, the body of the message that was taken out last, and the tokens that were taken with it.
+-- may have, and the body and the tokens of the message that was taken out last.
 pub record Arrived : Type 0 where
   pub bytes : List ℕ
   pub tokens : List ℕ

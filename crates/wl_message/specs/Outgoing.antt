@@ -21,10 +21,10 @@ all_tokens [] = []
 all_tokens (m ∷ ms) = m.tokens ++ all_tokens ms
 
 -- An outbox: what has not gone of the message that was begun last, whose tokens are gone; the
--- messages that are not begun; how many bytes and tokens of ordinary messages may wait; and how many
--- bytes a message may have. One error event may stand among the messages, beyond what of these may
--- wait. Its bytes are those of the waiting ones from the place error_from up to error_to, counted
--- from 0; where both are 0 none of it waits.
+-- messages that are not begun; how many bytes and tokens of ordinary messages may wait; and how
+-- many bytes a message may have. One error event may stand among the messages, beyond what may wait
+-- of ordinary ones. Its bytes are those of the waiting ones from the place error_from up to
+-- error_to, counted from 0; where both are 0 none of it waits.
 pub record Outgoing : Type 0 where
   pub left : List ℕ
   pub messages : List Message
