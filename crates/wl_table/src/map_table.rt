@@ -30,9 +30,19 @@ impl<A: Allocator> Model for MapTable<A> {
 
     ghost coded = { view_code };
 
-    ghost view = { λ t. record { rows = from_entries t.rows.entries; freed = reverse t.freed.items; used = t.used; births = t.births } };
+    ghost view = { λ t. record {
+      rows = from_entries t.rows.entries;
+      freed = reverse t.freed.items;
+      used = t.used;
+      births = t.births;
+    } };
 
-    ghost invariant = { λ t. Sound (record { rows = from_entries t.rows.entries; freed = reverse t.freed.items; used = t.used; births = t.births }) × (t.used ≤ vec_capacity t.freed) };
+    ghost invariant = { λ t. Sound (record {
+      rows = from_entries t.rows.entries;
+      freed = reverse t.freed.items;
+      used = t.used;
+      births = t.births;
+    }) × (t.used ≤ vec_capacity t.freed) };
 }
 
 /// Puts a row into the map, and makes room among the freed ids for every id up to that of the row.
