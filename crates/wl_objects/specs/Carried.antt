@@ -116,8 +116,8 @@ received_by target row signature values = record {
 -- Nothing stands against a call: its target is live with this birth, the message is one that `send`
 -- writes and exists at the target's version, its arguments suit and name live objects of the right
 -- interfaces, and it is not longer than the limit.
-pub record Passes (limit : ℕ) (tables : List Interface) (side : Side) (view : View) (target : Object)
-    (opcode : ℕ) (list : List Given) (signature : Message) : Type 0 where
+pub record Passes (limit : ℕ) (tables : List Interface) (side : Side) (view : View)
+    (target : Object) (opcode : ℕ) (list : List Given) (signature : Message) : Type 0 where
   pub entry : Entry
   pub row : look view target.id ≡ Some entry
   pub birth : entry.birth ≡ target.birth

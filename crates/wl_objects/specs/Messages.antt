@@ -1,5 +1,7 @@
--- A whole message at an end: what it means to its reader, what a writer must meet, and what it makes of the end's objects.
-use Rattle.std.specs.Prelude.{ℕ, slice_get, Bool, true, false, ◌&&◌, ◌||◌, not, List, [], ◌∷◌, map, nat_eq, nat_lt, if◌then◌else◌, Option, Some, None, option_map}
+-- A whole message at an end: what it means to its reader, what a writer must meet, and what it
+-- makes of the end's objects.
+use Rattle.std.specs.Prelude.{ℕ, slice_get, Bool, true, false, ◌&&◌, ◌||◌, not, List, [], ◌∷◌, map}
+use Rattle.std.specs.Prelude.{nat_eq, nat_lt, if◌then◌else◌, Option, Some, None, option_map}
 use Rattle.std.specs.declared.result.Result.{Result}
 use Rattle.std.specs.declared.result.Result.TheVariants.{Ok, Err}
 use Rattle.wl_wire.specs.declared.kind.Kind.{Kind}
@@ -19,7 +21,8 @@ use Rattle.wl_objects.specs.declared.error.Fault.{Fault}
 use Rattle.wl_objects.specs.declared.error.Fault.TheVariants as faults
 use Rattle.wl_objects.specs.declared.error.SendError.{SendError}
 use Rattle.wl_objects.specs.declared.error.SendError.TheVariants as refusals
-use Rattle.wl_table.specs.View.{View, look, free_or_next, has_room, opened_at, closed, zombied, is_held}
+use Rattle.wl_table.specs.View.{View, look, free_or_next, has_room, opened_at, closed, zombied}
+use Rattle.wl_table.specs.View.{is_held}
 use Rattle.wl_objects.specs.declared.lookup.NewId.{NewId}
 use Rattle.wl_objects.specs.declared.lookup.NewId.TheVariants.{Free, Wrong, TooMany}
 use Rattle.wl_objects.specs.Reading.{Reader, forgiving, arguments_at, descriptors}
@@ -59,7 +62,8 @@ abbrev pub is_bind : Side → Iface → ℕ → Bool
 is_bind Request iface opcode = same_iface iface registry && nat_eq opcode 0
 is_bind Event iface opcode = false
 
--- A message that was read: the object that it is for, that object's row, the signature, and the arguments as they are spelled.
+-- A message that was read: the object that it is for, that object's row, the signature, and the
+-- arguments as they are spelled.
 pub record Received : Type 0 where
   pub target : Object
   pub entry : Entry
@@ -70,29 +74,40 @@ abbrev pub is_empty : List ℕ → Bool
 is_empty [] = true
 is_empty (b ∷ bytes) = false
 
-abbrev pub received_whole : Header → Entry → Message → ℕ → Result (List Argument × List ℕ) Fault → Result Received Fault
+abbrev pub received_whole : Header → Entry → Message → ℕ → Result (List Argument × List ℕ) Fault
+    → Result Received Fault
 received_whole header entry signature waiting (Err fault) = Err fault
 received_whole header entry signature waiting (Ok found) =
     if not (is_empty found.1) then Err faults.TrailingBytes
     else if nat_lt waiting (descriptors signature.kinds) then Err faults.MissingDescriptor
-    else Ok (record { target = record { id = header.object; birth = entry.birth }; entry = entry; signature = signature; values = found.0 })
+    else Ok (record {
+      target = record { id = header.object; birth = entry.birth };
+      entry = entry;
+      signature = signature;
+      values = found.0;
+    })
 
-abbrev pub received_as : Side → Reader → Header → List ℕ → ℕ → Entry → Option Message → Result Received Fault
+abbrev pub received_as : Side → Reader → Header → List ℕ → ℕ → Entry → Option Message
+    → Result Received Fault
 received_as side reader header body waiting entry None = Err faults.UnknownMessage
 received_as side reader header body waiting entry (Some signature) =
     if nat_lt entry.version signature.since then Err faults.UnknownMessage
     else received_whole header entry signature waiting
-    (arguments_at (forgiving (is_error side entry.iface header.opcode) reader) 0 signature.kinds body)
+    (arguments_at (forgiving (is_error side entry.iface header.opcode) reader)
+    0 signature.kinds body)
 
-abbrev pub received_by : List Interface → Side → Reader → Header → List ℕ → ℕ → Option Entry → Result Received Fault
+abbrev pub received_by : List Interface → Side → Reader → Header → List ℕ → ℕ → Option Entry
+    → Result Received Fault
 received_by tables side reader header body waiting None = Err faults.UnknownObject
 received_by tables side reader header body waiting (Some entry) =
-    received_as side reader header body waiting entry (signature_at tables entry.iface.0 side header.opcode)
+    received_as side reader header body waiting entry
+    (signature_at tables entry.iface.0 side header.opcode)
 
--- What a message of one side is to its reader, where so many tokens wait: what was read, or the first fault of F2; F3; for each
--- argument from the left F4, F5, F6, F10; then F7, F8.
+-- What a message of one side is to its reader, where so many tokens wait: what was read, or the
+-- first fault of F2; F3; for each argument from the left F4, F5, F6, F10; then F7, F8.
 abbrev pub received : List Interface → Side → Reader → Header → List ℕ → ℕ → Result Received Fault
-received tables side reader header body waiting = received_by tables side reader header body waiting (reader.object header.object)
+received tables side reader header body waiting =
+    received_by tables side reader header body waiting (reader.object header.object)
 
 -- ---- what a message does to the objects
 
@@ -100,10 +115,13 @@ received tables side reader header body waiting = received_by tables side reader
 abbrev pub Made : Type 0
 Made = NewObject
 
--- the new object of one argument: of the signature's interface and its maker's version, or of those that it names
+-- the new object of one argument: of the signature's interface and its maker's version, or of those
+-- that it names
 abbrev pub made_by : List Interface → ℕ → Kind → Argument → Option Made
-made_by tables version (kinds.New (Some iface)) (New id) = Some (record { id = id; iface = iface; version = version })
-made_by tables version (kinds.New None) (NewNamed name own id) = option_map (λ iface. record { id = id; iface = iface; version = own }) (place_of tables name)
+made_by tables version (kinds.New (Some iface)) (New id) =
+    Some (record { id = id; iface = iface; version = version })
+made_by tables version (kinds.New None) (NewNamed name own id) =
+    option_map (λ iface. record { id = id; iface = iface; version = own }) (place_of tables name)
 made_by tables version _ _ = None
 
 abbrev pub or_else : Option Made → Option Made → Option Made
@@ -112,7 +130,8 @@ or_else (Some made) other = Some made
 
 -- the object that a message makes, where its target has this version
 abbrev pub made : List Interface → ℕ → List Kind → List Argument → Option Made
-made tables version (kind ∷ ks) (value ∷ values) = or_else (made_by tables version kind value) (made tables version ks values)
+made tables version (kind ∷ ks) (value ∷ values) =
+    or_else (made_by tables version kind value) (made tables version ks values)
 made tables version _ _ = None
 
 -- the two ends
@@ -120,7 +139,8 @@ pub data End : Type 0 where
   Client : End
   Server : End
 
--- an object destroyed: at the client a zombie, until its delete_id comes; at the server gone, and its id free
+-- an object destroyed: at the client a zombie, until its delete_id comes; at the server gone, and
+-- its id free
 abbrev pub destroyed : End → View → ℕ → View
 destroyed Client view id = zombied view id
 destroyed Server view id = closed view id
@@ -148,7 +168,8 @@ ended_id Nothing target values = target
 ended_id Target target values = target
 ended_id (Arg place) target values = id_at values place
 
--- The objects of an end after it has written or read a message, other than delete_id: the making comes first.
+-- The objects of an end after it has written or read a message, other than delete_id: the making
+-- comes first.
 abbrev pub after : End → View → Option Made → Destroys → ℕ → View
 after end view new what target = destroys end what target (opens view new)
 
@@ -178,22 +199,29 @@ abbrev pub checked_as : ℕ → View → List Given → Entry → Option Message
 checked_as limit view given entry None = Err refusals.NoSuchMessage
 checked_as limit view given entry (Some signature) =
     if nat_lt entry.version signature.since then Err refusals.TooOld
-    else unless_wrong limit (wrong_place 0 signature.kinds given) (lost_place (look view) 0 signature.kinds given) (message_len (map (wired 0) given)) signature
+    else unless_wrong limit (wrong_place 0 signature.kinds given)
+    (lost_place (look view) 0 signature.kinds given) (message_len (map (wired 0) given)) signature
 
 abbrev pub unless_hidden : Bool → Option Message → Option Message
 unless_hidden true signature = None
 unless_hidden false signature = signature
 
-abbrev pub checked_by : ℕ → List Interface → Side → View → ℕ → List Given → Option Entry → Result Message SendError
+abbrev pub checked_by : ℕ → List Interface → Side → View → ℕ → List Given → Option Entry
+    → Result Message SendError
 checked_by limit tables side view opcode given None = Err refusals.Stale
 checked_by limit tables side view opcode given (Some entry) =
-    checked_as limit view given entry (unless_hidden (is_hidden side entry.iface opcode) (signature_at tables entry.iface.0 side opcode))
+    checked_as limit view given entry
+    (unless_hidden (is_hidden side entry.iface opcode)
+    (signature_at tables entry.iface.0 side opcode))
 
 -- the row of an object that is live with this birth
 abbrev pub live_row : View → Object → Option Entry
-live_row view object = if is_live_as object.birth (look view object.id) then look view object.id else None
+live_row view object =
+    if is_live_as object.birth (look view object.id) then look view object.id else None
 
--- What stands against a write before its room is looked at: the first of S2, S3, S4, S5, S6, S8, by the limit that comes first; else the
--- message's signature.
-abbrev pub checked : ℕ → List Interface → Side → View → Object → ℕ → List Given → Result Message SendError
-checked limit tables side view target opcode given = checked_by limit tables side view opcode given (live_row view target)
+-- What stands against a write, before its room is looked at: the first of S2, S3, S4, S5, S6 and
+-- S8; else the message's signature. The first argument is the limit of S8.
+abbrev pub checked : ℕ → List Interface → Side → View → Object → ℕ → List Given
+    → Result Message SendError
+checked limit tables side view target opcode given =
+    checked_by limit tables side view opcode given (live_row view target)

@@ -153,7 +153,8 @@ on_wire id list = map (wired id) (given list)
 
 -- how many bytes a message with these arguments has, or none where it is longer than the limit
 abbrev pub len_in_limit : ℕ → List Argument → Option ℕ
-len_in_limit limit values = if nat_lt limit (message_len values) then None else Some (message_len values)
+len_in_limit limit values =
+    if nat_lt limit (message_len values) then None else Some (message_len values)
 
 -- the interface of the object that a call makes: that of the signature's new object
 abbrev pub call_makes : List Kind → Option Iface
