@@ -1,5 +1,6 @@
 -- What an end writes.
-use Rattle.std.specs.Prelude.{ℕ, ◌+◌, Bool, true, false, ◌||◌, nat_lt, if◌then◌else◌, List, [], ◌∷◌, length, map, Option, Some, None, is_some, option_map}
+use Rattle.std.specs.Prelude.{ℕ, ◌+◌, Bool, true, false, ◌||◌, nat_lt, if◌then◌else◌, List, [], ◌∷◌}
+use Rattle.std.specs.Prelude.{length, map, Option, Some, None, is_some, option_map}
 use Rattle.std.specs.declared.result.Result.{Result}
 use Rattle.std.specs.declared.result.Result.TheVariants.{Ok, Err}
 use Rattle.wl_wire.specs.Argument.{Argument, Uint, Str, Obj}
@@ -20,11 +21,14 @@ use Rattle.wl_end.specs.Core.{Core, with_view}
 
 -- whether this number of bytes and tokens is free in the outbox
 abbrev pub fits : Outgoing → ℕ → ℕ → Bool
-fits outbox bytes tokens = if nat_lt (room_of outbox) bytes || nat_lt (token_room_of outbox) tokens then false else true
+fits outbox bytes tokens =
+    if nat_lt (room_of outbox) bytes || nat_lt (token_room_of outbox) tokens then false else true
 
 -- the end with a message more to go out
 abbrev pub with_sent : Core → ℕ → ℕ → List Argument → List ℕ → Core
-with_sent core object opcode values tokens = record core { outbox = with_message core.outbox (message_bytes object opcode values) tokens }
+with_sent core object opcode values tokens = record core {
+  outbox = with_message core.outbox (message_bytes object opcode values) tokens;
+}
 
 -- wl_display.delete_id, and its number of bytes
 abbrev pub with_delete_id : Core → ℕ → Core
@@ -36,22 +40,28 @@ delete_id_len = 12
 -- wl_display.error, from the room that is kept for it; the end has failed
 abbrev pub with_error_event : Core → ℕ → ℕ → List ℕ → Core
 with_error_event core object code text = record core {
-  outbox = with_error core.outbox (message_bytes 1 0 (Obj object ∷ Uint code ∷ Str (Some text) ∷ []));
+  outbox = with_error core.outbox
+      (message_bytes 1 0 (Obj object ∷ Uint code ∷ Str (Some text) ∷ []));
   failed = true;
 }
 
 -- the object of this interface and version that is opened next, if one is made
 abbrev pub next_object : View → ℕ → Option Iface → Option Made
-next_object view version iface = option_map (λ i. record { id = next_id view; iface = i; version = version }) iface
+next_object view version iface =
+    option_map (λ i. record { id = next_id view; iface = i; version = version }) iface
 
 -- the object that a call makes, at the next id
 abbrev pub made_by_call : Core → ℕ → Message → List Given → Option Made
-made_by_call core version signature given = made core.tables version signature.kinds (map (wired (next_id core.view)) given)
+made_by_call core version signature given =
+    made core.tables version signature.kinds (map (wired (next_id core.view)) given)
 
--- what a call returns that has room and makes this: its new object, or S10 where no more can be opened
+-- what a call with room returns that makes this: its new object, or S10 where none can be opened
 abbrev pub opening_answer : Core → Option Made → Result (Option Object) SendError
 opening_answer core None = Ok None
-opening_answer core (Some m) = if can_open core.view then Ok (Some (record { id = next_id core.view; birth = core.view.births })) else Err refusals.NoIds
+opening_answer core (Some m) =
+    if can_open core.view
+    then Ok (Some (record { id = next_id core.view; birth = core.view.births }))
+    else Err refusals.NoIds
 
 -- the end that writes the messages of a side, and the end that reads them
 abbrev pub writer : Side → End
@@ -76,20 +86,25 @@ version_at (Some entry) = entry.version
 
 -- the object that a call at this target makes
 abbrev pub made_at : Core → Object → Message → List Given → Option Made
-made_at core target signature given = made_by_call core (version_at (look core.view target.id)) signature given
+made_at core target signature given =
+    made_by_call core (version_at (look core.view target.id)) signature given
 
-abbrev pub answer_of : Core → Side → Object → List Given → Result Message SendError → Result (Option Object) SendError
+abbrev pub answer_of : Core → Side → Object → List Given → Result Message SendError
+    → Result (Option Object) SendError
 answer_of core side target given (Err refusal) = Err refusal
 answer_of core side target given (Ok signature) =
-    if fits core.outbox (message_len (map (wired 0) given) + following_len side signature.destroys) (length (tokens_of given))
+    if fits core.outbox (message_len (map (wired 0) given) + following_len side signature.destroys)
+    (length (tokens_of given))
     then opening_answer core (made_at core target signature given)
     else Err refusals.Full
 
--- What `send` returns at the end that writes this side, where no memory is needed: S1; S2, S3, S4, S5, S6, S8; S9; S10; else the
--- new object, if the message makes one.
+-- What `send` returns at the end that writes this side, where no memory is needed: S1; S2, S3, S4,
+-- S5, S6, S8; S9; S10; else the new object, if the message makes one.
 abbrev pub send_answer : Core → Side → Object → ℕ → List Given → Result (Option Object) SendError
 send_answer core side target opcode given =
-    if core.failed then Err refusals.Failed else answer_of core side target given (checked core.outbox.limit.bytes core.tables side core.view target opcode given)
+    if core.failed then Err refusals.Failed
+    else answer_of core side target given
+    (checked core.outbox.limit.bytes core.tables side core.view target opcode given)
 
 abbrev pub with_following : Bool → ℕ → Core → Core
 with_following true id core = with_delete_id core id
@@ -99,17 +114,22 @@ abbrev pub sent : Core → Side → Object → ℕ → List Given → Message �
 sent core side target opcode given signature =
     let id = ended_id signature.destroys target.id (map (wired 0) given) in
     with_following (following side signature.destroys) id
-    (with_view (with_sent core target.id opcode (map (wired (next_id core.view)) given) (tokens_of given))
+    (with_view
+    (with_sent core target.id opcode (map (wired (next_id core.view)) given) (tokens_of given))
     (after (writer side) core.view (made_at core target signature given) signature.destroys id))
 
 abbrev pub after_checked : Core → Side → Object → ℕ → List Given → Result Message SendError → Core
 after_checked core side target opcode given (Err refusal) = core
-after_checked core side target opcode given (Ok signature) = sent core side target opcode given signature
+after_checked core side target opcode given (Ok signature) =
+    sent core side target opcode given signature
 
--- The end after a `send` that was answered Ok: the message in its canonical spelling stands last in the outbox, after it the
--- delete_id of an object that it destroyed at the server, and the objects are as the message leaves them.
+-- The end after a `send` that was answered Ok: the message in its canonical spelling stands last in
+-- the outbox, after it the delete_id of an object that it destroyed at the server, and the objects
+-- are as the message leaves them.
 abbrev pub after_send : Core → Side → Object → ℕ → List Given → Core
-after_send core side target opcode given = after_checked core side target opcode given (checked core.outbox.limit.bytes core.tables side core.view target opcode given)
+after_send core side target opcode given =
+    after_checked core side target opcode given
+    (checked core.outbox.limit.bytes core.tables side core.view target opcode given)
 
 -- whether a call opens an object
 abbrev pub opens_object : Result Message SendError → Bool

@@ -19,8 +19,8 @@ use Rattle.wl_end.specs.Core.{Core}
 use Rattle.wl_end.specs.Receiving.{Found, found}
 
 -- The bytes are a message for the object, with this opcode and values of these kinds: a header,
--- which tells how many bytes there are, at most as many as the limit says, and then the spellings of
--- the values, in order, with nothing left.
+-- which tells how many bytes there are, at most as many as the limit says, and then the spellings
+-- of the values, in order, with nothing left.
 pub record MessageSpells (limit : ℕ) (kinds : List Kind) (object opcode : ℕ)
     (values : List Argument) (bytes : List ℕ) : Type 0 where
   pub arguments : List ℕ
