@@ -1,5 +1,6 @@
 -- The texts of which a line is made.
-use Rattle.std.specs.Prelude.{ℕ, ◌/◌, ◌%◌, Bool, false, ◌&&◌, not, nat_le, nat_eq, if◌then◌else◌, List, [], ◌∷◌, ◌++◌, codes, option_map, unwrap_or}
+use Rattle.std.specs.Prelude.{ℕ, ◌/◌, ◌%◌, Bool, false, ◌&&◌, not, nat_le, nat_eq, if◌then◌else◌}
+use Rattle.std.specs.Prelude.{List, [], ◌∷◌, ◌++◌, codes, option_map, unwrap_or}
 use Rattle.std.specs.List.{flat_map, join_by}
 use Rattle.std.specs.Fmt.{decimal, digit_glyph}
 use Rattle.wl_wire.specs.declared.kind.Iface.{Iface}
@@ -22,9 +23,11 @@ new_text interface id = codes "new id " ++ object_text interface id
 
 -- the name of an interface of the tables; one that is not there has none
 abbrev pub name_of : List Interface → Iface → List ℕ
-name_of tables iface = unwrap_or (option_map (λ (i : Interface). i.name) (interface_at tables iface.0)) []
+name_of tables iface =
+    unwrap_or (option_map (λ (i : Interface). i.name) (interface_at tables iface.0)) []
 
--- whether a byte of a string is printed as it stands: 0x20 to 0x7e, but neither the quote nor the backslash
+-- whether a byte of a string is printed as it stands: 0x20 to 0x7e, but neither the quote nor the
+-- backslash
 abbrev pub is_plain : ℕ → Bool
 is_plain byte = nat_le 0x20 byte && nat_le byte 0x7e && not (nat_eq byte 34) && not (nat_eq byte 92)
 
