@@ -38,8 +38,8 @@ pub fn step_keeps()
         → IsMove move → Does pair move reply next → Keeps pair world move reply next }
 {}
 
-/// Whatever any list of moves does with a standing pair is a run: each pair stands in its world, and
-/// each reply is one that the world allows.
+/// Whatever any list of moves does with a standing pair is a run: each pair stands in its world,
+/// and each reply is one that the world allows.
 pub fn run_keeps()
     ensures { (pair : PairState) (world : World) (moves : List Move) (replies : List Reply)
         (last : PairState)
@@ -178,9 +178,9 @@ pub fn dead_argument()
     ensures { (tables : List Interface) → DeadArgument tables }
 {}
 
-/// A history that there is: a registry is destroyed by wl_fixes while a `global` is on its way to it.
-/// The event is discarded and teaches nothing, the registry is owed nothing any more, and its delete
-/// follows.
+/// A history that there is: a registry is destroyed by wl_fixes while a `global` is on its way to
+/// it. The event is discarded and teaches nothing, the registry is owed nothing any more, and its
+/// delete follows.
 pub fn dead_registry()
     ensures { (tables : List Interface) → DeadRegistry tables }
 {}
