@@ -21,14 +21,16 @@ agreement true = codes "agree"
 agreement false = codes "disagree"
 
 abbrev pub agreement_line : Bool → ℕ → List ℕ
-agreement_line agree objects = agreement agree ++ codes ": " ++ decimal objects ++ codes " objects\n"
+agreement_line agree objects =
+    agreement agree ++ codes ": " ++ decimal objects ++ codes " objects\n"
 
--- The text is the trace of what was carried between the two ends of this pair, and a last line: whether both have the same objects, all
--- live, and how many the client has.
+-- The text is the trace of what was carried between the two ends of this pair, and a last line:
+-- whether both have the same objects, all live, and how many the client has.
 pub record Tells (tables : List Interface) (pair : PairState) (text : List ℕ) : Type 0 where
   pub agree : Bool
   pub exact : IsTrue agree ↔ Agree pair.client.core.view pair.server.core.view
-  pub whole : text ≡ trace_of tables (session_of usual_limit pair.recording) ++ agreement_line agree (row_count pair.client.core.view.rows)
+  pub whole : text ≡ trace_of tables (session_of usual_limit pair.recording)
+      ++ agreement_line agree (row_count pair.client.core.view.rows)
 
 abbrev pub sizes : Sizes
 sizes = record {
@@ -39,7 +41,8 @@ sizes = record {
   limit = usual;
 }
 
--- The text tells of two ends that began new, after the session of both, of which each carry moved at most so many bytes.
+-- The text tells of two ends that began new, after the session of both, of which each carry moved
+-- at most so many bytes.
 pub record IsShown (tables : List Interface) (piece : ℕ) (text : List ℕ) : Type 0 where
   pub last : PairState
   pub begins : Stands (new_pair tables sizes sizes) opening

@@ -8,7 +8,9 @@ use Rattle.wl_objects.specs.declared.error.NextError.{NextError}
 use Rattle.wl_objects.specs.declared.error.NextError.TheVariants as errors
 use Rattle.wl_server.specs.declared.request.GlobalError.TheVariants as global_errors
 use Rattle.wl_world.specs.World.{World}
-use Rattle.wl_world.specs.Pair.{PairState, Move, Reply, ClientSend, ClientBind, ServerSend, AddGlobal, Announce, CarryToServer, CarryToClient, ClientNext, ServerNext, Carried, Moved, Memory}
+use Rattle.wl_world.specs.Pair.{PairState, Move, Reply, ClientSend, ClientBind, ServerSend}
+use Rattle.wl_world.specs.Pair.{AddGlobal, Announce, CarryToServer, CarryToClient, ClientNext}
+use Rattle.wl_world.specs.Pair.{ServerNext, Carried, Moved, Memory}
 use Rattle.wl_world.specs.Stands.{Stands}
 use Rattle.wl_world.specs.Runs.{Runs, DoesAll}
 use Rattle.wl_demo.specs.Session.{Part, Once, Until}
@@ -42,27 +44,33 @@ lacks_memory (ClientNext (Err errors.Memory)) = true
 lacks_memory (ServerNext (Err errors.Memory)) = true
 lacks_memory _ = false
 
--- The moves with their replies are those of a session: each part once, or until the last reply says that nothing was done; and for each
--- move there was memory.
+-- The moves with their replies are those of a session: each part once, or until the last reply says
+-- that nothing was done; and for each move there was memory.
 pub data Follows : List Part → List Move → List Reply → Type 0 where
   finished : Follows [] [] []
-  once : {parts : List Part} {move : Move} {moves : List Move} {reply : Reply} {replies : List Reply}
-      → lacks_memory reply ≡ false → Follows parts moves replies → Follows (Once move ∷ parts) (move ∷ moves) (reply ∷ replies)
-  again : {parts : List Part} {move : Move} {moves : List Move} {reply : Reply} {replies : List Reply}
-      → lacks_memory reply ≡ false → does_something reply ≡ true → Follows (Until move ∷ parts) moves replies
+  once : {parts : List Part} {move : Move} {moves : List Move}
+      {reply : Reply} {replies : List Reply}
+      → lacks_memory reply ≡ false → Follows parts moves replies
+      → Follows (Once move ∷ parts) (move ∷ moves) (reply ∷ replies)
+  again : {parts : List Part} {move : Move} {moves : List Move}
+      {reply : Reply} {replies : List Reply}
+      → lacks_memory reply ≡ false → does_something reply ≡ true
+      → Follows (Until move ∷ parts) moves replies
       → Follows (Until move ∷ parts) (move ∷ moves) (reply ∷ replies)
-  at_last : {parts : List Part} {move : Move} {moves : List Move} {reply : Reply} {replies : List Reply}
+  at_last : {parts : List Part} {move : Move} {moves : List Move}
+      {reply : Reply} {replies : List Reply}
       → lacks_memory reply ≡ false → does_something reply ≡ false → Follows parts moves replies
       → Follows (Until move ∷ parts) (move ∷ moves) (reply ∷ replies)
 
 -- Moves that were done, and there was memory for each of them.
-pub record Ran (pair : PairState) (moves : List Move) (replies : List Reply) (last : PairState) : Type 0 where
+pub record Ran (pair : PairState) (moves : List Move) (replies : List Reply) (last : PairState)
+    : Type 0 where
   pub does : DoesAll pair moves replies last
   pub runs : (world : World) → Stands pair world → Runs pair world moves replies last
   pub granted : list_any lacks_memory replies ≡ false
 
--- A session leads from this pair to that one: both ends do each move and reply as their calls say, and so, in whatever world the first
--- pair stands, each reply is one that the world allows.
+-- A session leads from this pair to that one: both ends do each move and reply as their calls say,
+-- and so, in whatever world the first pair stands, each reply is one that the world allows.
 pub record Plays (parts : List Part) (pair last : PairState) : Type 0 where
   pub moves : List Move
   pub replies : List Reply
