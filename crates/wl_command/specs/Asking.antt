@@ -1,11 +1,14 @@
 -- The command line of the program, and what its words ask for.
-use Rattle.std.specs.Prelude.{◌≡◌, ◌≢◌, ◌⊎◌, ◌<◌, ◌^◌, ℕ, List, [], ◌∷◌, Option, Some, None, String, codes, map, option_map, true, pos, string_bytes}
+use Rattle.std.specs.Prelude.{◌≡◌, ◌≢◌, ◌⊎◌, ◌<◌, ◌^◌, ℕ, List, [], ◌∷◌, Option, Some, None, String}
+use Rattle.std.specs.Prelude.{codes, map, option_map, true, pos, string_bytes}
 use Rattle.std.specs.Str.Parse.{IsNumeral, digits_value, without_leading_plus}
-use Rattle.clap.specs.Words.{App, IsAmong, Row, Rule, Shape, Text, fault_of, first_of, new_app, new_rule, one_of, subcommand_of, with_rule, with_subcommand}
+use Rattle.clap.specs.Words.{App, IsAmong, Row, Rule, Shape, Text, fault_of, first_of, new_app}
+use Rattle.clap.specs.Words.{new_rule, one_of, subcommand_of, with_rule, with_subcommand}
 use Rattle.clap.specs.Simple.{on_top}
 use Rattle.clap.specs.declared.builder.value_parser.ValueParser.TheVariants as parser
 use Rattle.clap.specs.declared.error.kind.ErrorKind.{ErrorKind}
-use Rattle.clap.specs.declared.error.kind.ErrorKind.TheVariants.{DisplayHelp, DisplayVersion, OutOfMemory}
+use Rattle.clap.specs.declared.error.kind.ErrorKind.TheVariants.{DisplayHelp, DisplayVersion}
+use Rattle.clap.specs.declared.error.kind.ErrorKind.TheVariants.{OutOfMemory}
 use Rattle.wl_message.specs.declared.limit.Limit.{Limit}
 use Rattle.wl_command.specs.declared.job.Job.{Job}
 use Rattle.wl_command.specs.declared.job.Job.TheVariants.{Trace, Check, Demo, Socket}
@@ -128,8 +131,8 @@ Names found None =
     (name : Text) (arguments : List Row) (job : Job)
     → found ≡ Some (name, arguments) → IsGiven name arguments job → ⊥
 
--- What the words of a command line ask for, the program's name first: they have no fault, and name a
--- command with its arguments.
+-- What the words of a command line ask for, the program's name first: they have no fault, and name
+-- a command with its arguments.
 pub record Asks (words : List Text) (job : Job) : Type 0 where
   pub faultless : fault_of command_line words ≡ []
   pub named : Names (subcommand_of command_line words) (Some job)
@@ -146,8 +149,8 @@ IsStop status stop =
     ((stop.status ≡ status) × (string_bytes stop.text ≢ []))
     ⊎ ((stop.status ≡ 4) × (string_bytes stop.text ≡ []))
 
--- Why there is no job: help was asked for; or the words ask for none of the program's jobs; or there
--- is no memory. The text is empty for lack of memory alone.
+-- Why there is no job: help was asked for; or the words ask for none of the program's jobs; or
+-- there is no memory. The text is empty for lack of memory alone.
 pub data Stops (words : List Text) (stop : Stop) : Type 0 where
   helps : AsksHelp words → IsStop 0 stop → Stops words stop
   faulty : ((job : Job) → Asks words job → ⊥) → IsStop 2 stop → Stops words stop

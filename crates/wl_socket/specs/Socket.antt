@@ -1,5 +1,6 @@
 -- How a session over two streams ends.
-use Rattle.std.specs.Prelude.{◌≡◌, ◌↔◌, ℕ, Bool, true, false, IsTrue, List, ◌++◌, Result, Ok, Err, codes}
+use Rattle.std.specs.Prelude.{◌≡◌, ◌↔◌, ℕ, Bool, true, false, IsTrue, List, ◌++◌, Result, Ok, Err}
+use Rattle.std.specs.Prelude.{codes}
 use Rattle.std.specs.FinMap.{len as row_count}
 use Rattle.wl_table.specs.View.{View}
 use Rattle.wl_sigs.specs.Tables.{Interface}
@@ -17,14 +18,16 @@ abbrev pub socket_error_text : SocketError → List ℕ
 socket_error_text socket_error.Failed = codes "socket failed"
 socket_error_text socket_error.Memory = codes "out of memory"
 
--- The tables of the two ends after the session: whether they have the same rows, all live, and how many rows the client has.
+-- The tables of the two ends after the session: whether they have the same rows, all live, and how
+-- many rows the client has.
 pub record Ends (agree : Bool) (objects : ℕ) : Type 0 where
   pub client : View
   pub server : View
   pub exact : IsTrue agree ↔ Agree client server
   pub counted : objects ≡ row_count client.rows
 
--- The text is the trace of what passed, and a last line, which says that both ends have the same objects, all live, and how many.
+-- The text is the trace of what passed, and a last line, which says that both ends have the same
+-- objects, all live, and how many.
 pub record Shows (tables : List Interface) (text : List ℕ) : Type 0 where
   pub passed : List Piece
   pub objects : ℕ

@@ -1,4 +1,5 @@
-//! The session of the demonstration, played over two connected streams such as the ends of a socket.
+//! The session of the demonstration, played over two connected streams such as the ends of a
+//! socket.
 #![tactic(auto)]
 
 mod end;
