@@ -1,5 +1,5 @@
 -- An event or a delete is recorded.
-use Rattle.std.proofs.Common.{◌≡◌, ◌≢◌, ℕ, ◌+◌, ◌<◌, ◌≤◌, Bool, true, false, cond, None, Some, List, [], ◌∷◌, ◌++◌, length, map, drop, inl, refl, sym, ap, subst, ◌∙◌, arith, append-nil}
+use Rattle.std.proofs.Common.{◌≡◌, ◌≢◌, ℕ, ◌+◌, ◌<◌, ◌≤◌, true, false, cond, None, Some, List, [], ◌∷◌, ◌++◌, length, map, drop, inl, refl, sym, ap, subst, ◌∙◌, arith, append-nil}
 use Rattle.std.specs.Prelude.{codes, Option}
 use Rattle.std.specs.declared.result.Result.TheVariants.{Ok}
 use Rattle.wl_wire.specs.declared.kind.Iface.{Iface}

@@ -1,7 +1,7 @@
 use Rattle.std.proofs.Common.{◌≡◌, ◌&&◌, ◌∙◌, Bool, true, false, not, rules, refl, ap, ap₂}
 use Rattle.std.proofs.lemmas.Result.{IfOk-weaker}
 use Rattle.clap.specs.Words.{App, app_of, with_subcommand}
-use Rattle.wl_command.specs.Asking.{check_command, command_line, demo_command, program, socket_command, trace_command}
+use Rattle.wl_command.specs.Asking.{program}
 use Rattle.wl_command.proofs.job.command.Goals as goal
 
 -- a plain command has no argument for all of its subcommands

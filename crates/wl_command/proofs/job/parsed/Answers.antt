@@ -1,6 +1,5 @@
 use Rattle.std.proofs.Common.{◌≡◌, ◌∙◌, true, List, [], Option, refl, ap, sym, subst}
-use Rattle.std.specs.Prelude.{Ok}
-use Rattle.clap.specs.Words.{App, FailsBy, HasMatchesOf, Row, Text, app_of, fault_of, is_simple, is_simple_and_free, subcommand_of, subcommand_rows_of}
+use Rattle.clap.specs.Words.{App, Row, Text, fault_of, is_simple, is_simple_and_free, subcommand_of, subcommand_rows_of}
 use Rattle.clap.proofs.OnLiterals.{clap_on_literals}
 use Rattle.wl_command.specs.Asking.{Names, command_line, texts_of}
 use Rattle.wl_command.proofs.job.parsed.Goals as goal

@@ -1,4 +1,4 @@
-use Rattle.std.proofs.Common.{◌+◌, ℕ}
+use Rattle.std.proofs.Common.{◌+◌}
 use Rattle.wl_socket.proofs.turn.fill_all.Given as goal
 
 -- each round but the last reads a byte or uses up a retry

@@ -1,4 +1,3 @@
-use Rattle.std.proofs.Common.{ℕ}
 use Rattle.wl_socket.proofs.turn.flush_all.Given as goal
 
 -- each round but the last uses up a retry
