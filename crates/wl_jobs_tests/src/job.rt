@@ -173,10 +173,15 @@ fn reads_the_limit(rt: HostRuntime) -> Result<(), Fail> {
     assert!(rt; answers(rt.alloc(), &words, Wanted::CheckBy(65_532, "f"))?);
     let words = ["waywire", "check", "f", "--limit=4100"];
     assert!(rt; answers(rt.alloc(), &words, Wanted::CheckBy(4100, "f"))?);
-    for number in ["4095", "4092", "4098", "65533", "65536", "-4096", "x"] {
+    for number in ["4095", "4092", "4098", "65533", "65536", "x"] {
         let words = ["waywire", "check", "--limit", number, "f"];
         assert!(rt; answers(rt.alloc(), &words, Wanted::Stop(2, "limit"))?);
     }
+    let words = ["waywire", "check", "--limit=-4096", "f"];
+    assert!(rt; answers(rt.alloc(), &words, Wanted::Stop(2, "limit"))?);
+    // a word that begins with `-` is an option of its own
+    let words = ["waywire", "check", "--limit", "-4096", "f"];
+    assert!(rt; answers(rt.alloc(), &words, Wanted::Stop(2, "-4"))?);
     Ok(())
 }
 
