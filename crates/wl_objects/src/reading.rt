@@ -49,6 +49,7 @@ impl<'t, 'a> Received<'t, 'a> {
 ///
 /// Returns the first fault: F2; F3; for each argument from the left F4, F5, F6, F10; then F7 and F8.
 /// An object may be a zombie. In wl_display.error the object may be null or unknown.
+#[inline(always)]
 pub fn receive<'t: 'a, 'a, L: Lookup>(
     tables: &'t Tables,
     side: Side,

@@ -200,6 +200,7 @@ fn start<A: Allocator>(store: &mut Vec<u8, A>, object: u32, size: usize, opcode:
 }
 
 /// Appends a value's spelling, for which there is room.
+#[inline(always)]
 fn append<A: Allocator>(store: &mut Vec<u8, A>, value: ValueRef<'_>)
     requires fits { Fits (lent value) }
     requires room { vec_len store.old + spelled_len (lent value) ≤ vec_capacity store.old }

@@ -4,9 +4,12 @@ ghost use Rattle.std.specs.Borrow.{sem};
 ghost use Rattle.std.specs.Io.BufRead.{Rests};
 ghost use Rattle.wl_sigs.specs.declared.signature.Side.TheVariants.{Request as request_side};
 ghost use Rattle.wl_sigs.specs.Tables.{destroys_one};
-ghost use Rattle.wl_objects.specs.Messages.{is_bind, opens};
+ghost use Rattle.wl_wire.specs.Word.{IsHeader};
+ghost use Rattle.wl_sigs.specs.Valid.{Valid};
+ghost use Rattle.wl_objects.specs.Messages.{is_bind, opens, received};
+ghost use Rattle.wl_objects.specs.Parsed.{AreParsed};
 ghost use Rattle.wl_objects.specs.Reading.{descriptors};
-ghost use Rattle.wl_objects.specs.Seen.{message_of};
+ghost use Rattle.wl_objects.specs.Seen.{message_of, received_in};
 ghost use Rattle.wl_table.specs.View.{is_held};
 ghost use Rattle.wl_end.specs.Core.{with_view};
 ghost use Rattle.wl_end.specs.Outcomes.{left};
@@ -27,7 +30,7 @@ use crate::server::Server;
 use std::alloc::{AllocError, Allocator};
 use wl_end::{Core, DELETE_ID_LEN, MAX_TOKENS};
 use wl_objects::{
-    Args, Fault, Held, Made, NextError, Object, REGISTRY, Received, Table, is_bind,
+    Args, Fault, Held, Lookup, Made, NextError, Object, REGISTRY, Received, Table, is_bind,
     made_by_message, receive,
 };
 use wl_sigs::{Side, Tables};
@@ -285,14 +288,7 @@ pub(crate) fn find_request<T: Table>(
     };
     let header = frame.header;
     let lookup = Held { table: &core.table };
-    let received = match receive(
-        core.tables,
-        Side::Request,
-        &lookup,
-        header,
-        frame.body,
-        frame.tokens,
-    ) {
+    let received = match read_message(core.tables, &lookup, header, frame.body, frame.tokens) {
         Ok(received) => received,
         Err(fault) => return Err(NextError::Fault { fault, offset }),
     };
@@ -306,6 +302,28 @@ pub(crate) fn find_request<T: Table>(
         return Err(NextError::OutFull);
     }
     Ok(Some(pending_of(core.tables, birth, header, received)))
+}
+
+/// Reads one whole request. It stands apart: compiled into its caller it would copy the arguments
+/// more often.
+#[inline(never)]
+fn read_message<'t: 'a, 'a, L: Lookup>(
+    tables: &'t Tables,
+    lookup: &L,
+    header: Header,
+    body: &'a [u8],
+    waiting: usize,
+) -> Result<Received<'t, 'a>, Fault>
+    ensures answer { received_in result
+        ≡ received tables.now request_side (L.reader lookup.now) header body.now waiting }
+    ensures args { IfOk result
+        (λ m. AreParsed (L.reader lookup.now) body.now m.args (message_of m).values) }
+    ensures body { IfOk result (λ m. m.body.now ≡ body.now) }
+    ensures tokens { IfOk result (λ m. m.tokens ≡ descriptors m.signature.now.kinds) }
+    ensures valid { IfOk result (λ _. Valid tables.now) }
+    ensures header { IsHeader header }
+{
+    receive(tables, Side::Request, lookup, header, body, waiting)
 }
 
 /// Whether a message is a bind that names no global that was ever advertised so.

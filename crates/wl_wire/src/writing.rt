@@ -11,6 +11,7 @@ use std::alloc::{AllocError, Allocator};
 
 /// Appends the bytes of a value that `fits`, padded with zeros. It allocates nothing where the
 /// vector has spare room for them.
+#[inline(always)]
 pub fn encode_value<A: Allocator>(
     value: ValueRef<'_>,
     out: &mut Vec<u8, A>,
@@ -44,6 +45,7 @@ pub fn encode_value<A: Allocator>(
 }
 
 /// Appends bytes for which there is room.
+#[inline(always)]
 fn append<A: Allocator>(out: &mut Vec<u8, A>, bytes: &[u8])
     requires { vec_len out.old + length bytes.now ≤ vec_capacity out.old }
     ensures items { out.new.items ≡ out.old.items ++ bytes.now }
@@ -54,6 +56,7 @@ fn append<A: Allocator>(out: &mut Vec<u8, A>, bytes: &[u8])
 }
 
 /// Appends the word of a number.
+#[inline(always)]
 fn append_word<A: Allocator>(out: &mut Vec<u8, A>, n: u32)
     requires { vec_len out.old + 4 ≤ vec_capacity out.old }
     ensures items { out.new.items ≡ out.old.items ++ word n }
@@ -66,6 +69,7 @@ fn append_word<A: Allocator>(out: &mut Vec<u8, A>, n: u32)
 }
 
 /// Appends the word of a signed number.
+#[inline(always)]
 fn append_int<A: Allocator>(out: &mut Vec<u8, A>, z: i32)
     requires { vec_len out.old + 4 ≤ vec_capacity out.old }
     ensures items { out.new.items ≡ out.old.items ++ int_word z }

@@ -12,19 +12,19 @@ use Rattle.wl_server.specs.Steps.{pending_in, pending_of, CanTake}
 use Rattle.wl_server.proofs.Fronts.{Answers, stands_by, answers_fault, answers_bad, answers_full, answers_ok, can_take}
 use Rattle.wl_server.proofs.receive.find_request.Goals as goal
 
-pub returns-in-Err-receive-clause-answer : goal.returns-in-Err-receive-clause-answer
-returns-in-Err-receive-clause-answer g c =
+pub returns-in-Err-read_message-clause-answer : goal.returns-in-Err-read_message-clause-answer
+returns-in-Err-read_message-clause-answer g c =
     let core : Core = record { tables = c.core.inside.tables.now; view = g.T.Table.view c.core.inside.table; inbox = c.core.inside.inbox; outbox = c.core.inside.outbox; failed = c.core.inside.failed; read = c.core.inside.read } in
     let frame = c.in-Ok-Some.frame in
-    let stands = stands_by core c.in-Ok-Some.field-0 frame c.in-Ok-Some.field-0-is c.in-Ok-Some.ensures.tells c.receive.ensures.header in
-    subst (λ (k : Core). Answers k c.args.globals.now (Err (Fault c.in-Err-receive.fault c.core.inside.read))) c.core.view_is
-    (answers_fault core c.args.globals.now frame.header frame.body.now frame.tokens _ stands c.in-Err-receive.ensures.answer)
+    let stands = stands_by core c.in-Ok-Some.field-0 frame c.in-Ok-Some.field-0-is c.in-Ok-Some.ensures.tells c.read_message.ensures.header in
+    subst (λ (k : Core). Answers k c.args.globals.now (Err (Fault c.in-Err-read_message.fault c.core.inside.read))) c.core.view_is
+    (answers_fault core c.args.globals.now frame.header frame.body.now frame.tokens _ stands c.in-Err-read_message.ensures.answer)
 
 pub returns-then-is_bad_bind-clause-answer : goal.returns-then-is_bad_bind-clause-answer
 returns-then-is_bad_bind-clause-answer g c =
     let core : Core = record { tables = c.core.inside.tables.now; view = g.T.Table.view c.core.inside.table; inbox = c.core.inside.inbox; outbox = c.core.inside.outbox; failed = c.core.inside.failed; read = c.core.inside.read } in
     let frame = c.in-Ok-Some.frame in
-    let stands = stands_by core c.in-Ok-Some.field-0 frame c.in-Ok-Some.field-0-is c.in-Ok-Some.ensures.tells c.receive.ensures.header in
+    let stands = stands_by core c.in-Ok-Some.field-0 frame c.in-Ok-Some.field-0-is c.in-Ok-Some.ensures.tells c.read_message.ensures.header in
     subst (λ (k : Core). Answers k c.args.globals.now (Err (Fault BadBind c.core.inside.read))) c.core.view_is
     (answers_bad core c.args.globals.now frame.header frame.body.now frame.tokens (message_of c.in-Ok.received) stands c.in-Ok.ensures.answer (sym c.is_bad_bind.ensures ∙ c.if-is_bad_bind.true))
 
@@ -32,7 +32,7 @@ pub returns-then-lacks_room-clause-answer : goal.returns-then-lacks_room-clause-
 returns-then-lacks_room-clause-answer g c =
     let core : Core = record { tables = c.core.inside.tables.now; view = g.T.Table.view c.core.inside.table; inbox = c.core.inside.inbox; outbox = c.core.inside.outbox; failed = c.core.inside.failed; read = c.core.inside.read } in
     let frame = c.in-Ok-Some.frame in
-    let stands = stands_by core c.in-Ok-Some.field-0 frame c.in-Ok-Some.field-0-is c.in-Ok-Some.ensures.tells c.receive.ensures.header in
+    let stands = stands_by core c.in-Ok-Some.field-0 frame c.in-Ok-Some.field-0-is c.in-Ok-Some.ensures.tells c.read_message.ensures.header in
     subst (λ (k : Core). Answers k c.args.globals.now (Err OutFull)) c.core.view_is
     (answers_full core c.args.globals.now frame.header frame.body.now frame.tokens (message_of c.in-Ok.received) stands c.in-Ok.ensures.answer (sym c.is_bad_bind.ensures ∙ c.if-is_bad_bind.false)
     (ap (λ (n : ℕ). destroys_one c.in-Ok.received.signature.now.destroys && nat_lt n delete_id_len) (sym c.room-room.ensures.room) ∙ (sym c.lacks_room.ensures ∙ c.if-lacks_room.true)))
@@ -41,7 +41,7 @@ pub returns-clause-answer : goal.returns-clause-answer
 returns-clause-answer g c =
     let core : Core = record { tables = c.core.inside.tables.now; view = g.T.Table.view c.core.inside.table; inbox = c.core.inside.inbox; outbox = c.core.inside.outbox; failed = c.core.inside.failed; read = c.core.inside.read } in
     let frame = c.in-Ok-Some.frame in
-    let stands = stands_by core c.in-Ok-Some.field-0 frame c.in-Ok-Some.field-0-is c.in-Ok-Some.ensures.tells c.receive.ensures.header in
+    let stands = stands_by core c.in-Ok-Some.field-0 frame c.in-Ok-Some.field-0-is c.in-Ok-Some.ensures.tells c.read_message.ensures.header in
     let m = message_of c.in-Ok.received in
     let args : AreParsed (reader_of core.view) frame.body.now c.in-Ok.received.args m.values = c.in-Ok.ensures.args in
     subst (λ (k : Core). Answers k c.args.globals.now (Ok (Some (pending_in k c.pending_of.result)))) c.core.view_is
@@ -56,7 +56,7 @@ pub returns-clause-can : goal.returns-clause-can
 returns-clause-can g c =
     let core : Core = record { tables = c.core.inside.tables.now; view = g.T.Table.view c.core.inside.table; inbox = c.core.inside.inbox; outbox = c.core.inside.outbox; failed = c.core.inside.failed; read = c.core.inside.read } in
     let frame = c.in-Ok-Some.frame in
-    let stands = stands_by core c.in-Ok-Some.field-0 frame c.in-Ok-Some.field-0-is c.in-Ok-Some.ensures.tells c.receive.ensures.header in
+    let stands = stands_by core c.in-Ok-Some.field-0 frame c.in-Ok-Some.field-0-is c.in-Ok-Some.ensures.tells c.read_message.ensures.header in
     let m = message_of c.in-Ok.received in
     subst (λ (k : Core). CanTake k (pending_in k c.pending_of.result)) c.core.view_is
     (subst (λ p. CanTake core (pending_in core p)) (sym c.pending_of.ensures)
