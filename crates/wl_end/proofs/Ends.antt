@@ -1,12 +1,11 @@
 -- The object that a message destroys.
-use Rattle.std.proofs.Common.{◌≡◌, ◌≢◌, ℕ, zero, suc, List, [], ◌∷◌, map, Bool, true, false, ◌&&◌, inl, inr, refl, sym, ap, subst, ◌∙◌, slice_get, get_or, length, ◌<◌, ◌≤◌, pos, arith}
+use Rattle.std.proofs.Common.{◌≡◌, ℕ, zero, suc, List, [], ◌∷◌, map, Bool, true, false, ◌&&◌, inl, inr, refl, sym, ap, subst, ◌∙◌, slice_get, get_or, length, ◌<◌, ◌≤◌, arith}
 use Rattle.std.specs.Prelude.{Option, Some, None, option_map, codes, nat_eq, nat_lt, if◌then◌else◌}
 use Rattle.std.specs.declared.result.Result.{Result}
 use Rattle.std.specs.declared.result.Result.TheVariants.{Ok, Err}
 use Rattle.wl_objects.specs.declared.error.Fault.TheVariants as faults
 use Rattle.std.proofs.lemmas.Option.{slice_get-map, slice_get-get_or}
 use Rattle.std.proofs.lemmas.Grind.{elements}
-use Rattle.wl_objects.specs.declared.argument.Arg.TheVariants as args
 use Rattle.std.proofs.lemmas.Bool.{eqb-true}
 use Rattle.wl_wire.specs.Argument.{Int, Uint, Fixed, Str, Obj, New, NewNamed, Array, Fd}
 use Rattle.wl_sigs.specs.declared.signature.Destroys.TheVariants.{Nothing, Target, Arg as ends_arg}
@@ -30,7 +29,7 @@ use Rattle.wl_wire.specs.declared.kind.Kind.{Kind}
 use Rattle.wl_wire.specs.declared.kind.Kind.TheVariants as kinds
 use Rattle.wl_wire.specs.declared.header.Header.{Header}
 use Rattle.wl_wire.specs.Argument.{Argument}
-use Rattle.wl_wire.specs.Reading.{reading, on_found, number_at}
+use Rattle.wl_wire.specs.Reading.{on_found, number_at}
 use Rattle.wl_end.proofs.Receivings.{is_received}
 use Rattle.wl_end.proofs.Spelled.{read_row}
 

@@ -1,6 +1,5 @@
-use Rattle.std.proofs.Common.{sym, ap, ◌∙◌, ◌≡◌, ◌≤◌, length, slice_get, Some, arith}
-use Rattle.std.proofs.lemmas.Grind.{elements}
-use Rattle.wl_objects.specs.Messages.{ended_id, id_at, id_named}
+use Rattle.std.proofs.Common.{sym, ap, ◌∙◌, ◌≤◌, length}
+use Rattle.wl_objects.specs.Messages.{ended_id}
 use Rattle.wl_objects.specs.Writing.{on_wire}
 use Rattle.wl_end.proofs.Ends.{named_some, named_past}
 use Rattle.wl_end.proofs.sending.ended_id.Goals as goal
