@@ -1,5 +1,5 @@
 -- What a server reads of what waits stays the same when more comes behind it.
-use Rattle.std.proofs.Common.{◌≡◌, ◌≢◌, ℕ, inl, inr, Bool, true, false, cond, List, [], ◌∷◌, ◌++◌, refl, sym, ap, subst, ◌∙◌, arith}
+use Rattle.std.proofs.Common.{◌≡◌, ◌≢◌, ℕ, Bool, true, false, cond, List, refl, sym, ap, ◌∙◌}
 use Rattle.std.specs.Prelude.{not, ◌&&◌}
 use Rattle.std.specs.declared.option.Option.{Option}
 use Rattle.std.specs.declared.option.Option.TheVariants.{None, Some}
@@ -19,7 +19,7 @@ use Rattle.wl_end.specs.Sending.{with_following}
 use Rattle.wl_end.specs.Streams.{waiting}
 use Rattle.wl_end.proofs.AnyCut.{IsOfMessage, IsFaultAgain, IsFault, stays, comes as found_first, IsReading}
 use Rattle.wl_end.proofs.Coming.{IsFound, is_found, reported_stays, past_stays}
-use Rattle.wl_server.specs.State.{State, with_core}
+use Rattle.wl_server.specs.State.{State}
 use Rattle.wl_server.specs.Requests.{Report, report, judged, request, is_good_bind, made_in, destroys_it, ended, ended_object, registries_after, core_after, state_past, is_out_full, answer_found, next_answer, state_found, after_next}
 use Rattle.wl_end.specs.Reads.{arrived}
 use Rattle.wl_server.specs.Streams.{reading}
