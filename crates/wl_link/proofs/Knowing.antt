@@ -10,7 +10,7 @@ use Rattle.wl_sigs.specs.Tables.{Interface}
 use Rattle.wl_table.specs.declared.object.Entry.{Entry}
 use Rattle.wl_table.specs.declared.object.State.TheVariants.{Live}
 use Rattle.wl_objects.specs.Messages.{Made}
-use Rattle.wl_check.specs.Effects.{Call, effect, destroyed}
+use Rattle.wl_check.specs.Effects.{Call, effect}
 use Rattle.wl_check.specs.Places.{Known as Knows, is_id, is_made, frees, entry_of, new_of, used_by, unless_deleted}
 use Rattle.wl_check.specs.Session.{Judged, effects}
 use Rattle.wl_check.proofs.Reading.{effects_same}
@@ -19,7 +19,7 @@ use Rattle.wl_world.specs.Meant.{Known}
 use Rattle.wl_world.specs.World.{Row, Open, Ending, put, IfThere}
 use Rattle.wl_world.specs.Stands.{birth_in}
 use Rattle.wl_world.specs.Flight.{Rows, Held, Fresh, at, most}
-use Rattle.wl_world.proofs.Deeds.{put_tells, held_other, held_some}
+use Rattle.wl_world.proofs.Flight.{put_tells, held_other, held_some}
 use Rattle.wl_world.proofs.Wholes.{client_makes, client_ends}
 use Rattle.wl_world.proofs.Ended.{if_by}
 use Rattle.wl_world.proofs.Readings.{made_of}

@@ -1,6 +1,6 @@
 -- A move of the client's binding.
 use Rattle.std.proofs.Common.{◌≡◌, ℕ, zero, suc, ◌≤◌, Bool, true, false, cond, List, [], ◌∷◌, ◌++◌, length, refl, sym, ap, subst, ◌∙◌, arith}
-use Rattle.std.specs.Prelude.{option_map, nat_le, bytes_eq, not, ◌&&◌, codes, is_some}
+use Rattle.std.specs.Prelude.{option_map, nat_le, bytes_eq, not, ◌&&◌, codes}
 use Rattle.std.specs.List.{find}
 use Rattle.std.specs.declared.option.Option.{Option}
 use Rattle.std.specs.declared.option.Option.TheVariants.{None, Some}
@@ -13,7 +13,6 @@ use Rattle.wl_wire.specs.declared.kind.Iface.{Iface}
 use Rattle.wl_wire.specs.Argument.{Uint, NewNamed}
 use Rattle.wl_wire.specs.Spelling.{IsText}
 use Rattle.wl_sigs.specs.declared.signature.Side.TheVariants.{Request}
-use Rattle.wl_sigs.specs.declared.signature.Destroys.{Destroys}
 use Rattle.wl_sigs.specs.declared.signature.Destroys.TheVariants.{Nothing}
 use Rattle.wl_sigs.specs.Tables.{Interface, interface_at, signature_at, place_of}
 use Rattle.wl_sigs.specs.Fixed.{registry}
@@ -35,7 +34,7 @@ use Rattle.wl_client.specs.State.{is_named}
 use Rattle.wl_client.specs.Calls.{version_fits, can_bind, bind_values, iface_or, bound, bind_at, bind_answer, after_bind}
 use Rattle.wl_server.specs.State as server
 use Rattle.wl_server.specs.Requests.{can_bind as bind_fits, name_fits}
-use Rattle.wl_world.specs.Meant.{Known, Message, Coming, renamed, born_of, made_in, plain}
+use Rattle.wl_world.specs.Meant.{Known, Message, Coming, renamed, born_of, plain}
 use Rattle.wl_world.specs.World.{World, Open, Each, request_written}
 use Rattle.wl_world.specs.Pair.{PairState, ClientBind, with_client, Writes, accepted, refused, no_memory}
 use Rattle.wl_world.specs.Answers.{NotEnded, WritesThat, birth_at, before}
@@ -52,7 +51,7 @@ use Rattle.wl_world.proofs.Places.{place_there, name_text, bytes_same, bytes_sel
 use Rattle.wl_world.proofs.Announces.{each_get}
 use Rattle.wl_world.proofs.ClientSends.{CanAsk, asked_core, ask_stands}
 use Rattle.wl_world.proofs.ClientSend.{asks_world}
-use Rattle.wl_world.proofs.Happenings.{Moves, Outcome, goes_on, stays, asking}
+use Rattle.wl_world.proofs.Moves.{Moves, Outcome, goes_on, stays, asking}
 
 -- ---- what an accepted bind tells
 

@@ -40,7 +40,7 @@ use Rattle.wl_world.proofs.Wholes.{client_ends, TellsAt, tells_at, DeletesAt, de
 use Rattle.wl_world.proofs.Sets.{client_ended, client_deleted}
 use Rattle.wl_world.proofs.Channels.{pops}
 use Rattle.wl_world.proofs.Bridges.{client_closed}
-use Rattle.wl_world.proofs.Afters.{HeldRow, held_row, client_after, client_sound, client_aged, closed_aged}
+use Rattle.wl_world.proofs.Afters.{held_row, client_after, client_sound, client_aged, closed_aged}
 use Rattle.wl_world.proofs.Readings.{HeldAt, AllMet, tokens_taken}
 use Rattle.wl_world.proofs.Findings.{the_found, the_message, finds, all_met, news_none}
 use Rattle.wl_world.proofs.Learning.{Gave, told_same, told_keeps}

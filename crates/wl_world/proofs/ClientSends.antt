@@ -1,5 +1,5 @@
 -- The client writes a request.
-use Rattle.std.proofs.Common.{◌≡◌, ◌≢◌, ◌≤◌, ℕ, Bool, true, false, List, [], ◌∷◌, ◌++◌, map, inl, refl, sym, ap, subst, ◌∙◌}
+use Rattle.std.proofs.Common.{◌≡◌, ◌≤◌, ℕ, true, false, List, [], ◌∷◌, ◌++◌, map, inl, refl, sym, ap, subst, ◌∙◌}
 use Rattle.std.specs.Prelude.{option_map, nat_eq}
 use Rattle.std.specs.declared.option.Option.{Option}
 use Rattle.std.specs.declared.option.Option.TheVariants.{None, Some}
@@ -18,7 +18,7 @@ use Rattle.wl_world.specs.World.{World, display_born, Row, Open, Each, IfThere, 
 use Rattle.wl_world.specs.Pair.{PairState, with_client_core}
 use Rattle.wl_world.specs.Flight.{Rows, Fresh, Meets, asks, all_asks, all_tells, client_rows, server_rows, row}
 use Rattle.wl_world.specs.Stands.{StandsBy, AsksFitly, InFlight, Shows, birth_in}
-use Rattle.wl_world.proofs.Wholes.{OpenRow, client_makes, client_ends, ask_meets, all_asks_more, each_more, live_made, live_made_if}
+use Rattle.wl_world.proofs.Wholes.{OpenRow, client_makes, client_ends, ask_meets, all_asks_more, each_more, live_made_if}
 use Rattle.wl_world.proofs.Sets.{client_made, client_ended}
 use Rattle.wl_world.proofs.Channels.{pushed}
 use Rattle.wl_world.proofs.Afters.{held_row, client_after, client_sound, client_aged, made_map}

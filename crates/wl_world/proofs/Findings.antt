@@ -10,7 +10,7 @@ use Rattle.wl_sigs.specs.declared.signature.Side.{Side}
 use Rattle.wl_sigs.specs.Tables.{Interface}
 use Rattle.wl_sigs.specs.Tables as sigs
 use Rattle.wl_message.specs.Arrived.{in_front}
-use Rattle.wl_message.specs.Cut.{front, Whole}
+use Rattle.wl_message.specs.Cut.{Whole}
 use Rattle.wl_table.specs.declared.object.Entry.{Entry}
 use Rattle.wl_table.specs.View.{View, Sound, look}
 use Rattle.wl_objects.specs.Writing.{spelled as spelled_values, message_bytes}

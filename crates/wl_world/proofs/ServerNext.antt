@@ -1,5 +1,5 @@
 -- A move of the server's reading.
-use Rattle.std.proofs.Common.{◌≡◌, ◌≢◌, ℕ, ◌<◌, Bool, true, false, cond, List, [], ◌∷◌, ◌++◌, map, refl, sym, ap, subst, ◌∙◌, arith}
+use Rattle.std.proofs.Common.{◌≡◌, ◌≢◌, ℕ, Bool, true, false, cond, List, [], ◌∷◌, ◌++◌, map, refl, sym, ap, subst, ◌∙◌, arith}
 use Rattle.std.specs.Prelude.{not, ◌&&◌}
 use Rattle.std.specs.declared.option.Option.{Option}
 use Rattle.std.specs.declared.option.Option.TheVariants.{None, Some}
@@ -8,13 +8,11 @@ use Rattle.std.specs.declared.result.Result.TheVariants.{Ok, Err}
 use Rattle.std.proofs.lemmas.Bool.{ltb-true, ltb-false}
 use Rattle.wl_sigs.specs.declared.signature.Side.TheVariants.{Request as request_side}
 use Rattle.wl_message.specs.Arrived.{in_front}
-use Rattle.wl_message.specs.Cut.{front, Front, More, Bad, Whole, HasMessage}
-use Rattle.wl_message.specs.Outgoing.{room_of}
+use Rattle.wl_message.specs.Cut.{Front, More, Bad, Whole, HasMessage}
 use Rattle.wl_objects.specs.declared.error.NextError.{NextError}
 use Rattle.wl_objects.specs.declared.error.NextError.TheVariants as errors
 use Rattle.wl_objects.specs.Reading.{Reported}
 use Rattle.wl_end.specs.Receiving.{Found, found_at, is_none}
-use Rattle.wl_end.specs.Sending.{delete_id_len}
 use Rattle.wl_server.specs.Requests.{Report, judged, request, report, needs_memory, is_out_full, next_answer, after_next, state_past}
 use Rattle.wl_world.specs.Meant.{Known, Born, Message, Coming, renamed, born_of, birth_of}
 use Rattle.wl_world.specs.World.{World, IfThere, request_read, reads_request, delete}
@@ -28,7 +26,7 @@ use Rattle.wl_world.proofs.Ended.{ends_as, some_map, ended_has, if_by}
 use Rattle.wl_world.proofs.Wholes.{ThereRow}
 use Rattle.wl_world.specs.Flight.{server_rows}
 use Rattle.wl_world.proofs.ServerReads.{InRequest, in_request, left_state, left_is, server_read_stands}
-use Rattle.wl_world.proofs.Happenings.{Moves, goes_on, stays, reading_request}
+use Rattle.wl_world.proofs.Moves.{Moves, goes_on, stays, reading_request}
 
 -- ---- nothing in front
 

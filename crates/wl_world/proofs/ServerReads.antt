@@ -1,5 +1,5 @@
 -- The server reads.
-use Rattle.std.proofs.Common.{◌≡◌, ◌≢◌, ℕ, ◌+◌, ◌<◌, ◌≤◌, Bool, true, false, List, [], ◌∷◌, ◌++◌, map, length, take, refl, sym, ap, subst, ◌∙◌, arith, min}
+use Rattle.std.proofs.Common.{◌≡◌, ℕ, ◌+◌, ◌<◌, ◌≤◌, Bool, true, false, List, [], ◌∷◌, ◌++◌, map, length, take, refl, sym, ap, subst, ◌∙◌, arith, min}
 use Rattle.std.proofs.lemmas.Bool.{ne_eqb}
 use Rattle.std.specs.Prelude.{option_map, nat_eq, not, ◌&&◌, is_some, slice_get}
 use Rattle.std.specs.declared.option.Option.{Option}
@@ -13,7 +13,7 @@ use Rattle.wl_sigs.specs.Tables.{destroys_one}
 use Rattle.wl_sigs.specs.Valid.{Valid}
 use Rattle.wl_message.specs.declared.limit.Limit.{Limit}
 use Rattle.wl_message.specs.Arrived.{without_first, in_front}
-use Rattle.wl_message.specs.Cut.{front, Whole, IsMessage}
+use Rattle.wl_message.specs.Cut.{Whole, IsMessage}
 use Rattle.wl_message.specs.Outgoing.{Outgoing, room_of, message}
 use Rattle.wl_message.specs.Outgoing as boxes
 use Rattle.wl_wire.specs.Argument.{Uint, Obj}
@@ -35,8 +35,8 @@ use Rattle.wl_world.specs.Pair.{PairState, with_server}
 use Rattle.wl_world.specs.Answers.{rows_of_server}
 use Rattle.wl_world.specs.Flight.{Rows, Fresh, Tied, all_asks, server_rows, as_row}
 use Rattle.wl_world.specs.Stands.{DeletesFollow, BeginsWithDelete, StandsBy, Fits, ComesFitly, InFlight, by_event, Shows}
-use Rattle.wl_world.proofs.Deeds.{reads_more}
-use Rattle.wl_world.proofs.Wholes.{ThereRow, server_makes, server_ends, asks_at, AsksAt, all_tells_more, each_more, each_by}
+use Rattle.wl_world.proofs.Flight.{reads_more}
+use Rattle.wl_world.proofs.Wholes.{ThereRow, server_makes, asks_at, AsksAt, all_tells_more, each_more}
 use Rattle.wl_world.proofs.Sets.{server_made, server_ended, there_kept}
 use Rattle.wl_world.proofs.Channels.{pops, pushed}
 use Rattle.wl_world.proofs.Afters.{there_row, server_after, server_sound, server_live, server_aged, made_map}

@@ -1,12 +1,12 @@
 -- Words for what is in flight.
-use Rattle.std.specs.Prelude.{◌≡◌, ◌≢◌, ◌⊎◌, ◌↔◌, ℕ, ◌<◌, ◌≤◌, true, false, List, [], ◌∷◌, ◌++◌, map, Option, Some, None}
+use Rattle.std.specs.Prelude.{◌≡◌, ◌≢◌, ◌⊎◌, ◌↔◌, ℕ, ◌<◌, ◌≤◌, false, List, [], ◌∷◌, ◌++◌, map, Option, Some, None}
 use Rattle.wl_world.specs.Meant.{Born, Known, Message, Coming, Event, Delete as delete_of, id_of, birth_of, objects, made_in}
 use Rattle.wl_world.specs.World.{World, Open, Ending, IsThere, Each, marks_birth}
 use Rattle.wl_world.specs.Flight.{Ask, Use, Make, Destroy, Tell, Name, End, Delete, all_asks, all_tells}
 use Rattle.wl_world.specs.Pair.{PairState}
 use Rattle.wl_world.specs.Stands.{Stands, StandsBy}
 
--- the id that a deed is about
+-- the id that an action is about
 abbrev pub tell_id : Tell → ℕ
 tell_id (Name x) = x.id
 tell_id (End x) = x.id
