@@ -1,5 +1,5 @@
 //! What a client reads.
-ghost use Rattle.std.specs.Prelude.{◌≡◌, ◌≤◌, ℕ, List, [], false, length};
+ghost use Rattle.std.specs.Prelude.{◌≡◌, ◌≤◌, ℕ, List, [], false, IfOk, length};
 ghost use Rattle.wl_wire.specs.Word.{IsHeader};
 ghost use Rattle.wl_sigs.specs.declared.signature.Side.TheVariants.{Event as event_side};
 ghost use Rattle.wl_sigs.specs.Valid.{Valid};
@@ -25,7 +25,7 @@ use crate::outline::{Meaning, meaning_of};
 use std::alloc::Allocator;
 use wl_end::{Core, MAX_TOKENS};
 use wl_message::Frame;
-use wl_objects::{DISPLAY, Fault, Held, NextError, Table, receive};
+use wl_objects::{Fault, Held, NextError, Table, receive};
 use wl_sigs::{Side, Tables};
 
 /// What the reading of a message comes to, before the message is taken.
@@ -176,7 +176,6 @@ pub(crate) fn step_in_front<T: Table>(core: &mut Core<'_, T>) -> Result<Option<S
     ensures same { core.new ≡ core.old }
     ensures comes { IsFront core.old (found core.old event_side) result }
 {
-    valid(core.tables);
     let frame = match core.inbox.frame() {
         Ok(Some(frame)) => frame,
         Ok(None) => return Ok(None),
@@ -196,7 +195,6 @@ fn owned_in_front<T: Table>(
     ensures same { core.new ≡ core.old }
     ensures comes { IsOwnedFront core.old (found core.old event_side) result }
 {
-    valid(core.tables);
     let tokens = core.first_tokens();
     let frame = match core.inbox.frame() {
         Ok(Some(frame)) => frame,
@@ -218,9 +216,9 @@ fn owned_in_front<T: Table>(
 
 /// What a message comes to. Nothing changes.
 fn step_of<T: Table>(tables: &Tables, table: &T, frame: Frame<'_>) -> Result<Step, Fault>
-    requires valid { Valid tables.now }
     requires display { HasDisplay (T.view table.now) }
     ensures header { IsHeader frame.entry.header }
+    ensures valid { IfOk result (λ _. Valid tables.now) }
     ensures comes { IsStepOf tables.now (T.view table.now) frame.entry.header frame.entry.body.now
         (received tables.now event_side
         (reader_of
@@ -278,11 +276,4 @@ fn take<T: Table>(
     core.pass(bytes, &mut taken[..tokens]);
     apply_object_change(core, change);
     core.failed = last;
-}
-
-/// The tables are valid. Nothing is done: any look-up shows it.
-fn valid(tables: &Tables)
-    ensures { Valid tables.now }
-{
-    let _ = tables.version(DISPLAY);
 }

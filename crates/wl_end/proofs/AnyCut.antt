@@ -15,7 +15,7 @@ use Rattle.wl_objects.specs.declared.error.NextError.TheVariants as errors
 use Rattle.wl_end.specs.Core.{Core, with_arrived}
 use Rattle.wl_end.specs.Receiving.{Found, found, past_found}
 use Rattle.wl_end.specs.Streams.{waiting, need_of, Wants, IsTaken, taken_bytes, taken_tokens, untaken, BeginWith}
-use Rattle.wl_end.specs.Reads.{Reading, IsCoreOf, arrived, Reads, none, fault, full, last, next, ReadsSome, nothing, more, Begins, ends, goes_on, ComeInStep}
+use Rattle.wl_end.specs.Reads.{Reading, IsCoreOf, arrived, Reads, none, fault, full, last, next, ReadsSome, nothing, more, Begins, ends, goes_on, ComeInStep, HasOneReading, ReadsWhole}
 use Rattle.wl_end.proofs.Coming.{is_found, Faulty, always, lacks, is_fault, arrived_twice}
 use Rattle.wl_end.proofs.Pieces.{taken-untaken_bytes, taken-untaken_tokens, taken_in_step}
 use Rattle.wl_end.proofs.Readings.{arrived_again}
@@ -189,6 +189,14 @@ one_reading {e = e} (next {state = state} {report = r} a n h) (next {report = q}
     let rest = one_reading h g in
     record { same_reports = (λ i. same i ∷ rest.same_reports i); same_stop = rest.same_stop; same_last = rest.same_last }
 
+pub has_one_reading : {S R : Type 0} (e : Reading S R) (side : Side) → IsReading e side → HasOneReading e
+has_one_reading e side i = record {
+  reports = λ state last end reports others stop halt h g. (one_reading h g).same_reports;
+  stop = λ state last end reports others stop halt h g. (one_reading h g).same_stop;
+  left = λ state last end reports others stop halt h g. (one_reading h g).same_last;
+  stays = λ state last reports bytes tokens h. some_stays i bytes tokens h;
+}
+
 -- ---- what is read begins what waits
 
 first : {S R : Type 0} (e : Reading S R) (side : Side) → IsReading e side → (state : S) (r : R) (count : ℕ) (rest : List ℕ) → e.answer state ≡ Ok (Some r)
@@ -208,3 +216,6 @@ begin_with {e = e} {side = side} i (last {state = state} {report = r} a n) =
     first e side i state r 0 (e.core (e.after state)).inbox.bytes a (begin_none (e.core (e.after state)).inbox.limit.bytes (e.core (e.after state)).inbox.bytes)
 begin_with {e = e} {side = side} i (next {state = state} {end = end} {report = r} {reports = rs} a n h) =
     first e side i state r (length rs) (e.core end).inbox.bytes a (begin_with i h)
+
+pub reads_whole : {S R : Type 0} (e : Reading S R) (side : Side) → IsReading e side → ReadsWhole e
+reads_whole e side i = λ state last reports stop h. begin_with i h

@@ -5,7 +5,7 @@ use Rattle.std.proofs.lemmas.Grind.{common_steps}
 use Rattle.wl_wire.specs.Argument.{Argument}
 use Rattle.wl_message.specs.declared.limit.Limit.{Limit}
 use Rattle.wl_message.specs.Cut.{IsMessage}
-use Rattle.wl_message.specs.Outgoing.{Outgoing, all_bytes, message, room_of, with_message}
+use Rattle.wl_message.specs.Outgoing.{Outgoing, all_bytes, message, room_of, token_room_of, with_message}
 use Rattle.wl_message.proofs.Cuts.{headed}
 use Rattle.wl_message.proofs.Passing.{bytes_append}
 use Rattle.wl_objects.specs.Writing.{message_len, message_bytes, spelled}
@@ -23,6 +23,13 @@ whole_within limit object opcode values o h =
 -- each limit allows 4096 bytes
 pub whole : (limit : Limit) (object opcode : ℕ) (values : List Argument) → opcode < 65536 → message_len values ≤ 4096 → IsMessage limit.bytes (message_bytes object opcode values)
 whole limit object opcode values o h = whole_within limit object opcode values o (omega (arith, h, limit.in_range.0))
+
+-- what fits is no more than there is room for
+pub fits-bytes : (o : Outgoing) (bytes tokens : ℕ) → fits o bytes tokens ≡ true → bytes ≤ room_of o
+fits-bytes o bytes tokens h = grind (arith, common_steps, nat_tests, h)
+
+pub fits-tokens : (o : Outgoing) (bytes tokens : ℕ) → fits o bytes tokens ≡ true → tokens ≤ token_room_of o
+fits-tokens o bytes tokens h = grind (arith, common_steps, nat_tests, h)
 
 -- what fits with more bytes still fits, and leaves room for those
 pub fits-less : (o : Outgoing) (bytes more tokens : ℕ) → fits o (bytes + more) tokens ≡ true → fits o bytes tokens ≡ true

@@ -4,14 +4,16 @@ use Rattle.std.specs.Prelude.{drop, Option, Some, None}
 use Rattle.std.specs.declared.result.Result.{Result}
 use Rattle.std.specs.declared.result.Result.TheVariants.{Ok, Err}
 use Rattle.wl_sigs.specs.declared.signature.Side.{Side}
+use Rattle.wl_message.specs.declared.amounts.Fed.{Fed}
 use Rattle.wl_message.specs.Arrived.{free_tokens}
-use Rattle.wl_message.specs.InStep.{Part, Need, InStep}
+use Rattle.wl_message.specs.InStep.{Part, Need, InStep, part_bytes, part_tokens}
 use Rattle.wl_objects.specs.declared.error.Fault.{Fault}
 use Rattle.wl_objects.specs.declared.error.NextError.{NextError}
 use Rattle.wl_objects.specs.declared.error.NextError.TheVariants as errors
 use Rattle.wl_end.specs.declared.streams.ReadAll.{ReadAll}
 use Rattle.wl_end.specs.Core.{Core, with_arrived, no_room}
-use Rattle.wl_end.specs.Streams.{Wants, IsTaken, taken_bytes, taken_tokens, NoneFits}
+use Rattle.wl_end.specs.Streams.{BeginWith, Wants, IsTaken, taken_bytes, taken_tokens, untaken}
+use Rattle.wl_end.specs.Streams.{NoneFits, waiting}
 
 -- what a reading returns: a report, nothing where no whole message waits, or why none can be read
 abbrev pub Answer : Type 0 → Type 0
@@ -160,3 +162,41 @@ pub data Begins {S R : Type 0} (e : Reading S R) (side : Side) : S → List Need
 abbrev pub ComeInStep : {S R : Type 0} → Reading S R → Side → S → List Part → Type 0
 ComeInStep e side state pieces =
     (needs : List Need) → Begins e side state needs → InStep needs pieces
+
+-- ---- what holds of how an end reads
+
+-- What waits is read in one way. What is read of it is read in the same way when more comes behind
+-- it, and that stays behind.
+pub record HasOneReading {S R : Type 0} (e : Reading S R) : Type 0 where
+  pub reports : (state last end : S) (reports others : List R) (stop halt : Option NextError)
+      → Reads e state reports stop last → Reads e state others halt end → reports ≡ others
+  pub stop : (state last end : S) (reports others : List R) (stop halt : Option NextError)
+      → Reads e state reports stop last → Reads e state others halt end → stop ≡ halt
+  pub left : (state last end : S) (reports others : List R) (stop halt : Option NextError)
+      → Reads e state reports stop last → Reads e state others halt end → last ≡ end
+  pub stays : (state last : S) (reports : List R) (bytes tokens : List ℕ)
+      → ReadsSome e state reports last
+      → ReadsSome e (arrived e state bytes tokens) reports (arrived e last bytes tokens)
+
+-- It does not matter how a stream is cut, where its pieces are in step: what was read up to a
+-- fault, or to the last report that there is, is what would be read had all pieces come at once,
+-- and what was not taken of them stays behind.
+abbrev pub AnyCutReads : {S R : Type 0} → Reading S R → Side → Type 0
+AnyCutReads {S = S} {R = R} e side =
+    (state last : S) (pieces : List Part) (count : ℕ) (some : Fed)
+    (reports : List R) (stop : Option NextError) → IsTaken pieces count some
+    → ComeInStep e side (arrived e state (part_bytes pieces) (part_tokens pieces))
+    (waiting (e.core state) ∷ pieces)
+    → Reads e (arrived e state (taken_bytes pieces count some) (taken_tokens pieces count some))
+    reports stop last → (e.core last).failed ≡ true
+    → Reads e (arrived e state (part_bytes pieces) (part_tokens pieces)) reports stop
+    (arrived e last (part_bytes (untaken pieces count some))
+    (part_tokens (untaken pieces count some)))
+
+-- What is read begins what waits: as many whole messages as there are reports, cut off by the sizes
+-- in their headers, and then what is left.
+abbrev pub ReadsWhole : {S R : Type 0} → Reading S R → Type 0
+ReadsWhole {S = S} {R = R} e =
+    (state last : S) (reports : List R) (stop : Option NextError) → Reads e state reports stop last
+    → BeginWith (e.core state).inbox.limit.bytes (e.core state).inbox.bytes (length reports)
+    (e.core last).inbox.bytes

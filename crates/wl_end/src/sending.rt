@@ -1,7 +1,5 @@
 //! What an end writes.
 ghost use Rattle.std.specs.Prelude.{[], ◌≡◌, ◌≢◌, ◌≤◌, ◌+◌, ℕ, false, true, Some, Ok, IfOk, IfSome, IsTrue, OnErr, OnOk, is_some, length};
-ghost use Rattle.wl_message.specs.Cut.{IsMessage};
-ghost use Rattle.wl_message.specs.Outgoing.{with_message};
 ghost use Rattle.wl_sigs.specs.Tables.{destroys_one, makes};
 ghost use Rattle.wl_sigs.specs.Valid.{Valid};
 ghost use Rattle.wl_objects.specs.Messages.{checked, destroys, ended_id, id_named, opens};
@@ -13,8 +11,6 @@ ghost use Rattle.wl_end.specs.Sending.{after_send, answer_of, delete_id_len, fit
 
 use crate::shared::Core;
 use crate::taking::MAX_TOKENS;
-use std::alloc::Allocator;
-use wl_message::Outbox;
 use wl_objects::{
     Arg, CheckedCall, Object, SendError, Table, TableError, call_makes, check_call, encode_bind,
     encode_call, encode_error, encode_number, tokens_of,
@@ -68,15 +64,6 @@ fn id_of(new: Option<Object>) -> u32
     new.map_or(0, |object| object.id)
 }
 
-/// Adds a message that fits.
-fn add<A: Allocator>(outbox: &mut Outbox<A>, message: &[u8], tokens: &[u32])
-    requires whole { IsMessage outbox.old.limit.bytes message.now }
-    requires room { IsTrue (fits outbox.old (length message.now) (length tokens.now)) }
-    ensures { outbox.new ≡ with_message outbox.old message.now tokens.now }
-{
-    outbox.push_fitting(message, tokens);
-}
-
 impl<'t, T: Table> Core<'t, T> {
     /// Whether this number of bytes and tokens is free in the outbox.
     pub fn fits(&self, bytes: usize, tokens: usize) -> bool
@@ -91,7 +78,7 @@ impl<'t, T: Table> Core<'t, T> {
         ensures { self.new ≡ with_delete_id self.old id }
     {
         encode_number(&mut self.store, DISPLAY_ID, DELETE_ID, id);
-        add(&mut self.outbox, &self.store, &[]);
+        self.outbox.push_fitting(&self.store, &[]);
     }
 
     /// Writes wl_display.error, about an object of this id, into the room that is kept for it. The
@@ -117,7 +104,7 @@ impl<'t, T: Table> Core<'t, T> {
             (bind_values name iface.now version id) [] }
     {
         encode_bind(&mut self.store, registry, name, iface, version, id);
-        add(&mut self.outbox, &self.store, &[]);
+        self.outbox.push_fitting(&self.store, &[]);
     }
 
     /// Opens the object of a message that makes one of this interface and version, at the next id.
@@ -166,7 +153,7 @@ impl<'t, T: Table> Core<'t, T> {
             (on_wire (id_of new) args.now) tokens.now }
     {
         encode_call(&mut self.store, target, opcode, args, id_of(new), len);
-        add(&mut self.outbox, &self.store, tokens);
+        self.outbox.push_fitting(&self.store, tokens);
     }
 
     /// Ends the object that a message destroys, if it destroys one: at a client it is a zombie, at a

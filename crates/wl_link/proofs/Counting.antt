@@ -3,7 +3,7 @@ use Rattle.std.proofs.Common.{◌≡◌, ℕ, suc, ◌+◌, ◌≤◌, Bool, Lis
 use Rattle.wl_world.specs.Meant.{Born}
 use Rattle.wl_world.specs.World.{Row}
 use Rattle.wl_world.specs.Flight.{Rows, Ask, Use, Make, Destroy, Tell, Reads, Tied, drained, use_, make, destroy, Meets}
-use Rattle.wl_world.proofs.Deeds.{counts_after}
+use Rattle.wl_world.proofs.Flight.{counts_after}
 use Rattle.wl_link.specs.Leads as leads
 use Rattle.wl_link.specs.Leads.{Leads}
 

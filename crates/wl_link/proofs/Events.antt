@@ -27,7 +27,7 @@ use Rattle.wl_world.proofs.Ended.{if_by}
 use Rattle.wl_world.specs.Flight.{IsBelow, Rows, at, Tell, Name, ends, tells, all_tells, all_asks, Held, Reads, Meets}
 use Rattle.wl_world.specs.Stands.{ComesFitly, TellsFitly, by_event}
 use Rattle.wl_world.specs.Plain.{ask_id}
-use Rattle.wl_world.proofs.Deeds.{live_after, free_after, put_same}
+use Rattle.wl_world.proofs.Flight.{live_after, free_after, put_same}
 use Rattle.wl_world.proofs.Wholes.{client_ends, each_by, each_more, each_front, each_rest, all_tells_more, deletes_at}
 use Rattle.wl_world.proofs.Plain.{free_asks}
 use Rattle.wl_world.proofs.ClientReads.{deleting, delete_signature}

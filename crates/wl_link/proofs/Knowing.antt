@@ -19,7 +19,7 @@ use Rattle.wl_world.specs.Meant.{Known}
 use Rattle.wl_world.specs.World.{Row, Open, Ending, put, IfThere}
 use Rattle.wl_world.specs.Stands.{birth_in}
 use Rattle.wl_world.specs.Flight.{Rows, Held, Fresh, at, most}
-use Rattle.wl_world.proofs.Deeds.{put_tells, held_other, held_some}
+use Rattle.wl_world.proofs.Flight.{put_tells, held_other, held_some}
 use Rattle.wl_world.proofs.Wholes.{client_makes, client_ends}
 use Rattle.wl_world.proofs.Ended.{if_by}
 use Rattle.wl_world.proofs.Readings.{made_of}

@@ -12,7 +12,7 @@ use Rattle.wl_world.specs.Stands.{StandsBy}
 use Rattle.wl_world.specs.Runs.{IsMove, DoesAll}
 use Rattle.wl_world.proofs.Records.{keeps_record}
 use Rattle.wl_world.proofs.Carries.{to_server_stands, to_client_stands}
-use Rattle.wl_world.proofs.Happenings.{Happens, stays, giving, asking, telling, reading_request, reading_event, reading_delete, carrying_to_server, carrying_to_client, Outcome, goes_on, ends_it, IsMarked}
+use Rattle.wl_world.proofs.Moves.{LeadsTo, stays, giving, asking, telling, reading_request, reading_event, reading_delete, carrying_to_server, carrying_to_client, Outcome, goes_on, ends_it, IsMarked}
 use Rattle.wl_world.proofs.Steps.{does_moves}
 use Rattle.wl_link.specs.Linked.{Linked, linked, ended, LinkedBy, EndedLawful, LinksOn, RunsLinked, limit_of}
 use Rattle.wl_link.proofs.Lawful.{all_lawful}
@@ -23,7 +23,7 @@ use Rattle.wl_link.proofs.Carries.{carry_to_server_links, carry_to_client_links}
 -- ---- before an error
 
 by_happening : (p : PairState) (w w' : World) (asked : List (Message Known)) (told : List (Coming Known)) → LinkedBy p w asked told → (p' : PairState) (asked' : List (Message Known)) (told' : List (Coming Known))
-    → Happens p asked told p' asked' told' → StandsBy p' w' asked' told' → LinkedBy p' w' asked' told'
+    → LeadsTo p asked told p' asked' told' → StandsBy p' w' asked' told' → LinkedBy p' w' asked' told'
 by_happening p w w' asked told l p' asked' told' stays s = again p w w' asked told l s
 by_happening p w w' asked told l p' asked' told' (giving more) s = given_links p w w' asked told more l s
 by_happening p w w' asked told l p' asked' told' (asking m c b) s = asked_links p w w' asked told m c b l s

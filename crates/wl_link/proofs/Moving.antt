@@ -40,7 +40,7 @@ use Rattle.wl_world.proofs.ServerReads.{left_state}
 use Rattle.wl_world.proofs.ClientReads.{after_event, after_delete, teaches}
 use Rattle.wl_world.proofs.ClientSends.{CanAsk, asked_pair}
 use Rattle.wl_world.proofs.ClientBind.{find_at}
-use Rattle.wl_world.proofs.Happenings.{BindsRemembered, told_pair, delete_below}
+use Rattle.wl_world.proofs.Moves.{BindsRemembered, told_pair, delete_below}
 use Rattle.wl_link.specs.Leads.{Joins}
 use Rattle.wl_link.specs.Recorded.{Recorded}
 use Rattle.wl_link.specs.Follows.{IsAdvertised, TellsAdvertised, BindsAdvertised}

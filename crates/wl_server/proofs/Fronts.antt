@@ -1,6 +1,6 @@
 -- What stands in front of a server's waiting bytes, and that it can be taken.
 use Rattle.std.proofs.Common.{◌≡◌, ◌≢◌, ℕ, zero, suc, ◌≤◌, Bool, true, false, List, [], ◌∷◌, ◌++◌, length, take, drop, Some, refl, sym, ap, subst, ◌∙◌, arith, append_assoc}
-use Rattle.std.specs.Prelude.{Option, not, ◌&&◌, nat_lt, nat_eq, slice_get, IsTrue}
+use Rattle.std.specs.Prelude.{Option, not, ◌&&◌, nat_lt, nat_eq, slice_get, IsTrue, is_some}
 use Rattle.std.specs.Option.{option_and_then}
 use Rattle.std.specs.declared.result.Result.{Result}
 use Rattle.std.specs.declared.result.Result.TheVariants.{Ok, Err}
@@ -38,15 +38,15 @@ use Rattle.wl_objects.specs.Parsed.{AreParsed, reported_in}
 use Rattle.wl_objects.specs.Reading.{Reader, in_state, descriptors, reports_of, Reported}
 use Rattle.wl_objects.specs.Messages.{Received, received, reader_of, is_bind}
 use Rattle.wl_end.specs.Core.{Core, HasDisplay}
-use Rattle.wl_end.specs.Receiving.{Found, found, found_at, found_in, header_of, takes}
+use Rattle.wl_end.specs.Receiving.{Found, found, reported, found_at, found_in, header_of, takes}
 use Rattle.wl_end.specs.Sending.{delete_id_len, fits}
 use Rattle.wl_end.proofs.Receivings.{is_received}
 use Rattle.wl_end.proofs.Coming.{is_found}
 use Rattle.wl_end.proofs.Ends.{argument_received}
 use Rattle.wl_end.proofs.Descriptors.{fds, reports_stay}
 use Rattle.wl_server.specs.State.{Global}
-use Rattle.wl_server.specs.Requests.{request, judged, is_good_bind_of, object_in}
-use Rattle.wl_server.specs.Steps.{Step, step_of, step_found, front_step, state_of, pending_in, pending_of, step_ended, HasRow, CanTake}
+use Rattle.wl_server.specs.Requests.{Report, report, request, judged, is_good_bind_of, object_in}
+use Rattle.wl_server.specs.Steps.{Step, step_of, step_found, front_step, state_of, pending_in, pending_of, ended_by, report_with, HasRow, CanTake}
 
 -- A whole message stands in front, of this header and body, with so many tokens waiting.
 pub record Stands (core : Core) (h : Header) (body : List ℕ) (waiting : ℕ) : Type 0 where
@@ -181,14 +181,47 @@ ended_argument core h body waiting m k v d e t =
     ∙ named_object (reader_of core.view) core.inbox.tokens n.id n.entry n.some n.there in
     subst (IsEnded core) (sym same) (record { row = record { entry = n.entry; row = n.there; birth = refl }; other = registry_lasts core.view n.id n.entry d n.there n.registers })
 
-ended_there : (core : Core) (h : Header) (body : List ℕ) (waiting : ℕ) (m : Received) → Valid core.tables → HasDisplay core.view → Ok m ≡ read_by core h body waiting → destroys_one m.signature.destroys ≡ true
-    → IsEnded core (step_ended (step_of core (the_found h m)))
-ended_there core h body waiting m v d e one = by_what m.signature.destroys refl
+inside : {x y : Object} → Some x ≡ Some y → x ≡ y
+inside e = cc e
+
+ended_there : (core : Core) (h : Header) (body : List ℕ) (waiting : ℕ) (m : Received) → Valid core.tables → HasDisplay core.view → Ok m ≡ read_by core h body waiting
+    → (object : Object) → ended_by m.signature.destroys (report core (the_found h m)) ≡ Some object → IsEnded core object
+ended_there core h body waiting m v d e object is = by_what m.signature.destroys refl is
   where
-    by_what : (what : Destroys) → m.signature.destroys ≡ what → IsEnded core (step_ended (step_of core (the_found h m)))
-    by_what Nothing t = absurd (let no = sym (ap destroys_one t) ∙ one in cc no)
-    by_what Target t = rw t (ended_target core h body waiting m v d e t)
-    by_what (Arg k) t = rw t (ended_argument core h body waiting m k v d e t)
+    by_what : (what : Destroys) → m.signature.destroys ≡ what → ended_by what (report core (the_found h m)) ≡ Some object → IsEnded core object
+    by_what Nothing t k = absurd (cc k)
+    by_what Target t k = subst (IsEnded core) (inside k) (ended_target core h body waiting m v d e t)
+    by_what (Arg place) t k = subst (IsEnded core) (inside k) (ended_argument core h body waiting m place v d e t)
+
+-- whether a request destroys anything
+is_some_ended : (what : Destroys) (report : Report) → is_some (ended_by what report) ≡ destroys_one what
+is_some_ended Nothing report = refl
+is_some_ended Target report = refl
+is_some_ended (Arg place) report = refl
+
+destroys_some : (what : Destroys) (report : Report) (object : Object) → ended_by what report ≡ Some object → destroys_one what ≡ true
+destroys_some what report object is = sym (is_some_ended what report) ∙ ap is_some is
+
+-- what is destroyed, by the arguments that were parsed
+abbrev pub IsEndedBy : Received → List ParsedArg → Option Object → Type 0
+IsEndedBy m args ended = (opcode birth : ℕ) (body tokens : List ℕ) → ended ≡ ended_by m.signature.destroys (report_with m.target opcode (reported_in body birth tokens args))
+
+pub ended_told : (m : Received) (args : List ParsedArg) (ended : Option Object) (what : Destroys) → what ≡ m.signature.destroys
+    → ((opcode birth : ℕ) (body tokens : List ℕ) → ended ≡ ended_by what (report_with m.target opcode (reported_in body birth tokens args))) → IsEndedBy m args ended
+ended_told m args ended what e k = λ opcode birth body tokens. k opcode birth body tokens ∙ ap (λ (d : Destroys). ended_by d (report_with m.target opcode (reported_in body birth tokens args))) e
+
+ended_is : (core : Core) (h : Header) (body : List ℕ) (m : Received) (args : List ParsedArg) (ended : Option Object) → AreParsed (reader_of core.view) body args m.values → IsEndedBy m args ended
+    → ended ≡ ended_by m.signature.destroys (report core (the_found h m))
+ended_is core h body m args ended a k =
+    k h.opcode core.view.births body core.inbox.tokens
+    ∙ ap (λ (l : List Reported). ended_by m.signature.destroys (report_with m.target h.opcode l)) (a.reported core.inbox.tokens)
+
+-- whether there is room for its delete_id
+pub full_by : (core : Core) (m : Received) (args : List ParsedArg) (ended : Option Object) (b : Bool) → IsEndedBy m args ended → (is_some ended && nat_lt (room_of core.outbox) delete_id_len) ≡ b
+    → (destroys_one m.signature.destroys && nat_lt (room_of core.outbox) delete_id_len) ≡ b
+full_by core m args ended b k e =
+    ap (λ (x : Bool). x && nat_lt (room_of core.outbox) delete_id_len)
+    (sym (ap is_some (k 0 0 [] []) ∙ is_some_ended m.signature.destroys (report_with m.target 0 (reported_in [] 0 [] args)))) ∙ e
 
 can_take_found : (core : Core) (h : Header) (body : List ℕ) (waiting : ℕ) (m : Received) → Valid core.tables → HasDisplay core.view → Stands core h body waiting → Ok m ≡ read_by core h body waiting
     → (destroys_one m.signature.destroys && nat_lt (room_of core.outbox) delete_id_len) ≡ false → CanTake core (step_of core (the_found h m))
@@ -198,9 +231,10 @@ can_take_found core h body waiting m v d s e f =
       whole = s.whole;
       tokens = omega (arith, r.tokens, s.tokens);
       few = omega (arith, fewer_kinds m.signature.kinds, few_kinds core.tables v m.entry.iface.0 h.opcode m.signature r.signature);
-      row = λ one. (ended_there core h body waiting m v d e one).row;
-      not_display = λ one. (ended_there core h body waiting m v d e one).other;
-      room = room_for core m.signature.destroys f;
+      birth = refl;
+      ended = λ object is.
+          let there = ended_there core h body waiting m v d e object is in
+          record { row = there.row; not_display = there.other; room = room_for core m.signature.destroys f (destroys_some m.signature.destroys (report core (the_found h m)) object is) };
     }
 
 -- ---- the request that was read is what stands in front
@@ -215,25 +249,30 @@ tokens_enough core f e =
     sym (reports_stay (reader_of core.view) (take n tokens) (drop n tokens) f.message.values enough)
     ∙ ap (λ (l : List ℕ). reports_of (reader_of core.view) l f.message.values) (take-append-drop n tokens)
 
-same_step : (core : Core) (h : Header) (body : List ℕ) (waiting : ℕ) (m : Received) (args : List ParsedArg) → Stands core h body waiting → Ok m ≡ read_by core h body waiting → AreParsed (reader_of core.view) body args m.values
-    → pending_in core (pending_of core.tables core.view.births h m args) ≡ step_of core (the_found h m)
-same_step core h body waiting m args s e a =
+same_step : (core : Core) (h : Header) (body : List ℕ) (waiting : ℕ) (m : Received) (args : List ParsedArg) (ended : Option Object) → Stands core h body waiting → Ok m ≡ read_by core h body waiting
+    → AreParsed (reader_of core.view) body args m.values → IsEndedBy m args ended → pending_in core (pending_of core.tables core.view.births ended h m args) ≡ step_of core (the_found h m)
+same_step core h body waiting m args ended s e a k =
     let rest : drop 8 (take h.size core.inbox.bytes) ≡ body = ap (drop 8) s.bytes in
     let tokens = take (takes m) core.inbox.tokens in
     let f = the_found h m in
-    ap (λ (l : List Reported). let step = step_of core f in let it : Step = record step { report = record step.report { args = l } } in it)
-    (ap (λ (b : List ℕ). reported_in b core.view.births tokens args) rest
-    ∙ (a.reported tokens ∙ tokens_enough core f (found_is core h body waiting s (Ok m) e)))
+    let same : reported_in (drop 8 (take h.size core.inbox.bytes)) core.view.births tokens args ≡ reported core m =
+    ap (λ (b : List ℕ). reported_in b core.view.births tokens args) rest
+    ∙ (a.reported tokens ∙ tokens_enough core f (found_is core h body waiting s (Ok m) e)) in
+    let ends = ended_is core h body m args ended a k in
+    (λ i. let step = step_of core f in let it : Step = record step { report = record step.report { args = same i }; ended = ends i } in it)
 
-pub can_take : (core : Core) (h : Header) (body : List ℕ) (waiting : ℕ) (m : Received) (args : List ParsedArg) → Valid core.tables → HasDisplay core.view → Stands core h body waiting → Ok m ≡ read_by core h body waiting
-    → AreParsed (reader_of core.view) body args m.values → (destroys_one m.signature.destroys && nat_lt (room_of core.outbox) delete_id_len) ≡ false → CanTake core (pending_in core (pending_of core.tables core.view.births h m args))
-can_take core h body waiting m args v d s e a f = subst (CanTake core) (sym (same_step core h body waiting m args s e a)) (can_take_found core h body waiting m v d s e f)
+pub can_take : (core : Core) (h : Header) (body : List ℕ) (waiting : ℕ) (m : Received) (args : List ParsedArg) (ended : Option Object) → Valid core.tables → HasDisplay core.view → Stands core h body waiting → Ok m ≡ read_by core h body waiting
+    → AreParsed (reader_of core.view) body args m.values → IsEndedBy m args ended → (is_some ended && nat_lt (room_of core.outbox) delete_id_len) ≡ false
+    → CanTake core (pending_in core (pending_of core.tables core.view.births ended h m args))
+can_take core h body waiting m args ended v d s e a k f =
+    subst (CanTake core) (sym (same_step core h body waiting m args ended s e a k)) (can_take_found core h body waiting m v d s e (full_by core m args ended false k f))
 
-pub answers_ok : (core : Core) (globals : List Global) (h : Header) (body : List ℕ) (waiting : ℕ) (m : Received) (args : List ParsedArg) → Stands core h body waiting → Ok m ≡ read_by core h body waiting
-    → is_bad core.tables globals h.opcode m ≡ false → (destroys_one m.signature.destroys && nat_lt (room_of core.outbox) delete_id_len) ≡ false → AreParsed (reader_of core.view) body args m.values
-    → Answers core globals (Ok (Some (pending_in core (pending_of core.tables core.view.births h m args))))
-answers_ok core globals h body waiting m args s e b f a =
-    ap (λ (x : Step). let it : Result (Option Step) NextError = Ok (Some x) in it) (same_step core h body waiting m args s e a) ∙ sym (front_ok core globals h body waiting m s e b f)
+pub answers_ok : (core : Core) (globals : List Global) (h : Header) (body : List ℕ) (waiting : ℕ) (m : Received) (args : List ParsedArg) (ended : Option Object) → Stands core h body waiting → Ok m ≡ read_by core h body waiting
+    → is_bad core.tables globals h.opcode m ≡ false → (is_some ended && nat_lt (room_of core.outbox) delete_id_len) ≡ false → AreParsed (reader_of core.view) body args m.values → IsEndedBy m args ended
+    → Answers core globals (Ok (Some (pending_in core (pending_of core.tables core.view.births ended h m args))))
+answers_ok core globals h body waiting m args ended s e b f a k =
+    ap (λ (x : Step). let it : Result (Option Step) NextError = Ok (Some x) in it) (same_step core h body waiting m args ended s e a k)
+    ∙ sym (front_ok core globals h body waiting m s e b (full_by core m args ended false k f))
 
 -- what `frame` tells
 pub stands_by : (core : Core) (o : Option Frame) (f : Frame) → o ≡ Some f → Tells core.inbox (Ok o) → IsHeader f.header → Stands core f.header f.body.now f.tokens

@@ -11,7 +11,7 @@ use Rattle.wl_wire.specs.Argument.{Argument}
 use Rattle.wl_sigs.specs.declared.signature.Side.TheVariants.{Event}
 use Rattle.wl_sigs.specs.declared.signature.Destroys.{Destroys}
 use Rattle.wl_sigs.specs.declared.signature.Destroys.TheVariants.{Nothing, Target, Arg}
-use Rattle.wl_sigs.specs.Tables.{Interface, Message, interface_at, new_objects, destroys_one}
+use Rattle.wl_sigs.specs.Tables.{Interface, Message, interface_at, new_objects}
 use Rattle.wl_sigs.specs.Fixed.{display, registry}
 use Rattle.wl_sigs.specs.Valid.{Valid}
 use Rattle.wl_table.specs.declared.object.Object.{Object}
@@ -33,7 +33,7 @@ use Rattle.wl_server.specs.Requests.{registries_after}
 use Rattle.wl_server.specs.Calls.{ends_by_event, drop_at, drop_refusal, after_drop}
 use Rattle.wl_server.specs.Announcing.{Due, marked_in, all_marked}
 use Rattle.wl_end.proofs.Ends.{no_event}
-use Rattle.wl_server.specs.Steps.{Step, step_ended, HasRow, core_without, core_by, registries_by, CanTake}
+use Rattle.wl_server.specs.Steps.{Step, CanEnd, core_without, core_by, registries_by, registries_without, CanTake}
 use Rattle.wl_server.specs.Tellings.{IsTold}
 use Rattle.wl_server.specs.declared.announce.Announced.{Announced}
 use Rattle.wl_server.proofs.Risings.{rise-without}
@@ -225,24 +225,22 @@ births_closed v id h = record {
 
 has_step : (core : Core) (rs : List Registry) (step : Step) → CanTake core step → IsFresh core.view step.made → BirthsAreOnce core.view → HasRegistries core.view rs
     → HasRegistries (core_by core step).view (registries_by core rs step)
-has_step core rs step can f b h = by_test (destroys_one step.destroys) can.row
+has_step core rs step can f b h = by_ended step.ended can.ended
   where
-    object : Object
-    object = step_ended step
-
-    by_test : (b : Bool) → (b ≡ true → HasRow core.view object) → HasRegistries (core_without b object.id (past (with_view core (opens core.view step.made)) step.size step.tokens)).view (without_registry registry_birth b object.birth (registries_after core rs step.made))
-    by_test false r = has_opened core rs step.made f h
-    by_test true r =
-        let is = r refl in
+    by_ended : (ended : Option Object) → ((object : Object) → ended ≡ Some object → CanEnd core object)
+        → HasRegistries (core_without ended (past (with_view core (opens core.view step.made)) step.size step.tokens)).view (registries_without ended (registries_after core rs step.made))
+    by_ended None r = has_opened core rs step.made f h
+    by_ended (Some object) r =
+        let is = (r object refl).row in
         has_closed (opens core.view step.made) (registries_after core rs step.made) object.id object.birth is.entry
         (births_opened core.view step.made b) (row_kept core.view step.made object.id is.entry f is.row) is.birth (has_opened core rs step.made f h)
 
 births_step : (core : Core) (step : Step) → BirthsAreOnce core.view → BirthsAreOnce (core_by core step).view
-births_step core step h = by_test (destroys_one step.destroys)
+births_step core step h = by_ended step.ended
   where
-    by_test : (b : Bool) → BirthsAreOnce (core_without b (step_ended step).id (past (with_view core (opens core.view step.made)) step.size step.tokens)).view
-    by_test false = births_opened core.view step.made h
-    by_test true = births_closed (opens core.view step.made) (step_ended step).id (births_opened core.view step.made h)
+    by_ended : (ended : Option Object) → BirthsAreOnce (core_without ended (past (with_view core (opens core.view step.made)) step.size step.tokens)).view
+    by_ended None = births_opened core.view step.made h
+    by_ended (Some object) = births_closed (opens core.view step.made) object.id (births_opened core.view step.made h)
 
 -- the same of an end and a list that are these
 pub has_now : (core now : Core) (rs ms : List Registry) (step : Step) → CanTake core step → now ≡ core_by core step → ms ≡ registries_by core rs step

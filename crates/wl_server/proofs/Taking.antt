@@ -6,12 +6,13 @@ use Rattle.std.specs.declared.result.Result.{Result}
 use Rattle.std.specs.declared.result.Result.TheVariants.{Ok, Err}
 use Rattle.wl_sigs.specs.declared.signature.Destroys.{Destroys}
 use Rattle.wl_sigs.specs.declared.signature.Destroys.TheVariants.{Nothing, Target, Arg}
-use Rattle.wl_sigs.specs.Tables.{Interface, destroys_one}
+use Rattle.wl_sigs.specs.Tables.{Interface}
 use Rattle.wl_wire.specs.declared.kind.Kind.{Kind}
 use Rattle.wl_table.specs.declared.object.Entry.{Entry}
 use Rattle.wl_objects.specs.declared.error.Fault.{Fault}
 use Rattle.wl_objects.specs.declared.error.NextError.{NextError}
 use Rattle.wl_objects.specs.declared.error.NextError.TheVariants as errors
+use Rattle.wl_table.specs.declared.object.Object.{Object}
 use Rattle.wl_table.specs.View.{View, is_held, look}
 use Rattle.wl_table.specs.Views.{look-opened_at}
 use Rattle.wl_objects.specs.Messages.{Made, made, opens, same_iface, reader_of}
@@ -25,10 +26,10 @@ use Rattle.wl_end.specs.Receiving.{Found, is_none}
 use Rattle.wl_end.specs.Outcomes.{answers_with, left}
 use Rattle.wl_end.proofs.Receivings.{some_reported}
 use Rattle.wl_server.specs.State.{State, Global, Registry, RiseFrom, with_core, untold}
-use Rattle.wl_server.specs.Requests.{Report, request, made_in, is_out_full, next_answer, after_next, answer_found, state_found, state_past, registries_after, needs_memory, opens_object, IsNext, IsLentNext}
+use Rattle.wl_server.specs.Requests.{Report, report, request, made_in, is_out_full, next_answer, after_next, answer_found, state_found, state_past, registries_after, needs_memory, opens_object, IsNext, IsLentNext}
 use Rattle.wl_server.specs.Registries.{without_registry, registry_birth}
 use Rattle.wl_server.specs.declared.pending.PendingRequest.{PendingRequest}
-use Rattle.wl_server.specs.Steps.{Step, step_ended, pending_in, report_over, taken_report, step_of, step_found, front_step, checked_front, after_front, after_step, report_by, core_by, core_told, core_without, state_of}
+use Rattle.wl_server.specs.Steps.{Step, ended_by, pending_in, report_over, taken_report, step_of, step_found, front_step, checked_front, after_front, after_step, report_by, core_by, core_told, core_without, state_of}
 use Rattle.wl_server.proofs.Risings.{rise-below, rise-new}
 
 -- ---- the registries
@@ -87,7 +88,7 @@ left-by state f false e = rw (e) (after-past state f)
     after-past : (state : State) (f : Found) → after_step state (step_of state.core f) ≡ state_past state f
     after-past state f = by_case f.message.signature.destroys
       where
-        by_case : (d : Destroys) → after_step state (record (step_of state.core f) { destroys = d }) ≡ state_past state (record f { message = record f.message { signature = record f.message.signature { destroys = d } } })
+        by_case : (d : Destroys) → after_step state (record (step_of state.core f) { ended = ended_by d (report state.core f) }) ≡ state_past state (record f { message = record f.message { signature = record f.message.signature { destroys = d } } })
         by_case Nothing = refl
         by_case Target = refl
         by_case (Arg place) = refl
@@ -196,12 +197,12 @@ some-args f (x ∷ xs) h = refl
 
 -- ---- what was taken last
 
-inbox-without : (b : Bool) (id : ℕ) (core : Core) → (core_without b id core).inbox ≡ core.inbox
-inbox-without false id core = refl
-inbox-without true id core = refl
+inbox-without : (ended : Option Object) (core : Core) → (core_without ended core).inbox ≡ core.inbox
+inbox-without None core = refl
+inbox-without (Some object) core = refl
 
 pub inbox-taken : (core : Core) (step : Step) → (core_by core step).inbox ≡ without_first core.inbox step.size step.tokens
-inbox-taken core step = inbox-without (destroys_one step.destroys) (step_ended step).id (past (with_view core (opens core.view step.made)) step.size step.tokens)
+inbox-taken core step = inbox-without step.ended (past (with_view core (opens core.view step.made)) step.size step.tokens)
 
 -- ---- the tokens of a request in front
 

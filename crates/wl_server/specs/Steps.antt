@@ -1,11 +1,12 @@
 -- How a server reads a request: what it makes of the message in front, and then what the reading
 -- leaves.
-use Rattle.std.specs.Prelude.{◌≡◌, ◌≢◌, ℕ, ◌≤◌, Bool, true, false, if◌then◌else◌, List, [], length}
+use Rattle.std.specs.Prelude.{◌≡◌, ◌≢◌, ℕ, ◌≤◌, true, if◌then◌else◌, List, [], length}
 use Rattle.std.specs.Prelude.{take, drop, Option, Some, None, IsTrue}
 use Rattle.std.specs.declared.result.Result.{Result}
 use Rattle.std.specs.declared.result.Result.TheVariants.{Ok, Err}
 use Rattle.wl_sigs.specs.declared.signature.Destroys.{Destroys}
-use Rattle.wl_sigs.specs.Tables.{Interface, destroys_one}
+use Rattle.wl_sigs.specs.declared.signature.Destroys.TheVariants.{Nothing, Target, Arg}
+use Rattle.wl_sigs.specs.Tables.{Interface}
 use Rattle.wl_message.specs.Arrived.{in_front}
 use Rattle.wl_message.specs.Cut.{Whole}
 use Rattle.wl_table.specs.declared.object.Entry.{Entry}
@@ -15,7 +16,7 @@ use Rattle.wl_objects.specs.declared.error.NextError.TheVariants as errors
 use Rattle.wl_table.specs.declared.object.Object.{Object}
 use Rattle.wl_table.specs.View.{View, look, closed}
 use Rattle.wl_wire.specs.declared.header.Header.{Header}
-use Rattle.wl_objects.specs.Reading.{descriptors}
+use Rattle.wl_objects.specs.Reading.{Reported, descriptors}
 use Rattle.wl_objects.specs.declared.parsed.ParsedArg.{ParsedArg}
 use Rattle.wl_objects.specs.Parsed.{reported_in}
 use Rattle.wl_objects.specs.Messages.{Made, Received, made, opens}
@@ -29,36 +30,39 @@ use Rattle.wl_server.specs.Requests.{registries_after, ended_object, fault_code,
 use Rattle.wl_server.specs.Registries.{without_registry, registry_birth}
 
 -- what a request is and does: its report, its numbers of bytes and tokens, the object that it
--- makes, and what it destroys
+-- makes and the birth of the next one, and the object that it destroys
 pub record Step : Type 0 where
   pub report : Report
   pub size : ℕ
   pub tokens : ℕ
+  pub birth : ℕ
   pub made : Option Made
-  pub destroys : Destroys
+  pub ended : Option Object
+
+abbrev pub report_with : Object → ℕ → List Reported → Report
+report_with target opcode args = record { target = target; opcode = opcode; args = args }
+
+-- the object that a request destroys, if it destroys one
+abbrev pub ended_by : Destroys → Report → Option Object
+ended_by Nothing report = None
+ended_by Target report = Some (ended_object Target report)
+ended_by (Arg place) report = Some (ended_object (Arg place) report)
 
 abbrev pub step_of : Core → Found → Step
 step_of core f = record {
   report = report core f;
   size = f.size;
   tokens = takes f.message;
+  birth = core.view.births;
   made = made_in core f.message;
-  destroys = f.message.signature.destroys;
+  ended = ended_by f.message.signature.destroys (report core f);
 }
-
--- the object that it destroys, if it destroys one
-abbrev pub step_ended : Step → Object
-step_ended step = ended_object step.destroys step.report
 
 -- ---- a request that was read and not yet taken
 
 -- its report, over a message's body and tokens
 abbrev pub report_over : List ℕ → List ℕ → PendingRequest → Report
-report_over body tokens p = record {
-  target = p.target;
-  opcode = p.opcode;
-  args = reported_in body p.birth tokens p.args;
-}
+report_over body tokens p = report_with p.target p.opcode (reported_in body p.birth tokens p.args)
 
 -- what it is and does, over the message in front of an end
 abbrev pub pending_in : Core → PendingRequest → Step
@@ -66,13 +70,16 @@ pending_in core p = record {
   report = report_over (drop 8 (take p.size core.inbox.bytes)) (take p.tokens core.inbox.tokens) p;
   size = p.size;
   tokens = p.tokens;
+  birth = p.birth;
   made = p.made;
-  destroys = p.destroys;
+  ended = p.ended;
 }
 
--- what a message is and does, where these are its arguments and a new object gets this birth
-abbrev pub pending_of : List Interface → ℕ → Header → Received → List ParsedArg → PendingRequest
-pending_of tables birth header message args = record {
+-- what a message is and does, where these are its arguments, it destroys this object and a new one
+-- gets this birth
+abbrev pub pending_of : List Interface → ℕ → Option Object → Header → Received → List ParsedArg
+    → PendingRequest
+pending_of tables birth ended header message args = record {
   target = message.target;
   opcode = header.opcode;
   args = args;
@@ -80,7 +87,7 @@ pending_of tables birth header message args = record {
   size = header.size;
   tokens = descriptors message.signature.kinds;
   made = made tables message.entry.version message.signature.kinds message.values;
-  destroys = message.signature.destroys;
+  ended = ended;
 }
 
 abbrev pub pendings_in : Core → Result (Option PendingRequest) NextError
@@ -115,15 +122,21 @@ pub record HasRow (view : View) (object : Object) : Type 0 where
   pub row : look view object.id ≡ Some entry
   pub birth : entry.birth ≡ object.birth
 
--- A step can be taken: its message stands in front and its tokens wait. An object that it destroys
--- has the row of its birth and is not wl_display, and there is room for its delete_id.
+-- An object can be closed: it has the row of its birth and is not wl_display, and there is room
+-- for its delete_id.
+pub record CanEnd (core : Core) (object : Object) : Type 0 where
+  pub row : HasRow core.view object
+  pub not_display : object.id ≢ 1
+  pub room : IsTrue (fits core.outbox delete_id_len 0)
+
+-- A step can be taken: its message stands in front and its tokens wait, the next object gets its
+-- birth, and an object that it destroys can be closed.
 pub record CanTake (core : Core) (step : Step) : Type 0 where
   pub whole : in_front core.inbox ≡ Whole step.size
   pub tokens : step.tokens ≤ length core.inbox.tokens
   pub few : step.tokens ≤ 20
-  pub row : destroys_one step.destroys ≡ true → HasRow core.view (step_ended step)
-  pub not_display : destroys_one step.destroys ≡ true → (step_ended step).id ≢ 1
-  pub room : destroys_one step.destroys ≡ true → IsTrue (fits core.outbox delete_id_len 0)
+  pub birth : step.birth ≡ core.view.births
+  pub ended : (object : Object) → step.ended ≡ Some object → CanEnd core object
 
 -- the request in front, unless the server has failed
 abbrev pub checked_front : State → Result (Option Step) NextError
@@ -131,22 +144,28 @@ checked_front state = if state.core.failed then Err errors.Failed else front_ste
 
 -- ---- what the reading leaves
 
--- the end without an object that a request destroys
-abbrev pub core_without : Bool → ℕ → Core → Core
-core_without false id core = core
-core_without true id core = with_delete_id (with_view core (closed core.view id)) id
+-- the end without the object that a request destroys
+abbrev pub core_without : Option Object → Core → Core
+core_without None core = core
+core_without (Some object) core =
+    with_delete_id (with_view core (closed core.view object.id)) object.id
+
+-- the registries without it
+abbrev pub registries_without : Option Object → List Registry → List Registry
+registries_without None registries = registries
+registries_without (Some object) registries =
+    without_registry registry_birth true object.birth registries
 
 -- the end after a request: its object is opened, the message taken, and what it destroys closed
 abbrev pub core_by : Core → Step → Core
 core_by core step =
-    core_without (destroys_one step.destroys) (step_ended step).id
+    core_without step.ended
     (past (with_view core (opens core.view step.made)) step.size step.tokens)
 
 -- the registries after a request
 abbrev pub registries_by : Core → List Registry → Step → List Registry
 registries_by core registries step =
-    without_registry registry_birth (destroys_one step.destroys) (step_ended step).birth
-    (registries_after core registries step.made)
+    registries_without step.ended (registries_after core registries step.made)
 
 abbrev pub after_step : State → Step → State
 after_step state step = record state {

@@ -1,7 +1,7 @@
 //! A request that was read and not yet taken.
 ghost use Rattle.std.specs.Prelude.{◌≡◌, ℕ, List};
-ghost use Rattle.wl_server.specs.Requests.{ended_object};
-ghost use Rattle.wl_server.specs.Steps.{report_over};
+ghost use Rattle.wl_objects.specs.Parsed.{reported_in};
+ghost use Rattle.wl_server.specs.Steps.{ended_by, report_with};
 
 use wl_objects::{Made, Object, ParsedArg, ParsedArgs};
 use wl_sigs::Destroys;
@@ -20,25 +20,26 @@ pub(crate) struct PendingRequest {
     pub(crate) tokens: usize,
     /// The object that it opens.
     pub(crate) made: Option<Made>,
-    pub(crate) destroys: Destroys,
+    /// The object that it destroys.
+    pub(crate) ended: Option<Object>,
 }
 
-impl PendingRequest {
-    /// The object that the request destroys, if it destroys one: its target, or the object that an
-    /// argument names.
-    pub(crate) fn destroyed(&self) -> Object
-        ensures { (body tokens : List ℕ)
-            → result ≡ ended_object self.now.destroys (report_over body tokens self.now) }
-    {
-        match self.destroys {
-            Destroys::Nothing | Destroys::Target => self.target,
-            Destroys::Arg(place) => match self.args.as_slice().get(place) {
-                Some(ParsedArg::Object { id, birth, .. }) => Object {
-                    id: *id,
-                    birth: *birth,
-                },
-                _ => Object { id: 0, birth: 0 },
-            },
-        }
+/// The object that a request destroys, if it destroys one: its target, or the object that an
+/// argument names.
+pub(crate) fn ended_by(destroys: Destroys, target: Object, args: &ParsedArgs) -> Option<Object>
+    ensures { (opcode birth : ℕ) (body tokens : List ℕ)
+        → result ≡ ended_by destroys
+        (report_with target opcode (reported_in body birth tokens args.now)) }
+{
+    match destroys {
+        Destroys::Nothing => None,
+        Destroys::Target => Some(target),
+        Destroys::Arg(place) => match args.as_slice().get(place) {
+            Some(ParsedArg::Object { id, birth, .. }) => Some(Object {
+                id: *id,
+                birth: *birth,
+            }),
+            _ => Some(Object { id: 0, birth: 0 }),
+        },
     }
 }

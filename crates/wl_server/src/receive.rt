@@ -1,9 +1,8 @@
 //! What a server reads.
-ghost use Rattle.std.specs.Prelude.{◌≡◌, ◌≢◌, Some, None, [], IsTrue, OnOk, true, false, not, ◌&&◌, nat_lt, IfOk, IfSome, OnErr};
+ghost use Rattle.std.specs.Prelude.{◌≡◌, ◌≢◌, Some, None, [], IsTrue, OnOk, true, false, not, ◌&&◌, nat_lt, IfOk, IfSome, OnErr, is_some};
 ghost use Rattle.std.specs.Borrow.{sem};
 ghost use Rattle.std.specs.Io.BufRead.{Rests};
 ghost use Rattle.wl_sigs.specs.declared.signature.Side.TheVariants.{Request as request_side};
-ghost use Rattle.wl_sigs.specs.Tables.{destroys_one};
 ghost use Rattle.wl_wire.specs.Word.{IsHeader};
 ghost use Rattle.wl_sigs.specs.Valid.{Valid};
 ghost use Rattle.wl_objects.specs.Messages.{is_bind, opens, received};
@@ -18,13 +17,13 @@ ghost use Rattle.wl_server.specs.State.{with_core};
 ghost use Rattle.wl_server.specs.Requests.{is_good_bind_of, after_next, registries_after, IsLentNext, IsNext};
 ghost use Rattle.wl_server.specs.Registries.{IsFresh, without_registry, registry_birth};
 ghost use Rattle.wl_server.specs.Seen.{lent_in, lent_report, report_in, report_of};
-ghost use Rattle.wl_server.specs.Steps.{CanTake, after_step, checked_front, core_by, core_told, core_unless, core_without, front_step, pending_in, pending_of, pendings_in, registries_by, report_over, state_of, taken_in, taken_report};
+ghost use Rattle.wl_server.specs.Steps.{CanTake, after_step, checked_front, core_by, core_told, core_unless, core_without, front_step, pending_in, pending_of, pendings_in, registries_by, registries_without, report_over, state_of, taken_in, taken_report};
 ghost use Rattle.wl_server.specs.Lent.{server_row};
 
 use crate::advertised::{Advertised, OpenRegistry};
 use crate::faults::{fault_code, fault_message};
 use crate::globals::is_good_bind;
-use crate::pending::PendingRequest;
+use crate::pending::{PendingRequest, ended_by};
 use crate::request::{OwnedRequest, Request};
 use crate::server::Server;
 use std::alloc::{AllocError, Allocator};
@@ -131,12 +130,13 @@ impl<'t, T: Table> Server<'t, T> {
             &mut self.registries,
             &self.alloc,
             request.made,
+            request.birth,
         )?;
         // Nothing is allocated from here on.
         let mut tokens = [0; MAX_TOKENS];
         self.core.pass(request.size, &mut tokens[..request.tokens]);
-        if request.destroys.destroys_one() {
-            close_object(&mut self.core, &mut self.registries, request.destroyed());
+        if let Some(object) = request.ended {
+            close_object(&mut self.core, &mut self.registries, object);
         }
         Ok(())
     }
@@ -186,13 +186,15 @@ fn report_fault<T: Table>(core: &mut Core<'_, T>, why: NextError)
     }
 }
 
-/// Opens the object that a request makes, if it makes one.
+/// Opens the object that a request makes, if it makes one, with this birth.
 fn open_new_object<T: Table>(
     core: &mut Core<'_, T>,
     registries: &mut Vec<OpenRegistry<T::Alloc>, T::Alloc>,
     alloc: &T::Alloc,
     made: Option<Made>,
+    birth: u64,
 ) -> Result<(), AllocError>
+    requires { birth ≡ core.old.view.births }
     ensures core { OnOk result (core.new ≡ with_view core.old (opens core.old.view made)) }
     ensures registries { OnOk result
         (registries.new.items ≡ registries_after core.old registries.old.items made) }
@@ -202,7 +204,7 @@ fn open_new_object<T: Table>(
     ensures fresh { OnOk result (IsFresh core.old.view made) }
 {
     match made {
-        Some(made) => open_object(core, registries, alloc, made),
+        Some(made) => open_object(core, registries, alloc, made, birth),
         None => Ok(()),
     }
 }
@@ -214,7 +216,9 @@ fn open_object<T: Table>(
     registries: &mut Vec<OpenRegistry<T::Alloc>, T::Alloc>,
     alloc: &T::Alloc,
     made: Made,
+    birth: u64,
 ) -> Result<(), AllocError>
+    requires { birth ≡ core.old.view.births }
     ensures core { OnOk result (core.new ≡ with_view core.old (opens core.old.view (Some made))) }
     ensures registries { OnOk result
         (registries.new.items ≡ registries_after core.old registries.old.items (Some made)) }
@@ -223,10 +227,7 @@ fn open_object<T: Table>(
     ensures fresh { OnOk result (IsFresh core.old.view (Some made)) }
 {
     if made.iface == REGISTRY {
-        let object = Object {
-            id: made.id,
-            birth: core.table.births(),
-        };
+        let object = Object { id: made.id, birth };
         let registry = OpenRegistry::new(alloc, object)?;
         registries.reserve(1)?;
         match core.open(made) {
@@ -248,9 +249,9 @@ fn close_object<T: Table>(
     requires held { IsTrue (is_held core.old.view object.id) }
     requires not_display { object.id ≢ 1 }
     requires room { IsTrue (fits core.old.outbox delete_id_len 0) }
-    ensures core { core.new ≡ core_without true object.id core.old }
+    ensures core { core.new ≡ core_without (Some object) core.old }
     ensures registries { registries.new.items
-        ≡ without_registry registry_birth true object.birth registries.old.items }
+        ≡ registries_without (Some object) registries.old.items }
 {
     core.close(object.id);
     core.write_delete_id(object.id);
@@ -298,10 +299,15 @@ pub(crate) fn find_request<T: Table>(
             offset,
         });
     }
-    if lacks_room(room, &received) {
+    let ended = ended_by(
+        received.signature.destroys(),
+        received.target,
+        &received.args,
+    );
+    if lacks_room(room, ended) {
         return Err(NextError::OutFull);
     }
-    Ok(Some(pending_of(core.tables, birth, header, received)))
+    Ok(Some(pending_of(core.tables, birth, ended, header, received)))
 }
 
 /// Reads one whole request. It stands apart: compiled into its caller it would copy the arguments
@@ -340,12 +346,11 @@ fn is_bad_bind(
         && !is_good_bind(tables, globals, &message.values())
 }
 
-/// Whether a message needs more room for its delete_id than there is.
-fn lacks_room(room: usize, message: &Received<'_, '_>) -> bool
-    ensures { result
-        ≡ (destroys_one message.now.signature.now.destroys && nat_lt room delete_id_len) }
+/// Whether an object is destroyed whose delete_id needs more room than there is.
+fn lacks_room(room: usize, ended: Option<Object>) -> bool
+    ensures { result ≡ (is_some ended && nat_lt room delete_id_len) }
 {
-    message.signature.destroys().destroys_one() && room < DELETE_ID_LEN
+    ended.is_some() && room < DELETE_ID_LEN
 }
 
 /// A copy of a request's report, where these are its body and its tokens.
@@ -369,15 +374,16 @@ fn copy_of<A: Allocator + Clone + Drop>(
     }
 }
 
-/// What a message is and does, where a new object gets this birth.
+/// What a message is and does, where it destroys this object and a new one gets this birth.
 fn pending_of(
     tables: &Tables,
     birth: u64,
+    ended: Option<Object>,
     header: Header,
     message: Received<'_, '_>,
 ) -> PendingRequest
     requires tokens { message.tokens ≡ descriptors message.signature.now.kinds }
-    ensures { result ≡ pending_of tables.now birth header (message_of message.entry)
+    ensures { result ≡ pending_of tables.now birth ended header (message_of message.entry)
         message.entry.args }
 {
     let kinds = message.signature.kinds();
@@ -388,7 +394,7 @@ fn pending_of(
         size: header.size,
         tokens: message.tokens,
         made: made_by_message(tables, message.entry.version, kinds, &message.values()),
-        destroys: message.signature.destroys(),
+        ended,
         args: message.args,
     }
 }

@@ -41,7 +41,7 @@ use Rattle.wl_world.proofs.Ended.{born_ends}
 use Rattle.wl_world.proofs.ServerTells.{CanTell, told_core, tell_stands}
 use Rattle.wl_world.proofs.ServerSend.{tells_world}
 use Rattle.wl_world.proofs.Places.{place_there, name_text}
-use Rattle.wl_world.proofs.Happenings.{Happens, Moves, goes_on, telling, event_below}
+use Rattle.wl_world.proofs.Moves.{LeadsTo, Moves, goes_on, telling, event_below}
 
 -- ---- what can be owed
 
@@ -404,8 +404,8 @@ announce_keeps p w asked told s z reply p' (announced {count = count} l f) =
       world = r.world;
       answers = before z (announced l f) (subst (λ (os : List Owed). AnnouncesThose p.server.core.tables w os r.world) (sym owes) r.announces);
       outcome = goes_on asked r.told r.not_ended r.stands_by
-          (subst (λ (l : List (Coming Known)). Happens p asked told (with_server p (after_announce p.server count)) asked l) (sym r.added)
-          (subst (λ (c : Core). Happens p asked told (with_server p (record p.server { core = c; registries = all_marked ds p.server.registries })) asked (told ++ r.news)) (sym (only_sent p.server.core ds))
+          (subst (λ (l : List (Coming Known)). LeadsTo p asked told (with_server p (after_announce p.server count)) asked l) (sym r.added)
+          (subst (λ (c : Core). LeadsTo p asked told (with_server p (record p.server { core = c; registries = all_marked ds p.server.registries })) asked (told ++ r.news)) (sym (only_sent p.server.core ds))
           (telling p.server.core.view (with_dues p.server.core ds).outbox (all_marked ds p.server.registries) r.news refl r.below)));
     }
 announce_keeps p w asked told s z reply p' (refused l) = absurd (cc (l, s.server_lives))

@@ -15,7 +15,7 @@ use Rattle.wl_world.specs.Pair.{PairState, CarryToServer, CarryToClient, Carried
 use Rattle.wl_world.specs.Answers.{NotEnded, before}
 use Rattle.wl_world.specs.Stands.{StandsBy, InFlight}
 use Rattle.wl_world.proofs.Channels.{carried, goes_there, goes_tokens, all_tokens_more}
-use Rattle.wl_world.proofs.Happenings.{Moves, goes_on, stays, carrying_to_server, carrying_to_client}
+use Rattle.wl_world.proofs.Moves.{Moves, goes_on, stays, carrying_to_server, carrying_to_client}
 
 flies : (o : Outgoing) (i : Arrived) (ms : List Sent) (b t : ℕ) → InFlight o i ms
     → InFlight (after_taking o (goes o b t).bytes) (with_more i (take (goes o b t).bytes (waiting_bytes o)) (take (goes o b t).tokens (waiting_tokens o))) ms

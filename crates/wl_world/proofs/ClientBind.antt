@@ -51,7 +51,7 @@ use Rattle.wl_world.proofs.Places.{place_there, name_text, bytes_same, bytes_sel
 use Rattle.wl_world.proofs.Announces.{each_get}
 use Rattle.wl_world.proofs.ClientSends.{CanAsk, asked_core, ask_stands}
 use Rattle.wl_world.proofs.ClientSend.{asks_world}
-use Rattle.wl_world.proofs.Happenings.{Moves, Outcome, goes_on, stays, asking}
+use Rattle.wl_world.proofs.Moves.{Moves, Outcome, goes_on, stays, asking}
 
 -- ---- what an accepted bind tells
 

@@ -29,7 +29,7 @@ use Rattle.wl_world.proofs.Channels.{pops, never_bad}
 use Rattle.wl_world.proofs.Afters.{tokens_map}
 use Rattle.wl_world.proofs.Readings.{reports_right, tokens_taken}
 use Rattle.wl_world.proofs.Findings.{the_found, the_message}
-use Rattle.wl_world.proofs.Happenings.{Moves, goes_on, stays, reading_event, reading_delete}
+use Rattle.wl_world.proofs.Moves.{Moves, goes_on, stays, reading_event, reading_delete}
 use Rattle.wl_world.proofs.ClientReads.{InEvent, in_event, after_event, teaches, event_answer, event_stands, event_mortal, InDelete, in_delete, after_delete, delete_answer, delete_stands, deleting}
 
 -- ---- what is answered and left where a message is found

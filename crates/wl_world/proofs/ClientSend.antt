@@ -38,7 +38,7 @@ use Rattle.wl_world.proofs.Rules.{target_plain, objects_plain, display_lasts}
 use Rattle.wl_world.proofs.Written.{the_made, the_new, the_call, new_id, new_birth, CallIs, call_is, call_ends, accepted_call, Opens, opens}
 use Rattle.wl_world.proofs.ClientSends.{CanAsk, asked_core, ask_stands}
 use Rattle.wl_world.proofs.Ended.{Mortal, after_is, argument_is, born_ends}
-use Rattle.wl_world.proofs.Happenings.{Moves, Outcome, goes_on, stays, asking}
+use Rattle.wl_world.proofs.Moves.{Moves, Outcome, goes_on, stays, asking}
 
 -- the same by other tables
 abbrev pub moved : (t u : List Interface) (side : Side) (m : Message Known) → t ≡ u → Fits t side m → Fits u side m

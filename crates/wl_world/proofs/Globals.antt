@@ -20,7 +20,7 @@ use Rattle.wl_server.specs.declared.request.GlobalError.TheVariants.{Failed, Bad
 use Rattle.wl_world.specs.Answers.{NotEnded, before}
 use Rattle.wl_world.specs.Stands.{StandsBy, WasGiven, AsksFitly, ComesFitly, IsGlobal}
 use Rattle.wl_world.proofs.Wholes.{each_by, each_more}
-use Rattle.wl_world.proofs.Happenings.{Moves, goes_on, stays, giving}
+use Rattle.wl_world.proofs.Moves.{Moves, goes_on, stays, giving}
 
 -- each name has the interface and version that it had
 pub record Same (g h : Global) : Type 0 where

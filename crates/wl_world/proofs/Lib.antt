@@ -1,4 +1,4 @@
-pub mod Deeds
+pub mod Flight
 pub mod Wholes
 pub mod Sets
 pub mod Channels
@@ -17,7 +17,7 @@ pub mod Calls
 pub mod Rules
 pub mod Written
 pub mod ClientSends
-pub mod Happenings
+pub mod Moves
 pub mod ClientSend
 pub mod ServerTells
 pub mod ServerSend

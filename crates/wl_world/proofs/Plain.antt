@@ -6,7 +6,7 @@ use Rattle.wl_world.specs.Meant.{Born, Known}
 use Rattle.wl_world.specs.World.{Row, Open, Ending, Each}
 use Rattle.wl_world.specs.Flight.{Rows, at, Ask, Make, Destroy, Tell, Delete, at_client, Held, Reads, done, name, end, delete, Tied, drained, use_, make, destroy, Meets}
 use Rattle.wl_world.specs.Plain.{tell_id, ask_id, In}
-use Rattle.wl_world.proofs.Deeds.{put_tells, put_same, held_at_client, held_other, held_some}
+use Rattle.wl_world.proofs.Flight.{put_tells, put_same, held_at_client, held_other, held_some}
 
 pub kept_end : (v : Rows Row) (x y : Known) → Held v y → Held (at v y.id (Some (Ending y.born))) x → Held v x
 kept_end v x y a h = elim (put_tells v.rows y.id (Some (Ending y.born)) x.id) [

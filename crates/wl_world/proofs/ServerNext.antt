@@ -26,7 +26,7 @@ use Rattle.wl_world.proofs.Ended.{ends_as, some_map, ended_has, if_by}
 use Rattle.wl_world.proofs.Wholes.{ThereRow}
 use Rattle.wl_world.specs.Flight.{server_rows}
 use Rattle.wl_world.proofs.ServerReads.{InRequest, in_request, left_state, left_is, server_read_stands}
-use Rattle.wl_world.proofs.Happenings.{Moves, goes_on, stays, reading_request}
+use Rattle.wl_world.proofs.Moves.{Moves, goes_on, stays, reading_request}
 
 -- ---- nothing in front
 

@@ -35,7 +35,7 @@ use Rattle.wl_world.specs.Pair.{PairState, with_server}
 use Rattle.wl_world.specs.Answers.{rows_of_server}
 use Rattle.wl_world.specs.Flight.{Rows, Fresh, Tied, all_asks, server_rows, as_row}
 use Rattle.wl_world.specs.Stands.{DeletesFollow, BeginsWithDelete, StandsBy, Fits, ComesFitly, InFlight, by_event, Shows}
-use Rattle.wl_world.proofs.Deeds.{reads_more}
+use Rattle.wl_world.proofs.Flight.{reads_more}
 use Rattle.wl_world.proofs.Wholes.{ThereRow, server_makes, asks_at, AsksAt, all_tells_more, each_more}
 use Rattle.wl_world.proofs.Sets.{server_made, server_ended, there_kept}
 use Rattle.wl_world.proofs.Channels.{pops, pushed}

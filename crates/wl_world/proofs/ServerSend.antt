@@ -41,7 +41,7 @@ use Rattle.wl_world.proofs.Written.{the_new, the_args, the_call, CallIs, call_is
 use Rattle.wl_world.proofs.ClientSend.{made_same}
 use Rattle.wl_world.proofs.Ended.{ended_view, ended_has, after_is, if_by, born_ends}
 use Rattle.wl_world.proofs.ServerTells.{CanTell, told_core, dropped_core, tell_stands, drop_stands}
-use Rattle.wl_world.proofs.Happenings.{Happens, Moves, Outcome, goes_on, ends_it, stays, telling, event_below, delete_below}
+use Rattle.wl_world.proofs.Moves.{LeadsTo, Moves, Outcome, goes_on, ends_it, stays, telling, event_below, delete_below}
 
 there_live : (v : View) (x : Known) → LiveAt v x → ThereRow (server_rows v) x
 there_live v x l = ap (option_map plain) l.there ∙ ap Some l.same
@@ -115,7 +115,7 @@ same_births v (Some x) = refl
 
 -- what is told of it
 tells_one : (p : PairState) (w : World) (asked : List (Message Known)) (told : List (Coming Known)) → StandsBy p w asked told → (m : Message Known) (c : CanTell p m)
-    → Happens p asked told (with_server_core p (told_core p.server.core m)) asked (told ++ (event_of m ∷ delete m.ends))
+    → LeadsTo p asked told (with_server_core p (told_core p.server.core m)) asked (told ++ (event_of m ∷ delete m.ends))
 tells_one p w asked told s m c =
     let v = p.server.core.view in
     let f = c.fitly.fits in

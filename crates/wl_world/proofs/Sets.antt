@@ -7,7 +7,7 @@ use Rattle.wl_world.specs.Meant.{Born, Known, birth_of, born_of}
 use Rattle.wl_world.specs.World.{Row, Open, Ending, put, nothing, born_into, same, ending, gone, counted, IfThere}
 use Rattle.wl_world.specs.Flight.{Rows, at, Held, Fresh}
 use Rattle.wl_world.specs.Stands.{Shows, birth_in}
-use Rattle.wl_world.proofs.Deeds.{put_tells}
+use Rattle.wl_world.proofs.Flight.{put_tells}
 use Rattle.wl_world.proofs.Wholes.{ThereRow, client_makes, client_ends, server_makes, server_ends}
 
 module _ {X : Type 0} (birth : X → ℕ) where

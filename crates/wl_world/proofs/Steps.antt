@@ -24,7 +24,7 @@ use Rattle.wl_world.proofs.Carries.{carry_to_server_keeps, carry_to_client_keeps
 use Rattle.wl_world.proofs.ClientNext.{client_next_keeps}
 use Rattle.wl_world.proofs.ServerNext.{server_next_keeps}
 use Rattle.wl_world.proofs.Records.{keeps_record}
-use Rattle.wl_world.proofs.Happenings.{Moves, forget}
+use Rattle.wl_world.proofs.Moves.{Moves, forget}
 
 pub does_moves : (p : PairState) (w : World) (asked : List (Message Known)) (told : List (Coming Known)) → StandsBy p w asked told → NotEnded p w → (move : Move) (reply : Reply) (p' : PairState) → IsMove move → Does p move reply p'
     → Moves p w asked told move reply p'

@@ -7,7 +7,7 @@ use Rattle.wl_world.specs.Meant.{Born, Known, Message, Coming}
 use Rattle.wl_world.specs.World.{Row, Open, Ending, put, Each, IfThere, delete as following}
 use Rattle.wl_world.specs.Flight.{Rows, at, made, Ask, Use, Tell, Name, Delete, makes, destroys, ends, asks, tells, all_asks, all_tells, at_client, Held, Fresh, Reads, done, name, end, delete, Tied, drained, use_, make, destroy, Meets}
 use Rattle.wl_world.proofs.Ended.{Mortal}
-use Rattle.wl_world.proofs.Deeds.{put_tells, put_over, live_after, free_after, counts_after, make_before, destroy_before, reads_more, held_at_client, end_before, use_more, make_more, destroy_more}
+use Rattle.wl_world.proofs.Flight.{put_tells, put_over, live_after, free_after, counts_after, make_before, destroy_before, reads_more, held_at_client, end_before, use_more, make_more, destroy_more}
 
 abbrev pub OpenRow : Rows Row → Known → Type 0
 OpenRow v x = v.rows x.id ≡ Some (Open x.born)
@@ -147,7 +147,7 @@ module _ {test : Born → Bool} where
   reads_last : {f g : ℕ → Option Row} {u b : ℕ} → f ≡ g → Reads test [] (record { rows = f; used = u; births = b }) (record { rows = g; used = u; births = b })
   reads_last {f} {g} {u} {b} e = subst (λ (h : ℕ → Option Row). Reads test [] (record { rows = f; used = u; births = b }) (record { rows = h; used = u; births = b })) e done
 
-  -- the last deeds of an event, and the delete that follows
+  -- the last actions of an event, and the delete that follows
   ends_meets : {es : List Tell} {qs : List Ask} {v : Rows Row} {s : Rows Born} (o : Option Known) → IfThere (λ x. test x.born ≡ true) o → IfThere Mortal o → IfThere (ThereRow s) o
       → Meets test es qs v s → Meets test (es ++ (ends o ++ all_tells (following o))) qs v (server_ends o s)
   ends_meets {es} {qs} {v} {s} None f y h g = subst (λ (l : List Tell). Meets test l qs v s) (sym (append-nil es)) g

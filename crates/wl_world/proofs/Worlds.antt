@@ -15,7 +15,7 @@ use Rattle.wl_world.specs.Pair.{PairState}
 use Rattle.wl_world.specs.Answers.{marks_of}
 use Rattle.wl_world.specs.Stands.{Stands, stands, ended, StandsBy, by_event}
 use Rattle.wl_world.specs.Plain.{In, IsHeld, DeleteComes, MakeComes, DestroyComes, IsSomewhere, Names, StandsIn, IsUnnamed, listed, news, tell_id}
-use Rattle.wl_world.proofs.Deeds.{counts_after}
+use Rattle.wl_world.proofs.Flight.{counts_after}
 use Rattle.wl_world.proofs.Wholes.{all_tells_more}
 use Rattle.wl_world.proofs.Afters.{map_some, made_map, objects_map, there_row}
 use Rattle.wl_world.proofs.Plain as plain
@@ -72,7 +72,7 @@ parted f (x ∷ xs) (b ∷ before) y after h =
     let k = parted f xs before y after (cc h) in
     record { front = x ∷ k.front; it = k.it; rest = k.rest; whole = ap (λ (l : List _). x ∷ l) k.whole; it_is = k.it_is; rest_is = k.rest_is }
 
--- ---- messages and their deeds
+-- ---- messages and their actions
 
 delete_of_tells : (k : Known) (told : List (Coming Known)) → In (Delete k) (all_tells told) → In (delete_of k) told
 delete_of_tells k [] h = absurd h
@@ -100,7 +100,7 @@ tells_in t c (d ∷ told) h i = elim h [
   | inr p ↦ in_right t (tells d) (all_tells told) (tells_in t c told p i)
 ]
 
--- the message of a deed
+-- the message of an action
 record Asking (P : Message Known → Type 0) (asked : List (Message Known)) : Type 0 where
   message : Message Known
   there : In message asked

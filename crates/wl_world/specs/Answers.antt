@@ -28,7 +28,7 @@ use Rattle.wl_server.specs.Announcing.{Owing, Due, owed_to, marked_in, opcode_of
 use Rattle.wl_recording.specs.Piece.{Piece}
 use Rattle.wl_world.specs.Meant.{Born, Message, Coming, Event, Delete, Arg, rearg, birth_of}
 use Rattle.wl_world.specs.Meant.{made_in, ended_by, tokens}
-use Rattle.wl_world.specs.World.{World, Row, Open, Ending, Marks, Deed, WriteRequest, ReadRequest}
+use Rattle.wl_world.specs.World.{World, Row, Open, Ending, Marks, Action, WriteRequest, ReadRequest}
 use Rattle.wl_world.specs.World.{WriteEvent, Drop, ReadEvent, Steps}
 use Rattle.wl_world.specs.Pair.{PairState, Move, Reply, ClientSend, ClientBind, ServerSend}
 use Rattle.wl_world.specs.Pair.{ServerDrop, PostError, AddGlobal, Withdraw, Announce, CarryToServer}
@@ -49,7 +49,7 @@ birth_at object = object.birth
 abbrev pub handed : ℕ → Given → Arg ℕ
 handed births given = reshaped (option_map birth_at) (λ _. births) (λ t. t) given
 
-abbrev pub writing : Side → Message Born → Deed
+abbrev pub writing : Side → Message Born → Action
 writing request_side m = WriteRequest m
 writing event_side m = WriteEvent m
 

@@ -1,4 +1,4 @@
--- What is in flight, taken apart to the smallest deeds, and what it leads to.
+-- What is in flight, taken apart to the smallest actions, and what it leads to.
 use Rattle.std.specs.Prelude.{◌≡◌, ◌≢◌, ◌⊎◌, ℕ, ◌+◌, ◌<◌, ◌≤◌, Bool, true, false, cond, ltb, List}
 use Rattle.std.specs.Prelude.{[], ◌∷◌, ◌++◌, map, Option, Some, None, option_map}
 use Rattle.wl_table.specs.View.{View, look, max_ids, max_births}
@@ -48,7 +48,7 @@ server_rows view = record {
   births = view.births;
 }
 
--- ---- deeds
+-- ---- actions
 
 -- what a request does, one after another
 pub data Ask : Type 0 where
@@ -91,7 +91,7 @@ abbrev pub all_tells : List (Coming Known) → List Tell
 all_tells [] = []
 all_tells (c ∷ cs) = tells c ++ all_tells cs
 
--- the object that an event's deed is about
+-- the object that an event's action is about
 abbrev pub about : Tell → Known
 about (Name x) = x
 about (End x) = x

@@ -9,7 +9,7 @@ use Rattle.wl_world.specs.Flight.{all_tells}
 use Rattle.wl_world.specs.Pair.{PairState}
 use Rattle.wl_world.specs.Stands.{Stands, StandsBy}
 
--- the id that a deed is about
+-- the id that an action is about
 abbrev pub tell_id : Tell → ℕ
 tell_id (Name x) = x.id
 tell_id (End x) = x.id

@@ -136,12 +136,12 @@ learned tables client m remembered =
 -- ---- the steps
 
 -- what happens in the world at one time
-pub data Deed : Type 0 where
-  WriteRequest : Message Born → Deed
-  ReadRequest : Message Born → Deed
-  WriteEvent : Message Born → Deed
-  Drop : Born → Deed
-  ReadEvent : Coming Born → Deed
+pub data Action : Type 0 where
+  WriteRequest : Message Born → Action
+  ReadRequest : Message Born → Action
+  WriteEvent : Message Born → Action
+  Drop : Born → Action
+  ReadEvent : Coming Born → Action
 
 abbrev pub request_written : World → Message Born → World
 request_written w m = record w {
@@ -178,7 +178,7 @@ abbrev pub delete_read : World → Born → List (Coming Born) → World
 delete_read w x rest = record w { events = rest; client = put w.client x.birth None }
 
 -- What the world allows: by births alone.
-pub data Steps (tables : List Interface) (w : World) : Deed → World → Type 0 where
+pub data Steps (tables : List Interface) (w : World) : Action → World → Type 0 where
   -- The target and the objects of a written request are open at the client, and a new object is the
   -- next birth. The request goes to the end, and one that it destroys becomes ending.
   writes_request : (m : Message Born) → IsOpen w.client m.target

@@ -14,7 +14,7 @@ pub returns-clause-comes : goal.returns-clause-comes
 returns-clause-comes g c =
     let core : Core = record { tables = c.core.inside.tables.now; view = g.T.Table.view c.core.inside.table; inbox = c.core.inside.inbox; outbox = c.core.inside.outbox; failed = c.core.inside.failed; read = c.core.inside.read } in
     let step = c.in-Ok.step in
-    let few = step_tokens core c.in-Ok-Some.field-0 c.in-Ok-Some.frame step c.in-Ok-Some.field-0-is c.in-Ok-Some.ensures.tells c.valid.ensures c.in-Ok.ensures.comes in
+    let few = step_tokens core c.in-Ok-Some.field-0 c.in-Ok-Some.frame step c.in-Ok-Some.field-0-is c.in-Ok-Some.ensures.tells c.in-Ok.ensures.valid c.in-Ok.ensures.comes in
     let all : length c.first_tokens-tokens.result ≡ 20 = omega (arith, c.first_tokens-tokens.type_inv) in
     let own : take step.tokens c.first_tokens-tokens.result ≡ take step.tokens core.inbox.tokens =
     first-tokens step.tokens c.first_tokens-tokens.result core.inbox.tokens (omega (arith, few.0, all)) few.1
@@ -22,7 +22,7 @@ returns-clause-comes g c =
     elim c.match-to_owned.branch [
       | in-Ok-to_owned w ↦ rw w.result-is
           (owned_told core c.args.core.now c.in-Ok-Some.field-0 c.in-Ok-Some.frame (record { step = step; report = w.in-Ok-to_owned.report }) (take step.tokens c.first_tokens-tokens.result) c.core.view_is c.in-Ok-Some.field-0-is c.in-Ok-Some.ensures.tells
-          c.step_of.ensures.header c.valid.ensures own c.in-Ok.ensures.comes w.in-Ok-to_owned.ensures.ok)
+          c.step_of.ensures.header c.in-Ok.ensures.valid own c.in-Ok.ensures.comes w.in-Ok-to_owned.ensures.ok)
       | in-Err-to_owned w ↦ rw w.result-is
           (memory_told g.row.T-Alloc.Denot core c.args.core.now c.in-Ok-Some.field-0 c.in-Ok-Some.frame step (take step.tokens c.first_tokens-tokens.result) c.core.view_is c.in-Ok-Some.field-0-is c.in-Ok-Some.ensures.tells
           c.step_of.ensures.header own c.in-Ok.ensures.comes w.in-Err-to_owned.ensures.err)

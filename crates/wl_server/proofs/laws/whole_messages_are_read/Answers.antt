@@ -1,6 +1,8 @@
-use Rattle.wl_end.proofs.AnyCut.{begin_with}
+use Rattle.wl_sigs.specs.declared.signature.Side.TheVariants.{Request as request_side}
+use Rattle.wl_end.proofs.AnyCut.{reads_whole}
+use Rattle.wl_server.specs.Streams.{reading}
 use Rattle.wl_server.proofs.Comings.{is_reading}
 use Rattle.wl_server.proofs.laws.whole_messages_are_read.Goals as goal
 
 pub returns : goal.returns
-returns c = λ state last reports stop h. begin_with is_reading h
+returns c = reads_whole reading request_side is_reading

@@ -68,27 +68,27 @@ abbrev pub told_pair : PairState → View → Outgoing → List Registry → Pai
 told_pair p view outbox registries = with_server p (record p.server { core = record p.server.core { view = view; outbox = outbox }; registries = registries })
 
 -- With these requests and events in flight a move led to that pair, with those in flight.
-pub data Happens (p : PairState) (asked : List (Message Known)) (told : List (Coming Known)) : PairState → List (Message Known) → List (Coming Known) → Type 0 where
-  stays : Happens p asked told p asked told
+pub data LeadsTo (p : PairState) (asked : List (Message Known)) (told : List (Coming Known)) : PairState → List (Message Known) → List (Coming Known) → Type 0 where
+  stays : LeadsTo p asked told p asked told
   -- a global was given or withdrawn
-  giving : (more : List Global) → Happens p asked told (with_server p (record p.server { globals = more })) asked told
+  giving : (more : List Global) → LeadsTo p asked told (with_server p (record p.server { globals = more })) asked told
   -- the client wrote a request
   asking : (m : Message Known) (c : CanAsk p m) → (is_bind request_side m.target.born.iface m.opcode ≡ true → BindsRemembered p.client.globals m.args)
-      → Happens p asked told (asked_pair p m) (asked ++ m ∷ []) told
+      → LeadsTo p asked told (asked_pair p m) (asked ++ m ∷ []) told
   -- the server wrote events or deletes, of births that it has counted
   telling : (view : View) (outbox : Outgoing) (registries : List Registry) (news : List (Coming Known)) → view.births ≡ p.server.core.view.births
-      → Each (IsBelow p.server.core.view.births) (all_tells news) → Happens p asked told (told_pair p view outbox registries) asked (told ++ news)
+      → Each (IsBelow p.server.core.view.births) (all_tells news) → LeadsTo p asked told (told_pair p view outbox registries) asked (told ++ news)
   -- the server read the first request, and wrote the delete of what it destroys
   reading_request : (m : Message Known) (ms : List (Message Known)) (n : ℕ) → asked ≡ m ∷ ms → in_front p.server.core.inbox ≡ Whole n
       → IfThere (λ x. x.born.birth < p.server.core.view.births) m.ends
-      → Happens p asked told (with_server p (left_state p.server m n)) ms (told ++ delete m.ends)
+      → LeadsTo p asked told (with_server p (left_state p.server m n)) ms (told ++ delete m.ends)
   -- the client read the first of what comes
   reading_event : (m : Message Known) (cs : List (Coming Known)) (n : ℕ) (entry : Entry) → told ≡ Event m ∷ cs → in_front p.client.core.inbox ≡ Whole n
-      → Happens p asked told (with_client p (after_event p.client m n (teaches m entry))) asked cs
+      → LeadsTo p asked told (with_client p (after_event p.client m n (teaches m entry))) asked cs
   reading_delete : (x : Known) (cs : List (Coming Known)) (n : ℕ) → told ≡ Delete x ∷ cs → in_front p.client.core.inbox ≡ Whole n
-      → Happens p asked told (with_client p (after_delete p.client x n)) asked cs
-  carrying_to_server : (most : ℕ) → Happens p asked told (after_carry_to_server p (carries p.client.core p.server.core most)) asked told
-  carrying_to_client : (most : ℕ) → Happens p asked told (after_carry_to_client p (carries p.server.core p.client.core most)) asked told
+      → LeadsTo p asked told (with_client p (after_delete p.client x n)) asked cs
+  carrying_to_server : (most : ℕ) → LeadsTo p asked told (after_carry_to_server p (carries p.client.core p.server.core most)) asked told
+  carrying_to_client : (most : ℕ) → LeadsTo p asked told (after_carry_to_client p (carries p.server.core p.client.core most)) asked told
 
 -- the pair as the first error leaves its recording: marked at its end
 pub record IsMarked (p p' : PairState) : Type 0 where
@@ -99,7 +99,7 @@ pub record IsMarked (p p' : PairState) : Type 0 where
 
 -- the pair stands again with what is in flight now, or an error has ended the world
 pub data Outcome (p : PairState) (asked : List (Message Known)) (told : List (Coming Known)) (p' : PairState) (w' : World) : Type 0 where
-  goes_on : (asked' : List (Message Known)) (told' : List (Coming Known)) → NotEnded p' w' → StandsBy p' w' asked' told' → Happens p asked told p' asked' told'
+  goes_on : (asked' : List (Message Known)) (told' : List (Coming Known)) → NotEnded p' w' → StandsBy p' w' asked' told' → LeadsTo p asked told p' asked' told'
       → Outcome p asked told p' w'
   ends_it : w'.ended ≡ true → IsMarked p p' → Outcome p asked told p' w'
 

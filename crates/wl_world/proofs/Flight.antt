@@ -1,4 +1,4 @@
--- What one deed at an end's edge does to what is in flight.
+-- What is in flight while an end writes or reads one thing more.
 use Rattle.std.proofs.Common.{◌≡◌, ℕ, ◌+◌, Bool, true, false, List, [], ◌∷◌, ◌++◌, ◌⊎◌, inl, inr, refl, sym, ◌∙◌, ap, subst, arith, ◌≢◌}
 use Rattle.std.proofs.lemmas.Bool.Decides.{nat_tests}
 use Rattle.std.specs.declared.option.Option.{Option}
@@ -131,7 +131,7 @@ module _ {test : Born → Bool} where
       destroy z (grind (arith, put_tells)) b (grind (arith, put_tells))
       (tied_client (put_swap _ _ _ _ _ ne) (tied_server (put_swap _ _ _ _ _ ne) (end_before i e t (grind (arith, put_tells)) f)))
 
-  -- the client writes one more deed
+  -- the client writes one more action
   pub use_more : {qs : List Ask} {s : Rows Born} {m : Rows Row} (n : Known) → Tied test qs s m → m.rows n.id ≡ Some (Open n.born) → test n.born ≡ false
       → Tied test (qs ++ Use n ∷ []) s m
   use_more n (drained rows u b) h f = use_ (open_at_server _ _ (sym (rows n.id) ∙ h)) f (drained rows u b)
