@@ -1,13 +1,12 @@
 -- Any cut: the messages of s ++ t are those of s, and then those from where the cutting of s stops.
-use Rattle.std.proofs.Common.{◌≡◌, ℕ, zero, suc, ◌+◌, ◌<◌, ◌≤◌, Bool, true, false, cond, List, [], ◌∷◌, ◌++◌, length, drop, map, refl, sym, ap, ◌∙◌, arith, ltb, ◌-◌, take, length-append, append-nil, append_assoc, subst}
+use Rattle.std.proofs.Common.{◌≡◌, ℕ, zero, suc, ◌+◌, ◌<◌, ◌≤◌, Bool, true, false, cond, Some, None, List, [], ◌∷◌, ◌++◌, length, drop, refl, sym, ap, ◌∙◌, arith, ltb, length-append, subst}
 use Rattle.std.proofs.lemmas.Bool.{lt-ltb, le-ltb}
-use Rattle.std.proofs.lemmas.List.{length-drop, drop_all, drop-append-le, take_all}
-use Rattle.wl_recording.specs.declared.piece.Direction.{Direction}
+use Rattle.std.proofs.lemmas.List.{length-drop, drop_all, drop-append-le}
 use Rattle.wl_message.specs.Cut.{is_size, told_size, front, Front, More, Bad, Whole}
 use Rattle.wl_message.proofs.Fronts.{front_stands}
 use Rattle.wl_message.proofs.Cuts.{front_none, whole_stays, bad_stays}
-use Rattle.wl_check.specs.declared.frames.Frame.{Frame}
-use Rattle.wl_check.specs.Merged.{Mark, mark, Cutting, cutting, stopped, bad_at, then_cut, cut_at, cut, framed}
+use Rattle.wl_check.specs.Seen.{size_of}
+use Rattle.wl_check.specs.Merged.{Mark, mark, Cutting, cutting, then_cut, cut_at, cut}
 
 -- ---- what stands in front, by the code's tests
 
@@ -16,24 +15,17 @@ front_tests : (limit : ℕ) (bytes : List ℕ) (a b c : Bool) → ltb (length by
 unfolding front
 front_tests limit bytes a b c p q r = rw (p, q, r) refl
 
-pub front_short : (limit : ℕ) (bytes : List ℕ) → length bytes < 8 → More ≡ front limit bytes
-front_short limit bytes h = sym (front_tests limit bytes true _ _ (lt-ltb (length bytes) 8 h) refl refl)
+pub front_short : (limit : ℕ) (bytes : List ℕ) → length bytes < 8 → None ≡ size_of (front limit bytes)
+front_short limit bytes h = ap size_of (sym (front_tests limit bytes true _ _ (lt-ltb (length bytes) 8 h) refl refl))
 
-pub front_bad : (limit : ℕ) (bytes : List ℕ) (z : ℕ) → z ≡ told_size bytes → 8 ≤ length bytes → is_size limit z ≡ false → Bad z ≡ front limit bytes
-front_bad limit bytes z e h bad = rw e (sym (front_tests limit bytes false false _ (le-ltb (length bytes) 8 h) (subst (λ (n : ℕ). is_size limit n ≡ false) e bad) refl))
+pub front_bad : (limit : ℕ) (bytes : List ℕ) (z : ℕ) → z ≡ told_size bytes → 8 ≤ length bytes → is_size limit z ≡ false → Some z ≡ size_of (front limit bytes)
+front_bad limit bytes z e h bad = rw e (ap size_of (sym (front_tests limit bytes false false _ (le-ltb (length bytes) 8 h) (subst (λ (n : ℕ). is_size limit n ≡ false) e bad) refl)))
 
-pub front_long : (limit : ℕ) (bytes : List ℕ) (z : ℕ) → z ≡ told_size bytes → 8 ≤ length bytes → is_size limit z ≡ true → length bytes < z → More ≡ front limit bytes
-front_long limit bytes z e h good long = sym (front_tests limit bytes false true true (le-ltb (length bytes) 8 h) (subst (λ (n : ℕ). is_size limit n ≡ true) e good) (lt-ltb (length bytes) (told_size bytes) (omega (arith, e, long))))
+pub front_long : (limit : ℕ) (bytes : List ℕ) (z : ℕ) → z ≡ told_size bytes → 8 ≤ length bytes → is_size limit z ≡ true → length bytes < z → None ≡ size_of (front limit bytes)
+front_long limit bytes z e h good long = ap size_of (sym (front_tests limit bytes false true true (le-ltb (length bytes) 8 h) (subst (λ (n : ℕ). is_size limit n ≡ true) e good) (lt-ltb (length bytes) (told_size bytes) (omega (arith, e, long)))))
 
-pub front_good : (limit : ℕ) (bytes : List ℕ) (z : ℕ) → z ≡ told_size bytes → 8 ≤ length bytes → is_size limit z ≡ true → z ≤ length bytes → Whole z ≡ front limit bytes
-front_good limit bytes z e h good there = rw e (sym (front_tests limit bytes false true false (le-ltb (length bytes) 8 h) (subst (λ (n : ℕ). is_size limit n ≡ true) e good) (le-ltb (length bytes) (told_size bytes) (omega (arith, e, there)))))
-
--- the rest of a stream, as the code lends it
-pub rest_is : (s : List ℕ) (p : ℕ) → p ≤ length s → take (length s - p) (drop p s) ≡ drop p s
-rest_is s p within = take_all (length s - p) (drop p s) (omega (arith, length-drop p s))
-
-pub front_rest : (limit : ℕ) (s : List ℕ) (p : ℕ) (f : Front) → p ≤ length s → f ≡ front limit (take (length s - p) (drop p s)) → f ≡ front limit (drop p s)
-front_rest limit s p f within e = e ∙ ap (front limit) (rest_is s p within)
+pub front_good : (limit : ℕ) (bytes : List ℕ) (z : ℕ) → z ≡ told_size bytes → 8 ≤ length bytes → is_size limit z ≡ true → z ≤ length bytes → Some z ≡ size_of (front limit bytes)
+front_good limit bytes z e h good there = rw e (ap size_of (sym (front_tests limit bytes false true false (le-ltb (length bytes) 8 h) (subst (λ (n : ℕ). is_size limit n ≡ true) e good) (le-ltb (length bytes) (told_size bytes) (omega (arith, e, there))))))
 
 -- ---- one step of the cutting
 
@@ -119,38 +111,6 @@ new_step a f false is = rw is (drop_front a.marks (f a.place).marks)
 pub new_marks : (limit : ℕ) (s t : List ℕ) → drop (length (cut limit s).marks) (cut limit (s ++ t)).marks ≡ cond (cut limit s).is_bad [] (cutting limit (length (s ++ t)) (s ++ t) (cut limit s).place).marks
 new_marks limit s t = rw (more limit (length s) (length (s ++ t)) s t 0 (omega arith) (omega arith) (omega arith)) (new_step (cutting limit (length s) s 0) (cutting limit (length (s ++ t)) (s ++ t)) (cutting limit (length s) s 0).is_bad refl)
 
--- ---- the loop that cuts: what it has done, and what is left, is all that it does
-pub record Left (frames : List Frame) (c : Cutting) (d : Direction) (k : ℕ) (all : List Frame) (to : Cutting) : Type 0 where
-  pub frames_are : frames ++ map (framed d k) c.marks ≡ all
-  pub place : c.place ≡ to.place
-  pub bad : c.is_bad ≡ to.is_bad
-
-pub record Ended (frames : List Frame) (place : ℕ) (b : Bool) (all : List Frame) (to : Cutting) : Type 0 where
-  pub frames_are : frames ≡ all
-  pub place_is : place ≡ to.place
-  pub bad : b ≡ to.is_bad
-
-pub ended_more : (limit : ℕ) (fs all : List Frame) (w : List ℕ) (to : Cutting) (d : Direction) (k p : ℕ) → p ≤ length w → More ≡ front limit (drop p w) → Left fs (cutting limit (length w) w p) d k all to → Ended fs p false all to
-ended_more limit fs all w to d k p within e l =
-    let is : cutting limit (length w) w p ≡ stopped p = step limit (length w) w p within (omega arith) ∙ rw (← e) refl in
-    let m : Left fs (stopped p) d k all to = subst (λ (x : Cutting). Left fs x d k all to) is l in
-    record { frames_are = sym (append-nil fs) ∙ m.frames_are; place_is = m.place; bad = m.bad }
-
-pub ended_bad : (limit : ℕ) (fs all : List Frame) (w : List ℕ) (to : Cutting) (d : Direction) (k p z : ℕ) → p ≤ length w → Bad z ≡ front limit (drop p w) → Left fs (cutting limit (length w) w p) d k all to
-    → Ended (fs ++ framed d k (mark p z) ∷ []) p true all to
-ended_bad limit fs all w to d k p z within e l =
-    let is : cutting limit (length w) w p ≡ bad_at p z = step limit (length w) w p within (omega arith) ∙ rw (← e) refl in
-    let m : Left fs (bad_at p z) d k all to = subst (λ (x : Cutting). Left fs x d k all to) is l in
-    record { frames_are = m.frames_are; place_is = m.place; bad = m.bad }
-
-pub left_good : (limit : ℕ) (fs all : List Frame) (w : List ℕ) (to : Cutting) (d : Direction) (k p z : ℕ) → p ≤ length w → Whole z ≡ front limit (drop p w) → Left fs (cutting limit (length w) w p) d k all to
-    → Left (fs ++ framed d k (mark p z) ∷ []) (cutting limit (length w) w (p + z)) d k all to
-left_good limit fs all w to d k p z within e l =
-    let next = cutting limit (length w) w (p + z) in
-    let is : cutting limit (length w) w p ≡ then_cut (mark p z) next = step limit (length w) w p within (omega arith) ∙ rw (← e) refl in
-    let m : Left fs (then_cut (mark p z) next) d k all to = subst (λ (x : Cutting). Left fs x d k all to) is l in
-    record { frames_are = append_assoc fs (framed d k (mark p z) ∷ []) (map (framed d k) next.marks) ∙ m.frames_are; place = m.place; bad = m.bad }
-
 -- ---- a stream after more bytes
 pub fed_bad : (limit : ℕ) (s t : List ℕ) → (cut limit s).is_bad ≡ true → cut limit (s ++ t) ≡ cut limit s
 fed_bad limit s t bad = more limit (length s) (length (s ++ t)) s t 0 (omega arith) (omega arith) (omega arith) ∙ rw bad refl
@@ -158,15 +118,3 @@ fed_bad limit s t bad = more limit (length s) (length (s ++ t)) s t 0 (omega ari
 pub fed_good : (limit : ℕ) (s t : List ℕ) → (cut limit s).is_bad ≡ false
     → cut limit (s ++ t) ≡ (let x = cutting limit (length (s ++ t)) (s ++ t) (cut limit s).place in record { marks = (cut limit s).marks ++ x.marks; place = x.place; is_bad = x.is_bad })
 fed_good limit s t fine = more limit (length s) (length (s ++ t)) s t 0 (omega arith) (omega arith) (omega arith) ∙ rw fine refl
-
--- the cutting of s, and then of what came, is that of both
-pub went_on : (limit : ℕ) (s t v w : List ℕ) (from place : ℕ) (b : Bool) → v ≡ w → w ≡ s ++ t → from ≡ (cut limit s).place → (cut limit s).is_bad ≡ false
-    → place ≡ (cutting limit (length v) v from).place → b ≡ (cutting limit (length v) v from).is_bad → (place ≡ (cut limit w).place) × (b ≡ (cut limit w).is_bad)
-went_on limit s t v w from place b v_is w_is from_is fine place_is b_is =
-    let e = fed_good limit s t fine in
-    let v_all : v ≡ s ++ t = v_is ∙ w_is in
-    (place_is ∙ rw (v_all, w_is, from_is, e) refl, b_is ∙ rw (v_all, w_is, from_is, e) refl)
-
-pub went_frames : (limit : ℕ) (s t v : List ℕ) (from : ℕ) (d : Direction) (k : ℕ) (old new : List Frame) → v ≡ s ++ t → from ≡ (cut limit s).place → (cut limit s).is_bad ≡ false
-    → new ≡ old ++ map (framed d k) (cutting limit (length v) v from).marks → new ≡ old ++ map (framed d k) (drop (length (cut limit s).marks) (cut limit (s ++ t)).marks)
-went_frames limit s t v from d k old new v_is from_is fine is = is ∙ rw (v_is, from_is, new_marks limit s t, fine) refl

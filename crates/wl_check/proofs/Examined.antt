@@ -1,5 +1,5 @@
 -- What is examined, what is counted, and the verdict.
-use Rattle.std.proofs.Common.{◌≡◌, ℕ, zero, suc, ◌+◌, ◌*◌, ◌^◌, ◌-◌, ◌<◌, ◌≤◌, Bool, true, false, cond, Some, None, List, [], ◌∷◌, slice_get, get_or, length, take, refl, sym, ap, ◌∙◌, arith, subst, inl, inr, nat_lt, nat_eq, ◌↔◌, add-one, IfOk}
+use Rattle.std.proofs.Common.{◌≡◌, ℕ, zero, suc, ◌+◌, ◌^◌, ◌-◌, ◌<◌, ◌≤◌, Bool, true, false, cond, Some, None, List, [], ◌∷◌, slice_get, get_or, length, take, drop, refl, sym, ap, ◌∙◌, arith, subst, inl, inr, nat_lt, nat_eq, ◌↔◌, add-one, IfOk}
 use Rattle.std.specs.Prelude.{Option}
 use Rattle.std.specs.declared.result.Result.{Result}
 use Rattle.std.specs.declared.result.Result.TheVariants.{Ok, Err}
@@ -7,6 +7,7 @@ use Rattle.std.proofs.lemmas.Bool.{cases_lt, cases_order, lt-ltb, le-ltb}
 use Rattle.std.proofs.lemmas.Option.{slice_get_past, slice_get-get_or, slice_get_within}
 use Rattle.std.proofs.lemmas.List.Sums.{sum_by_more}
 use Rattle.std.proofs.Math.Path.{fun_ext}
+use Rattle.std.proofs.lemmas.List.{drop-drop}
 use Rattle.std.proofs.lemmas.Bool.Decides.{nat_tests}
 use Rattle.wl_sigs.specs.Tables.{Interface}
 use Rattle.wl_sigs.specs.Fixed.{display}
@@ -24,23 +25,18 @@ use Rattle.wl_check.specs.declared.verdict.Verdict.TheVariants.{Lawful, Broken}
 use Rattle.wl_check.specs.Merged.{same_direction}
 use Rattle.wl_check.specs.Effects.{Call, effect, beginning}
 use Rattle.wl_check.specs.Places.{holder, is_ending, used, advertised_version, taken, taken_after, deletes, unless_deleted, object_after, Known, known, IsNext, IsFirst}
-use Rattle.wl_check.specs.Rules.{judged}
+use Rattle.wl_check.specs.Rules.{judged, judged_as, judged_front}
+use Rattle.wl_message.specs.Cut.{is_size}
+use Rattle.wl_wire.specs.Word.{header_at}
+use Rattle.wl_objects.specs.declared.error.Fault.TheVariants.{BadSize}
 use Rattle.wl_check.specs.Session.{Session, Judged, effects, messages, ends_session, examined, fault_of, breaks, IsLawful, count_in, end_after, Answers, SaysLawful}
 use Rattle.wl_check.specs.Seen.{known_in, tally_after, tally_in, no_tally}
+use Rattle.wl_check.specs.Course.{Passed, ArePassed, IsTallied, IsAt}
 use Rattle.wl_check.specs.Text.{IsExamined}
 use Rattle.wl_check.proofs.Stepping.{known_next, named_next}
 use Rattle.wl_check.proofs.Reading.{reading, length_messages}
 
 -- ---- what is examined
-
--- a message that was read, and the session goes on
-pub record Passed (ms : List Judged) (j : ℕ) : Type 0 where
-  pub call : Call
-  pub is : slice_get ms j ≡ Some (Ok call)
-  pub goes_on : ends_session (Ok call) ≡ false
-
-abbrev pub ArePassed : List Judged → ℕ → Type 0
-ArePassed ms k = (j : ℕ) → j < k → Passed ms j
 
 pub behind : (x : Judged) (xs : List Judged) (k : ℕ) → ArePassed (x ∷ xs) (suc k) → ArePassed xs k
 behind x xs k a j h = let p = a (suc j) (omega arith) in record { call = p.call; is = p.is; goes_on = p.goes_on }
@@ -115,13 +111,6 @@ end_more d p [] k f e = absurd (cc)
 end_more d p (x ∷ xs) zero f e = let is : x ≡ f = cc in ap (λ (y : Frame). cond (same_direction y.direction d) (y.start + y.size) p) is
 end_more d p (x ∷ xs) (suc k) f e = end_more d (cond (same_direction x.direction d) (x.start + x.size) p) xs k f e
 
--- what was counted of a direction before a message
-pub record IsTallied (s : Session) (k : ℕ) (d : Direction) (t : Tally) : Type 0 where
-  pub count_is : t.count ≡ count_in d (take k s.frames)
-  pub end_is : t.end ≡ end_after d 0 (take k s.frames)
-  pub few : t.count ≤ k
-  pub within : t.end ≤ length (s.streams d)
-
 tallied_step : (s : Session) (k : ℕ) (d : Direction) (t : Tally) (f : Frame) (b : Bool) → slice_get s.frames k ≡ Some f → same_direction f.direction d ≡ b → (b ≡ true → f.start + f.size ≤ length (s.streams d)) → IsTallied s k d t
     → IsTallied s (k + 1) d (cond b (record { count = t.count + 1; end = f.start + f.size }) t)
 tallied_step s k d t f true e same h i = record {
@@ -148,13 +137,6 @@ tallied_next s k d t u f e h is i =
     rw is (tallied_step s k d t f (same_direction f.direction d) e refl (λ same. subst (λ (x : Direction). f.start + f.size ≤ length (s.streams x)) (same_is f.direction d same) h) i)
 
 -- ---- a place of the session
-
-pub record IsAt {A : Type 0} (tables : List Interface) (s : Session) (k : ℕ) (p : Progress A) : Type 0 where
-  pub known_is : known_in p.known ≡ known (effects tables (messages tables s)) (suc k)
-  pub to_server : IsTallied s k ToServer p.to_server
-  pub to_client : IsTallied s k ToClient p.to_client
-  pub taken_to_server : p.known.taken_to_server ≤ k * 2 ^ 64
-  pub taken_to_client : p.known.taken_to_client ≤ k * 2 ^ 64
 
 -- the message is judged by what is known
 pub message_is : {A : Type 0} (tables : List Interface) (s : Session) (k : ℕ) (f : Frame) (p : Progress A) → slice_get s.frames k ≡ Some f → IsAt tables s k p
@@ -218,14 +200,17 @@ passed_next ms k call a e on j h = elim (cases_order j k) [
   | inr o ↦ elim o [ inl less ↦ a j less | inr more ↦ absurd (omega arith) ]
 ]
 
--- what the code finds at a place
-pub found_is : {A : Type 0} (tables : List Interface) (s : Session) (k : ℕ) (f : Frame) (p : Progress A) (stream : List ℕ) (x : Judged) → slice_get s.frames k ≡ Some f → IsAt tables s k p
-    → stream ≡ s.streams f.direction → x ≡ judged s.limit tables (known_in p.known) stream f → slice_get (messages tables s) k ≡ Some x
-found_is tables s k f p stream x e at stream_is is =
-    message_is tables s k f p e at ∙ ap (λ (y : Judged). Some y) (sym (is ∙ ap (λ (b : List ℕ). judged s.limit tables (known_in p.known) b f) stream_is))
+-- the bytes from a message on are enough
+from_front : (limit : ℕ) (tables : List Interface) (k : Known) (stream rest : List ℕ) (f : Frame) → drop f.start stream ≡ rest → judged_front limit tables k rest f ≡ judged limit tables k stream f
+from_front limit tables k stream rest f e =
+    ap (λ (b : List ℕ). judged_front limit tables k b f) (sym e)
+    ∙ ap (λ (b : List ℕ). cond (is_size limit f.size) (judged_as tables k f (header_at (drop f.start stream)) (take (f.size - 8) b)) (Err BadSize)) (drop-drop 8 f.start stream)
 
-pub frame_is : (frames items : List Frame) (k : ℕ) (d : Frame) → items ≡ frames → k < length items → slice_get frames k ≡ Some (get_or items k d)
-frame_is frames items k d is h = ap (λ (l : List Frame). slice_get l k) (sym is) ∙ slice_get-get_or items k d h
+-- what the code finds at a place
+pub found_is : {A : Type 0} (tables : List Interface) (s : Session) (k : ℕ) (f : Frame) (p : Progress A) (rest : List ℕ) (x : Judged) → slice_get s.frames k ≡ Some f → IsAt tables s k p
+    → drop f.start (s.streams f.direction) ≡ rest → x ≡ judged_front s.limit tables (known_in p.known) rest f → slice_get (messages tables s) k ≡ Some x
+found_is tables s k f p rest x e at rest_is is =
+    message_is tables s k f p e at ∙ ap (λ (y : Judged). Some y) (sym (is ∙ from_front s.limit tables (known_in p.known) (s.streams f.direction) rest f rest_is))
 
 pub ends_is : (tables : List Interface) (call : Call) (d : Effect) (b : Bool) → d ≡ effect tables call → d.is_error ≡ b → ends_session (Ok call) ≡ b
 ends_is tables call d b is e = sym (ap (λ (x : Effect). x.is_error) is) ∙ e

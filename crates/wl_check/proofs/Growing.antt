@@ -1,5 +1,5 @@
 -- A recording that goes on: what was judged before stays, and what is known behind one message more.
-use Rattle.std.proofs.Common.{◌≡◌, ℕ, zero, suc, ◌+◌, ◌-◌, ◌*◌, ◌%◌, ◌/◌, ◌<◌, ◌≤◌, Bool, true, false, cond, None, Some, List, [], ◌∷◌, ◌++◌, slice_get, length, take, drop, refl, sym, ap, ◌∙◌, arith, append-nil, append_assoc, length-append}
+use Rattle.std.proofs.Common.{◌≡◌, ℕ, zero, suc, ◌+◌, ◌-◌, ◌*◌, ◌%◌, ◌/◌, ◌≤◌, Bool, true, false, cond, None, Some, List, [], ◌∷◌, ◌++◌, slice_get, length, take, drop, refl, sym, ap, ◌∙◌, arith, append-nil, append_assoc, length-append}
 use Rattle.std.proofs.Math.Seq.{take-append_seam}
 use Rattle.std.proofs.lemmas.List.{length-drop, get_or_append_left, drop-append-le, take-append-le}
 use Rattle.std.specs.Prelude.{Option, max, nat_eq}
@@ -21,7 +21,7 @@ use Rattle.wl_check.specs.Places.{Known, known, named, object_after, used, used_
 use Rattle.wl_check.specs.Rules.{judged, judged_as}
 use Rattle.wl_check.specs.Session.{Judged, effect_of, effects, judged_after, messages, session_of, IsWithin}
 use Rattle.wl_check.proofs.Stepping.{named_next}
-use Rattle.wl_check.proofs.Reading.{front_known}
+use Rattle.wl_check.proofs.Reading.{front_known, get_front}
 use Rattle.wl_check.proofs.Merging.{own, own_tokens}
 use Rattle.wl_check.proofs.Within.{LiesIn, merged_lies}
 
@@ -47,7 +47,7 @@ body_more : (p n : ℕ) (xs ys : List ℕ) → p + n ≤ length xs → take n (d
 body_more p n xs ys h =
     ap (take n) (drop-append-le p xs ys (omega arith)) ∙ take-append-le n (drop p xs) ys (omega (arith, length-drop p xs))
 
-size_least : (limit n : ℕ) → is_size limit n ≡ true → 8 ≤ n
+pub size_least : (limit n : ℕ) → is_size limit n ≡ true → 8 ≤ n
 size_least limit n e = grind (arith, nat_tests)
 
 judged_if : (limit : ℕ) (tables : List Interface) (k : Known) (xs ys : List ℕ) (f : Frame) (b : Bool) → is_size limit f.size ≡ b → IsWithin limit (length xs) f
@@ -77,11 +77,6 @@ after_more limit tables old new e (f ∷ fs) gs a =
     ∙ after_more limit tables old new (e ++ judged limit tables k (old f.direction) f ∷ []) fs gs a.1
 
 -- ---- one piece more
-
-get_front : {A : Type 0} (xs ys : List A) (i : ℕ) → i < length xs → slice_get (xs ++ ys) i ≡ slice_get xs i
-get_front [] ys i below = absurd (omega arith)
-get_front (x ∷ xs) ys zero below = refl
-get_front (x ∷ xs) ys (suc i) below = get_front xs ys i (omega arith)
 
 get_seam : {A : Type 0} (xs : List A) (y : A) → slice_get (xs ++ y ∷ []) (length xs) ≡ Some y
 get_seam [] y = refl

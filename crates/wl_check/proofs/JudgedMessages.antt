@@ -22,8 +22,7 @@ use Rattle.wl_check.specs.Effects.{Call, side_of}
 use Rattle.wl_check.specs.Places.{Known}
 use Rattle.wl_message.specs.Cut.{is_size}
 use Rattle.wl_wire.specs.Word.{header_at}
-use Rattle.wl_check.specs.Rules.{reader, is_bad_bind, called, judged_as, judged}
-use Rattle.wl_check.proofs.Cutting.{rest_is}
+use Rattle.wl_check.specs.Rules.{reader, is_bad_bind, called, judged_as, judged_front}
 
 few_step : (b : Bool) (n m : ℕ) → n ≤ m → cond b 1 0 + n ≤ m + 1
 few_step true n m h = omega arith
@@ -76,15 +75,9 @@ pub from_side : (tables : List Interface) (k : Known) (d : Direction) (header : 
 from_side tables k d header body n side x is h = h ∙ ap (λ (s : Side). received tables s (reader k d) header body n) is
 
 -- the parts of a message, as the code lends them
-pub parts_are : (limit : ℕ) (tables : List Interface) (k : Known) (stream : List ℕ) (frame : Frame) (header : Header) (body : List ℕ) (x : Result Call Fault) → is_size limit frame.size ≡ true
-    → frame.start + 8 ≤ length stream → header ≡ header_at (take (length stream - frame.start) (drop frame.start stream))
-    → body ≡ take (frame.start + frame.size - (frame.start + 8)) (drop (frame.start + 8) stream)
-    → x ≡ judged_as tables k frame header body → x ≡ judged limit tables k stream frame
-parts_are limit tables k stream frame header body x good within header_is body_is x_is =
-    let h : header ≡ header_at (drop frame.start stream) = header_is ∙ ap header_at (rest_is stream frame.start (omega arith)) in
-    let n : frame.start + frame.size - (frame.start + 8) ≡ frame.size - 8 = omega arith in
-    let b : body ≡ take (frame.size - 8) (drop (frame.start + 8) stream) = body_is ∙ ap (λ (m : ℕ). take m (drop (frame.start + 8) stream)) n in
-    x_is ∙ (λ i. judged_as tables k frame (h i) (b i)) ∙ rw good refl
+pub parts_are : (limit : ℕ) (tables : List Interface) (k : Known) (bytes : List ℕ) (frame : Frame) (header : Header) (body : List ℕ) (x : Result Call Fault) → is_size limit frame.size ≡ true
+    → header ≡ header_at bytes → body ≡ take (frame.size - 8) (drop 8 bytes) → x ≡ judged_as tables k frame header body → x ≡ judged_front limit tables k bytes frame
+parts_are limit tables k bytes frame header body x good h b x_is = x_is ∙ (λ i. judged_as tables k frame (h i) (b i)) ∙ rw good refl
 
-pub size_bad : (limit : ℕ) (tables : List Interface) (k : Known) (stream : List ℕ) (frame : Frame) → is_size limit frame.size ≡ false → Err BadSize ≡ judged limit tables k stream frame
-size_bad limit tables k stream frame bad = rw bad refl
+pub size_bad : (limit : ℕ) (tables : List Interface) (k : Known) (bytes : List ℕ) (frame : Frame) → is_size limit frame.size ≡ false → Err BadSize ≡ judged_front limit tables k bytes frame
+size_bad limit tables k bytes frame bad = rw bad refl

@@ -13,3 +13,6 @@ pub mod Once
 pub mod Ordering
 pub mod Growing
 pub mod Passing
+pub mod Coursing
+pub mod Piecing
+pub mod Telling

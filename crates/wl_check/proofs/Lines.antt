@@ -7,14 +7,15 @@ use Rattle.wl_objects.specs.declared.error.Fault.{Fault}
 use Rattle.wl_recording.specs.declared.piece.Direction.{Direction}
 use Rattle.wl_recording.specs.declared.piece.Direction.TheVariants.{ToServer, ToClient}
 use Rattle.wl_check.specs.declared.progress.Progress.{Progress}
-use Rattle.wl_check.specs.declared.scanning.Output.{Output}
-use Rattle.wl_check.specs.declared.scanning.Output.TheVariants.{Nothing, Lines}
+use Rattle.wl_check.specs.declared.course.Output.{Output}
+use Rattle.wl_check.specs.declared.course.Output.TheVariants.{Nothing, Lines}
 use Rattle.wl_check.specs.Effects.{Call}
 use Rattle.wl_check.specs.Places.{Known, known}
 use Rattle.wl_check.specs.Session.{Session, Judged, messages, effects, ends_session}
 use Rattle.wl_check.specs.Trace.{call_line, judged_line, lines_within, lasting, trace_of, wanted}
 use Rattle.wl_check.specs.Seen.{known_in, taken_in}
-use Rattle.wl_check.proofs.Examined.{ArePassed, IsAt, behind, first_call}
+use Rattle.wl_check.specs.Course.{ArePassed, IsAt}
+use Rattle.wl_check.proofs.Examined.{behind, first_call}
 use Rattle.wl_check.proofs.Reading.{length_messages}
 
 -- ---- how many messages last

@@ -1,14 +1,14 @@
 -- What one carry adds to a recording: no piece, one, or two, of which the first has no bytes.
-use Rattle.std.proofs.Common.{◌≡◌, ℕ, ◌+◌, ◌-◌, ◌<◌, ◌≤◌, Bool, true, false, cond, List, [], ◌∷◌, ◌++◌, length, drop, map, refl, sym, ap, subst, ◌∙◌, arith, append-nil, append_assoc, ltb, ◌&&◌, ◌==◌}
+use Rattle.std.proofs.Common.{◌≡◌, ℕ, ◌+◌, ◌-◌, ◌<◌, Bool, true, false, cond, List, [], ◌∷◌, ◌++◌, length, drop, map, refl, sym, ap, subst, ◌∙◌, arith, append-nil, append_assoc, ltb, ◌&&◌, ◌==◌}
 use Rattle.std.proofs.lemmas.Bool.Decides.{nat_tests}
 use Rattle.wl_sigs.specs.Tables.{Interface}
 use Rattle.wl_recording.specs.declared.piece.Direction.{Direction}
 use Rattle.wl_recording.specs.Piece.{Piece, passed}
 use Rattle.wl_check.specs.declared.frames.Frame.{Frame}
-use Rattle.wl_check.specs.Merged.{Mark, cut, same_direction, stream_of, tokens_of, framed, completed}
+use Rattle.wl_check.specs.Merged.{cut, same_direction, stream_of, tokens_of, framed}
 use Rattle.wl_check.specs.Session.{Judged, judged_after, messages, session_of}
 use Rattle.wl_check.proofs.Cutting.{drop_whole}
-use Rattle.wl_check.proofs.Merging.{own, own_tokens, same_is}
+use Rattle.wl_check.proofs.Merging.{same_is}
 use Rattle.wl_check.proofs.Growing.{stream_last, tokens_last, messages_more}
 
 abbrev pub piece_of : Direction → List ℕ → ℕ → Piece

@@ -52,7 +52,7 @@ unfolding taken
 taken_same s t zero d a = refl
 taken_same s t (suc p) d a = rw (a p (omega arith), taken_same s t p d (less s t p a)) refl
 
-known_same : (s t : ℕ → Effect) (p : ℕ) → Agree s t p → known s p ≡ known t p
+pub known_same : (s t : ℕ → Effect) (p : ℕ) → Agree s t p → known s p ≡ known t p
 known_same s t p a =
     let o = fun_ext (λ i. named_same s t p i a) in
     let u = used_same s t p a in
@@ -62,7 +62,7 @@ known_same s t p a =
 
 -- ---- the messages of a front are those of the whole
 
-get_front : {A : Type 0} (xs ys : List A) (i : ℕ) → i < length xs → slice_get (xs ++ ys) i ≡ slice_get xs i
+pub get_front : {A : Type 0} (xs ys : List A) (i : ℕ) → i < length xs → slice_get (xs ++ ys) i ≡ slice_get xs i
 get_front [] ys i below = absurd (omega arith)
 get_front (x ∷ xs) ys zero below = refl
 get_front (x ∷ xs) ys (suc i) below = get_front xs ys i (omega arith)
@@ -82,7 +82,7 @@ front_known tables e ys = known_same (effects tables e) (effects tables (e ++ ys
 abbrev next_of : (limit : ℕ) → List Interface → (Direction → List ℕ) → List Judged → Frame → Judged
 next_of limit tables streams e f = judged limit tables (known (effects tables e) (suc (length e))) (streams f.direction) f
 
-after_front : (limit : ℕ) (tables : List Interface) (streams : Direction → List ℕ) (e : List Judged) (fs : List Frame) → (ys : List Judged) × (judged_after limit tables streams e fs ≡ e ++ ys)
+pub after_front : (limit : ℕ) (tables : List Interface) (streams : Direction → List ℕ) (e : List Judged) (fs : List Frame) → (ys : List Judged) × (judged_after limit tables streams e fs ≡ e ++ ys)
 unfolding judged_after
 after_front limit tables streams e [] = ([], sym (append-nil e))
 after_front limit tables streams e (f ∷ fs) =

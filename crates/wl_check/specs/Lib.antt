@@ -5,4 +5,5 @@ pub mod Rules
 pub mod Session
 pub mod Seen
 pub mod Trace
+pub mod Course
 pub mod Text

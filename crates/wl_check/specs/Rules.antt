@@ -75,3 +75,8 @@ judged limit tables k stream frame =
     if is_size limit frame.size
     then judged_as tables k frame (header_at (drop frame.start stream)) (take (frame.size - 8) (drop (frame.start + 8) stream))
     else Err BadSize
+
+-- the same, where these are the bytes of the stream from the message on
+abbrev pub judged_front : ℕ → List Interface → Known → List ℕ → Frame → Result Call Fault
+judged_front limit tables k bytes frame =
+    if is_size limit frame.size then judged_as tables k frame (header_at bytes) (take (frame.size - 8) (drop 8 bytes)) else Err BadSize

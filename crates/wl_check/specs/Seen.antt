@@ -1,39 +1,30 @@
 -- What the code's own types stand for.
-use Rattle.std.specs.Prelude.{◌≡◌, ℕ, ◌+◌, List, if◌then◌else◌}
+use Rattle.std.specs.Prelude.{ℕ, ◌+◌, if◌then◌else◌, Option, Some, None}
 use Rattle.std.specs.declared.cmp.Ordering.{Ordering}
 use Rattle.std.specs.Ordering.{nat_cmp, ordering_then}
 use Rattle.std.specs.BTreeMap.{get}
 use Rattle.std.specs.Option.{unwrap_or}
 use Rattle.std.specs.declared.result.Result.{Result}
 use Rattle.std.specs.declared.result.Result.TheVariants.{Ok, Err}
-use Rattle.wl_message.specs.Cut as cuts
+use Rattle.wl_message.specs.Cut.{Front, More, Bad, Whole}
 use Rattle.wl_objects.specs.declared.error.Fault.{Fault}
 use Rattle.wl_recording.specs.declared.piece.Direction.{Direction}
 use Rattle.wl_recording.specs.declared.piece.Direction.TheVariants.{ToServer, ToClient}
-use Rattle.wl_check.specs.declared.frames.Front.{Front}
-use Rattle.wl_check.specs.declared.frames.Front.TheVariants.{More, Bad, Whole}
-use Rattle.wl_check.specs.declared.frames.Stream.{Stream}
 use Rattle.wl_check.specs.declared.known.Knowledge.{Knowledge}
 use Rattle.wl_check.specs.declared.judging.Message.{Message}
 use Rattle.wl_objects.specs.Seen.{message_of}
 use Rattle.wl_check.specs.Effects.{Call}
 use Rattle.wl_check.specs.Places.{Known}
-use Rattle.wl_check.specs.declared.frames.Merged.{Merged}
 use Rattle.wl_check.specs.declared.frames.Frame.{Frame}
 use Rattle.wl_check.specs.declared.progress.Progress.{Progress}
 use Rattle.wl_check.specs.declared.progress.Tally.{Tally}
-use Rattle.wl_check.specs.Session.{Session}
-use Rattle.wl_check.specs.Merged.{cut, same_direction}
+use Rattle.wl_check.specs.Merged.{same_direction}
 
-abbrev pub front_in : Front → cuts.Front
-front_in More = cuts.More
-front_in (Bad size) = cuts.Bad size
-front_in (Whole size) = cuts.Whole size
-
--- how far a stream is cut
-pub record IsCut {A : Type 0} (limit : ℕ) (s : Stream A) : Type 0 where
-  pub place : s.place ≡ (cut limit s.bytes.items).place
-  pub is_bad : s.is_bad ≡ (cut limit s.bytes.items).is_bad
+-- the size of the message in front, if it is there
+abbrev pub size_of : Front → Option ℕ
+size_of More = None
+size_of (Bad size) = Some size
+size_of (Whole size) = Some size
 
 -- the order of names and interfaces
 abbrev pub pair_cmp : ℕ × ℕ → ℕ × ℕ → Ordering
@@ -57,14 +48,6 @@ call_of message = record { direction = message.direction; opcode = message.opcod
 abbrev pub judged_in : Result Message Fault → Result Call Fault
 judged_in (Err fault) = Err fault
 judged_in (Ok message) = Ok (call_of message)
-
-abbrev pub bytes_in : {A : Type 0} → Merged A → Direction → List ℕ
-bytes_in m ToServer = m.to_server.items
-bytes_in m ToClient = m.to_client.items
-
--- what was merged
-abbrev pub session_in : {A : Type 0} → Merged A → Session
-session_in m = record { limit = m.limit.bytes; frames = m.frames.items; streams = bytes_in m }
 
 -- what is counted of a direction behind a message
 abbrev pub tally_after : Direction → Frame → Tally → Tally

@@ -3,8 +3,8 @@ use Rattle.std.specs.Prelude.{ℕ, zero, suc, List, [], ◌∷◌, ◌++◌, sli
 use Rattle.std.specs.declared.result.Result.TheVariants.{Ok, Err}
 use Rattle.wl_sigs.specs.Tables.{Interface}
 use Rattle.wl_lines.specs.Line.{line}
-use Rattle.wl_check.specs.declared.scanning.Output.{Output}
-use Rattle.wl_check.specs.declared.scanning.Output.TheVariants.{Nothing, Lines}
+use Rattle.wl_check.specs.declared.course.Output.{Output}
+use Rattle.wl_check.specs.declared.course.Output.TheVariants.{Nothing, Lines}
 use Rattle.wl_check.specs.Effects.{Call, side_of}
 use Rattle.wl_check.specs.Places.{Known, known}
 use Rattle.wl_check.specs.Rules.{reader}

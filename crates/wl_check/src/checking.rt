@@ -1,13 +1,16 @@
 //! Checking a recorded session.
-ghost use Rattle.std.specs.Prelude.{◌↔◌, IfOk};
+ghost use Rattle.std.specs.Prelude.{◌≡◌, ◌↔◌, ◌⊎◌, ℕ, List, Err, IfOk, IfErr, MatchResult};
+ghost use Rattle.wl_recording.specs.declared.recording.RecordingError.TheVariants.{BadLine, Memory};
+ghost use Rattle.wl_recording.specs.Piece.{Piece};
+ghost use Rattle.wl_recording.specs.Text.{IsFirstBad, Recorded};
 ghost use Rattle.wl_check.specs.Session.{session_of, Answers, IsLawful, SaysLawful};
 
-use crate::frames::merge;
-use crate::scanning::{Output, scan};
+use crate::course::Output;
+use crate::scanning::{scan, scan_text};
 use crate::verdict::Verdict;
 use std::alloc::{AllocError, Allocator};
 use wl_message::Limit;
-use wl_recording::Recording;
+use wl_recording::{Recording, RecordingError};
 use wl_sigs::Tables;
 
 /// Whether a recorded session is lawful; else the first message that breaks a rule.
@@ -27,7 +30,52 @@ pub fn check<A: Allocator + Clone>(
         (λ verdict. SaysLawful verdict
         ↔ IsLawful tables.now (session_of limit.bytes recording.now)) }
 {
-    let merged = merge(&alloc, recording.pieces(), limit)?;
-    let (_text, verdict) = scan(&alloc, &merged, tables, Output::Nothing)?;
+    let (_text, verdict) = scan(&alloc, recording.pieces(), tables, limit, Output::Nothing)?;
+    Ok(verdict)
+}
+
+/// Whether the session of a recording's text is lawful, as `check` says it of the recording; or the
+/// first line that is none of a recording's, as `Recording::parse` says it.
+///
+/// Each message is judged as its line completes it, and of the text no more than one piece and the
+/// started messages are kept. All lines are read, also behind a message that breaks a rule.
+pub fn check_text<A: Allocator + Clone>(
+    alloc: A,
+    text: &[u8],
+    tables: &Tables,
+    limit: Limit,
+) -> Result<Verdict, RecordingError>
+    ensures told { IfOk result (λ verdict. (pieces : List Piece) × Recorded text.now pieces
+        × Answers tables.now (session_of limit.bytes pieces) verdict) }
+    ensures bad { IfErr result
+        (λ e. (e ≡ Memory) ⊎ ((n : ℕ) × (e ≡ BadLine n) × IsFirstBad text.now n)) }
+
+    // and where the text is a recording, the result is the verdict on it
+    ensures only { (pieces : List Piece) → Recorded text.now pieces
+        → MatchResult result
+        (λ verdict. Answers tables.now (session_of limit.bytes pieces) verdict)
+        (λ e. e ≡ Memory) }
+    ensures exact { (pieces : List Piece) → Recorded text.now pieces → IfOk result
+        (λ verdict. SaysLawful verdict
+        ↔ IsLawful tables.now (session_of limit.bytes pieces)) }
+    ensures first { (n : ℕ) → IsFirstBad text.now n → (result ≡ Err (BadLine n))
+        ⊎ (result ≡ Err Memory) }
+{
+    verdict_on(&alloc, text, tables, limit)
+}
+
+/// The verdict on a recording's text, or its first bad line.
+fn verdict_on<A: Allocator + Clone>(
+    alloc: &A,
+    text: &[u8],
+    tables: &Tables,
+    limit: Limit,
+) -> Result<Verdict, RecordingError>
+    ensures told { IfOk result (λ verdict. (pieces : List Piece) × Recorded text.now pieces
+        × Answers tables.now (session_of limit.bytes pieces) verdict) }
+    ensures bad { IfErr result
+        (λ e. (e ≡ Memory) ⊎ ((n : ℕ) × (e ≡ BadLine n) × IsFirstBad text.now n)) }
+{
+    let (_text, verdict) = scan_text(alloc, text, tables, limit, Output::Nothing)?;
     Ok(verdict)
 }

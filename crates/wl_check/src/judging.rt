@@ -1,9 +1,9 @@
 //! One message judged by what is known at its place.
-ghost use Rattle.std.specs.Prelude.{◌≡◌, ◌+◌, ◌≤◌, ◌^◌, ◌<◌, ◌++◌, min, true, length, OnOk};
+ghost use Rattle.std.specs.Prelude.{◌≡◌, ◌≤◌, ◌^◌, ◌<◌, ◌++◌, min, true, length, OnOk};
 ghost use Rattle.wl_sigs.specs.Valid.{Valid};
 ghost use Rattle.wl_message.specs.Cut.{is_size};
 ghost use Rattle.wl_check.specs.Effects.{advertised, effect, first_number, is_global, side_of};
-ghost use Rattle.wl_check.specs.Rules.{is_bad_bind, judged, judged_as, can_bind, version_of};
+ghost use Rattle.wl_check.specs.Rules.{is_bad_bind, judged_as, judged_front, can_bind, version_of};
 ghost use Rattle.wl_objects.specs.Seen.{message_of};
 ghost use Rattle.wl_check.specs.Seen.{call_of, judged_in, known_in, taken_in};
 ghost use Rattle.wl_check.specs.Trace.{call_line};
@@ -41,29 +41,28 @@ pub(crate) fn side_of(direction: Direction) -> Side
     }
 }
 
-/// Judges the message of a frame, in its direction's stream: what it is, or the first rule that it
+/// Judges the message of a frame, which begins these bytes: what it is, or the first rule that it
 /// breaks.
 pub(crate) fn judge<'t: 'a, 'a, A: Allocator>(
     tables: &'t Tables,
     known: &Knowledge<A>,
-    stream: &'a [u8],
+    bytes: &'a [u8],
     frame: &Frame,
     limit: Limit,
 ) -> Result<Message<'t, 'a>, Fault>
     requires valid { Valid tables.now }
-    requires header { frame.now.start + 8 ≤ length stream.now }
+    requires header { 8 ≤ length bytes.now }
     requires whole { is_size limit.bytes frame.now.size ≡ true
-        → frame.now.start + frame.now.size ≤ length stream.now }
+        → frame.now.size ≤ length bytes.now }
     ensures judged { judged_in result
-        ≡ judged limit.bytes tables.now (known_in known.now) stream.now frame.now }
+        ≡ judged_front limit.bytes tables.now (known_in known.now) bytes.now frame.now }
     ensures size { OnOk result (is_size limit.bytes frame.now.size ≡ true) }
 {
     if !limit.allows(frame.size) {
         return Err(Fault::BadSize);
     }
-    let header = header_of(&stream[frame.start..]);
-    let body = &stream[frame.start + 8..frame.start + frame.size as usize];
-    judge_as(tables, known, frame, header, body)
+    let body = &bytes[8..frame.size as usize];
+    judge_as(tables, known, frame, header_of(bytes), body)
 }
 
 /// Judges a whole message, its header and what stands behind that.

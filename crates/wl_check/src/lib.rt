@@ -6,6 +6,7 @@
 #![tactic(auto)]
 
 mod checking;
+mod course;
 mod effect;
 mod frames;
 mod judging;
@@ -16,6 +17,6 @@ mod scanning;
 mod tracing;
 mod verdict;
 
-pub use checking::check;
-pub use tracing::trace;
+pub use checking::{check, check_text};
+pub use tracing::{trace, trace_text};
 pub use verdict::Verdict;

@@ -1,5 +1,5 @@
 //! How far a session was gone through.
-ghost use Rattle.std.specs.Prelude.{◌≡◌, ◌+◌, ◌-◌, ◌^◌, ◌<◌, ◌≤◌, length, OnOk, IfOk};
+ghost use Rattle.std.specs.Prelude.{◌≡◌, ◌+◌, ◌-◌, ◌^◌, ◌<◌, ◌≤◌, OnOk, IfOk};
 ghost use Rattle.wl_recording.specs.declared.piece.Direction.TheVariants.{ToServer, ToClient};
 ghost use Rattle.wl_check.specs.declared.verdict.Verdict.TheVariants.{Broken, Lawful};
 ghost use Rattle.wl_check.specs.Places.{IsFirst, IsNext};
@@ -7,7 +7,7 @@ ghost use Rattle.wl_sigs.specs.Valid.{Valid};
 ghost use Rattle.wl_check.specs.Seen.{known_in, no_tally, tally_after, tally_in};
 
 use crate::effect::Effect;
-use crate::frames::{Frame, Merged};
+use crate::frames::Frame;
 use crate::known::Knowledge;
 use crate::verdict::Verdict;
 use std::alloc::{AllocError, Allocator, Global};
@@ -95,19 +95,29 @@ impl<A: Allocator + Clone> Progress<A> {
 }
 
 impl<A: Allocator> Progress<A> {
-    /// The verdict where no message broke a rule.
-    pub(crate) fn lawful(&self, merged: &Merged<A>) -> Verdict
-        requires to_server { self.now.to_server.end ≤ length merged.now.to_server.items }
-        requires to_client { self.now.to_client.end ≤ length merged.now.to_client.items }
+    /// What was counted of a direction.
+    pub(crate) fn tally(&self, direction: Direction) -> Tally
+        ensures { result ≡ tally_in self.now direction }
+    {
+        match direction {
+            Direction::ToServer => self.to_server,
+            Direction::ToClient => self.to_client,
+        }
+    }
+
+    /// The verdict where no message broke a rule, and each direction has so many bytes.
+    pub(crate) fn lawful(&self, len_to_server: usize, len_to_client: usize) -> Verdict
+        requires to_server { self.now.to_server.end ≤ len_to_server }
+        requires to_client { self.now.to_client.end ≤ len_to_client }
         ensures { result ≡ Lawful self.now.to_server.count self.now.to_client.count
-            (length merged.now.to_server.items - self.now.to_server.end)
-            (length merged.now.to_client.items - self.now.to_client.end) }
+            (len_to_server - self.now.to_server.end)
+            (len_to_client - self.now.to_client.end) }
     {
         Verdict::Lawful {
             requests: self.to_server.count,
             events: self.to_client.count,
-            left_to_server: merged.to_server.len() - self.to_server.end,
-            left_to_client: merged.to_client.len() - self.to_client.end,
+            left_to_server: len_to_server - self.to_server.end,
+            left_to_client: len_to_client - self.to_client.end,
         }
     }
 
@@ -117,13 +127,9 @@ impl<A: Allocator> Progress<A> {
         ensures { result ≡ Broken frame.now.direction
             ((tally_in self.now frame.now.direction).count + 1) frame.now.start fault }
     {
-        let tally = match frame.direction {
-            Direction::ToServer => self.to_server,
-            Direction::ToClient => self.to_client,
-        };
         Verdict::Broken {
             direction: frame.direction,
-            index: tally.count + 1,
+            index: self.tally(frame.direction).count + 1,
             offset: frame.start,
             fault,
         }

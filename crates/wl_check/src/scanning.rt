@@ -1,74 +1,188 @@
-//! A recorded session, gone through message by message.
-ghost use Rattle.std.specs.Prelude.{◌≡◌, ◌++◌, ◌^◌, ◌<◌, IfOk, OnOk};
-ghost use Rattle.wl_check.specs.Session.{Answers, AreWithin};
-ghost use Rattle.wl_check.specs.Seen.{call_of, known_in, session_in, taken_in};
-ghost use Rattle.wl_check.specs.Trace.{call_line, trace_of, wanted};
+//! A recorded session, gone through piece by piece.
+ghost use Rattle.std.specs.Prelude.{◌≡◌, ◌⊎◌, ◌∷◌, ◌++◌, ℕ, List, [], map, true, false, OnOk, IfOk, IfErr};
+ghost use Rattle.wl_recording.specs.declared.piece.Direction.{Direction as Way};
+ghost use Rattle.wl_recording.specs.declared.recording.RecordingError.TheVariants.{BadLine, Memory};
+ghost use Rattle.wl_recording.specs.Piece.{Piece, plain};
+ghost use Rattle.wl_recording.specs.Text.{IsFirstBad, Recorded};
+ghost use Rattle.wl_sigs.specs.Tables.{Interface};
+ghost use Rattle.wl_sigs.specs.Valid.{Valid};
+ghost use Rattle.wl_check.specs.declared.course.Output.{Output as Wish};
+ghost use Rattle.wl_check.specs.Course.{end_in, is_open, Along, IsAfter, IsFresh};
+ghost use Rattle.wl_check.specs.Merged.{same_direction};
+ghost use Rattle.wl_check.specs.Session.{session_of, Answers};
+ghost use Rattle.wl_check.specs.Trace.{trace_of, wanted};
 
-use crate::frames::Merged;
-use crate::judging::{Message, judge};
-use crate::known::Knowledge;
-use crate::progress::Progress;
+use crate::course::{Course, Output, Stage};
+use crate::frames::{Stream, empty_stream, remove_front};
 use crate::verdict::Verdict;
-use std::alloc::{AllocError, Allocator};
+use std::alloc::{AllocError, Allocator, Global};
+use wl_message::Limit;
+use wl_recording::{Direction, Passed, PieceReader, RecordingError};
 use wl_sigs::Tables;
 
-/// What is written of a session.
-#[derive(Clone, Copy, Debug)]
-pub(crate) enum Output {
-    Nothing,
-    /// The line of each message.
-    Lines,
+/// A session that is judged as its pieces come. Of its bytes it keeps those of started messages.
+#[derive(Drop)]
+pub(crate) struct Scanner<A: Allocator = Global> {
+    pub course: Course<A>,
+    pub to_server: Stream<A>,
+    pub to_client: Stream<A>,
 }
 
-/// Judges the messages of a merged list in turn, and writes what is wanted of each.
-pub(crate) fn scan<A: Allocator + Clone>(
-    alloc: &A,
-    merged: &Merged<A>,
+/// Judges the messages that a piece completes. It keeps what is left, unless the session has ended
+/// or a message broke a rule; then it only counts.
+fn take_piece<A: Allocator + Clone>(
+    course: &mut Course<A>,
+    stream: &mut Stream<A>,
+    piece: &Passed<A>,
     tables: &Tables,
-    output: Output,
-) -> Result<(Vec<u8, A>, Verdict), AllocError>
-    requires { AreWithin (session_in merged.now) }
-    ensures lines { IfOk result
-        (λ r. r.0.items ≡ wanted output (trace_of tables.now (session_in merged.now))) }
-    ensures verdict { IfOk result (λ r. Answers tables.now (session_in merged.now) r.1) }
-{
-    let mut text = Vec::new(alloc.clone()?);
-    let mut progress = Progress::new(alloc, tables)?;
-    for (index, frame) in merged.frames.iter().enumerate() {
-        let stream = merged.stream(frame.direction);
-        let message = match judge(tables, &progress.known, stream, frame, merged.limit) {
-            Ok(message) => message,
-            Err(fault) => {
-                let verdict = progress.broken(frame, fault);
-                return Ok((text, verdict));
-            }
-        };
-        write(&message, &mut text, tables, &progress.known, output)?;
-        let effect = message.effect(tables);
-        progress.advance(index as u64 + 1, frame, &effect)?;
-        if effect.is_error {
-            let verdict = progress.lawful(merged);
-            return Ok((text, verdict));
-        }
-    }
-    let verdict = progress.lawful(merged);
-    Ok((text, verdict))
-}
-
-/// Appends what is wanted of a message, before the message changes what is known.
-fn write<A: Allocator>(
-    message: &Message<'_, '_>,
-    text: &mut Vec<u8, A>,
-    tables: &Tables,
-    known: &Knowledge<A>,
+    limit: Limit,
     output: Output,
 ) -> Result<(), AllocError>
-    requires { taken_in known.now message.now.direction < 2 ^ 127 }
-    ensures { OnOk result (text.new.items ≡ text.old.items
-        ++ wanted output (call_line tables.now (known_in known.now) (call_of message.now))) }
+    requires valid { Valid tables.now }
+    requires along { (ps : List Piece) × Along limit.bytes tables.now output piece.now.direction ps
+        course.old stream.old }
+    ensures along { OnOk result ((ps : List Piece)
+        → Along limit.bytes tables.now output piece.now.direction ps course.old stream.old
+        → Along limit.bytes tables.now output piece.now.direction (ps ++ plain piece.now ∷ [])
+        course.new stream.new) }
+    ensures going { OnOk result (is_open course.new.stage ≡ true → is_open course.old.stage ≡ true) }
+    ensures other { OnOk result ((other : Way) → same_direction piece.now.direction other ≡ false
+        → end_in course.new other ≡ end_in course.old other) }
 {
-    match output {
-        Output::Nothing => Ok(()),
-        Output::Lines => message.write(text, tables, known),
+    let bytes = piece.bytes.as_slice();
+    // More than these numbers count does not fit into any memory.
+    let Some(len) = stream.len.checked_add(bytes.len()) else {
+        return Err(AllocError);
+    };
+    let Some(tokens) = stream.tokens.checked_add(u128::from(piece.tokens)) else {
+        return Err(AllocError);
+    };
+    stream.len = len;
+    stream.tokens = tokens;
+    if !course.is_open() {
+        return Ok(());
     }
+    stream.bytes.extend_from_slice(bytes)?;
+    let place = course.judge_all(
+        stream.bytes.as_slice(),
+        piece.direction,
+        tokens,
+        tables,
+        limit,
+        output,
+    )?;
+    remove_front(&mut stream.bytes, place);
+    Ok(())
+}
+
+impl<A: Allocator + Clone> Scanner<A> {
+    /// Before the first piece.
+    fn new(alloc: &A, tables: &Tables) -> Result<Self, AllocError>
+        ensures valid { OnOk result (Valid tables.now) }
+        ensures none { IfOk result (λ s. (limit : ℕ) (output : Wish)
+            → IsAfter limit tables.now output [] s) }
+    {
+        Ok(Scanner {
+            course: Course::new(alloc, tables)?,
+            to_server: empty_stream(alloc.clone()?),
+            to_client: empty_stream(alloc.clone()?),
+        })
+    }
+
+    /// Judges the messages that a piece completes.
+    fn take_in(
+        &mut self,
+        piece: &Passed<A>,
+        tables: &Tables,
+        limit: Limit,
+        output: Output,
+    ) -> Result<(), AllocError>
+        requires valid { Valid tables.now }
+        requires after { (ps : List Piece) × IsAfter limit.bytes tables.now output ps self.old }
+        ensures { OnOk result ((ps : List Piece)
+            → IsAfter limit.bytes tables.now output ps self.old
+            → IsAfter limit.bytes tables.now output (ps ++ plain piece.now ∷ []) self.new) }
+    {
+        match piece.direction {
+            Direction::ToServer => take_piece(
+                &mut self.course,
+                &mut self.to_server,
+                piece,
+                tables,
+                limit,
+                output,
+            ),
+            Direction::ToClient => take_piece(
+                &mut self.course,
+                &mut self.to_client,
+                piece,
+                tables,
+                limit,
+                output,
+            ),
+        }
+    }
+}
+
+impl<A: Allocator> Scanner<A> {
+    /// What was written, and the verdict on the session of all pieces so far.
+    fn finish(self) -> (Vec<u8, A>, Verdict)
+        requires { (limit : ℕ) × (tables : List Interface) × (output : Wish) × (ps : List Piece)
+            × IsAfter limit tables output ps self }
+        ensures lines { (limit : ℕ) (tables : List Interface) (output : Wish) (ps : List Piece)
+            → IsAfter limit tables output ps self
+            → result.0.items ≡ wanted output (trace_of tables (session_of limit ps)) }
+        ensures verdict { (limit : ℕ) (tables : List Interface) (output : Wish) (ps : List Piece)
+            → IsAfter limit tables output ps self
+            → Answers tables (session_of limit ps) result.1 }
+    {
+        let progress = &self.course.progress;
+        let verdict = match &self.course.stage {
+            Stage::Broken(frame, fault) => progress.broken(frame, *fault),
+            Stage::Open | Stage::Ended => progress.lawful(self.to_server.len, self.to_client.len),
+        };
+        (self.course.text, verdict)
+    }
+}
+
+/// Goes through the pieces of a recording, and writes what is wanted of each message.
+pub(crate) fn scan<A: Allocator + Clone>(
+    alloc: &A,
+    pieces: &[Passed<A>],
+    tables: &Tables,
+    limit: Limit,
+    output: Output,
+) -> Result<(Vec<u8, A>, Verdict), AllocError>
+    ensures lines { IfOk result (λ r. r.0.items
+        ≡ wanted output (trace_of tables.now (session_of limit.bytes (map plain pieces.now)))) }
+    ensures verdict { IfOk result
+        (λ r. Answers tables.now (session_of limit.bytes (map plain pieces.now)) r.1) }
+{
+    let mut scanner = Scanner::new(alloc, tables)?;
+    'pieces: for piece in pieces {
+        scanner.take_in(piece, tables, limit, output)?;
+    }
+    Ok(scanner.finish())
+}
+
+/// Goes through the text of a recording, of which it keeps one piece at a time.
+pub(crate) fn scan_text<A: Allocator + Clone>(
+    alloc: &A,
+    text: &[u8],
+    tables: &Tables,
+    limit: Limit,
+    output: Output,
+) -> Result<(Vec<u8, A>, Verdict), RecordingError>
+    ensures told { IfOk result (λ r. (pieces : List Piece) × Recorded text.now pieces
+        × ((r.0.items ≡ wanted output (trace_of tables.now (session_of limit.bytes pieces)))
+        × Answers tables.now (session_of limit.bytes pieces) r.1)) }
+    ensures bad { IfErr result
+        (λ e. (e ≡ Memory) ⊎ ((n : ℕ) × (e ≡ BadLine n) × IsFirstBad text.now n)) }
+{
+    let mut scanner = Scanner::new(alloc, tables)?;
+    let mut reader = PieceReader::new(text);
+    'pieces: while let Some(piece) = reader.next_piece(alloc)? {
+        scanner.take_in(&piece, tables, limit, output)?;
+    }
+    Ok(scanner.finish())
 }

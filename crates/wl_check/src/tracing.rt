@@ -1,14 +1,17 @@
 //! The trace of a recorded session.
-ghost use Rattle.std.specs.Prelude.{◌≡◌, IfOk};
+ghost use Rattle.std.specs.Prelude.{◌≡◌, ◌⊎◌, ℕ, List, Err, IfOk, IfErr, MatchResult};
+ghost use Rattle.wl_recording.specs.declared.recording.RecordingError.TheVariants.{BadLine, Memory};
+ghost use Rattle.wl_recording.specs.Piece.{Piece};
+ghost use Rattle.wl_recording.specs.Text.{IsFirstBad, Recorded};
 ghost use Rattle.wl_check.specs.Session.{session_of, Answers};
 ghost use Rattle.wl_check.specs.Trace.{trace_of};
 
-use crate::frames::merge;
-use crate::scanning::{Output, scan};
+use crate::course::Output;
+use crate::scanning::{scan, scan_text};
 use crate::verdict::Verdict;
 use std::alloc::{AllocError, Allocator};
 use wl_message::Limit;
-use wl_recording::Recording;
+use wl_recording::{Recording, RecordingError};
 use wl_sigs::Tables;
 
 /// The lines of a recorded session's messages, each ended by a line feed, and the verdict of
@@ -25,6 +28,34 @@ pub fn trace<A: Allocator + Clone>(
     ensures verdict { IfOk result
         (λ r. Answers tables.now (session_of limit.bytes recording.now) r.1) }
 {
-    let merged = merge(&alloc, recording.pieces(), limit)?;
-    scan(&alloc, &merged, tables, Output::Lines)
+    scan(&alloc, recording.pieces(), tables, limit, Output::Lines)
+}
+
+/// The trace of a recording's text, as `trace` gives it of the recording; or the first line that is
+/// none of a recording's, as `Recording::parse` says it.
+///
+/// Each message is judged as its line completes it, and of the text no more than one piece and the
+/// started messages are kept. All lines are read, also behind a message that breaks a rule.
+pub fn trace_text<A: Allocator + Clone>(
+    alloc: A,
+    text: &[u8],
+    tables: &Tables,
+    limit: Limit,
+) -> Result<(Vec<u8, A>, Verdict), RecordingError>
+    ensures told { IfOk result (λ r. (pieces : List Piece) × Recorded text.now pieces
+        × ((r.0.items ≡ trace_of tables.now (session_of limit.bytes pieces))
+        × Answers tables.now (session_of limit.bytes pieces) r.1)) }
+    ensures bad { IfErr result
+        (λ e. (e ≡ Memory) ⊎ ((n : ℕ) × (e ≡ BadLine n) × IsFirstBad text.now n)) }
+
+    // and where the text is a recording, the result is its trace and the verdict on it
+    ensures only { (pieces : List Piece) → Recorded text.now pieces
+        → MatchResult result
+        (λ r. (r.0.items ≡ trace_of tables.now (session_of limit.bytes pieces))
+        × Answers tables.now (session_of limit.bytes pieces) r.1)
+        (λ e. e ≡ Memory) }
+    ensures first { (n : ℕ) → IsFirstBad text.now n → (result ≡ Err (BadLine n))
+        ⊎ (result ≡ Err Memory) }
+{
+    scan_text(&alloc, text, tables, limit, Output::Lines)
 }

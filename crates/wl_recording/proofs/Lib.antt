@@ -2,5 +2,5 @@ pub mod FillLemmas
 mod LineLemmas
 mod PieceLemmas
 mod Progress
-mod TextLemmas
+pub mod TextLemmas
 mod WriteLemmas

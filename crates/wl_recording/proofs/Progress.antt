@@ -4,23 +4,15 @@ use Rattle.std.specs.Str.Lines.{lines}
 use Rattle.std.proofs.lemmas.List.{length_push}
 use Rattle.wl_recording.specs.Piece.{Piece}
 use Rattle.wl_recording.specs.Line.{IsSkipped, IsPiece}
-use Rattle.wl_recording.specs.Text.{Tell, ends, skips, tells, Recorded, IsFirstBad}
+use Rattle.wl_recording.specs.Text.{Tell, ends, skips, tells, Recorded, IsFirstBad, IsRead}
 use Rattle.wl_recording.proofs.TextLemmas.{tell_append, tell_good}
 
--- The lines before the rest of the text are so many, and tell these pieces.
-pub record Progress (text rest : List ℕ) (number : ℕ) (pieces : List Piece) : Type 0 where
-  pub done : List (List ℕ)
-  pub whole : lines text ≡ done ++ lines rest
-  pub count : number ≡ length done
-  pub told : Tell done pieces
-  pub room : number + length rest ≤ length text
-
-pub started : (text : List ℕ) → Progress text text 0 []
+pub started : (text : List ℕ) → IsRead text text 0 []
 started text = record { done = []; whole = refl; count = refl; told = ends; room = omega arith }
 
 -- one more line
-one_more : (text rest after : List ℕ) (number : ℕ) (line : List ℕ) (pieces more : List Piece) → (p : Progress text rest number pieces) → lines rest ≡ line ∷ lines after
-    → length after < length rest → Tell (line ∷ []) more → Progress text after (number + 1) (pieces ++ more)
+one_more : (text rest after : List ℕ) (number : ℕ) (line : List ℕ) (pieces more : List Piece) → (p : IsRead text rest number pieces) → lines rest ≡ line ∷ lines after
+    → length after < length rest → Tell (line ∷ []) more → IsRead text after (number + 1) (pieces ++ more)
 one_more text rest after number line pieces more p first shorter told =
     let count = p.count in
     let room = p.room in
@@ -32,17 +24,17 @@ one_more text rest after number line pieces more p first shorter told =
       room = omega arith;
     }
 
-pub skipped_line : (text rest after : List ℕ) (number : ℕ) (line : List ℕ) (pieces : List Piece) → Progress text rest number pieces → lines rest ≡ line ∷ lines after
-    → length after < length rest → IsSkipped line → Progress text after (number + 1) pieces
+pub skipped_line : (text rest after : List ℕ) (number : ℕ) (line : List ℕ) (pieces : List Piece) → IsRead text rest number pieces → lines rest ≡ line ∷ lines after
+    → length after < length rest → IsSkipped line → IsRead text after (number + 1) pieces
 skipped_line text rest after number line pieces p first shorter skipped =
     rw append-nil at (one_more text rest after number line pieces [] p first shorter (skips skipped ends))
 
-pub told_line : (text rest after : List ℕ) (number : ℕ) (line : List ℕ) (pieces : List Piece) (piece : Piece) → Progress text rest number pieces → lines rest ≡ line ∷ lines after
-    → length after < length rest → IsPiece line piece → Progress text after (number + 1) (pieces ++ piece ∷ [])
+pub told_line : (text rest after : List ℕ) (number : ℕ) (line : List ℕ) (pieces : List Piece) (piece : Piece) → IsRead text rest number pieces → lines rest ≡ line ∷ lines after
+    → length after < length rest → IsPiece line piece → IsRead text after (number + 1) (pieces ++ piece ∷ [])
 told_line text rest after number line pieces piece p first shorter told = one_more text rest after number line pieces (piece ∷ []) p first shorter (tells told ends)
 
 -- the line is bad
-pub bad_line : (text rest after : List ℕ) (number : ℕ) (line : List ℕ) (pieces : List Piece) → Progress text rest number pieces → lines rest ≡ line ∷ lines after
+pub bad_line : (text rest after : List ℕ) (number : ℕ) (line : List ℕ) (pieces : List Piece) → IsRead text rest number pieces → lines rest ≡ line ∷ lines after
     → (IsSkipped line → ⊥) → ((piece : Piece) → IsPiece line piece → ⊥) → IsFirstBad text (number + 1)
 bad_line text rest after number line pieces p first not_skipped not_piece = record {
   before = p.done;
@@ -58,6 +50,6 @@ bad_line text rest after number line pieces p first not_skipped not_piece = reco
 }
 
 -- nothing is left
-pub all_read : (text rest : List ℕ) (number : ℕ) (pieces : List Piece) → Progress text rest number pieces → length rest ≡ 0 → Recorded text pieces
+pub all_read : (text rest : List ℕ) (number : ℕ) (pieces : List Piece) → IsRead text rest number pieces → length rest ≡ 0 → Recorded text pieces
 all_read text [] number pieces p none = rw (p.whole, append-nil) p.told
 all_read text (byte ∷ rest) number pieces p none = absurd (omega arith)

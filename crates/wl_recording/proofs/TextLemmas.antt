@@ -1,6 +1,6 @@
 -- A text tells one list of pieces, or has one first bad line.
-use Rattle.std.proofs.Common.{◌≡◌, ℕ, ◌<◌, ◌≤◌, List, [], ◌∷◌, ◌++◌, length, get_or, refl, sym, ap, ◌∙◌, inl, inr, ◌⊎◌, arith}
-use Rattle.std.specs.Prelude.{Result, Ok, Err, IfOk, IfErr}
+use Rattle.std.proofs.Common.{◌≡◌, ℕ, ◌<◌, ◌≤◌, List, [], ◌∷◌, ◌++◌, length, get_or, refl, sym, ap, ◌∙◌, inl, inr, ◌⊎◌, arith, subst}
+use Rattle.std.specs.Prelude.{Result, Ok, Err, IfOk, IfErr, IsErrAnd}
 use Rattle.std.specs.List.{All}
 use Rattle.std.specs.Str.Lines.{lines}
 use Rattle.std.proofs.lemmas.Bool.{cases_lt}
@@ -99,3 +99,8 @@ first_refused text (Err e) ok err n bad = elim err [
   | inl memory ↦ inr (ap Err memory)
   | inr found ↦ inl (ap Err (found.1 ∙ ap BadLine (one_first_bad text found.0 n found.2 bad)))
 ]
+
+-- an error that is passed on
+pub refused_on : {X E : Type 0} (r : Result X E) (x : E) (R Q : E → Type 0) → IsErrAnd r R → ((e : E) → R e → e ≡ x) → Q x → IfErr r Q
+refused_on (Ok found) x R Q is same h = tt
+refused_on (Err e) x R Q is same h = subst Q (sym (same e is)) h

@@ -1,5 +1,5 @@
 -- Recordings as text.
-use Rattle.std.specs.Prelude.{◌≡◌, ℕ, ◌+◌, ◌⊎◌, List, [], ◌∷◌, ◌++◌, length}
+use Rattle.std.specs.Prelude.{◌≡◌, ℕ, ◌+◌, ◌≤◌, ◌⊎◌, List, [], ◌∷◌, ◌++◌, length}
 use Rattle.std.specs.List.{All}
 use Rattle.std.specs.Str.Lines.{lines}
 use Rattle.wl_recording.specs.Piece.{Piece}
@@ -29,6 +29,14 @@ pub record IsFirstBad (text : List ℕ) (n : ℕ) : Type 0 where
   pub place : n ≡ length before + 1
   pub good : All IsGood before
   pub bad : ¬ IsGood line
+
+-- So much of a text was read: this is the rest, so many lines stand before it, and they tell these pieces.
+pub record IsRead (text rest : List ℕ) (number : ℕ) (pieces : List Piece) : Type 0 where
+  pub done : List (List ℕ)
+  pub whole : lines text ≡ done ++ lines rest
+  pub count : number ≡ length done
+  pub told : Tell done pieces
+  pub room : number + length rest ≤ length text
 
 -- the one text that a writer gives: each piece's line, ended by a line feed
 abbrev pub text_of : List Piece → List ℕ

@@ -13,8 +13,10 @@
 
 mod line;
 mod piece;
+mod reader;
 mod recording;
 mod write;
 
 pub use piece::{Direction, Passed};
+pub use reader::PieceReader;
 pub use recording::{Recording, RecordingError};

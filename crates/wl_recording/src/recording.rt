@@ -5,8 +5,9 @@ ghost use Rattle.wl_recording.specs.declared.recording.RecordingError.TheVariant
 ghost use Rattle.wl_recording.specs.Piece.{Piece, plain, passed, last_len, with_last_bytes, IsTellable};
 ghost use Rattle.wl_recording.specs.Text.{Recorded, IsFirstBad, text_of};
 
-use crate::line::{MOST_TOKENS, first_line, is_skipped, read_piece};
+use crate::line::MOST_TOKENS;
 use crate::piece::{Direction, Passed};
+use crate::reader::PieceReader;
 use crate::write::write_piece;
 use std::alloc::{AllocError, AllocFailed, Allocator, Global};
 use std::error::Error;
@@ -124,18 +125,9 @@ impl<A: Allocator + Clone> Recording<A> {
             (λ e. (e ≡ Memory) ⊎ ((n : ℕ) × (e ≡ BadLine n) × IsFirstBad text.now n)) }
     {
         let mut pieces = Vec::new(alloc.clone()?);
-        let mut rest = text;
-        let mut number = 0;
-        'lines: while !rest.is_empty() {
-            let (line, after) = first_line(rest);
-            number += 1;
-            if !is_skipped(line) {
-                let Some(piece) = read_piece(alloc.clone()?, line)? else {
-                    return Err(RecordingError::BadLine { line: number });
-                };
-                pieces.push(piece)?;
-            }
-            rest = after;
+        let mut reader = PieceReader::new(text);
+        'pieces: while let Some(piece) = reader.next_piece(&alloc)? {
+            pieces.push(piece)?;
         }
         Ok(Recording { pieces })
     }

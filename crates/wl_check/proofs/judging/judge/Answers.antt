@@ -7,4 +7,4 @@ use Rattle.wl_check.proofs.judging.judge.Goals as goal
 pub returns-clause-judged : goal.returns-clause-judged
 returns-clause-judged g c =
     let good : is_size c.args.limit.bytes c.args.frame.now.size ≡ true = cc in
-    parts_are c.args.limit.bytes c.args.tables.now (known_in c.args.known.now) c.args.stream.now c.args.frame.now c.header_of-header.result _ _ good c.requires.header c.header_of-header.ensures.header refl c.judge_as.ensures
+    parts_are c.args.limit.bytes c.args.tables.now (known_in c.args.known.now) c.args.bytes.now c.args.frame.now c.header_of.result _ _ good c.header_of.ensures.header refl c.judge_as.ensures

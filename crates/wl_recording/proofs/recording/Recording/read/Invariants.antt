@@ -1,11 +1,12 @@
 use Rattle.std.proofs.Common.{length}
 use Rattle.std.specs.Prelude.{map}
 use Rattle.wl_recording.specs.Piece.{plain}
-use Rattle.wl_recording.proofs.Progress.{Progress}
+use Rattle.wl_recording.specs.Text.{IsRead}
 use Rattle.wl_recording.proofs.recording.Recording.read.Given as goal
 
-abbrev pub invariant-lines : goal.invariant-lines
-invariant-lines g l = Progress l.text l.rest l.number (map plain l.pieces.items)
+-- the pieces so far are those of the lines so far
+abbrev pub invariant-pieces : goal.invariant-pieces
+invariant-pieces g l = IsRead l.text l.reader.rest.now l.reader.number (map plain l.pieces.items)
 
-abbrev pub decreases-lines : goal.decreases-lines
-decreases-lines g l = length l.rest
+abbrev pub decreases-pieces : goal.decreases-pieces
+decreases-pieces g l = length l.reader.rest.now

@@ -1,6 +1,6 @@
 use Rattle.std.proofs.Common.{arith}
 use Rattle.wl_check.proofs.Cutting.{front_short, front_bad, front_long, front_good}
-use Rattle.wl_check.proofs.frames.front_of.Goals as goal
+use Rattle.wl_check.proofs.frames.size_in_front.Goals as goal
 
 pub returns-then-bytes-lt8 : goal.returns-then-bytes-lt8
 returns-then-bytes-lt8 c = front_short c.args.limit.bytes c.args.bytes.now (omega arith)

@@ -1,0 +1,180 @@
+//! A session's messages, judged one after another.
+ghost use Rattle.std.specs.Prelude.{◌≡◌, ◌≤◌, ◌++◌, ◌^◌, ◌<◌, ℕ, true, false, drop, length, OnOk, IfOk};
+ghost use Rattle.wl_recording.specs.declared.piece.Direction.{Direction as Way};
+ghost use Rattle.wl_sigs.specs.Valid.{Valid};
+ghost use Rattle.wl_check.specs.Course.{end_in, is_open, AllJudged, Comes, Follows, IsFresh, IsJudged, WentOn};
+ghost use Rattle.wl_check.specs.Merged.{same_direction};
+ghost use Rattle.wl_check.specs.Session.{Session};
+ghost use Rattle.wl_check.specs.Seen.{call_of, known_in, taken_in};
+ghost use Rattle.wl_check.specs.Trace.{call_line, wanted};
+
+use crate::frames::{Frame, size_in_front};
+use crate::judging::{Message, judge};
+use crate::known::Knowledge;
+use crate::progress::Progress;
+use std::alloc::{AllocError, Allocator, Global};
+use wl_message::Limit;
+use wl_objects::Fault;
+use wl_recording::Direction;
+use wl_sigs::Tables;
+
+/// What is written of a session.
+#[derive(Clone, Copy, Debug)]
+pub(crate) enum Output {
+    Nothing,
+    /// The line of each message.
+    Lines,
+}
+
+/// Whether there are messages to judge.
+#[derive(Clone, Copy, Debug)]
+pub(crate) enum Stage {
+    /// No message broke a rule, and none ended the session.
+    Open,
+    /// The last message was wl_display.error, which ends the session.
+    Ended,
+    /// The next message breaks a rule: this is the first that it breaks.
+    Broken(Frame, Fault),
+}
+
+/// How far a session was judged.
+#[derive(Drop)]
+pub(crate) struct Course<A: Allocator = Global> {
+    /// What is known behind the messages that keep the rules, and what was counted of them.
+    pub progress: Progress<A>,
+    /// How many these are.
+    pub count: u64,
+    /// What was written of them.
+    pub text: Vec<u8, A>,
+    pub stage: Stage,
+}
+
+impl<A: Allocator + Clone> Course<A> {
+    /// Before the first message.
+    pub(crate) fn new(alloc: &A, tables: &Tables) -> Result<Self, AllocError>
+        ensures valid { OnOk result (Valid tables.now) }
+        ensures fresh { IfOk result IsFresh }
+    {
+        Ok(Course {
+            progress: Progress::new(alloc, tables)?,
+            count: 0,
+            text: Vec::new(alloc.clone()?),
+            stage: Stage::Open,
+        })
+    }
+
+    /// Judges the messages that stand whole in these bytes of a direction, and returns where the
+    /// bytes of the next begin. One that breaks a rule or ends the session is the last.
+    pub(crate) fn judge_all(
+        &mut self,
+        bytes: &[u8],
+        direction: Direction,
+        tokens: u128,
+        tables: &Tables,
+        limit: Limit,
+        output: Output,
+    ) -> Result<usize, AllocError>
+        requires valid { Valid tables.now }
+        requires follows { (s : Session)
+            × Follows limit.bytes tables.now s output self.old direction tokens bytes.now }
+        ensures place { IfOk result (λ place. place ≤ length bytes.now) }
+        ensures judged { IfOk result (λ place. (s : Session)
+            → Follows limit.bytes tables.now s output self.old direction tokens bytes.now
+            → AllJudged limit.bytes tables.now s output self.new direction (drop place bytes.now)) }
+        ensures other { OnOk result ((other : Way) → same_direction direction other ≡ false
+            → end_in self.new other ≡ end_in self.old other) }
+    {
+        let mut place = 0;
+        'messages: loop {
+            let rest = &bytes[place..];
+            let Some(size) = size_in_front(rest, limit) else {
+                return Ok(place);
+            };
+            let frame = Frame {
+                direction,
+                start: self.progress.tally(direction).end,
+                size,
+                tokens,
+            };
+            self.judge_next(rest, &frame, tables, limit, output)?;
+            if !self.is_open() {
+                return Ok(place);
+            }
+            place += size as usize;
+        }
+    }
+
+    /// Judges the next message, which begins these bytes, and writes what is wanted of it.
+    fn judge_next(
+        &mut self,
+        bytes: &[u8],
+        frame: &Frame,
+        tables: &Tables,
+        limit: Limit,
+        output: Output,
+    ) -> Result<(), AllocError>
+        requires valid { Valid tables.now }
+        requires comes { (s : Session)
+            × Comes limit.bytes tables.now s output self.old frame.now bytes.now }
+        ensures judged { OnOk result ((s : Session)
+            → Comes limit.bytes tables.now s output self.old frame.now bytes.now
+            → IsJudged tables.now s output self.new) }
+        ensures on { OnOk result (is_open self.new.stage ≡ true
+            → WentOn limit.bytes frame.now self.old self.new) }
+        ensures other { OnOk result ((other : Way) → same_direction frame.now.direction other ≡ false
+            → end_in self.new other ≡ end_in self.old other) }
+    {
+        let message = match judge(tables, &self.progress.known, bytes, frame, limit) {
+            Ok(message) => message,
+            Err(fault) => {
+                self.stage = Stage::Broken(*frame, fault);
+                return Ok(());
+            }
+        };
+        write(
+            &message,
+            &mut self.text,
+            tables,
+            &self.progress.known,
+            output,
+        )?;
+        let effect = message.effect(tables);
+        let place = self.count + 1;
+        self.progress.advance(place, frame, &effect)?;
+        self.count = place;
+        if effect.is_error {
+            self.stage = Stage::Ended;
+        }
+        Ok(())
+    }
+}
+
+impl<A: Allocator> Course<A> {
+    /// Whether there are messages to judge.
+    pub(crate) fn is_open(&self) -> bool
+        ensures { result ≡ is_open self.now.stage }
+    {
+        match self.stage {
+            Stage::Open => true,
+            Stage::Ended | Stage::Broken(..) => false,
+        }
+    }
+}
+
+/// Appends what is wanted of a message, before the message changes what is known.
+fn write<A: Allocator>(
+    message: &Message<'_, '_>,
+    text: &mut Vec<u8, A>,
+    tables: &Tables,
+    known: &Knowledge<A>,
+    output: Output,
+) -> Result<(), AllocError>
+    requires { taken_in known.now message.now.direction < 2 ^ 127 }
+    ensures { OnOk result (text.new.items ≡ text.old.items
+        ++ wanted output (call_line tables.now (known_in known.now) (call_of message.now))) }
+{
+    match output {
+        Output::Nothing => Ok(()),
+        Output::Lines => message.write(text, tables, known),
+    }
+}
