@@ -10,11 +10,10 @@ use crate::verdict::{status_of, write_broken, write_verdict};
 use crate::writing::write_through;
 use std::alloc::{Allocator, Global};
 use std::io::{ErrorKind, Read, Write};
-use wl_check::{check, trace};
+use wl_check::{check_text, trace_text};
 use wl_command::Job;
 use wl_demo::demo;
 use wl_message::Limit;
-use wl_recording::Recording;
 use wl_sigs::Tables;
 
 /// The most bytes of a file.
@@ -79,8 +78,7 @@ fn checked<'a, A: Allocator>(
     ensures refused { IfErr result (IsRefusal text.now) }
     ensures bad { (n : ℕ) → IsFirstBad text.now n → IsErr result }
 {
-    let recording = Recording::parse(alloc, text)?;
-    let verdict = check(alloc, &recording, tables, limit)?;
+    let verdict = check_text(alloc, text, tables, limit)?;
     let mut text = Vec::new(alloc);
     write_verdict(&mut text, &verdict)?;
     Ok(Printed {
@@ -100,8 +98,7 @@ fn traced<'a, A: Allocator>(
     ensures refused { IfErr result (IsRefusal text.now) }
     ensures bad { (n : ℕ) → IsFirstBad text.now n → IsErr result }
 {
-    let recording = Recording::parse(alloc, text)?;
-    let (mut text, verdict) = trace(alloc, &recording, tables, limit)?;
+    let (mut text, verdict) = trace_text(alloc, text, tables, limit)?;
     write_broken(&mut text, &verdict)?;
     Ok(Printed {
         text,
