@@ -105,7 +105,7 @@ impl<A: Allocator> Progress<A> {
         }
     }
 
-    /// The verdict where no message broke a rule, and each direction has so many bytes.
+    /// The verdict where no message broke a rule, by the number of bytes of each direction.
     pub(crate) fn lawful(&self, len_to_server: usize, len_to_client: usize) -> Verdict
         requires to_server { self.now.to_server.end ≤ len_to_server }
         requires to_client { self.now.to_client.end ≤ len_to_client }
