@@ -7,8 +7,8 @@ ghost use Rattle.std.specs.Prelude.{◌≤◌, length};
 use anyhow::{Context, Result, bail};
 use std::io::Write;
 use wl::{
-    Arg, Direction, Got, GotRef, Gots, Incoming, Limit, Object, OwnedIncoming, Recording, Sizes,
-    SlotTable, Tables, event, request, trace,
+    Arg, Direction, Got, GotRef, Incoming, Limit, Object, OwnedArgs, OwnedIncoming, Recording,
+    Sizes, SlotTable, Tables, event, request, trace,
 };
 
 type Client<'t> = wl::Client<'t, SlotTable>;
@@ -45,19 +45,19 @@ fn talk(
     let interface = tables.interface(b"wl_compositor").context("no interface")?;
     server.add_global(interface, 6)?;
 
-    let registry = make(client, client.display(), request::wl_display::GET_REGISTRY)?;
+    let registry = create(client, client.display(), request::wl_display::GET_REGISTRY)?;
     round_trip(client, server, wire)?;
     let compositor = bind(client, registry)?;
-    let surface = make(client, compositor, request::wl_compositor::CREATE_SURFACE)?;
+    let surface = create(client, compositor, request::wl_compositor::CREATE_SURFACE)?;
     client.send(surface, request::wl_surface::COMMIT, &[])?;
-    let callback = make(client, client.display(), request::wl_display::SYNC)?;
+    let callback = create(client, client.display(), request::wl_display::SYNC)?;
     round_trip(client, server, wire)?;
     wait_for(client, callback, event::wl_callback::DONE)?;
     Ok(())
 }
 
 /// Sends a request whose one argument is a new object, and returns that object.
-fn make(client: &mut Client<'_>, target: Object, opcode: u16) -> Result<Object> {
+fn create(client: &mut Client<'_>, target: Object, opcode: u16) -> Result<Object> {
     let made = client.send(target, opcode, &[Arg::New])?;
     made.context("the request makes no object")
 }
@@ -84,7 +84,7 @@ fn bind(client: &mut Client<'_>, registry: Object) -> Result<Object> {
 }
 
 /// Binds the global that these arguments of wl_registry.global announce.
-fn bind_announced(client: &mut Client<'_>, registry: Object, args: &Gots) -> Result<Object> {
+fn bind_announced(client: &mut Client<'_>, registry: Object, args: &OwnedArgs) -> Result<Object> {
     let [Got::Uint(name), Got::Str(Some(iface)), Got::Uint(version)] = args.as_slice() else {
         bail!("the arguments are not those of wl_registry.global");
     };

@@ -17,13 +17,13 @@ fn play_text(rt: &HostRuntime, props: Props<'_>, text: &str) -> io::Result<bool>
     };
     let mut all = true;
     for scene in &scenes {
-        all = tell(rt, scene.name, play_scene(props, scene)?.as_str())? && all;
+        all = report(rt, scene.name, play_scene(props, scene)?.as_str())? && all;
     }
     Ok(all)
 }
 
 /// Prints how a scene went. Whether it went well.
-fn tell(rt: &HostRuntime, name: &str, wrong: &str) -> io::Result<bool> {
+fn report(rt: &HostRuntime, name: &str, wrong: &str) -> io::Result<bool> {
     if wrong.is_empty() {
         println!(rt; "{name}: ok")?;
         return Ok(true);

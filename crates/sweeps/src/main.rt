@@ -30,7 +30,7 @@ use wl_scenes::Trouble;
 use wl_sigs::Tables;
 
 /// Prints how a sweep went. Whether all went well.
-fn tell(rt: &HostRuntime, name: &str, tally: Result<Tally, Trouble>) -> io::Result<bool> {
+fn report(rt: &HostRuntime, name: &str, tally: Result<Tally, Trouble>) -> io::Result<bool> {
     match tally {
         Ok(tally) => {
             println!(rt; "  {name}: {tally}")?;
@@ -45,12 +45,12 @@ fn tell(rt: &HostRuntime, name: &str, tally: Result<Tally, Trouble>) -> io::Resu
 
 /// Sweeps over one recording.
 fn sweep(rt: &HostRuntime, props: Props<'_>, sample: &Sample<'_>) -> io::Result<bool> {
-    let mut all = tell(rt, "cut", judge_cut(props, sample))?;
-    all = tell(rt, "changed, judged", judge_changed(props, sample))? && all;
-    all = tell(rt, "changed, at a server", sweep_server(props, sample))? && all;
-    all = tell(rt, "changed, at a client", sweep_client(props, sample))? && all;
+    let mut all = report(rt, "cut", judge_cut(props, sample))?;
+    all = report(rt, "changed, judged", judge_changed(props, sample))? && all;
+    all = report(rt, "changed, at a server", sweep_server(props, sample))? && all;
+    all = report(rt, "changed, at a client", sweep_client(props, sample))? && all;
     for call in Call::ALL {
-        all = tell(rt, call.name(), refuse(props, sample, call))? && all;
+        all = report(rt, call.name(), refuse(props, sample, call))? && all;
     }
     Ok(all)
 }
@@ -89,8 +89,8 @@ fn sweep_all(rt: &HostRuntime) -> io::Result<bool> {
     };
     let mut all = sweep_files(rt, props)?;
     println!(rt; "births")?;
-    all = tell(rt, "at a client", born_at_client(props))? && all;
-    all = tell(rt, "at a server", born_at_server(props))? && all;
+    all = report(rt, "at a client", born_at_client(props))? && all;
+    all = report(rt, "at a server", born_at_server(props))? && all;
     println!(rt; "runs")?;
     all = tell_runs(rt, props)? && all;
     Ok(all)
@@ -100,13 +100,13 @@ fn sweep_all(rt: &HostRuntime) -> io::Result<bool> {
 fn tell_runs(rt: &HostRuntime, props: Props<'_>) -> io::Result<bool> {
     match judge_runs(props) {
         Ok(judged) => {
-            let mut all = tell(rt, "recorded lawfully", Ok(judged.runs))?;
+            let mut all = report(rt, "recorded lawfully", Ok(judged.runs))?;
             for (name, tally) in KINDS.iter().zip(judged.moves.iter()) {
-                all = tell(rt, name, Ok(*tally))? && all;
+                all = report(rt, name, Ok(*tally))? && all;
             }
             Ok(all)
         }
-        Err(trouble) => tell(rt, "recorded lawfully", Err(trouble)),
+        Err(trouble) => report(rt, "recorded lawfully", Err(trouble)),
     }
 }
 

@@ -23,7 +23,7 @@ use Rattle.wl_objects.specs.declared.error.Fault.{Fault}
 use Rattle.wl_objects.specs.declared.error.Fault.TheVariants.{BadSize, TrailingBytes, MissingDescriptor, UnknownMessage}
 use Rattle.wl_table.specs.View.{max_ids}
 use Rattle.wl_objects.specs.Reading.{Reader, kind_at, forgiving, new_fault, value_fault, unless, judged as judged_value, before, and_those, arguments_at, descriptors}
-use Rattle.wl_objects.specs.Messages.{Received, Made, made, made_by, or_else, is_empty, is_error, received_whole, received_as, received_by, received, new_id_of}
+use Rattle.wl_objects.specs.Messages.{Received, NewObject, made, made_by, or_else, is_empty, is_error, received_whole, received_as, received_by, received, new_id_of}
 use Rattle.wl_recording.specs.declared.piece.Direction.{Direction}
 use Rattle.wl_recording.specs.declared.piece.Direction.TheVariants.{ToServer, ToClient}
 use Rattle.wl_check.specs.declared.effect.Effect.{Effect}
@@ -41,22 +41,22 @@ new_free place Free e = refl
 new_free place Wrong e = absurd (cc)
 new_free place TooMany e = absurd (cc)
 
-named_id : (o : Option Iface) (own id : ℕ) (m : Made) → option_map (λ (iface : Iface). record { id = id; iface = iface; version = own }) o ≡ Some m → id ≡ m.id
+named_id : (o : Option Iface) (own id : ℕ) (m : NewObject) → option_map (λ (iface : Iface). record { id = id; iface = iface; version = own }) o ≡ Some m → id ≡ m.id
 named_id None own id m e = absurd (cc)
 named_id (Some iface) own id m e = cc
 
 -- what a value makes has an id that is free
-made_by_free : (tables : List Interface) (version : ℕ) (r : Reader) (place : ℕ) (kind : Kind) (v : Argument) (m : Made) → made_by tables version kind v ≡ Some m → value_fault r place kind v ≡ None → r.new_id m.id ≡ Free
+made_by_free : (tables : List Interface) (version : ℕ) (r : Reader) (place : ℕ) (kind : Kind) (v : Argument) (m : NewObject) → made_by tables version kind v ≡ Some m → value_fault r place kind v ≡ None → r.new_id m.id ≡ Free
 made_by_free tables version r place (kinds.New (Some iface)) (New id) m e f = let same : id ≡ m.id = cc in ap r.new_id (sym same) ∙ new_free place (r.new_id id) f
 made_by_free tables version r place (kinds.New None) (NewNamed name own id) m e f = let same = named_id (place_of tables name) own id m e in ap r.new_id (sym same) ∙ new_free place (r.new_id id) f
 made_by_free tables version r place _ _ m e f = absurd (cc)
 
 abbrev Free_in : List Interface → ℕ → Reader → List Kind → Result (List Argument × List ℕ) Fault → Type 0
 Free_in tables version r ks (Err fault) = Unit {0}
-Free_in tables version r ks (Ok found) = (m : Made) → made tables version ks found.0 ≡ Some m → r.new_id m.id ≡ Free
+Free_in tables version r ks (Ok found) = (m : NewObject) → made tables version ks found.0 ≡ Some m → r.new_id m.id ≡ Free
 
-free_or : (tables : List Interface) (version : ℕ) (r : Reader) (place : ℕ) (kind : Kind) (ks : List Kind) (v : Argument) (vs : List Argument) (o : Option Made) → made_by tables version kind v ≡ o → value_fault r place kind v ≡ None
-    → ((m : Made) → made tables version ks vs ≡ Some m → r.new_id m.id ≡ Free) → (m : Made) → or_else o (made tables version ks vs) ≡ Some m → r.new_id m.id ≡ Free
+free_or : (tables : List Interface) (version : ℕ) (r : Reader) (place : ℕ) (kind : Kind) (ks : List Kind) (v : Argument) (vs : List Argument) (o : Option NewObject) → made_by tables version kind v ≡ o → value_fault r place kind v ≡ None
+    → ((m : NewObject) → made tables version ks vs ≡ Some m → r.new_id m.id ≡ Free) → (m : NewObject) → or_else o (made tables version ks vs) ≡ Some m → r.new_id m.id ≡ Free
 free_or tables version r place kind ks v vs None is f ih m e = ih m e
 free_or tables version r place kind ks v vs (Some x) is f ih m e = made_by_free tables version r place kind v m (is ∙ e) f
 
@@ -83,7 +83,7 @@ free_at tables version r place (kind ∷ ks) bytes = free_judged tables version 
 
 abbrev Free_made : List Interface → Reader → Result Received Fault → Type 0
 Free_made tables r (Err fault) = Unit {0}
-Free_made tables r (Ok got) = (m : Made) → made tables got.entry.version got.signature.kinds got.values ≡ Some m → r.new_id m.id ≡ Free
+Free_made tables r (Ok got) = (m : NewObject) → made tables got.entry.version got.signature.kinds got.values ≡ Some m → r.new_id m.id ≡ Free
 
 whole_tests : (tables : List Interface) (r : Reader) (a b : Bool) (e f : Fault) (x : Received) → Free_made tables r (Ok x) → Free_made tables r (cond a (Err e) (cond b (Err f) (Ok x)))
 whole_tests tables r true b e f x h = tt
@@ -119,13 +119,13 @@ free_by tables side r header body waiting (Some entry) = free_as tables side r h
 
 abbrev pub Free_effect : List Interface → Known → Result Call Fault → Type 0
 Free_effect tables k (Err fault) = Unit {0}
-Free_effect tables k (Ok call) = (m : Made) → (effect tables call).made ≡ Some m → is_free k m.id ≡ true
+Free_effect tables k (Ok call) = (m : NewObject) → (effect tables call).made ≡ Some m → is_free k m.id ≡ true
 
 free_id : (a b : Bool) → new_id_of a b ≡ Free → a ≡ true
 free_id true b e = refl
 free_id false b e = absurd (cc)
 
-request_made : (d : Direction) (o : Option Made) (m : Made) → if_request d o ≡ Some m → o ≡ Some m
+request_made : (d : Direction) (o : Option NewObject) (m : NewObject) → if_request d o ≡ Some m → o ≡ Some m
 request_made ToServer o m e = e
 request_made ToClient o m e = absurd (cc)
 
@@ -163,10 +163,10 @@ named_none s p i (Some m) h = absurd (cc)
 positive : (n : ℕ) → not (nat_eq n 0) ≡ true → 0 < n
 positive n h = grind (arith, nat_tests)
 
-first_id : (new : Made) → beginning.made ≡ Some new → new.id ≡ 1
+first_id : (new : NewObject) → beginning.made ≡ Some new → new.id ≡ 1
 first_id new e = cc
 
-fresh_made : (s : ℕ → Effect) (p : ℕ) (o : Option Made) → (s p).made ≡ o → ((new : Made) → o ≡ Some new → is_free (known s p) new.id ≡ true) → IsFresh s p
+fresh_made : (s : ℕ → Effect) (p : ℕ) (o : Option NewObject) → (s p).made ≡ o → ((new : NewObject) → o ≡ Some new → is_free (known s p) new.id ≡ true) → IsFresh s p
 fresh_made s p None e free = record { no_holder = λ i m. absurd (let no : false ≡ true = rw e at m in cc); next = λ new is. absurd (cc) }
 fresh_made s p (Some new) e free =
     let f = free new refl in
@@ -176,7 +176,7 @@ fresh_made s p (Some new) e free =
     record {
       no_holder = λ i m. (let is : nat_eq new.id i ≡ true = rw e at m in subst (λ (x : ℕ). holder s p x ≡ None) (eqb-true new.id i is) none);
       next = λ other is. (let same : new ≡ other = cc in
-          subst (λ (m : Made). (0 < m.id) × (m.id ≤ used s p + 1)) same (positive new.id b.0, leb-true new.id (used s p + 1) a.1));
+          subst (λ (m : NewObject). (0 < m.id) × (m.id ≤ used s p + 1)) same (positive new.id b.0, leb-true new.id (used s p + 1) a.1));
     }
 
 fresh_judged : (tables : List Interface) (k : Known) (p : ℕ) (s : ℕ → Effect) (x : Judged) → known s p ≡ k → s p ≡ effect_of tables (Some x) → Free_effect tables k x → IsFresh s p

@@ -2,7 +2,7 @@
 use Rattle.std.proofs.Common.{◌≡◌, ℕ, zero, suc, ◌+◌, ◌<◌, ◌≤◌, Bool, true, false, ◌&&◌, ◌||◌, cond, Some, None, refl, sym, ap, ◌∙◌, subst, inl, inr, arith, nat_lt, nat_eq, max, ◌↔◌}
 use Rattle.std.specs.Prelude.{Option}
 use Rattle.std.proofs.lemmas.Bool.{cases_Bool, cases_order, cases_lt, lt-ltb, ltb-true, and_parts, eqb-true, eq-eqb}
-use Rattle.wl_objects.specs.Messages.{Made}
+use Rattle.wl_objects.specs.Messages.{NewObject}
 use Rattle.wl_check.specs.declared.effect.Advertised.{Advertised}
 use Rattle.wl_check.specs.declared.effect.Effect.{Effect}
 use Rattle.wl_check.specs.Places.{makes, is_made, deletes, destroys, holder, is_ending, used, used_by, advertised_version, advertises, advertised_once, advertised_by}
@@ -11,7 +11,7 @@ use Rattle.wl_check.specs.Text.{Held, IsOpen, WasUsed, WasAdvertised}
 -- no object is made with an id that is held, and each new id was used before or is the next
 pub record IsFresh (s : ℕ → Effect) (p : ℕ) : Type 0 where
   pub no_holder : (i : ℕ) → makes (s p) i ≡ true → holder s p i ≡ None
-  pub next : (new : Made) → (s p).made ≡ Some new → (0 < new.id) × (new.id ≤ used s p + 1)
+  pub next : (new : NewObject) → (s p).made ≡ Some new → (0 < new.id) × (new.id ≤ used s p + 1)
 
 abbrev pub AreFresh : (ℕ → Effect) → ℕ → Type 0
 AreFresh s p = (q : ℕ) → q < p → IsFresh s q
@@ -94,10 +94,10 @@ open_is s p m i = (whole_from s m p i, whole_to s m p i)
 later_used : (s : ℕ → Effect) (p i : ℕ) → WasUsed s p i → WasUsed s (suc p) i
 later_used s p i w = record { birth = w.birth; before = (let b = w.before in omega (arith, b)); made = w.made }
 
-made_id : (o : Option Made) (new : Made) → o ≡ Some new → is_made o new.id ≡ true
+made_id : (o : Option NewObject) (new : NewObject) → o ≡ Some new → is_made o new.id ≡ true
 made_id o new e = rw e (eq-eqb new.id new.id refl)
 
-used_step : (s : ℕ → Effect) (p i : ℕ) (o : Option Made) → (s p).made ≡ o → ((new : Made) → o ≡ Some new → new.id ≤ used s p + 1) → (i ≤ used s p → WasUsed s p i) → i ≤ used_by o (used s p) → WasUsed s (suc p) i
+used_step : (s : ℕ → Effect) (p i : ℕ) (o : Option NewObject) → (s p).made ≡ o → ((new : NewObject) → o ≡ Some new → new.id ≤ used s p + 1) → (i ≤ used s p → WasUsed s p i) → i ≤ used_by o (used s p) → WasUsed s (suc p) i
 used_step s p i None e next ih h = later_used s p i (ih h)
 used_step s p i (Some new) e next ih h = elim (cases_lt (used s p) i) [
   | inl above ↦ (let n = next new refl in let same : new.id ≡ i = omega arith in
@@ -110,11 +110,11 @@ unfolding used
 used_from s zero i fresh pos h = absurd (omega arith)
 used_from s (suc p) i fresh pos h = used_step s p i (s p).made refl (λ new e. ((fresh p (omega arith)).next new e).1) (used_from s p i (λ q b. fresh q (omega arith)) pos) h
 
-used_keeps : (o : Option Made) (n : ℕ) → n ≤ used_by o n
+used_keeps : (o : Option NewObject) (n : ℕ) → n ≤ used_by o n
 used_keeps None n = omega arith
 used_keeps (Some new) n = omega arith
 
-made_used : (o : Option Made) (n i : ℕ) → is_made o i ≡ true → i ≤ used_by o n
+made_used : (o : Option NewObject) (n i : ℕ) → is_made o i ≡ true → i ≤ used_by o n
 made_used None n i h = absurd (cc)
 made_used (Some new) n i h = let e = eqb-true new.id i h in omega (arith, e)
 
@@ -129,7 +129,7 @@ used_at s (suc p) q i b m = elim (cases_order q p) [
   ]
 ]
 
-made_some : (o : Option Made) (i : ℕ) → is_made o i ≡ true → (new : Made) × (o ≡ Some new) × (new.id ≡ i)
+made_some : (o : Option NewObject) (i : ℕ) → is_made o i ≡ true → (new : NewObject) × (o ≡ Some new) × (new.id ≡ i)
 made_some None i h = absurd (cc)
 made_some (Some new) i h = (new, refl, eqb-true new.id i h)
 

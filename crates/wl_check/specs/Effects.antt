@@ -7,7 +7,7 @@ use Rattle.wl_sigs.specs.declared.signature.Side.TheVariants.{Request, Event}
 use Rattle.wl_sigs.specs.Tables.{Interface, place_of, destroys_one}
 use Rattle.wl_sigs.specs.Fixed.{display, registry}
 use Rattle.wl_objects.specs.Reading.{descriptors}
-use Rattle.wl_objects.specs.Messages.{Received, Made, made, is_error, is_delete_id, same_iface, ended_id}
+use Rattle.wl_objects.specs.Messages.{Received, NewObject, made, is_error, is_delete_id, same_iface, ended_id}
 use Rattle.wl_recording.specs.declared.piece.Direction.{Direction}
 use Rattle.wl_recording.specs.declared.piece.Direction.TheVariants.{ToServer, ToClient}
 use Rattle.wl_check.specs.declared.effect.Advertised.{Advertised}
@@ -41,7 +41,7 @@ advertised tables (Uint name ∷ Str (Some iface) ∷ Uint version ∷ []) =
 advertised tables _ = None
 
 -- objects are made by requests
-abbrev pub if_request : Direction → Option Made → Option Made
+abbrev pub if_request : Direction → Option NewObject → Option NewObject
 if_request ToServer new = new
 if_request ToClient new = None
 

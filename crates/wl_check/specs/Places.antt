@@ -4,7 +4,7 @@ use Rattle.std.specs.Prelude.{◌≡◌, ℕ, zero, suc, ◌+◌, max, Bool, tru
 use Rattle.wl_table.specs.declared.object.Entry.{Entry}
 use Rattle.wl_table.specs.declared.object.State.{State}
 use Rattle.wl_table.specs.declared.object.State.TheVariants.{Live, Zombie}
-use Rattle.wl_objects.specs.Messages.{Made}
+use Rattle.wl_objects.specs.Messages.{NewObject}
 use Rattle.wl_sigs.specs.Fixed.{display}
 use Rattle.wl_recording.specs.declared.piece.Direction.{Direction}
 use Rattle.wl_check.specs.declared.effect.Advertised.{Advertised}
@@ -19,7 +19,7 @@ is_id (Some other) id = nat_eq other id
 abbrev pub frees : Option ℕ → ℕ → Bool
 frees deleted id = not (nat_eq id 1) && is_id deleted id
 
-abbrev pub is_made : Option Made → ℕ → Bool
+abbrev pub is_made : Option NewObject → ℕ → Bool
 is_made None id = false
 is_made (Some new) id = nat_eq new.id id
 
@@ -49,10 +49,10 @@ abbrev pub state_of : Bool → State
 state_of true = Zombie
 state_of false = Live
 
-abbrev pub entry_of : ℕ → State → Made → Entry
+abbrev pub entry_of : ℕ → State → NewObject → Entry
 entry_of birth state new = record { birth = birth; iface = new.iface; version = new.version; state = state }
 
-abbrev pub new_of : Option Made → Made
+abbrev pub new_of : Option NewObject → NewObject
 new_of None = record { id = 0; iface = display; version = 0 }
 new_of (Some new) = new
 
@@ -65,7 +65,7 @@ abbrev pub named : (ℕ → Effect) → ℕ → ℕ → Option Entry
 named session place id = option_map (λ birth. object_of session birth (state_of (is_ending session birth place id))) (holder session place id)
 
 -- the counts behind a message
-abbrev pub used_by : Option Made → ℕ → ℕ
+abbrev pub used_by : Option NewObject → ℕ → ℕ
 used_by None count = count
 used_by (Some new) count = max new.id count
 

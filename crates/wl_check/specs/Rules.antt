@@ -14,7 +14,7 @@ use Rattle.wl_objects.specs.declared.error.Fault.{Fault}
 use Rattle.wl_objects.specs.declared.error.Fault.TheVariants.{BadSize, BadBind}
 use Rattle.wl_table.specs.View.{lives, max_ids}
 use Rattle.wl_objects.specs.Reading.{Reader}
-use Rattle.wl_objects.specs.Messages.{Received, Made, made, received, is_bind, new_id_of}
+use Rattle.wl_objects.specs.Messages.{Received, NewObject, made, received, is_bind, new_id_of}
 use Rattle.wl_recording.specs.declared.piece.Direction.{Direction}
 use Rattle.wl_recording.specs.declared.piece.Direction.TheVariants.{ToServer, ToClient}
 use Rattle.wl_check.specs.declared.frames.Frame.{Frame}
@@ -50,7 +50,7 @@ version_of tables iface = option_map_or (λ (i : Interface). i.version) (interfa
 
 -- A bind of this name may make this object: its interface is in the tables, its version is at least 1, at most that of the
 -- tables, and at most one that an event advertised for this name and interface.
-abbrev pub can_bind : List Interface → Known → Option ℕ → Option Made → Bool
+abbrev pub can_bind : List Interface → Known → Option ℕ → Option NewObject → Bool
 can_bind tables k (Some name) (Some new) = nat_le 1 new.version && nat_le new.version (version_of tables new.iface) && nat_le new.version (k.advertised_version name new.iface.0)
 can_bind tables k _ _ = false
 

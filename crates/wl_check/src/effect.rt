@@ -1,5 +1,5 @@
 //! What a message does.
-use wl_objects::Made;
+use wl_objects::NewObject;
 use wl_recording::Direction;
 use wl_wire::Iface;
 
@@ -16,7 +16,7 @@ pub(crate) struct Advertised {
 pub(crate) struct Effect {
     pub direction: Direction,
     /// The object that it makes.
-    pub made: Option<Made>,
+    pub made: Option<NewObject>,
     /// The id of which it is the delete_id.
     pub deleted: Option<u32>,
     /// The id of the object that it destroys.

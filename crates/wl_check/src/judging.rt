@@ -15,7 +15,7 @@ use std::alloc::{AllocError, Allocator};
 use wl_lines::write_line;
 use wl_message::Limit;
 use wl_objects::{
-    Fault, Made, REGISTRY, Received, Values, descriptors, is_bind, is_delete_id, is_error,
+    Fault, NewObject, REGISTRY, Received, Values, descriptors, is_bind, is_delete_id, is_error,
     made_by_message, receive,
 };
 use wl_recording::Direction;
@@ -127,7 +127,7 @@ fn can_bind<A: Allocator>(
     tables: &Tables,
     known: &Knowledge<A>,
     name: Option<u32>,
-    new: Option<Made>,
+    new: Option<NewObject>,
 ) -> bool
     ensures { result ≡ can_bind tables.now (known_in known.now) name new }
 {

@@ -13,7 +13,7 @@ ghost use Rattle.wl_check.specs.Seen.{known_in, pair_cmp, taken_in};
 use crate::effect::{Advertised, Effect};
 use std::alloc::{AllocError, Allocator, Global};
 use std::collections::BTreeMap;
-use wl_objects::{DISPLAY, Entry, Lookup, Made, NewId, State};
+use wl_objects::{DISPLAY, Entry, Lookup, NewId, NewObject, State};
 use wl_recording::Direction;
 use wl_sigs::Tables;
 use wl_table::{DISPLAY_ID, MAX_IDS};
@@ -60,7 +60,7 @@ fn make_zombie<A: Allocator>(objects: &mut BTreeMap<u32, Entry, A>, id: Option<u
 fn open_object<A: Allocator + Clone>(
     objects: &mut BTreeMap<u32, Entry, A>,
     place: u64,
-    made: Option<Made>,
+    made: Option<NewObject>,
 ) -> Result<(), AllocError>
     ensures { OnOk result ((other : ℕ)
         → get nat_cmp objects.new other

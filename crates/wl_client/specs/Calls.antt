@@ -13,7 +13,7 @@ use Rattle.wl_objects.specs.declared.error.SendError.{SendError}
 use Rattle.wl_objects.specs.declared.error.SendError.TheVariants as refusals
 use Rattle.wl_table.specs.View.{next_id, opened}
 use Rattle.wl_objects.specs.Writing.{message_len}
-use Rattle.wl_objects.specs.Messages.{Made, live_row, same_iface}
+use Rattle.wl_objects.specs.Messages.{NewObject, live_row, same_iface}
 use Rattle.wl_end.specs.Core.{with_view}
 use Rattle.wl_end.specs.Sending.{fits, with_sent, opening_answer}
 use Rattle.wl_client.specs.State.{State, Global, global_of}
@@ -40,7 +40,7 @@ iface_or None = registry
 iface_or (Some global) = global.iface
 
 -- the object that a bind makes, at the next id
-abbrev pub bound : State → ℕ → ℕ → Made
+abbrev pub bound : State → ℕ → ℕ → NewObject
 bound state name version = record {
   id = next_id state.core.view;
   iface = iface_or (global_of state.globals name);

@@ -23,7 +23,7 @@ use Rattle.wl_objects.specs.Reading.{Reported, named_at}
 use Rattle.wl_objects.specs.Messages.{Received, reader_of, is_error, is_delete_id, same_iface}
 use Rattle.wl_objects.specs.Messages.{Client as client, after, after_delete_id, ended_id}
 use Rattle.wl_end.specs.Core.{Core, with_view, with_failure}
-use Rattle.wl_end.specs.Outcomes.{Gives, answers_with}
+use Rattle.wl_end.specs.Outcomes.{AnswersOrMemory, answers_with}
 use Rattle.wl_end.specs.Receiving.{Found, found, reported, own_tokens, past_found, is_none}
 use Rattle.wl_client.specs.State.{State, Global, max_globals, is_named, global_of, with_core}
 
@@ -193,4 +193,5 @@ after_next state =
 -- report that needs some.
 abbrev pub IsNext : State → Result (Option Report) NextError → Type 0
 IsNext state result =
-    Gives errors.Memory (answers_with needs_memory (next_answer state)) (next_answer state) result
+    AnswersOrMemory errors.Memory (answers_with needs_memory (next_answer state))
+    (next_answer state) result

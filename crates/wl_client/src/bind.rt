@@ -1,6 +1,6 @@
 //! How a client binds a global.
 ghost use Rattle.std.specs.Prelude.{◌≡◌, Some, true, OnErr, OnOk};
-ghost use Rattle.wl_end.specs.Outcomes.{Gives};
+ghost use Rattle.wl_end.specs.Outcomes.{AnswersOrMemory};
 ghost use Rattle.wl_client.specs.Calls.{after_bind, bind_answer, can_bind};
 ghost use Rattle.wl_client.specs.Binding.{FitsBind};
 ghost use Rattle.wl_client.specs.Seen.{new_in};
@@ -24,7 +24,7 @@ impl<'t, T: Table> Client<'t, T> {
         iface: &[u8],
         version: u32,
     ) -> Result<Object, SendError>
-        ensures answer { Gives SendError.Memory true
+        ensures answer { AnswersOrMemory SendError.Memory true
             (bind_answer self.old registry name iface.now version) (new_in result) }
         ensures ok { OnOk result (self.new ≡ after_bind self.old registry name iface.now version) }
         ensures err { OnErr result (self.new ≡ self.old) }

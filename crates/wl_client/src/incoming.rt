@@ -7,7 +7,7 @@ ghost use Rattle.wl_client.specs.Outlines.{lent_report, outlined};
 use crate::arguments::text_at;
 use crate::tokens::Tokens;
 use std::alloc::{AllocError, Allocator, Global};
-use wl_objects::{Args, Gots, Named, Object, ParsedArgs};
+use wl_objects::{Args, Named, Object, OwnedArgs, ParsedArgs};
 use wl_wire::Bytes;
 
 /// A message that the client read. What it lends is lent from the client, until it reads the next
@@ -51,7 +51,7 @@ pub enum OwnedIncoming<A: Allocator = Global> {
     Event {
         target: Object,
         opcode: u16,
-        args: Gots<A>,
+        args: OwnedArgs<A>,
     },
     Discarded {
         target: Object,

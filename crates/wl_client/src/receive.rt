@@ -25,7 +25,7 @@ use crate::outline::{Meaning, meaning_of};
 use std::alloc::Allocator;
 use wl_end::{Core, MAX_TOKENS};
 use wl_message::Frame;
-use wl_objects::{Fault, Held, NextError, Table, receive};
+use wl_objects::{Fault, NextError, Table, TableLookup, receive};
 use wl_sigs::{Side, Tables};
 
 /// What the reading of a message comes to, before the message is taken.
@@ -226,7 +226,7 @@ fn step_of<T: Table>(tables: &Tables, table: &T, frame: Frame<'_>) -> Result<Ste
 {
     let header = frame.header;
     let opcode = header.opcode;
-    let lookup = Held { table };
+    let lookup = TableLookup { table };
     let received = receive(
         tables,
         Side::Event,

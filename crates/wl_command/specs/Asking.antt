@@ -118,9 +118,9 @@ IsGiven name arguments (Socket path) =
     (name ≡ codes "socket") × (first_of (codes "PATH") arguments ≡ Some (string_bytes path))
 
 -- the job that a command and its arguments ask for, or none where they ask for none
-abbrev pub Gives : Text → List Row → Option Job → Type 0
-Gives name arguments (Some job) = IsGiven name arguments job
-Gives name arguments None = (job : Job) → IsGiven name arguments job → ⊥
+abbrev pub IsJobFor : Text → List Row → Option Job → Type 0
+IsJobFor name arguments (Some job) = IsGiven name arguments job
+IsJobFor name arguments None = (job : Job) → IsGiven name arguments job → ⊥
 
 -- the same of the command that was named, if any was
 abbrev pub Names : Option (Text × List Row) → Option Job → Type 0

@@ -1,7 +1,7 @@
 //! What the words of a command line ask for.
 ghost use Rattle.std.specs.Prelude.{◌≡◌, List, [], IfOk, IfErr, false, option_map, string_bytes};
 ghost use Rattle.clap.specs.Words.{HasKind, app_of, fault_of, first_of, found_of, kind_of, rows_of, rule_of, subcommand_of, subcommand_rows_of};
-ghost use Rattle.wl_command.specs.Asking.{Asks, Gives, IsLimitOf, IsNumber, IsStop, Names, Stops, StopsFor, check_command, command_line, demo_command, file_argument, limit_argument, path_argument, piece_argument, socket_command, tables_argument, texts_of, trace_command};
+ghost use Rattle.wl_command.specs.Asking.{Asks, IsJobFor, IsLimitOf, IsNumber, IsStop, Names, Stops, StopsFor, check_command, command_line, demo_command, file_argument, limit_argument, path_argument, piece_argument, socket_command, tables_argument, texts_of, trace_command};
 
 use clap::error::ErrorKind;
 use clap::{Arg, ArgMatches, Command, Error};
@@ -202,7 +202,7 @@ fn limit_of(matches: &ArgMatches<'_>) -> Option<Limit>
 
 /// The job that a command of this name asks for with what it was given, or none.
 fn named(alloc: Global, name: &str, given: &ArgMatches<'_>) -> Result<Option<Job>, AllocError>
-    ensures { IfOk result (Gives name.now (rows_of (found_of given.now))) }
+    ensures { IfOk result (IsJobFor name.now (rows_of (found_of given.now))) }
 {
     match name {
         "trace" => {

@@ -29,13 +29,13 @@ use Rattle.wl_table.specs.View.{View, look, is_live, lives, lives_in, next_id}
 use Rattle.wl_table.specs.Views.{look-opened_at}
 use Rattle.wl_objects.specs.Writing.{Given, given, given_of, wired, on_wire, suits, wrong_place, lost_place, call_makes, id_of, message_len, message_bytes, tokens_of}
 use Rattle.wl_objects.specs.Writing as writing
-use Rattle.wl_objects.specs.Messages.{ended_id, Made, opens, checked, destroys}
+use Rattle.wl_objects.specs.Messages.{ended_id, NewObject, opens, checked, destroys}
 use Rattle.wl_objects.proofs.Calls.{len-any}
 use Rattle.wl_objects.proofs.Carrying.{if-none}
 use Rattle.wl_objects.proofs.Fitting.{call-makes}
 use Rattle.wl_objects.proofs.Wholes.{length-message, passes}
 use Rattle.wl_end.specs.Core.{Core, HasDisplay, with_view}
-use Rattle.wl_end.specs.Outcomes.{Gives}
+use Rattle.wl_end.specs.Outcomes.{AnswersOrMemory}
 use Rattle.wl_end.specs.Sending.{answer_of, fits, following_len, made_at, next_object, opening_answer, sent, with_following, following, with_sent, writer}
 use Rattle.wl_end.proofs.Displays.{ends-another}
 use Rattle.wl_end.proofs.Messages.{fits-after, fits-less}
@@ -145,7 +145,7 @@ fits-behind core written view list target opcode id more tokens h e =
     let room : fits core.outbox (length (message_bytes target opcode (on_wire id list)) + more) (length tokens) ≡ true = ap (λ (n : ℕ). fits core.outbox (n + more) (length tokens)) len ∙ h in
     ap (λ (c : Core). fits c.outbox more 0) e ∙ fits-after core.outbox (message_bytes target opcode (on_wire id list)) tokens more room
 
-gives-more : {X E : Type 0} (memory : E) (wants more : Bool) (answer result : Result X E) → (wants ≡ true → more ≡ true) → Gives memory wants answer result → Gives memory more answer result
+gives-more : {X E : Type 0} (memory : E) (wants more : Bool) (answer result : Result X E) → (wants ≡ true → more ≡ true) → AnswersOrMemory memory wants answer result → AnswersOrMemory memory more answer result
 gives-more memory wants more answer result f (inl e) = inl e
 gives-more memory wants more answer result f (inr w) = inr (w.0, f w.1, w.2)
 
@@ -153,14 +153,14 @@ gives-more memory wants more answer result f (inr w) = inr (w.0, f w.1, w.2)
 pub answered : (core : Core) (side : Side) (target : Object) (opcode : ℕ) (list : List Arg) (signature : Message) (entry : Entry) (result : Result (Option Object) SendError)
     → checked core.outbox.limit.bytes core.tables side core.view target opcode (given list) ≡ Ok signature → look core.view target.id ≡ Some entry
     → fits core.outbox (message_len (on_wire 0 list) + following_len side signature.destroys) (length (tokens_of (given list))) ≡ true
-    → Gives refusals.Memory (is_some (call_makes signature.kinds)) (opening_answer core (next_object core.view entry.version (call_makes signature.kinds))) result
-    → Gives refusals.Memory (is_some (makes signature)) (answer_of core side target (given list) (Ok signature)) result
+    → AnswersOrMemory refusals.Memory (is_some (call_makes signature.kinds)) (opening_answer core (next_object core.view entry.version (call_makes signature.kinds))) result
+    → AnswersOrMemory refusals.Memory (is_some (makes signature)) (answer_of core side target (given list) (Ok signature)) result
 answered core side target opcode list signature entry result e row fit g =
     let same : answer_of core side target (given list) (Ok signature) ≡ opening_answer core (next_object core.view entry.version (call_makes signature.kinds)) =
     ap (λ (b : Bool). if b then opening_answer core (made_at core target signature (given list)) else Err refusals.Full) fit
     ∙ ap (opening_answer core) (made-next core side target opcode list signature entry e row) in
     gives-more refusals.Memory (is_some (call_makes signature.kinds)) (is_some (makes signature)) (answer_of core side target (given list) (Ok signature)) result (makes-some signature.kinds)
-    (subst (λ (a : Result (Option Object) SendError). Gives refusals.Memory (is_some (call_makes signature.kinds)) a result) (sym same) g)
+    (subst (λ (a : Result (Option Object) SendError). AnswersOrMemory refusals.Memory (is_some (call_makes signature.kinds)) a result) (sym same) g)
 
 id-where : (new : Option Object) (view : View) (iface : Option Iface) → IfSome iface (λ _. id_of new ≡ next_id view) → is_some iface ≡ true → id_of new ≡ next_id view
 id-where new view None h s = absurd (cc)
@@ -176,7 +176,7 @@ written-known core opened written side target opcode list signature entry new if
     let made : next_object core.view entry.version iface ≡ made_at core target signature (given list) =
     ap (next_object core.view entry.version) f ∙ sym (made-next core side target opcode list signature entry e row) in
     let values : on_wire (id_of new) list ≡ on_wire (next_id core.view) list = wired-next core side target opcode list signature (id_of new) iface e f (id-where new core.view iface i) in
-    w ∙ (ap (λ (c : Core). with_sent c target.id opcode (on_wire (id_of new) list) tokens) (o ∙ ap (λ (m : Option Made). with_view core (opens core.view m)) made)
+    w ∙ (ap (λ (c : Core). with_sent c target.id opcode (on_wire (id_of new) list) tokens) (o ∙ ap (λ (m : Option NewObject). with_view core (opens core.view m)) made)
     ∙ (ap (λ (vs : List Argument). with_sent (with_view core (opens core.view (made_at core target signature (given list)))) target.id opcode vs tokens) values
     ∙ ap (with_sent (with_view core (opens core.view (made_at core target signature (given list)))) target.id opcode (on_wire (next_id core.view) list)) t))
 

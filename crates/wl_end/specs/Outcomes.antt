@@ -7,8 +7,8 @@ use Rattle.wl_objects.specs.declared.error.NextError.TheVariants as errors
 
 -- A call returns what it should; or, where that is an acceptance for which memory may be needed,
 -- out of memory.
-abbrev pub Gives : {X E : Type 0} → E → Bool → Result X E → Result X E → Type 0
-Gives memory wants answer result =
+abbrev pub AnswersOrMemory : {X E : Type 0} → E → Bool → Result X E → Result X E → Type 0
+AnswersOrMemory memory wants answer result =
     (result ≡ answer) ⊎ ((result ≡ Err memory) × (wants ≡ true) × IsOk answer)
 
 -- whether a read returns a report, and one of this kind

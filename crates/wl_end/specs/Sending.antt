@@ -16,7 +16,7 @@ use Rattle.wl_objects.specs.declared.error.SendError.TheVariants as refusals
 use Rattle.wl_wire.specs.declared.kind.Iface.{Iface}
 use Rattle.wl_table.specs.View.{View, next_id, can_open, look}
 use Rattle.wl_objects.specs.Writing.{Given, wired, message_len, message_bytes, tokens_of}
-use Rattle.wl_objects.specs.Messages.{Made, made, checked, End, Client, Server, after, ended_id}
+use Rattle.wl_objects.specs.Messages.{NewObject, made, checked, End, Client, Server, after, ended_id}
 use Rattle.wl_end.specs.Core.{Core, with_view}
 
 -- whether this number of bytes and tokens is free in the outbox
@@ -46,17 +46,17 @@ with_error_event core object code text = record core {
 }
 
 -- the object of this interface and version that is opened next, if one is made
-abbrev pub next_object : View → ℕ → Option Iface → Option Made
+abbrev pub next_object : View → ℕ → Option Iface → Option NewObject
 next_object view version iface =
     option_map (λ i. record { id = next_id view; iface = i; version = version }) iface
 
 -- the object that a call makes, at the next id
-abbrev pub made_by_call : Core → ℕ → Message → List Given → Option Made
+abbrev pub made_by_call : Core → ℕ → Message → List Given → Option NewObject
 made_by_call core version signature given =
     made core.tables version signature.kinds (map (wired (next_id core.view)) given)
 
 -- what a call with room returns that makes this: its new object, or S10 where none can be opened
-abbrev pub opening_answer : Core → Option Made → Result (Option Object) SendError
+abbrev pub opening_answer : Core → Option NewObject → Result (Option Object) SendError
 opening_answer core None = Ok None
 opening_answer core (Some m) =
     if can_open core.view
@@ -85,7 +85,7 @@ version_at None = 0
 version_at (Some entry) = entry.version
 
 -- the object that a call at this target makes
-abbrev pub made_at : Core → Object → Message → List Given → Option Made
+abbrev pub made_at : Core → Object → Message → List Given → Option NewObject
 made_at core target signature given =
     made_by_call core (version_at (look core.view target.id)) signature given
 

@@ -6,7 +6,7 @@ ghost use Rattle.wl_objects.specs.Messages.{checked, destroys, ended_id, id_name
 ghost use Rattle.wl_table.specs.View.{Sound, is_live, look, next_id};
 ghost use Rattle.wl_objects.specs.Writing.{EachFits, bind_values, given, given_of, wired, has_no_nul, id_of, message_len, on_wire, tokens_of};
 ghost use Rattle.wl_end.specs.Core.{HasDisplay, with_view};
-ghost use Rattle.wl_end.specs.Outcomes.{Gives};
+ghost use Rattle.wl_end.specs.Outcomes.{AnswersOrMemory};
 ghost use Rattle.wl_end.specs.Sending.{after_send, answer_of, delete_id_len, fits, following, following_len, next_object, opening_answer, opens_object, send_answer, sent, with_delete_id, with_error_event, with_following, with_sent, writer};
 
 use crate::shared::Core;
@@ -115,7 +115,7 @@ impl<'t, T: Table> Core<'t, T> {
         version: u32,
     ) -> Result<Option<Object>, SendError>
         requires { Sound self.old.view }
-        ensures answer { Gives SendError.Memory (is_some iface)
+        ensures answer { AnswersOrMemory SendError.Memory (is_some iface)
             (opening_answer self.old (next_object self.old.view version iface)) result }
         ensures ok { OnOk result
             (self.new ≡ with_view self.old
@@ -196,7 +196,7 @@ impl<'t, T: Table> Core<'t, T> {
         requires sound { Sound self.old.view }
         requires display { HasDisplay self.old.view }
         requires valid { Valid self.old.tables }
-        ensures answer { Gives SendError.Memory (is_some (makes call.entry.signature.now))
+        ensures answer { AnswersOrMemory SendError.Memory (is_some (makes call.entry.signature.now))
             (answer_of self.old side target (given args.now) (Ok call.entry.signature.now)) result }
         ensures ok { OnOk result
             (self.new
@@ -233,7 +233,7 @@ impl<'t, T: Table> Core<'t, T> {
         opcode: u16,
         args: &[Arg<'_>],
     ) -> Result<Option<Object>, SendError>
-        ensures answer { Gives SendError.Memory
+        ensures answer { AnswersOrMemory SendError.Memory
             (opens_object (checked self.old.outbox.limit.bytes self.old.tables side self.old.view
             target opcode (given args.now)))
             (send_answer self.old side target opcode (given args.now)) result }

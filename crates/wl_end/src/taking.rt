@@ -6,7 +6,7 @@ ghost use Rattle.wl_table.specs.View.{free_or_next, has_room, is_held, is_live, 
 ghost use Rattle.wl_end.specs.Core.{past, with_view};
 
 use crate::shared::Core;
-use wl_objects::{MAX_ARGS, Made, Object, Table, TableError};
+use wl_objects::{MAX_ARGS, NewObject, Object, Table, TableError};
 
 /// The most tokens that a message has, one for each argument.
 pub const MAX_TOKENS: usize = MAX_ARGS;
@@ -38,22 +38,22 @@ impl<'t, T: Table> Core<'t, T> {
 
     /// Opens the object that a message makes. O3 is tested first, then O2, O1 and O4, as the table
     /// does; what is refused changes nothing.
-    pub fn open(&mut self, made: Made) -> Result<Object, TableError>
+    pub fn open_at(&mut self, new: NewObject) -> Result<Object, TableError>
         ensures ok { OnOk result
             (self.new ≡ with_view self.old
-            (opened_at self.old.view made.id made.iface made.version)) }
+            (opened_at self.old.view new.id new.iface new.version)) }
         ensures object { IfOk result
-            (λ object. object ≡ record { id = made.id; birth = self.old.view.births }) }
+            (λ object. object ≡ record { id = new.id; birth = self.old.view.births }) }
         ensures err { OnErr result (self.new ≡ self.old) }
 
-        ensures in_use { (result ≡ Err TableError.InUse) ↔ IsTrue (is_held self.old.view made.id) }
+        ensures in_use { (result ≡ Err TableError.InUse) ↔ IsTrue (is_held self.old.view new.id) }
         ensures not_next { (result ≡ Err TableError.NotNext)
-            ↔ IsTrue (not (is_held self.old.view made.id) && not
-            (free_or_next self.old.view made.id)) }
+            ↔ IsTrue (not (is_held self.old.view new.id) && not
+            (free_or_next self.old.view new.id)) }
         ensures no_ids { (result ≡ Err TableError.NoIds)
-            ↔ IsTrue (free_or_next self.old.view made.id && not (has_room self.old.view made.id)) }
+            ↔ IsTrue (free_or_next self.old.view new.id && not (has_room self.old.view new.id)) }
     {
-        self.table.open_at(made.id, made.iface, made.version)
+        self.table.open_at(new.id, new.iface, new.version)
     }
 
     /// Makes a live object a zombie: it has ended, and its id stays in use.

@@ -167,9 +167,9 @@ pub(crate) fn finish<A: Allocator, O: Write, E: Write>(
     match output {
         Ok(output) => match write_through(out, &output.text) {
             Ok(()) => output.status,
-            Err(_) => Failure::CannotWrite.tell(err),
+            Err(_) => Failure::CannotWrite.report(err),
         },
-        Err(failure) => failure.tell(err),
+        Err(failure) => failure.report(err),
     }
 }
 

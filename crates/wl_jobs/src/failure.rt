@@ -122,7 +122,7 @@ impl Failure<'_> {
     }
 
     /// Says so on `err`, and returns the exit status. Where `err` fails, nothing more is said.
-    pub fn tell<E: Write>(&self, err: &mut E) -> u8
+    pub fn report<E: Write>(&self, err: &mut E) -> u8
         ensures status { result ≡ status_of self.now }
         ensures said { AppendsFront (E.contents err.old) (E.contents err.new) (failure_line self.now) }
     {

@@ -59,7 +59,7 @@ where
     let status = match words {
         Ok(words) => match job_of(alloc, words.as_slice()) {
             Ok(job) => done(alloc, &job, opener, binder, out, err),
-            Err(stop) => tell(&stop, out, err),
+            Err(stop) => report_stop(&stop, out, err),
         },
         Err(error) => not_read(&error, err),
     };
@@ -71,7 +71,7 @@ fn not_read<E: Write>(error: &io::Error, err: &mut E) -> u8
     ensures { Unread E.contents (error_kind error.now) err.old err.new result }
 {
     if error.kind() == ErrorKind::OutOfMemory {
-        return Failure::Memory.tell(err);
+        return Failure::Memory.report(err);
     }
     let _ = write_whole(err, NO_TEXT);
     2
@@ -79,15 +79,15 @@ fn not_read<E: Write>(error: &io::Error, err: &mut E) -> u8
 
 /// Prints help or the version to `out`, and anything else to `err`, and returns the exit status: that
 /// of the stop, or 3 where `out` does not take the text.
-fn tell<O: Write, E: Write>(stop: &Stop, out: &mut O, err: &mut E) -> u8
+fn report_stop<O: Write, E: Write>(stop: &Stop, out: &mut O, err: &mut E) -> u8
     ensures { Told O.contents E.contents stop.now out.old out.new err.old err.new result }
 {
     match stop.status {
         0 => match write_through(out, stop.text.as_bytes()) {
             Ok(()) => 0,
-            Err(_) => Failure::CannotWrite.tell(err),
+            Err(_) => Failure::CannotWrite.report(err),
         },
-        4 => Failure::Memory.tell(err),
+        4 => Failure::Memory.report(err),
         status => {
             let _ = write_whole(err, stop.text.as_bytes());
             status
@@ -139,7 +139,7 @@ where
         } => match tables {
             Some(tables) => match opener(tables.as_str()) {
                 Ok(mut tables) => over_file(alloc, job, &mut tables, name, &opener, out, err),
-                Err(error) => open_failure(tables.as_str(), &error).tell(err),
+                Err(error) => open_failure(tables.as_str(), &error).report(err),
             },
             None => over_file(alloc, job, &mut io::empty(), name, &opener, out, err),
         },
@@ -154,7 +154,7 @@ where
         ),
         Job::Socket { path } => match binder(path.as_str()) {
             Ok(bound) => finish(over(alloc, alloc, bound), out, err),
-            Err(error) => Failure::of_socket(&error).tell(err),
+            Err(error) => Failure::of_socket(&error).report(err),
         },
     }
 }
@@ -181,6 +181,6 @@ where
 {
     match opener(name.as_str()) {
         Ok(mut file) => act(alloc, alloc, job, tables, &mut file, out, err),
-        Err(error) => open_failure(name.as_str(), &error).tell(err),
+        Err(error) => open_failure(name.as_str(), &error).report(err),
     }
 }

@@ -8,7 +8,7 @@ use Rattle.wl_sigs.specs.Valid.{Valid}
 use Rattle.wl_message.specs.Outgoing as boxes
 use Rattle.wl_table.specs.declared.object.Entry.{Entry}
 use Rattle.wl_table.specs.declared.object.State.TheVariants.{Live}
-use Rattle.wl_objects.specs.Messages.{Made, ended_id, is_error}
+use Rattle.wl_objects.specs.Messages.{NewObject, ended_id, is_error}
 use Rattle.wl_recording.specs.declared.piece.Direction.{Direction}
 use Rattle.wl_check.specs.Merged.{mark, framed, same_direction}
 use Rattle.wl_check.specs.Effects.{Call, effect, destroyed, side_of}
@@ -94,6 +94,6 @@ known_call tables e here d m entry f n valid a fresh target args made_is deleted
     let destroyed_is : (effect tables call).destroyed ≡ ended_ids m.ends = destroyed_as (destroys_one f.signature.destroys) (ended_id f.signature.destroys m.target.id (map wire m.args)) m.ends ended.flag ended.same in
     let known = known_behind k k' (places tables e) p here n m.ends a fresh held
     (λ id. b.objects id ∙ (λ i. cond (is_made (made_is i) id) (Some (entry_of p Live (new_of (made_is i)))) (unless_deleted (frees (deleted_is i) id) (is_id (destroyed_is i) id) (k.object id))))
-    (b.used_is ∙ ap (λ (o : Option Made). used_by o k.used) made_is) in
-    let there = places_behind tables e call ∙ ap (λ (o : Option Made). places tables e ++ maker o p) made_is in
+    (b.used_is ∙ ap (λ (o : Option NewObject). used_by o k.used) made_is) in
+    let there = places_behind tables e call ∙ ap (λ (o : Option NewObject). places tables e ++ maker o p) made_is in
     subst (λ (ps : List ℕ). KnownAs k' ps (client_ends m.ends (client_makes here n))) (sym there) known

@@ -13,7 +13,7 @@ use Rattle.wl_sigs.specs.Tables.{Interface, interface_at, place_of}
 use Rattle.wl_sigs.specs.Fixed.{display, registry}
 use Rattle.wl_sigs.specs.Valid.{Valid}
 use Rattle.wl_table.specs.declared.object.Entry.{Entry}
-use Rattle.wl_objects.specs.Messages.{Made, made, made_by, is_bind, same_iface}
+use Rattle.wl_objects.specs.Messages.{NewObject, made, made_by, is_bind, same_iface}
 use Rattle.wl_client.specs.declared.globals.Global.{Global as Remembered}
 use Rattle.wl_server.specs.State.{Global, global_of}
 use Rattle.wl_server.specs.Requests.{can_bind as bind_fits, name_fits}
@@ -71,7 +71,7 @@ named_by : (tables : List Interface) (iface : List ℕ) (version : ℕ) (new : K
 named_by tables iface version new None p h = absurd (cc h)
 named_by tables iface version new (Some i) p h =
     let e : record { id = new.id; iface = i; version = version } ≡ made_of new = cc h in
-    record { place = p ∙ ap (λ (m : Made). Some m.iface) e; version_is = ap (λ (m : Made). m.version) e }
+    record { place = p ∙ ap (λ (m : NewObject). Some m.iface) e; version_is = ap (λ (m : NewObject). m.version) e }
 
 named_as : (tables : List Interface) (target : ℕ) (kind : Kind) (iface : List ℕ) (version : ℕ) (new : Known) → made_by tables target kind (NewNamed iface version new.id) ≡ Some (made_of new)
     → IsNamed tables iface version new

@@ -9,7 +9,7 @@ use Rattle.std.specs.declared.result.Result.TheVariants.{Ok}
 use Rattle.wl_sigs.specs.Tables.{Interface}
 use Rattle.wl_table.specs.declared.object.Entry.{Entry}
 use Rattle.wl_table.specs.declared.object.State.TheVariants.{Live}
-use Rattle.wl_objects.specs.Messages.{Made}
+use Rattle.wl_objects.specs.Messages.{NewObject}
 use Rattle.wl_check.specs.Effects.{Call, effect}
 use Rattle.wl_check.specs.Places.{Known as Knows, is_id, is_made, frees, entry_of, new_of, used_by, unless_deleted}
 use Rattle.wl_check.specs.Session.{Judged, effects}
@@ -200,7 +200,7 @@ known_deleted k k' places here x a ne objects used = record {
 
 -- ---- the places
 
-makers_same : (f g : ℕ → Option Made) (n : ℕ) → ((q : ℕ) → q < n → f q ≡ g q) → makers f n ≡ makers g n
+makers_same : (f g : ℕ → Option NewObject) (n : ℕ) → ((q : ℕ) → q < n → f q ≡ g q) → makers f n ≡ makers g n
 unfolding makers
 makers_same f g zero h = refl
 makers_same f g (suc n) h =
@@ -218,7 +218,7 @@ places_behind tables e call =
     ap (makers (λ q. (effects tables all q).made)) n ∙ (λ i. front i ++ maker ((last i).made) (suc (length e)))
 
 -- wl_display is one of them
-makers_some : (made : ℕ → Option Made) (n : ℕ) (first : Made) → made 0 ≡ Some first → 0 < length (makers made (suc n))
+makers_some : (made : ℕ → Option NewObject) (n : ℕ) (first : NewObject) → made 0 ≡ Some first → 0 < length (makers made (suc n))
 unfolding makers
 makers_some made zero first e = rw e (omega arith)
 makers_some made (suc n) first e = let r = makers_some made n first e in omega (arith, r, length-append (makers made (suc n)) (maker (made (suc n)) (suc n)))

@@ -8,7 +8,7 @@ use Rattle.wl_sigs.specs.Tables.{Interface, place_of}
 use Rattle.wl_sigs.specs.declared.signature.Side.TheVariants.{Request, Event as event_side}
 use Rattle.wl_table.specs.declared.object.Entry.{Entry}
 use Rattle.wl_table.specs.declared.object.State.TheVariants as states
-use Rattle.wl_objects.specs.Messages.{Made, is_bind}
+use Rattle.wl_objects.specs.Messages.{NewObject, is_bind}
 use Rattle.wl_client.specs.declared.globals.Global.{Global}
 use Rattle.wl_check.specs.Effects.{Call, first_number, is_global}
 use Rattle.wl_check.specs.Places.{Known as Knows, known}
@@ -34,11 +34,11 @@ knowledge tables judged = known (effects tables judged) (suc (length judged))
 
 -- The places of what makes an object, in their order: wl_display, of birth 0, is made at place 0,
 -- and the object of birth b by the b-th request that makes one.
-abbrev pub maker : Option Made → ℕ → List ℕ
+abbrev pub maker : Option NewObject → ℕ → List ℕ
 maker None place = []
 maker (Some new) place = place ∷ []
 
-unfoldable pub makers : (ℕ → Option Made) → ℕ → List ℕ
+unfoldable pub makers : (ℕ → Option NewObject) → ℕ → List ℕ
 makers made zero = []
 makers made (suc place) = makers made place ++ maker (made place) place
 

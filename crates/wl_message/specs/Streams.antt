@@ -52,7 +52,7 @@ most_filled = 4096
 
 -- A read gave the reader's next n bytes, for which there was room. It gave none only at the end of
 -- the input.
-pub record Gives (a : Arrived) (had : Option (List ℕ)) (n : ℕ) (a' : Arrived)
+pub record TakesIn (a : Arrived) (had : Option (List ℕ)) (n : ℕ) (a' : Arrived)
     (has : Option (List ℕ)) : Type 0 where
   pub bytes : List ℕ
   pub count : length bytes ≡ n
@@ -66,7 +66,7 @@ pub record Gives (a : Arrived) (had : Option (List ℕ)) (n : ℕ) (a' : Arrived
 -- and what both are then. There is no room exactly where no byte is free.
 abbrev pub Fills : Arrived → Option (List ℕ) → Result ℕ FillError → Arrived → Option (List ℕ)
     → Type 0
-Fills a had (Ok n) a' has = (0 < free_bytes a) × Gives a had n a' has
+Fills a had (Ok n) a' has = (0 < free_bytes a) × TakesIn a had n a' has
 Fills a had (Err fill_error.Io) a' has = (0 < free_bytes a) × (a' ≡ a) × Keeps had has
 Fills a had (Err fill_error.NoRoom) a' has = (free_bytes a ≡ 0) × (a' ≡ a) × Keeps had has
 

@@ -5,7 +5,7 @@ ghost use Rattle.std.specs.Io.BufRead.{Rests};
 ghost use Rattle.std.specs.Io.KnownBytes.{Keeps};
 ghost use Rattle.wl_message.specs.Cut.{HasMessage, message_size};
 ghost use Rattle.wl_message.specs.Arrived.{nothing_arrived, free_bytes, free_tokens, fed, with_more, without_first, in_front, Tells};
-ghost use Rattle.wl_message.specs.Streams.{Gives};
+ghost use Rattle.wl_message.specs.Streams.{TakesIn};
 ghost use Rattle.wl_message.specs.contracts.inbox.Inbox.{the_row};
 
 use crate::amounts::Fed;
@@ -164,7 +164,7 @@ impl<A: Allocator> Inbox<A> {
     pub(crate) fn read_from<R: Read>(&mut self, reader: &mut R) -> io::Result<usize>
         requires { 0 < free_bytes self.old }
         ensures ok { IfOk result
-            (λ n. Gives self.old (R.remaining reader.old) n self.new (R.remaining reader.new)) }
+            (λ n. TakesIn self.old (R.remaining reader.old) n self.new (R.remaining reader.new)) }
         ensures err { OnErr result
             ((self.new ≡ self.old) × Keeps (R.remaining reader.old) (R.remaining reader.new)) }
     {

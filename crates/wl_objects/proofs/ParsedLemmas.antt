@@ -12,7 +12,7 @@ use Rattle.wl_objects.specs.declared.parsed.ParsedArg.{ParsedArg}
 use Rattle.wl_objects.specs.declared.parsed.ParsedArg.TheVariants as parsed_as
 use Rattle.wl_objects.specs.Reading.{Reader, Reported, kind_at, unless, judged, before, arguments_at, is_descriptor, first_or, report_of, reports_of}
 use Rattle.wl_objects.specs.declared.argument.Got.{Got}
-use Rattle.wl_objects.specs.Seen.{got, gots}
+use Rattle.wl_objects.specs.Seen.{got, got_values}
 use Rattle.wl_objects.specs.Parsed.{AreParsed, Both, all_of, all_parsed, argument_of, behind_those, both, both_of, is_fd, made_of, made_of_one, made_unless, place_after, place_behind, reported_in, reported_of, spelled_in, token_at, with_token}
 
 pub one-ok : (r : Reader) (place n : ℕ) (v : Argument) (f : Option Fault) (x : Both) → Ok x ≡ made_unless r place v f → Ok (x, n) ≡ made_of_one r place (unless f (v, n))
@@ -206,7 +206,7 @@ parsed_err r fault (Ok found) e = absurd (cc)
 
 -- ---- copies
 
-pub owned-next : {A : Type 0} (items : List (Got A)) (x : Got A) (old new : List Reported) (r : Reported) → old ≡ r ∷ new → got x ≡ r → gots (items ++ x ∷ []) ++ new ≡ gots items ++ old
+pub owned-next : {A : Type 0} (items : List (Got A)) (x : Got A) (old new : List Reported) (r : Reported) → old ≡ r ∷ new → got x ≡ r → got_values (items ++ x ∷ []) ++ new ≡ got_values items ++ old
 owned-next items x old new r e f = rw (e, map-append, append_assoc, f) refl
 
 pub owned-end : (list rest : List Reported) → rest ≡ [] → list ≡ list ++ rest

@@ -4,14 +4,14 @@ use Rattle.std.proofs.lemmas.List.{drop_all}
 use Rattle.wl_wire.specs.declared.kind.Kind.{Kind}
 use Rattle.wl_wire.specs.Argument.{Argument}
 use Rattle.wl_sigs.specs.Tables.{Interface}
-use Rattle.wl_objects.specs.declared.made.Made.{Made}
+use Rattle.wl_objects.specs.declared.new_object.NewObject.{NewObject}
 use Rattle.wl_objects.specs.Messages.{made, made_by}
 
 pub made-next : (tables : List Interface) (version i : ℕ) (ks : List Kind) (k : Kind) (left more : List Argument) (v : Argument) → i < length ks → left ≡ v ∷ more
     → made_by tables version (get_or ks i k) v ≡ None → made tables version (drop i ks) left ≡ made tables version (drop (i + 1) ks) more
 made-next tables version i ks k left more v p e h = rw (add-one, drop-cons ks i k p, e, h) refl
 
-pub made-here : (tables : List Interface) (version i : ℕ) (ks : List Kind) (k : Kind) (left more : List Argument) (v : Argument) (m : Made) → i < length ks → left ≡ v ∷ more
+pub made-here : (tables : List Interface) (version i : ℕ) (ks : List Kind) (k : Kind) (left more : List Argument) (v : Argument) (m : NewObject) → i < length ks → left ≡ v ∷ more
     → made_by tables version (get_or ks i k) v ≡ Some m → made tables version (drop i ks) left ≡ Some m
 made-here tables version i ks k left more v m p e h = rw (drop-cons ks i k p, e, h) refl
 

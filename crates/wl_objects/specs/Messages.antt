@@ -27,7 +27,7 @@ use Rattle.wl_objects.specs.declared.lookup.NewId.{NewId}
 use Rattle.wl_objects.specs.declared.lookup.NewId.TheVariants.{Free, Wrong, TooMany}
 use Rattle.wl_objects.specs.Reading.{Reader, forgiving, arguments_at, descriptors}
 use Rattle.wl_objects.specs.Writing.{Given, wrong_place, lost_place, is_live_as, wired, message_len}
-use Rattle.wl_objects.specs.declared.made.Made.{Made as NewObject}
+use Rattle.wl_objects.specs.declared.new_object.NewObject.{NewObject as Declared}
 
 -- ---- reading
 
@@ -112,24 +112,24 @@ received tables side reader header body waiting =
 -- ---- what a message does to the objects
 
 -- a new object: its id, its interface, its version
-abbrev pub Made : Type 0
-Made = NewObject
+abbrev pub NewObject : Type 0
+NewObject = Declared
 
 -- the new object of one argument: of the signature's interface and its maker's version, or of those
 -- that it names
-abbrev pub made_by : List Interface → ℕ → Kind → Argument → Option Made
+abbrev pub made_by : List Interface → ℕ → Kind → Argument → Option NewObject
 made_by tables version (kinds.New (Some iface)) (New id) =
     Some (record { id = id; iface = iface; version = version })
 made_by tables version (kinds.New None) (NewNamed name own id) =
     option_map (λ iface. record { id = id; iface = iface; version = own }) (place_of tables name)
 made_by tables version _ _ = None
 
-abbrev pub or_else : Option Made → Option Made → Option Made
+abbrev pub or_else : Option NewObject → Option NewObject → Option NewObject
 or_else None other = other
 or_else (Some made) other = Some made
 
 -- the object that a message makes, where its target has this version
-abbrev pub made : List Interface → ℕ → List Kind → List Argument → Option Made
+abbrev pub made : List Interface → ℕ → List Kind → List Argument → Option NewObject
 made tables version (kind ∷ ks) (value ∷ values) =
     or_else (made_by tables version kind value) (made tables version ks values)
 made tables version _ _ = None
@@ -145,7 +145,7 @@ abbrev pub destroyed : End → View → ℕ → View
 destroyed Client view id = zombied view id
 destroyed Server view id = closed view id
 
-abbrev pub opens : View → Option Made → View
+abbrev pub opens : View → Option NewObject → View
 opens view None = view
 opens view (Some m) = opened_at view m.id m.iface m.version
 
@@ -170,7 +170,7 @@ ended_id (Arg place) target values = id_at values place
 
 -- The objects of an end after it has written or read a message, other than delete_id: the making
 -- comes first.
-abbrev pub after : End → View → Option Made → Destroys → ℕ → View
+abbrev pub after : End → View → Option NewObject → Destroys → ℕ → View
 after end view new what target = destroys end what target (opens view new)
 
 -- The client's objects after delete_id: the row of a held id other than 1 is closed.

@@ -26,8 +26,8 @@ got (values.Bound iface version object) = NewNamed iface version object
 got (values.Array bytes) = Array bytes
 got (values.Fd token) = Fd token
 
-abbrev pub gots : {A : Type 0} → List (Got A) → List Reported
-gots list = map got list
+abbrev pub got_values : {A : Type 0} → List (Got A) → List Reported
+got_values list = map got list
 
 -- a message that was read, without where it lies in memory
 abbrev pub message_of : Read → Received

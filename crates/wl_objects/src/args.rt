@@ -1,12 +1,12 @@
 //! The arguments of a report, lent.
 ghost use Rattle.std.specs.Prelude.{◌≡◌, ◌≢◌, ◌↔◌, IsTrue, [], ◌∷◌, ◌++◌, IfOk, OnErr, MatchOption, length, take, drop};
 ghost use Rattle.wl_objects.specs.Reading.{in_state};
-ghost use Rattle.wl_objects.specs.Seen.{got, gots};
+ghost use Rattle.wl_objects.specs.Seen.{got, got_values};
 ghost use Rattle.wl_objects.specs.Parsed.{lent_got, reported_in, reported_of, seen_args, token_at};
 
 use crate::argument::{Got, GotRef, Named};
 use crate::parsed::{MAX_ARGS, ParsedArg, ParsedArgs, part};
-use crate::reporting::Gots;
+use crate::reporting::OwnedArgs;
 use std::alloc::{AllocError, Allocator};
 use wl_table::{Object, State};
 use wl_wire::Bytes;
@@ -77,19 +77,22 @@ impl<'a> Args<'a> {
 
 impl<'a> Args<'a> {
     /// The arguments that are left, in memory of their own. Of none it takes no memory.
-    pub fn to_owned<A: Allocator + Clone + Drop>(&self, alloc: &A) -> Result<Gots<A>, AllocError>
+    pub fn to_owned<A: Allocator + Clone + Drop>(
+        &self,
+        alloc: &A,
+    ) -> Result<OwnedArgs<A>, AllocError>
         ensures ok { IfOk result (λ owned. owned ≡ seen_args self.now) }
         ensures err { OnErr result (seen_args self.now ≢ []) }
     {
         if self.is_empty() {
-            return Ok(Gots::none());
+            return Ok(OwnedArgs::none());
         }
         let mut items = Vec::new(alloc.clone()?);
         let mut left = *self;
         'left: while let Some(argument) = left.next() {
             items.push(owned(alloc, argument)?)?;
         }
-        Ok(Gots::from_vec(items))
+        Ok(OwnedArgs::from_vec(items))
     }
 }
 

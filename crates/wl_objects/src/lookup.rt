@@ -32,11 +32,11 @@ pub trait Lookup {
 
 /// An end's table, as the reading of a message asks it.
 #[derive(Debug, Drop)]
-pub struct Held<'a, T: Table> {
+pub struct TableLookup<'a, T: Table> {
     pub table: &'a T,
 }
 
-impl<'a, T: Table> Lookup for Held<'a, T> {
+impl<'a, T: Table> Lookup for TableLookup<'a, T> {
     ghost reader = { λ held. reader_of (T.view held.table.now) };
 
     fn object(&self, id: u32) -> Option<Entry> {

@@ -3,7 +3,7 @@ ghost use Rattle.std.specs.Prelude.{◌≡◌, []};
 ghost use Rattle.std.specs.Option.{option_map_or};
 ghost use Rattle.wl_objects.specs.Reading.{named_at};
 ghost use Rattle.wl_objects.specs.Messages.{reader_of};
-ghost use Rattle.wl_objects.specs.Seen.{gots};
+ghost use Rattle.wl_objects.specs.Seen.{got_values};
 
 use crate::argument::{Got, Named};
 use std::alloc::{Allocator, Global};
@@ -12,23 +12,23 @@ use wl_table::{Object, State, Table};
 
 /// The arguments of a report, in memory of their own.
 #[derive(Debug, Drop)]
-pub struct Gots<A: Allocator = Global> {
+pub struct OwnedArgs<A: Allocator = Global> {
     // None at a message without arguments, so that its report needs no allocator.
     items: Option<Vec<Got<A>, A>>,
 }
 
-impl<A: Allocator> Model for Gots<A> {
+impl<A: Allocator> Model for OwnedArgs<A> {
     ghost use Rattle.std.specs.Prelude.{List, []};
     ghost use Rattle.std.specs.Option.{option_map_or};
     ghost use Rattle.wl_objects.specs.Reading.{Reported};
-    ghost use Rattle.wl_objects.specs.Seen.{gots};
+    ghost use Rattle.wl_objects.specs.Seen.{got_values};
 
     ghost Value = { List Reported };
 
-    ghost view = { λ g. option_map_or (λ v. gots v.items) g.items [] };
+    ghost view = { λ g. option_map_or (λ v. got_values v.items) g.items [] };
 }
 
-impl<A: Allocator> Gots<A> {
+impl<A: Allocator> OwnedArgs<A> {
     /// No arguments. Takes no memory, and needs no allocator.
     pub fn none() -> Self
         ensures { result ≡ [] }
@@ -38,7 +38,7 @@ impl<A: Allocator> Gots<A> {
 
     /// Takes over a vector, without taking memory.
     pub fn from_vec(items: Vec<Got<A>, A>) -> Self
-        ensures { result ≡ gots items.items }
+        ensures { result ≡ got_values items.items }
     {
         Self { items: Some(items) }
     }
@@ -46,14 +46,14 @@ impl<A: Allocator> Gots<A> {
     /// Gives the vector back, without taking memory. None where there is none, as at a message
     /// without arguments.
     pub fn into_vec(self) -> Option<Vec<Got<A>, A>>
-        ensures { option_map_or (λ v. gots v.items) result [] ≡ self }
+        ensures { option_map_or (λ v. got_values v.items) result [] ≡ self }
     {
         self.items
     }
 
     /// The arguments as a slice.
     pub fn as_slice(&self) -> &[Got<A>]
-        ensures { gots result.now ≡ self.now }
+        ensures { got_values result.now ≡ self.now }
     {
         match &self.items {
             Some(items) => items.as_slice(),

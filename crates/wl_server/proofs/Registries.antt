@@ -22,7 +22,7 @@ use Rattle.wl_table.specs.Views.{row-opened_at, row-closed, look-opening, look-o
 use Rattle.wl_objects.specs.declared.error.SendError.{SendError}
 use Rattle.wl_objects.specs.declared.error.SendError.TheVariants as refusals
 use Rattle.wl_objects.specs.Writing.{Given}
-use Rattle.wl_objects.specs.Messages.{Made, made, opens, same_iface, checked, is_hidden, live_row, Server, after}
+use Rattle.wl_objects.specs.Messages.{NewObject, made, opens, same_iface, checked, is_hidden, live_row, Server, after}
 use Rattle.wl_objects.specs.Writing.{is_live_as}
 use Rattle.wl_objects.proofs.Wholes.{passes}
 use Rattle.wl_end.specs.Core.{Core, past, with_view}
@@ -123,19 +123,19 @@ old_there rs r true o h = among_more o rs r h
 old_there rs r false o h = h
 
 -- the rows that were there stay
-pub row_kept : (v : View) (m : Option Made) (id : ℕ) (d : Entry) → IsFresh v m → look v id ≡ Some d → look (opens v m) id ≡ Some d
+pub row_kept : (v : View) (m : Option NewObject) (id : ℕ) (d : Entry) → IsFresh v m → look v id ≡ Some d → look (opens v m) id ≡ Some d
 row_kept v None id d f row = row
 row_kept v (Some m) id d f row =
     let other : eqb id m.id ≡ false = ne_eqb id m.id (λ e. (let no = sym row ∙ (ap (look v) e ∙ f) in cc no)) in
     look-opened_at v m.id m.iface m.version id ∙ rw other row
 
-registry_kept : (v : View) (m : Option Made) (o : Object) → IsFresh v m → IsRegistry v o → IsRegistry (opens v m) o
+registry_kept : (v : View) (m : Option NewObject) (o : Object) → IsFresh v m → IsRegistry v o → IsRegistry (opens v m) o
 registry_kept v m o f r = record { entry = r.entry; row = row_kept v m o.id r.entry f r.row; birth = r.birth; iface = r.iface }
 
 same_is : (a b : Iface) → same_iface a b ≡ true → a ≡ b
 same_is a b h = let e : a.0 ≡ b.0 = eqb-true a.0 b.0 h in λ i. record { 0 = e i }
 
-registry_new : (v : View) (m : Made) → same_iface m.iface registry ≡ true → IsRegistry (opens v (Some m)) (record { id = m.id; birth = v.births })
+registry_new : (v : View) (m : NewObject) → same_iface m.iface registry ≡ true → IsRegistry (opens v (Some m)) (record { id = m.id; birth = v.births })
 registry_new v m is = record {
   entry = record { birth = v.births; iface = m.iface; version = m.version; state = Live };
   row = look-opened_at v m.id m.iface m.version m.id ∙ rw (eq-eqb m.id m.id refl) refl;
@@ -143,7 +143,7 @@ registry_new v m is = record {
   iface = same_is m.iface registry is;
 }
 
-each_opened : (v : View) (rs : List Registry) (m : Made) (r : Registry) (b : Bool) (o : Object) → same_iface m.iface registry ≡ b → r.object ≡ record { id = m.id; birth = v.births } → IsFresh v (Some m)
+each_opened : (v : View) (rs : List Registry) (m : NewObject) (r : Registry) (b : Bool) (o : Object) → same_iface m.iface registry ≡ b → r.object ≡ record { id = m.id; birth = v.births } → IsFresh v (Some m)
     → ((x : Object) → IsAmong x rs → IsRegistry v x) → IsAmong o (cond b (rs ++ r ∷ []) rs) → IsRegistry (opens v (Some m)) o
 each_opened v rs m r true o is s f h a = elim (among_before o rs r a) as (λ _. IsRegistry (opens v (Some m)) o) [
   | inl p ↦ subst (IsRegistry (opens v (Some m))) (sym s ∙ p) (registry_new v m is)
@@ -151,7 +151,7 @@ each_opened v rs m r true o is s f h a = elim (among_before o rs r a) as (λ _. 
 ]
 each_opened v rs m r false o is s f h a = registry_kept v (Some m) o f (h o a)
 
-pub has_opened : (core : Core) (rs : List Registry) (m : Option Made) → IsFresh core.view m → HasRegistries core.view rs → HasRegistries (opens core.view m) (registries_after core rs m)
+pub has_opened : (core : Core) (rs : List Registry) (m : Option NewObject) → IsFresh core.view m → HasRegistries core.view rs → HasRegistries (opens core.view m) (registries_after core rs m)
 has_opened core rs None f h = h
 has_opened core rs (Some m) f h =
     let v = core.view in
@@ -166,7 +166,7 @@ has_opened core rs (Some m) f h =
       only = λ o a. each_opened v rs m r (same_iface m.iface registry) o refl refl f h.only a;
     }
 
-pub births_opened : (v : View) (m : Option Made) → BirthsAreOnce v → BirthsAreOnce (opens v m)
+pub births_opened : (v : View) (m : Option NewObject) → BirthsAreOnce v → BirthsAreOnce (opens v m)
 births_opened v None h = h
 births_opened v (Some m) h = record {
   counted = λ id e there. ⊎_elim
@@ -294,8 +294,8 @@ after_event core target opcode list v = by_result (checked core.outbox.limit.byt
   where
     by_what : (m : Message) (what : Destroys) → ((k : ℕ) → what ≡ Arg k → ⊥) → made_at core target m list ≡ None → ((d : Entry) → look core.view target.id ≡ Some d → d.iface ≢ registry)
         → After core target (after_checked core Event target opcode list (Ok (record m { destroys = what })))
-    by_what m Nothing n e f = inl (ap (λ (o : Option Made). after Server core.view o Nothing target.id) e)
-    by_what m Target n e f = inr (ap (λ (o : Option Made). after Server core.view o Target target.id) e, f)
+    by_what m Nothing n e f = inl (ap (λ (o : Option NewObject). after Server core.view o Nothing target.id) e)
+    by_what m Target n e f = inr (ap (λ (o : Option NewObject). after Server core.view o Target target.id) e, f)
     by_what m (Arg k) n e f = absurd (n k refl)
 
     by_result : (x : Result Message SendError) → checked core.outbox.limit.bytes core.tables Event core.view target opcode list ≡ x → After core target (after_checked core Event target opcode list x)

@@ -15,7 +15,7 @@ use Rattle.wl_objects.specs.declared.error.NextError.TheVariants as errors
 use Rattle.wl_table.specs.declared.object.Object.{Object}
 use Rattle.wl_table.specs.View.{View, is_held, look}
 use Rattle.wl_table.specs.Views.{look-opened_at}
-use Rattle.wl_objects.specs.Messages.{Made, made, opens, same_iface, reader_of}
+use Rattle.wl_objects.specs.Messages.{NewObject, made, opens, same_iface, reader_of}
 use Rattle.wl_sigs.specs.Fixed.{registry}
 use Rattle.wl_wire.specs.Word.{header_bytes}
 use Rattle.wl_wire.specs.declared.header.Header.{Header}
@@ -45,7 +45,7 @@ without-filter birth (r ∷ registries) = by_test (nat_eq r.object.birth birth) 
     by_test true h = h
     by_test false h = ap (λ (l : List Registry). r ∷ l) h
 
-pub rise-opened : (core : Core) (registries : List Registry) (made : Option Made) → RiseFrom 0 core.view.births registries → RiseFrom 0 (opens core.view made).births (registries_after core registries made)
+pub rise-opened : (core : Core) (registries : List Registry) (made : Option NewObject) → RiseFrom 0 core.view.births registries → RiseFrom 0 (opens core.view made).births (registries_after core registries made)
 rise-opened core registries None r = r
 rise-opened core registries (Some m) r = by_test (same_iface m.iface registry)
   where
@@ -59,7 +59,7 @@ held-either : (b : Bool) (e : Entry) (o : Option Entry) → is_some o ≡ true �
 held-either true e o h = refl
 held-either false e o h = h
 
-pub held-opened : (view : View) (made : Option Made) (id : ℕ) → IsTrue (is_held view id) → IsTrue (is_held (opens view made) id)
+pub held-opened : (view : View) (made : Option NewObject) (id : ℕ) → IsTrue (is_held view id) → IsTrue (is_held (opens view made) id)
 held-opened view None id h = h
 held-opened view (Some m) id h = ap is_some (look-opened_at view m.id m.iface m.version id) ∙ held-either (eqb id m.id) _ (look view id) h
 
@@ -161,7 +161,7 @@ found-by state step e = by_failed state.core.failed e
     by_failed true k = absurd (cc k)
     by_failed false k = by_found (request state) refl k
 
-is_made : (o : Option Made) → o ≢ None → is_some o ≡ true
+is_made : (o : Option NewObject) → o ≢ None → is_some o ≡ true
 is_made None h = absurd (h refl)
 is_made (Some m) h = refl
 

@@ -15,7 +15,7 @@ use Rattle.wl_end.specs.Core.{Core, with_view}
 use Rattle.wl_end.specs.Receiving.{Found, found, past_found}
 use Rattle.wl_end.specs.Sending.{with_following}
 use Rattle.wl_end.specs.Streams.{waiting}
-use Rattle.wl_end.specs.Outcomes.{Gives, left}
+use Rattle.wl_end.specs.Outcomes.{AnswersOrMemory, left}
 use Rattle.wl_end.proofs.Coming.{is_found, past_shorter, none_short}
 use Rattle.wl_end.proofs.Receivings.{some_report}
 use Rattle.wl_server.specs.declared.request.OwnedRequest.{OwnedRequest}
@@ -96,7 +96,7 @@ full_leaves state e =
 -- ---- what `next` tells
 
 abbrev pub Told : State → Bool → Result (Option Report) NextError → Type 0
-Told state wants answer = Gives errors.Memory wants (next_answer state) answer
+Told state wants answer = AnswersOrMemory errors.Memory wants (next_answer state) answer
 
 pub told_report : (state new : State) (wants : Bool) (r : Report) → Told state wants (Ok (Some r)) → next_answer state ≡ Ok (Some r)
 told_report state new wants r (inl e) = sym e

@@ -6,7 +6,7 @@ use Rattle.wl_sigs.specs.Fixed.{registry}
 use Rattle.wl_table.specs.declared.object.Object.{Object}
 use Rattle.wl_table.specs.declared.object.Entry.{Entry}
 use Rattle.wl_table.specs.View.{View, look}
-use Rattle.wl_objects.specs.Messages.{Made, same_iface}
+use Rattle.wl_objects.specs.Messages.{NewObject, same_iface}
 use Rattle.wl_server.specs.State.{Registry, RiseFrom}
 
 -- The registries after an object of this interface was opened: a new registry stands last.
@@ -48,7 +48,7 @@ pub record HasRegistries (view : View) (registries : List Registry) : Type 0 whe
   pub only : (object : Object) → IsAmong object registries → IsRegistry view object
 
 -- the id at which an object is to be opened has no row
-abbrev pub IsFresh : View → Option Made → Type 0
+abbrev pub IsFresh : View → Option NewObject → Type 0
 IsFresh view None = Unit {0}
 IsFresh view (Some m) = look view m.id ≡ None
 

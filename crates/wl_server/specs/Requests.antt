@@ -16,9 +16,9 @@ use Rattle.wl_objects.specs.declared.error.NextError.{NextError}
 use Rattle.wl_objects.specs.declared.error.NextError.TheVariants as errors
 use Rattle.wl_objects.specs.declared.argument.Named.TheVariants as named_as
 use Rattle.wl_objects.specs.Reading.{Reported}
-use Rattle.wl_objects.specs.Messages.{Received, Made, made, is_bind, Server as server, after}
+use Rattle.wl_objects.specs.Messages.{Received, NewObject, made, is_bind, Server as server, after}
 use Rattle.wl_end.specs.Core.{Core, with_view}
-use Rattle.wl_end.specs.Outcomes.{Gives, answers_with}
+use Rattle.wl_end.specs.Outcomes.{AnswersOrMemory, answers_with}
 use Rattle.wl_end.specs.Receiving.{Found, found, reported, past_found, is_none}
 use Rattle.wl_end.specs.Sending.{with_following, with_error_event, delete_id_len}
 use Rattle.wl_server.specs.State.{State, Global, Registry, global_of, untold, with_core}
@@ -92,7 +92,7 @@ after_fault state fault =
 -- ---- what a request leaves
 
 -- the object that a request makes
-abbrev pub made_in : Core → Received → Option Made
+abbrev pub made_in : Core → Received → Option NewObject
 made_in core message = made core.tables message.entry.version message.signature.kinds message.values
 
 abbrev pub destroys_it : Received → Bool
@@ -130,7 +130,7 @@ core_after core f =
     f.message.signature.destroys (ended core f).id))
 
 -- a new registry was told nothing yet
-abbrev pub registries_after : Core → List Registry → Option Made → List Registry
+abbrev pub registries_after : Core → List Registry → Option NewObject → List Registry
 registries_after core registries None = registries
 registries_after core registries (Some m) =
     with_registry m.iface (untold (record { id = m.id; birth = core.view.births })) registries
@@ -177,7 +177,8 @@ after_next state = if state.core.failed then state else state_found state (reque
 -- report that needs some.
 abbrev pub IsNext : State → Result (Option Report) NextError → Type 0
 IsNext state result =
-    Gives errors.Memory (answers_with needs_memory (next_answer state)) (next_answer state) result
+    AnswersOrMemory errors.Memory (answers_with needs_memory (next_answer state))
+    (next_answer state) result
 
 -- whether what stands in front opens an object
 abbrev pub opens_object : Core → Result (Option Found) Fault → Bool
@@ -187,4 +188,5 @@ opens_object core _ = false
 -- The same for a lent report: no memory stands only in place of a request that opens an object.
 abbrev pub IsLentNext : State → Result (Option Report) NextError → Type 0
 IsLentNext state result =
-    Gives errors.Memory (opens_object state.core (request state)) (next_answer state) result
+    AnswersOrMemory errors.Memory (opens_object state.core (request state))
+    (next_answer state) result

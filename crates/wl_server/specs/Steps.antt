@@ -19,7 +19,7 @@ use Rattle.wl_wire.specs.declared.header.Header.{Header}
 use Rattle.wl_objects.specs.Reading.{Reported, descriptors}
 use Rattle.wl_objects.specs.declared.parsed.ParsedArg.{ParsedArg}
 use Rattle.wl_objects.specs.Parsed.{reported_in}
-use Rattle.wl_objects.specs.Messages.{Made, Received, made, opens}
+use Rattle.wl_objects.specs.Messages.{NewObject, Received, made, opens}
 use Rattle.wl_end.specs.Core.{Core, past, with_view}
 use Rattle.wl_end.specs.Receiving.{Found, takes}
 use Rattle.wl_end.specs.Sending.{with_delete_id, with_error_event, fits, delete_id_len}
@@ -36,7 +36,7 @@ pub record Step : Type 0 where
   pub size : ℕ
   pub tokens : ℕ
   pub birth : ℕ
-  pub made : Option Made
+  pub made : Option NewObject
   pub ended : Option Object
 
 abbrev pub report_with : Object → ℕ → List Reported → Report

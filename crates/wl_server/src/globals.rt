@@ -1,6 +1,6 @@
 //! What a server advertises, by name.
 ghost use Rattle.std.specs.Prelude.{◌≡◌, OnOk, OnErr, true};
-ghost use Rattle.wl_end.specs.Outcomes.{Gives, refusal_in};
+ghost use Rattle.wl_end.specs.Outcomes.{AnswersOrMemory, refusal_in};
 ghost use Rattle.wl_server.specs.State.{global_of};
 ghost use Rattle.wl_server.specs.Calls.{add_answer, after_withdraw, can_be_global, version_in, with_global, withdraw_refusal};
 ghost use Rattle.wl_server.specs.Requests.{can_bind, is_good_bind_of};
@@ -17,7 +17,7 @@ impl<'t, T: Table> Server<'t, T> {
     /// Adds a global, and returns its name. G1 to G4 are tested in their order. `announce` writes it
     /// to the registries.
     pub fn add_global(&mut self, iface: Iface, version: u32) -> Result<u32, GlobalError>
-        ensures answer { Gives GlobalError.Memory true (add_answer self.old iface version) result }
+        ensures answer { AnswersOrMemory GlobalError.Memory true (add_answer self.old iface version) result }
         ensures ok { OnOk result (self.new ≡ with_global self.old iface version) }
         ensures err { OnErr result (self.new ≡ self.old) }
     {

@@ -3,7 +3,7 @@ ghost use Rattle.std.specs.Prelude.{◌≡◌, ℕ, List};
 ghost use Rattle.wl_objects.specs.Parsed.{reported_in};
 ghost use Rattle.wl_server.specs.Steps.{ended_by, report_with};
 
-use wl_objects::{Made, Object, ParsedArg, ParsedArgs};
+use wl_objects::{NewObject, Object, ParsedArg, ParsedArgs};
 use wl_sigs::Destroys;
 
 /// What a request is and does. It lends nothing, so that the server can change by it.
@@ -19,7 +19,7 @@ pub(crate) struct PendingRequest {
     /// How many descriptors it has.
     pub(crate) tokens: usize,
     /// The object that it opens.
-    pub(crate) made: Option<Made>,
+    pub(crate) made: Option<NewObject>,
     /// The object that it destroys.
     pub(crate) ended: Option<Object>,
 }

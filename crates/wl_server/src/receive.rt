@@ -29,8 +29,8 @@ use crate::server::Server;
 use std::alloc::{AllocError, Allocator};
 use wl_end::{Core, DELETE_ID_LEN, MAX_TOKENS};
 use wl_objects::{
-    Args, Fault, Held, Lookup, Made, NextError, Object, REGISTRY, Received, Table, is_bind,
-    made_by_message, receive,
+    Args, Fault, Lookup, NewObject, NextError, Object, REGISTRY, Received, Table, TableLookup,
+    is_bind, made_by_message, receive,
 };
 use wl_sigs::{Side, Tables};
 use wl_table::DISPLAY_ID;
@@ -191,7 +191,7 @@ fn open_new_object<T: Table>(
     core: &mut Core<'_, T>,
     registries: &mut Vec<OpenRegistry<T::Alloc>, T::Alloc>,
     alloc: &T::Alloc,
-    made: Option<Made>,
+    made: Option<NewObject>,
     birth: u64,
 ) -> Result<(), AllocError>
     requires { birth ≡ core.old.view.births }
@@ -215,7 +215,7 @@ fn open_object<T: Table>(
     core: &mut Core<'_, T>,
     registries: &mut Vec<OpenRegistry<T::Alloc>, T::Alloc>,
     alloc: &T::Alloc,
-    made: Made,
+    made: NewObject,
     birth: u64,
 ) -> Result<(), AllocError>
     requires { birth ≡ core.old.view.births }
@@ -230,11 +230,11 @@ fn open_object<T: Table>(
         let object = Object { id: made.id, birth };
         let registry = OpenRegistry::new(alloc, object)?;
         registries.reserve(1)?;
-        match core.open(made) {
+        match core.open_at(made) {
             Ok(_) => registries.push_reserved(registry),
             Err(_) => return Err(AllocError),
         }
-    } else if core.open(made).is_err() {
+    } else if core.open_at(made).is_err() {
         return Err(AllocError);
     }
     Ok(())
@@ -288,7 +288,7 @@ pub(crate) fn find_request<T: Table>(
         }),
     };
     let header = frame.header;
-    let lookup = Held { table: &core.table };
+    let lookup = TableLookup { table: &core.table };
     let received = match read_message(core.tables, &lookup, header, frame.body, frame.tokens) {
         Ok(received) => received,
         Err(fault) => return Err(NextError::Fault { fault, offset }),

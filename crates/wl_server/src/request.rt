@@ -3,7 +3,7 @@
 use std::alloc::{Allocator, Global};
 use std::error::Error;
 use std::fmt::{self, Display, Formatter};
-use wl_objects::{Args, Gots, Object};
+use wl_objects::{Args, Object, OwnedArgs};
 
 /// A request that the server read. Strings, arrays and tokens are lent from the server, until its
 /// next call.
@@ -19,7 +19,7 @@ pub struct Request<'a> {
 pub struct OwnedRequest<A: Allocator = Global> {
     pub target: Object,
     pub opcode: u16,
-    pub args: Gots<A>,
+    pub args: OwnedArgs<A>,
 }
 
 /// Why a global is not added or not withdrawn. The causes are tested in this order.

@@ -4,7 +4,7 @@ ghost use Rattle.wl_sigs.specs.declared.signature.Side.TheVariants.{Event as eve
 ghost use Rattle.wl_sigs.specs.Valid.{Valid};
 ghost use Rattle.wl_objects.specs.Messages.{checked};
 ghost use Rattle.wl_objects.specs.Writing.{given};
-ghost use Rattle.wl_end.specs.Outcomes.{Gives, refusal_in};
+ghost use Rattle.wl_end.specs.Outcomes.{AnswersOrMemory, refusal_in};
 ghost use Rattle.wl_end.specs.Sending.{after_send, opens_object, send_answer};
 ghost use Rattle.wl_server.specs.State.{with_core};
 ghost use Rattle.wl_server.specs.Calls.{after_drop, after_error, drop_refusal, error_refusal, is_error_text};
@@ -26,7 +26,7 @@ impl<'t, T: Table> Server<'t, T> {
         opcode: u16,
         args: &[Arg<'_>],
     ) -> Result<Option<Object>, SendError>
-        ensures answer { Gives SendError.Memory
+        ensures answer { AnswersOrMemory SendError.Memory
             (opens_object (checked self.old.core.outbox.limit.bytes self.old.core.tables event_side
             self.old.core.view target opcode (given args.now)))
             (send_answer self.old.core event_side target opcode (given args.now)) result }

@@ -13,7 +13,7 @@ use Rattle.wl_objects.specs.declared.error.Fault.{Fault}
 use Rattle.wl_sigs.specs.declared.signature.Side.TheVariants.{Event as event_side}
 use Rattle.wl_end.specs.Core.{Core}
 use Rattle.wl_end.specs.Receiving.{Found, found}
-use Rattle.wl_end.specs.Outcomes.{Gives, answers_with, left, refusal_in}
+use Rattle.wl_end.specs.Outcomes.{AnswersOrMemory, answers_with, left, refusal_in}
 use Rattle.wl_client.specs.Seen.{new_in}
 use Rattle.wl_client.specs.State as client
 use Rattle.wl_client.specs.Reports as events
@@ -29,7 +29,7 @@ use Rattle.wl_world.specs.Pair.{PairState, with_server, marked, after_post, Writ
 -- ---- a write
 
 accepts : {S : Type 0} (f : S → PairState) (answer : Result (Option Object) SendError) (opens : Bool) (before after now : S) (new : Option Object)
-    → Gives refusals.Memory opens answer (Ok new) → now ≡ after → Writes answer opens (f before) (f after) (Ok new) (f now)
+    → AnswersOrMemory refusals.Memory opens answer (Ok new) → now ≡ after → Writes answer opens (f before) (f after) (Ok new) (f now)
 accepts {S = S} f answer opens before after now new (inl e) h = subst (λ (s : S). Writes answer opens (f before) (f after) (Ok new) (f s)) (sym h) (accepted (sym e))
 accepts f answer opens before after now new (inr k) h = absurd (cc k.0)
 
@@ -38,7 +38,7 @@ wants (Ok new) opens p after o k = no_memory refl o
 wants (Err why) opens p after o k = absurd (cc k)
 
 refuses : {S : Type 0} (f : S → PairState) (answer : Result (Option Object) SendError) (opens : Bool) (before after now : S) (why : SendError)
-    → Gives refusals.Memory opens answer (Err why) → now ≡ before → Writes answer opens (f before) (f after) (Err why) (f now)
+    → AnswersOrMemory refusals.Memory opens answer (Err why) → now ≡ before → Writes answer opens (f before) (f after) (Err why) (f now)
 refuses {S = S} f answer opens before after now why (inl e) h = subst (λ (s : S). Writes answer opens (f before) (f after) (Err why) (f s)) (sym h) (refused (sym e))
 refuses {S = S} f answer opens before after now why (inr k) h =
     let same : refusals.Memory ≡ why = cc k.0 in
@@ -46,12 +46,12 @@ refuses {S = S} f answer opens before after now why (inr k) h =
     (subst (λ (r : SendError). Writes answer opens (f before) (f after) (Err r) (f before)) same (wants answer opens (f before) (f after) k.1 k.2))
 
 pub writes : {S : Type 0} (f : S → PairState) (answer : Result (Option Object) SendError) (opens : Bool) (before after now : S) (result : Result (Option Object) SendError)
-    → Gives refusals.Memory opens answer result → OnOk result (now ≡ after) → OnErr result (now ≡ before) → Writes answer opens (f before) (f after) result (f now)
+    → AnswersOrMemory refusals.Memory opens answer result → OnOk result (now ≡ after) → OnErr result (now ≡ before) → Writes answer opens (f before) (f after) result (f now)
 writes f answer opens before after now (Ok new) g ok err = accepts f answer opens before after now new g ok
 writes f answer opens before after now (Err why) g ok err = refuses f answer opens before after now why g err
 
 pub binds : {S : Type 0} (f : S → PairState) (answer : Result (Option Object) SendError) (before after now : S) (result : Result Object SendError)
-    → Gives refusals.Memory true answer (new_in result) → OnOk result (now ≡ after) → OnErr result (now ≡ before) → Writes answer true (f before) (f after) (new_in result) (f now)
+    → AnswersOrMemory refusals.Memory true answer (new_in result) → OnOk result (now ≡ after) → OnErr result (now ≡ before) → Writes answer true (f before) (f after) (new_in result) (f now)
 binds f answer before after now (Ok new) g ok err = accepts f answer true before after now (Some new) g ok
 binds f answer before after now (Err why) g ok err = refuses f answer true before after now why g err
 
@@ -77,7 +77,7 @@ name_given None name given h = (refl, cc h)
 name_given (Some why) name given h = absurd (cc h)
 
 pub adds : {S : Type 0} (f : S → PairState) (refusal : Option GlobalError) (name : ℕ) (before after now : S) (result : Result ℕ GlobalError)
-    → Gives global_errors.Memory true (ok_unless refusal name) result → OnOk result (now ≡ after) → OnErr result (now ≡ before) → Adds refusal name (f before) (f after) result (f now)
+    → AnswersOrMemory global_errors.Memory true (ok_unless refusal name) result → OnOk result (now ≡ after) → OnErr result (now ≡ before) → Adds refusal name (f before) (f after) result (f now)
 adds {S = S} f refusal name before after now (Ok given) (inl e) ok err =
     let k = name_given refusal name given (sym e) in
     subst (λ (s : S). Adds refusal name (f before) (f after) (Ok given) (f s)) (sym ok) (subst (λ (n : ℕ). Adds refusal name (f before) (f after) (Ok n) (f after)) k.1 (added k.0))
@@ -135,7 +135,7 @@ left_is before after (Err errors.Memory) h = absurd (h refl)
 left_is before after (Err errors.OutFull) h = refl
 
 pub nexts : {S R : Type 0} (f : S → PairState) (needs : R → Bool) (answer : Result (Option R) NextError) (before after now : S) (result : Result (Option R) NextError)
-    → (answer ≡ Err errors.Memory → ⊥) → Gives errors.Memory (answers_with needs answer) answer result → now ≡ left before after result → Nexts needs answer (f before) (f after) result (f now)
+    → (answer ≡ Err errors.Memory → ⊥) → AnswersOrMemory errors.Memory (answers_with needs answer) answer result → now ≡ left before after result → Nexts needs answer (f before) (f after) result (f now)
 nexts {S = S} {R = R} f needs answer before after now result never (inl e) h =
     let l : now ≡ after = h ∙ ap (left before after) e ∙ left_is before after answer never in
     subst (λ (s : S). Nexts needs answer (f before) (f after) result (f s)) (sym l)

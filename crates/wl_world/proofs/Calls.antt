@@ -26,7 +26,7 @@ use Rattle.wl_table.specs.Views
 use Rattle.wl_objects.specs.Reading.{is_of}
 use Rattle.wl_message.specs.Cut.{greatest_limit}
 use Rattle.wl_objects.specs.Writing.{Given, suits, has_no_nul, wrong_place, lost_place, is_live, is_live_as, row_is_of, can_name, wired, tokens_of, message_len}
-use Rattle.wl_objects.specs.Messages.{Made, made, live_row, checked, checked_by, checked_as, unless_hidden, unless_wrong, is_hidden}
+use Rattle.wl_objects.specs.Messages.{NewObject, made, live_row, checked, checked_by, checked_as, unless_hidden, unless_wrong, is_hidden}
 use Rattle.wl_world.specs.Meant.{Born, Known, Arg, rearg, born_of, birth_of, wire, tokens, new_in, made_in, or_else, objects, plain, live_entry}
 use Rattle.wl_world.specs.World.{Each, IfThere}
 use Rattle.wl_world.specs.Answers.{handed}
@@ -146,7 +146,7 @@ abbrev pub meant : View → Known → Given → Arg Known
 meant view new a = reshaped (resolve view) (λ _. new) (λ t. t) a
 
 -- the new object of a call
-abbrev pub new_known : View → Option Made → Known
+abbrev pub new_known : View → Option NewObject → Known
 new_known view None = record { id = next_id view; born = record { birth = view.births; iface = record { 0 = 0 }; version = 0 } }
 new_known view (Some m) = record { id = next_id view; born = record { birth = view.births; iface = m.iface; version = m.version } }
 

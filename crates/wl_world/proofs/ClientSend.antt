@@ -19,7 +19,7 @@ use Rattle.wl_table.specs.declared.object.Entry.{Entry}
 use Rattle.wl_objects.specs.declared.error.SendError.{SendError}
 use Rattle.wl_table.specs.View.{View, Sound, look, next_id, can_open}
 use Rattle.wl_objects.specs.Writing.{Given, wired, message_bytes}
-use Rattle.wl_objects.specs.Messages.{Made, made, ended_id, Client as client_end, after, checked}
+use Rattle.wl_objects.specs.Messages.{NewObject, made, ended_id, Client as client_end, after, checked}
 use Rattle.wl_end.specs.Core.{Core}
 use Rattle.wl_end.specs.Sending.{send_answer, after_send, after_checked, made_at, version_at, opens_object}
 use Rattle.wl_world.specs.Meant.{Born, Known, Arg, object_at, ended_by, tokens, wire, Message, Coming, renamed, born_of, birth_of, made_in, objects, plain, live_entry}
@@ -132,7 +132,7 @@ client_can p w asked told s target opcode given signature new c k o =
     let m = the_call core c.entry target opcode given signature in
     let f = moved core.tables tables Request m s.same_tables k.fits_it in
     let there = signed_there p w asked told s target opcode given signature c in
-    let can = if_map (can_open v ≡ true) made_of (made_in m.args) (subst (IfThere (λ (x : Made). can_open v ≡ true)) (made_same core target given signature c.entry c.there ∙ k.made_is) o.can) in
+    let can = if_map (can_open v ≡ true) made_of (made_in m.args) (subst (IfThere (λ (x : NewObject). can_open v ≡ true)) (made_same core target given signature c.entry c.there ∙ k.made_is) o.can) in
     let n = new_fits v (the_new core c.entry given signature) (made_in m.args) s.client_sound (new_id v (the_made core c.entry given signature)) (new_birth v (the_made core c.entry given signature)) k.new can in
     record {
       fitly = record { fits = f; binds = λ h. absurd (cc (h, c.hidden)) };
@@ -167,7 +167,7 @@ left_by core target opcode given signature v e c k =
     }))
 
 new_births : (o : Option Known) (births id : ℕ) → IfThere (λ x. x.born.birth ≡ births) o
-    → option_map birth_of (option_map born_of o) ≡ option_map birth_at (option_map (λ (m : Made). record { id = id; birth = births }) (option_map made_of o))
+    → option_map birth_of (option_map born_of o) ≡ option_map birth_at (option_map (λ (m : NewObject). record { id = id; birth = births }) (option_map made_of o))
 new_births None births id h = refl
 new_births (Some x) births id h = ap Some h
 
@@ -205,7 +205,7 @@ sends_that p w asked told s target opcode given signature new c k o can =
       opcode_is = refl;
       args_are = handed_all v (the_new core c.entry given signature) w.births signature.kinds given (new_birth v (the_made core c.entry given signature) ∙ sym s.births) k.right;
       new_is = ap (option_map birth_of) (made_map born_of m.args) ∙ new_births (made_in m.args) v.births (next_id v) births
-          ∙ ap (option_map birth_at) (ap (option_map (λ (y : Made). record { id = next_id v; birth = v.births })) (sym (made_same core target given signature c.entry c.there ∙ k.made_is)) ∙ sym o.is);
+          ∙ ap (option_map birth_at) (ap (option_map (λ (y : NewObject). record { id = next_id v; birth = v.births })) (sym (made_same core target given signature c.entry c.there ∙ k.made_is)) ∙ sym o.is);
       steps = asks_world p w asked told s m can;
     }
 

@@ -13,7 +13,7 @@ use Rattle.wl_sigs.specs.Fixed as fixed
 use Rattle.wl_sigs.specs.Fixed.{registry}
 use Rattle.wl_sigs.specs.Valid.{Valid}
 use Rattle.wl_table.specs.View.{View}
-use Rattle.wl_objects.specs.Messages.{End, Made, after, opens, destroyed, ended_id}
+use Rattle.wl_objects.specs.Messages.{End, NewObject, after, opens, destroyed, ended_id}
 use Rattle.wl_end.proofs.Ends.{the_destroy, is_the_destroy}
 use Rattle.wl_world.specs.Stands.{Fits, AreOf}
 use Rattle.wl_world.specs.Meant.{Known, Message, Arg, born_of, rearg, wire, objects, object_at, ended_by}
@@ -135,7 +135,7 @@ abbrev pub ended_view : End → View → Option Known → View
 ended_view end v None = v
 ended_view end v (Some x) = destroyed end v x.id
 
-pub after_is : (end : End) (v : View) (new : Option Made) (what : Destroys) (id : ℕ) (o : Option Known) → EndsAs what id o → after end v new what id ≡ ended_view end (opens v new) o
+pub after_is : (end : End) (v : View) (new : Option NewObject) (what : Destroys) (id : ℕ) (o : Option Known) → EndsAs what id o → after end v new what id ≡ ended_view end (opens v new) o
 after_is end v new Nothing id None e = refl
 after_is end v new Nothing id (Some x) e = absurd (let f = e.flag in cc f)
 after_is end v new Target id None e = absurd (let f = e.flag in cc f)

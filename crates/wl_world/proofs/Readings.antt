@@ -28,7 +28,7 @@ use Rattle.wl_table.specs.View.{View, look, free_or_next, has_room}
 use Rattle.wl_objects.specs.declared.lookup.NewId.TheVariants.{Free}
 use Rattle.wl_objects.specs.Reading.{Reader, value_fault, iface_of, is_of, arguments_at, judged, descriptors, is_descriptor_kind, in_state, report_of, reports_of, first_or, tokens_after}
 use Rattle.wl_objects.specs.Writing.{spelled as spelled_values, message_len, message_bytes}
-use Rattle.wl_objects.specs.Messages.{reader_of, received, is_error, Made, made_by, made, or_else as made_or_else}
+use Rattle.wl_objects.specs.Messages.{reader_of, received, is_error, NewObject, made_by, made, or_else as made_or_else}
 use Rattle.wl_world.specs.Meant.{Born, Known, Message, Arg, rearg, born_of, birth_of, wire, tokens, token_in, new_in, made_in, or_else, plain, live_entry}
 use Rattle.wl_world.specs.World.{Row, Each}
 use Rattle.wl_world.specs.Flight.{row, as_row}
@@ -226,7 +226,7 @@ reports_right view rows (a ∷ args) more m =
 
 -- ---- the object that it makes
 
-abbrev pub made_of : Known → Made
+abbrev pub made_of : Known → NewObject
 made_of x = record { id = x.id; iface = x.born.iface; version = x.born.version }
 
 made_one : (tables : List Interface) (version : ℕ) (kind : Kind) (a : Arg Known) → Suits kind (wire a) → NamesRightly tables version kind a → made_by tables version kind (wire a) ≡ option_map made_of (new_in a)

@@ -19,7 +19,7 @@ use Rattle.wl_objects.specs.declared.error.SendError.{SendError}
 use Rattle.wl_objects.specs.declared.error.SendError.TheVariants as refusals
 use Rattle.wl_table.specs.View.{View, look, next_id, closed}
 use Rattle.wl_objects.specs.Writing.{Given, wired, message_bytes, is_live_as}
-use Rattle.wl_objects.specs.Messages.{Made, ended_id, Server as server_end, after, checked, live_row, same_iface}
+use Rattle.wl_objects.specs.Messages.{NewObject, ended_id, Server as server_end, after, checked, live_row, same_iface}
 use Rattle.wl_end.specs.Core.{Core}
 use Rattle.wl_end.specs.Sending.{send_answer, after_send, after_checked, made_at, opens_object, with_following}
 use Rattle.wl_end.proofs.Ends.{no_event}
@@ -143,7 +143,7 @@ server_send_keeps p w asked told s z target opcode given g reply p' (accepted {n
     let n : made_in args ≡ None = no_made core.view (the_new core c.entry given a.signature) a.signature.kinds given k.right (no_event_new core.tables s.valid c.entry.iface.0 opcode a.signature c.signed) in
     let can = server_can p w asked told s target opcode given a.signature c k n in
     let m = the_call core c.entry target opcode given a.signature in
-    let none : new ≡ None = o.is ∙ ap (option_map (λ (y : Made). record { id = next_id core.view; birth = core.view.births })) (made_same core target given a.signature c.entry c.there ∙ k.made_is ∙ ap (option_map made_of) n) in
+    let none : new ≡ None = o.is ∙ ap (option_map (λ (y : NewObject). record { id = next_id core.view; birth = core.view.births })) (made_same core target given a.signature c.entry c.there ∙ k.made_is ∙ ap (option_map made_of) n) in
     record {
       world = event_written w (renamed born_of m);
       answers = before z (accepted h) (record {

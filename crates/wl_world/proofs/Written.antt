@@ -24,7 +24,7 @@ use Rattle.wl_sigs.specs.Fixed.{display, registry}
 use Rattle.wl_table.specs.View.{View, Sound, next_id, can_open}
 use Rattle.wl_table.specs.Views.{free_is, free_or_next-next_id}
 use Rattle.wl_objects.specs.Writing.{Given, wired, message_len}
-use Rattle.wl_objects.specs.Messages.{id_named, id_at, ended_id, Made, made, checked, is_hidden, is_error, is_delete_id, same_iface}
+use Rattle.wl_objects.specs.Messages.{id_named, id_at, ended_id, NewObject, made, checked, is_hidden, is_error, is_delete_id, same_iface}
 use Rattle.wl_end.specs.Core.{Core}
 use Rattle.wl_end.specs.Sending.{opening_answer, answer_of, send_answer, made_at}
 use Rattle.wl_world.specs.Meant.{Known, Message, Arg, wire, made_in, objects, plain, ended_by}
@@ -35,7 +35,7 @@ use Rattle.wl_world.proofs.Readings.{made_of, made_read}
 use Rattle.wl_world.proofs.Calls.{Checked, AllRight, all_right, meant, new_known, wire_all, len_all, LiveAt, all_live, matches, fit_all, row_low, new_all, one_new, made_new, version_of}
 use Rattle.wl_world.proofs.Rules.{opcode_low, few_new, unnamed_none}
 
-abbrev pub the_made : Core → Entry → List Given → sigs.Message → Option Made
+abbrev pub the_made : Core → Entry → List Given → sigs.Message → Option NewObject
 the_made core entry given signature = made core.tables entry.version signature.kinds (map (wired (next_id core.view)) given)
 
 abbrev pub the_new : Core → Entry → List Given → sigs.Message → Known
@@ -52,11 +52,11 @@ the_call core entry target opcode given signature = record {
   ends = ended_by signature.destroys (record { id = target.id; born = plain entry }) (the_args core entry given signature);
 }
 
-pub new_id : (view : View) (o : Option Made) → (new_known view o).id ≡ next_id view
+pub new_id : (view : View) (o : Option NewObject) → (new_known view o).id ≡ next_id view
 new_id view None = refl
 new_id view (Some m) = refl
 
-pub new_birth : (view : View) (o : Option Made) → (new_known view o).born.birth ≡ view.births
+pub new_birth : (view : View) (o : Option NewObject) → (new_known view o).born.birth ≡ view.births
 new_birth view None = refl
 new_birth view (Some m) = refl
 
@@ -185,14 +185,14 @@ accepted_call core side target opcode given new l h =
     (sym (ap (λ (b : Bool). if b then Err refusals.Failed else answer_of core side target given (checked core.outbox.limit.bytes core.tables side core.view target opcode given)) l) ∙ h)
 
 -- an opening: it can be opened, and is the next
-pub record Opens (core : Core) (o : Option Made) (new : Option Object) : Type 0 where
-  pub can : IfThere (λ (m : Made). can_open core.view ≡ true) o
-  pub is : new ≡ option_map (λ (m : Made). record { id = next_id core.view; birth = core.view.births }) o
+pub record Opens (core : Core) (o : Option NewObject) (new : Option Object) : Type 0 where
+  pub can : IfThere (λ (m : NewObject). can_open core.view ≡ true) o
+  pub is : new ≡ option_map (λ (m : NewObject). record { id = next_id core.view; birth = core.view.births }) o
 
-opens_if : (core : Core) (m : Made) (new : Option Object) (b : Bool) (why : SendError) → can_open core.view ≡ b → cond b (Ok (Some (record { id = next_id core.view; birth = core.view.births }))) (Err why) ≡ Ok new → Opens core (Some m) new
+opens_if : (core : Core) (m : NewObject) (new : Option Object) (b : Bool) (why : SendError) → can_open core.view ≡ b → cond b (Ok (Some (record { id = next_id core.view; birth = core.view.births }))) (Err why) ≡ Ok new → Opens core (Some m) new
 opens_if core m new true why e h = record { can = e; is = cc h }
 opens_if core m new false why e h = absurd (cc h)
 
-pub opens : (core : Core) (o : Option Made) (new : Option Object) → opening_answer core o ≡ Ok new → Opens core o new
+pub opens : (core : Core) (o : Option NewObject) (new : Option Object) → opening_answer core o ≡ Ok new → Opens core o new
 opens core None new h = record { can = tt; is = cc h }
 opens core (Some m) new h = opens_if core m new (can_open core.view) _ refl h

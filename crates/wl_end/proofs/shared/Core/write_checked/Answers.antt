@@ -10,7 +10,7 @@ use Rattle.wl_table.specs.View.{is_live}
 use Rattle.wl_objects.specs.Messages.{opens, ended_id}
 use Rattle.wl_objects.specs.Writing.{on_wire, message_len, tokens_of, given, id_of, call_makes}
 use Rattle.wl_end.specs.Core.{Core}
-use Rattle.wl_end.specs.Outcomes.{Gives}
+use Rattle.wl_end.specs.Outcomes.{AnswersOrMemory}
 use Rattle.wl_end.specs.Sending.{fits, following_len, next_object, opening_answer, with_sent}
 use Rattle.wl_end.proofs.Sends.{answered, ended-known, fits-known, fits-any, fits-behind, ended-other, ended-live, written-known}
 use Rattle.wl_end.proofs.shared.Core.write_checked.Goals as goal
@@ -24,7 +24,7 @@ returns-in_err-new-clause-answer g c =
     let p = err_from_is_err_and c.from_residual.result c.from_residual.ensures.1 in
     rw (p.1, p.2)
     (answered c.args.self.now c.args.side c.args.target c.args.opcode c.args.args.now c.args.call.signature.now c.args.call.entry (Err c.in_err-new.field-0.0) c.requires.passes c.requires.entry (sym fit)
-    (subst (λ (i : Option Iface). Gives refusals.Memory (is_some i) (opening_answer c.args.self.now (next_object c.args.self.now.view c.args.call.entry.version i)) (Err c.in_err-new.field-0.0)) iface c.in_err-new.ensures.answer))
+    (subst (λ (i : Option Iface). AnswersOrMemory refusals.Memory (is_some i) (opening_answer c.args.self.now (next_object c.args.self.now.view c.args.call.entry.version i)) (Err c.in_err-new.field-0.0)) iface c.in_err-new.ensures.answer))
 
 pub write_call-requires-clause-room : goal.write_call-requires-clause-room
 write_call-requires-clause-room g c =
@@ -69,7 +69,7 @@ returns-clause-answer g c =
     (omega (arith, c.tokens_of-count.array_long, c.tokens_of-count.ensures.few, c.requires.few)) c.if-not-fits.ensures in
     let iface : c.call_makes.result ≡ call_makes c.args.call.signature.now.kinds = c.call_makes.ensures ∙ ap call_makes c.kinds.ensures in
     answered c.args.self.now c.args.side c.args.target c.args.opcode c.args.args.now c.args.call.signature.now c.args.call.entry (Ok c.in_ok-new.new) c.requires.passes c.requires.entry (sym fit)
-    (subst (λ (i : Option Iface). Gives refusals.Memory (is_some i) (opening_answer c.args.self.now (next_object c.args.self.now.view c.args.call.entry.version i)) (Ok c.in_ok-new.new)) iface c.in_ok-new.ensures.answer)
+    (subst (λ (i : Option Iface). AnswersOrMemory refusals.Memory (is_some i) (opening_answer c.args.self.now (next_object c.args.self.now.view c.args.call.entry.version i)) (Ok c.in_ok-new.new)) iface c.in_ok-new.ensures.answer)
 
 pub returns-clause-ok : goal.returns-clause-ok
 returns-clause-ok g c =

@@ -1,7 +1,7 @@
 use Rattle.std.proofs.Common.{◌∙◌, sym}
 use Rattle.wl_wire.specs.declared.kind.Kind.TheVariants.{Int}
 use Rattle.wl_objects.proofs.Passing.{made-next, made-here, made-none, made-end}
-use Rattle.wl_objects.proofs.made.made_by_message.Goals as goal
+use Rattle.wl_objects.proofs.new_object.made_by_message.Goals as goal
 
 pub returns-in-None : goal.returns-in-None
 returns-in-None c = sym (made-none _ _ _ _ Int _ c.kinds-test.true c.in-None.ensures.0) ∙ c.kinds.invariant

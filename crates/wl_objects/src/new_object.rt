@@ -10,7 +10,7 @@ use wl_wire::{Iface, Kind, ValueRef};
 
 /// A new object: its id, its interface and its version.
 #[derive(Clone, Copy, Debug, PartialEq, Eq)]
-pub struct Made {
+pub struct NewObject {
     pub id: u32,
     pub iface: Iface,
     pub version: u32,
@@ -23,7 +23,7 @@ pub fn made_by_message(
     version: u32,
     kinds: &[Kind],
     values: &Values<'_>,
-) -> Option<Made>
+) -> Option<NewObject>
     ensures { result ≡ made tables.now version kinds.now values.now }
 {
     let mut left = values.again();
@@ -39,14 +39,14 @@ pub fn made_by_message(
     None
 }
 
-fn made_by(tables: &Tables, version: u32, kind: Kind, value: ValueRef<'_>) -> Option<Made>
+fn made_by(tables: &Tables, version: u32, kind: Kind, value: ValueRef<'_>) -> Option<NewObject>
     ensures { result ≡ made_by tables.now version kind (lent value.entry) }
 {
     match (kind, value) {
-        (Kind::New(Some(iface)), ValueRef::New(id)) => Some(Made { id, iface, version }),
+        (Kind::New(Some(iface)), ValueRef::New(id)) => Some(NewObject { id, iface, version }),
         (Kind::New(None), ValueRef::NewNamed { iface, version, id }) => {
             let iface = tables.interface(iface)?;
-            Some(Made { id, iface, version })
+            Some(NewObject { id, iface, version })
         }
         _ => None,
     }

@@ -1,5 +1,5 @@
 use Rattle.std.proofs.Common.{rules}
-use Rattle.wl_objects.proofs.reporting.Gots.as_slice.Goals as goal
+use Rattle.wl_objects.proofs.reporting.OwnedArgs.as_slice.Goals as goal
 
 pub returns-in-Some : goal.returns-in-Some
 returns-in-Some c = search rules

@@ -1,6 +1,6 @@
 use Rattle.std.proofs.Common.{◌≡◌, drop}
 use Rattle.wl_objects.specs.Writing.{call_makes}
-use Rattle.wl_objects.proofs.made.call_makes.Given as goal
+use Rattle.wl_objects.proofs.new_object.call_makes.Given as goal
 
 -- the kinds before make nothing
 abbrev pub invariant-kinds : goal.invariant-kinds

@@ -1,5 +1,5 @@
 use Rattle.std.proofs.Common.{rules}
-use Rattle.wl_jobs.proofs.failure.Failure.tell.Goals as goal
+use Rattle.wl_jobs.proofs.failure.Failure.report.Goals as goal
 
 pub returns : goal.returns
 returns c = search rules
