@@ -32,20 +32,34 @@ fn report(rt: &HostRuntime, name: &str, wrong: &str) -> io::Result<bool> {
     Ok(false)
 }
 
-/// Plays all files. Whether all went well.
+/// The tables of the core interfaces and, behind them, those of a file's text.
+fn read_tables(rt: &HostRuntime, name: &str) -> io::Result<Tables> {
+    let text = fs::read(rt, name)?;
+    match Tables::core(rt.alloc())?.read_more(&text) {
+        Ok(tables) => Ok(tables),
+        Err(_) => Err(io::Error::from(io::ErrorKind::InvalidData)),
+    }
+}
+
+/// Plays all files. A name that ends in `.tables` is a file of further tables, for the scenes of the
+/// files behind it. Whether all went well.
 fn play_files(rt: &HostRuntime) -> io::Result<bool> {
     let alloc = rt.alloc();
-    let tables = Tables::core(alloc)?;
     let memory = RefusingAllocator::new(alloc)?;
-    let props = Props {
-        alloc,
-        tables: &tables,
-        memory: &memory,
-    };
+    let mut tables = Tables::core(alloc)?;
     let mut all = true;
     for name in env::args(rt)?.skip(1) {
+        if name.as_str().ends_with(".tables") {
+            tables = read_tables(rt, name.as_str())?;
+            continue;
+        }
         let text = fs::read_to_string(rt, name.as_str())?;
         println!(rt; "# {name}")?;
+        let props = Props {
+            alloc,
+            tables: &tables,
+            memory: &memory,
+        };
         all = play_text(rt, props, text.as_str())? && all;
     }
     Ok(all)
