@@ -1,15 +1,14 @@
 /* The calls of include/waywire.h over the proved exports of the crate waywire_c.
  *
- * An export takes what its type says and tests none of it: a slice is a pointer that is not null and
- * a length of at most PTRDIFF_MAX, and an out-parameter is never null. So each call here tests what C
- * may pass wrongly, and puts the pointer of a handle where the export wants its address. */
+ * An export relies on its types and tests nothing: a slice is a pointer that is not null and a length of
+ * at most PTRDIFF_MAX, and an out-parameter is never null. So each call here tests what C may pass
+ * wrongly. An export takes the address of a handle, so each call puts the caller's pointer into one. */
 #include "waywire.h"
 
-/* A pointer to what the exports made. */
+/* A pointer to the tables or the end that an export made. */
 struct handle {
 	void *at;
 };
-
 
 uint32_t waywire_c_tables_core(void **tables);
 uint32_t waywire_c_tables_read(struct handle *, const void *text, size_t length, void **more,
@@ -54,13 +53,13 @@ uint32_t waywire_c_server_announce(struct handle *, size_t *count);
 
 /* ---- what C may pass wrongly */
 
-/* One more than a message has, so that a call with too many is refused as such. */
+/* One more than a message can have, so that the export refuses a call with too many. */
 #define MAX_GIVEN (WAYWIRE_MAX_ARGS + 1)
 
 /* Memory that stands for an empty slice that is null. */
 static uint32_t nowhere[1];
 
-/* Tests a slice, and gives an empty one an address. */
+/* Tests a slice, and gives an empty one that is null an address. */
 static waywire_status slice(const void **bytes, size_t length, size_t size)
 {
 	if (length > (size_t)PTRDIFF_MAX / size)

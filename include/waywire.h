@@ -1,32 +1,33 @@
 /* waywire: the message layer of Wayland for both ends, without the socket.
  *
  * A client and a server write and read the messages of the Wayland protocol, and know which objects
- * each end has. Nothing here opens a socket, waits or starts a thread: an end computes over bytes and
- * tokens that are handed in and out.
+ * each end has. Nothing here opens a socket, waits or starts a thread: a call turns arguments into
+ * bytes, or bytes into a report, and the caller moves the bytes.
  *
  *  1. Send.   waywire_client_send and waywire_client_bind write requests; waywire_server_send,
  *             _announce, _drop_object and _post_error write events. They wait in the end's outbox.
  *  2. Take.   `take` moves what waits into the caller's memory: write it to the socket.
  *  3. Feed.   `feed` moves what came from the socket into the end's inbox, in any cut.
- *  4. Next.   `next` reads one message and lends its report; repeat it until there is nothing.
+ *  4. Next.   `next` reads one message and lends its report. Repeat it until the report says
+ *             WAYWIRE_NOTHING.
  *
- * Tokens.  File descriptors do not stand among the bytes. A token is a number of the caller's choice
+ * Tokens.  File descriptors are not among the bytes. A token is a number of the caller's choice
  * that stands for one, say the descriptor itself. `take` returns it with the first byte of its
  * message, and the caller passes the descriptor along with these bytes; for each descriptor that came
  * with some bytes the caller feeds a token with them. No descriptor is ever closed here.
  *
- * Memory.  Tables, clients and servers are made by a call and belong to the caller. `malloc`,
- * `realloc` and `free` are called, and nothing else of the system. After `new` an end takes memory
- * only where an object opens (`send`, `bind`, `next` of a server) and in `add_global`.
+ * Memory.  A client or a server belongs to the caller, who frees it; tables are never freed. The
+ * library calls `malloc`, `realloc` and `free`, and nothing else of the system. After `new` an end
+ * allocates only where an object opens (`send`, `bind`, `next` of a server) and in `add_global`.
  *
- * Threads.  Tables, and the ends that are made of them, are used by one thread, the one that made them.
- * Another thread makes its own. No call is made from a signal handler.
+ * Threads.  Only the thread that made some tables may use them, and the ends made with them. Another
+ * thread makes its own. No call may be made from a signal handler.
  *
  * Statuses.  Each call that can refuse returns a waywire_status. Unless its own text says otherwise,
  * with a status other than WAYWIRE_OK nothing has changed and nothing was written to what the caller
- * passed. Null for a pointer that is needed is WAYWIRE_NULL, and a length above PTRDIFF_MAX
- * WAYWIRE_TOO_LARGE. A pointer to memory that is not there, and tables or an end that were freed, are
- * the caller's fault and are not found out.
+ * passed. A null pointer where one is needed is WAYWIRE_NULL, and a length above PTRDIFF_MAX is
+ * WAYWIRE_TOO_LARGE. To pass a pointer to memory that is not there, or an end that was freed, is
+ * undefined behaviour.
  */
 #ifndef WAYWIRE_H
 #define WAYWIRE_H
@@ -40,7 +41,7 @@
 extern "C" {
 #endif
 
-/* WAYWIRE_VERSION, the version of this header, as a text. `make` writes the file. */
+/* WAYWIRE_VERSION, the version of this header as a string. `make` writes the file. */
 #include "waywire-version.h"
 
 /* ---- what a call returns */
@@ -48,22 +49,22 @@ extern "C" {
 typedef enum waywire_status {
 	WAYWIRE_OK = 0,
 
-	/* Why a message is not written. Tested in this order but for the last two. */
+	/* Why a message is not written. docs/FORMATS.md has the order in which they are tested. */
 	WAYWIRE_FAILED = 1,          /* the end has failed, and reads and writes nothing more */
 	WAYWIRE_STALE = 2,           /* the target, or the object, is not live */
 	WAYWIRE_NO_SUCH_MESSAGE = 3, /* its interface has no such message, or another call writes it */
 	WAYWIRE_TOO_OLD = 4,         /* the message is newer than its target */
 	WAYWIRE_WRONG_ARGS = 5,      /* the argument at `place` does not fit the signature */
-	WAYWIRE_BAD_OBJECT = 6,      /* the argument at `place` is no live object of its interface */
+	WAYWIRE_BAD_OBJECT = 6,      /* the object at `place` is not live, or of another interface */
 	WAYWIRE_BAD_BIND = 7,        /* no global of this name, interface and version was announced */
 	WAYWIRE_TOO_LONG = 8,        /* the message is longer than 4096 bytes */
 	WAYWIRE_FULL = 9,            /* the outbox has no room for it: take, and send again */
 	WAYWIRE_NO_IDS = 10,         /* no more objects can be opened */
 	WAYWIRE_NO_MEMORY = 11,      /* out of memory */
-	WAYWIRE_NOT_DROPPABLE = 12,  /* the object's interface does not end by an event */
+	WAYWIRE_NOT_DROPPABLE = 12,  /* its interface has no event that destroys an object */
 
 	/* Why a global is not added or not withdrawn. */
-	WAYWIRE_BAD_GLOBAL = 22,     /* no such interface to advertise at this version */
+	WAYWIRE_BAD_GLOBAL = 22,     /* no interface and version that can be advertised */
 	WAYWIRE_TOO_MANY_GLOBALS = 23, /* 1,024 globals were added in the server's life */
 	WAYWIRE_NO_SUCH_GLOBAL = 25, /* the name was never given, or is withdrawn */
 
@@ -71,7 +72,7 @@ typedef enum waywire_status {
 	WAYWIRE_FAULT_BAD_SIZE = 31,
 	WAYWIRE_FAULT_UNKNOWN_OBJECT = 32,
 	WAYWIRE_FAULT_UNKNOWN_MESSAGE = 33,
-	WAYWIRE_FAULT_BAD_ARGUMENT = 34, /* the argument at `place` is misspelled: `spelling` */
+	WAYWIRE_FAULT_BAD_ARGUMENT = 34, /* the argument at `place` is malformed: `spelling` says how */
 	WAYWIRE_FAULT_BAD_OBJECT = 35,   /* the object at `place` is unknown or of another interface */
 	WAYWIRE_FAULT_BAD_NEW_ID = 36,   /* the new id at `place` is not free */
 	WAYWIRE_FAULT_TRAILING_BYTES = 37,
@@ -83,22 +84,22 @@ typedef enum waywire_status {
 	 * Take, and read again. */
 	WAYWIRE_OUT_FULL = 51,
 
-	/* Values that a call does not take. */
+	/* Values that a call does not accept. */
 	WAYWIRE_NULL = 61,           /* null where a pointer is needed */
-	WAYWIRE_BAD_VALUE = 62,      /* an argument of a kind that no call takes */
-	WAYWIRE_BAD_SIZES = 63,      /* sizes that no end has */
+	WAYWIRE_BAD_VALUE = 62,      /* an argument of a kind that no call accepts */
+	WAYWIRE_BAD_SIZES = 63,      /* sizes that no end can have */
 	WAYWIRE_NOT_FOUND = 64,      /* no such interface, or the object is not live */
 	WAYWIRE_TOO_LARGE = 65,      /* a length above PTRDIFF_MAX */
 
-	/* Why a text gives no tables. */
-	WAYWIRE_BAD_LINE = 71,       /* a line has none of the forms */
+	/* Why no tables are read from a text. */
+	WAYWIRE_BAD_LINE = 71,       /* a line has none of the forms of such a text */
 	WAYWIRE_BAD_TABLE = 72       /* a line breaks a rule of tables */
 } waywire_status;
 
-/* What a status says, in English. The text is static. A number that is no status has a text too. */
+/* What a status means, in English: a static string, also for a number that is no status. */
 const char *waywire_strerror(waywire_status status);
 
-/* What is wrong with the spelling of an argument: the text of the `spelling` of a report, 1 to 4. */
+/* How an argument is malformed, in English: a static string for the `spelling` of a report, 1 to 4. */
 const char *waywire_strspelling(uint32_t spelling);
 
 /* The version of the library, as WAYWIRE_VERSION is that of the header. */
@@ -106,8 +107,8 @@ const char *waywire_version(void);
 
 /* ---- values */
 
-/* An object: its id, and its birth, which tells it from every other object that ever had this id. A
- * plain value, to be copied and compared. An object of the past is refused by every call. */
+/* An object: its id, and its birth, which tells it from every other object that ever had this id. It is
+ * a plain value, to be copied and compared. Every call refuses an object that is gone. */
 typedef struct waywire_object {
 	uint64_t birth;
 	uint32_t id;
@@ -118,7 +119,7 @@ static inline bool waywire_object_equal(waywire_object one, waywire_object other
 	return one.id == other.id && one.birth == other.birth;
 }
 
-/* The kinds of arguments. A call takes those up to WAYWIRE_FD. */
+/* The kinds of arguments, and the fields that each uses. A call accepts those up to WAYWIRE_FD. */
 enum {
 	WAYWIRE_INT = 1,         /* i */
 	WAYWIRE_UINT = 2,        /* u */
@@ -127,16 +128,16 @@ enum {
 	WAYWIRE_NULL_STRING = 5,
 	WAYWIRE_OBJECT = 6,      /* object */
 	WAYWIRE_NULL_OBJECT = 7,
-	WAYWIRE_NEW = 8,         /* in a call the place of the object that it makes; in a report object */
+	WAYWIRE_NEW = 8,         /* a new id: in a call its place alone; in a report object */
 	WAYWIRE_ARRAY = 9,       /* bytes, length */
-	WAYWIRE_FD = 10,         /* u: the token that stands for a descriptor */
+	WAYWIRE_FD = 10,         /* u: the token that stands for a file descriptor */
 	WAYWIRE_DEAD_OBJECT = 11, /* in reports: object, which this end has destroyed already */
 	WAYWIRE_BOUND = 12       /* in reports of wl_registry.bind: object, bytes and length (its interface),
 	                          * u (its version) */
 };
 
-/* One argument, of a call or of a report. Fields that its kind does not name are not looked at in a
- * call, and 0 in a report. */
+/* One argument, of a call or of a report. Fields that its kind does not use are ignored in a call, and
+ * 0 in a report. */
 typedef struct waywire_arg {
 	uint32_t kind;
 	int32_t i;
@@ -159,14 +160,14 @@ static inline waywire_arg waywire_uint(uint32_t number)
 	return arg;
 }
 
-/* In 256ths. */
+/* A fixed number, in 256ths. */
 static inline waywire_arg waywire_fixed(int32_t parts)
 {
 	waywire_arg arg = { WAYWIRE_FIXED, parts, 0, { 0, 0 }, NULL, 0 };
 	return arg;
 }
 
-/* A text that ends with a NUL, or the null string for NULL. */
+/* A string that ends with a NUL; NULL is the null string. */
 static inline waywire_arg waywire_string(const char *text)
 {
 	waywire_arg arg = { WAYWIRE_NULL_STRING, 0, 0, { 0, 0 }, NULL, 0 };
@@ -217,8 +218,8 @@ typedef struct waywire_amounts {
 	size_t tokens;
 } waywire_amounts;
 
-/* How large the boxes of an end are. They never grow. An outbox has at most 16,777,216 bytes and
- * 65,536 tokens; an inbox has 4096 to 16,777,216 bytes and 20 to 65,536 tokens. */
+/* How large the outbox and the inbox of an end are, which never grow. An outbox has at most 16,777,216
+ * bytes and 65,536 tokens; an inbox has 4096 to 16,777,216 bytes and 20 to 65,536 tokens. */
 typedef struct waywire_sizes {
 	size_t out_bytes;
 	size_t out_tokens;
@@ -228,26 +229,26 @@ typedef struct waywire_sizes {
 
 /* ---- reports */
 
-/* The most arguments, and the most tokens, of a message. */
+/* The most arguments that a message has, and so the most tokens. */
 #define WAYWIRE_MAX_ARGS 20
 
-/* What a report tells. */
+/* The kinds of reports, and the fields that each uses. */
 enum {
 	WAYWIRE_NOTHING = 0,   /* no whole message waits */
 	WAYWIRE_MESSAGE = 1,   /* a request or an event: target, opcode, args */
 	WAYWIRE_DISCARDED = 2, /* an event for an object that the client has destroyed: target, opcode,
 	                        * and its tokens, so that the caller can close what they stand for */
-	WAYWIRE_DELETED = 3,   /* the server let go of an object: target. Its id is free again */
-	WAYWIRE_STRAY = 4,     /* the server let go of an id that names no object: id. Nothing changed */
-	WAYWIRE_ERROR = 5,     /* wl_display.error: id, the object that it names (`named` is its kind, and
-	                        * target where it is not null), code and text. The client has failed */
+	WAYWIRE_DELETED = 3,   /* wl_display.delete_id of an object: target. Its id is free again */
+	WAYWIRE_STRAY = 4,     /* wl_display.delete_id of an id that names no object: id. Nothing changed */
+	WAYWIRE_ERROR = 5,     /* wl_display.error: id, the object that it names (`named` is its kind of
+	                        * argument; target where it is known), code, text. The client has failed */
 	WAYWIRE_FAULT = 6      /* the status says which: place, spelling, and `offset`, the byte of the
 	                        * stream at which the message begins. The end has failed */
 };
 
-/* A message that was read. What it points to lies in the end, and is lent until the next call that
- * changes the end (`send`, `bind`, `feed`, `take`, `next` and the like). Strings end with a NUL that
- * their length does not count. */
+/* What `next` read. It points into the end, and is lent until the next call that changes the end
+ * (`send`, `bind`, `feed`, `take`, `next` and the like). Strings end with a NUL that their length does
+ * not count. */
 typedef struct waywire_report {
 	uint32_t kind;
 	uint32_t opcode;
@@ -268,18 +269,18 @@ typedef struct waywire_report {
 
 /* ---- tables */
 
-/* Which messages there are: interfaces, each at its place, with the signatures of their messages. */
+/* The interfaces, each at its place, with the signatures of their messages. */
 typedef struct waywire_tables waywire_tables;
 
 /* Makes the tables of the core protocol (wayland.xml without data transfer). Tables are never freed
  * (some 10 KB): make them once, for all ends of a thread. WAYWIRE_NO_MEMORY. */
 waywire_status waywire_tables_core(waywire_tables **tables);
 
-/* Makes tables of these and of those that a text declares (docs/FORMATS.md; tools/tables-from-xml writes
- * such texts). They are new tables, and are not freed either; the first stay as they are. WAYWIRE_BAD_LINE,
- * and WAYWIRE_BAD_TABLE once each line has a form: `line` is the first such line, counted from 1, and for
- * the second `rule` the least rule that it breaks, 1 to 9. WAYWIRE_NO_MEMORY. `line` and `rule` may be
- * null. */
+/* Makes new tables: these, and the interfaces that a text declares (docs/FORMATS.md; tools/tables-from-xml
+ * writes such texts). The new ones are never freed either, and the first stay as they are.
+ * WAYWIRE_BAD_LINE where a line has no form; else WAYWIRE_BAD_TABLE where a line breaks a rule. Both write
+ * the first such line to `line`, counted from 1; the second writes the least rule that it breaks to `rule`,
+ * 1 to 9. WAYWIRE_NO_MEMORY. `line` and `rule` may be null. */
 waywire_status waywire_tables_read(const waywire_tables *tables, const void *text, size_t length,
 	waywire_tables **more, size_t *line, uint32_t *rule);
 
@@ -287,7 +288,7 @@ waywire_status waywire_tables_read(const waywire_tables *tables, const void *tex
 waywire_status waywire_tables_interface(const waywire_tables *tables, const char *name,
 	uint16_t *interface);
 
-/* The name of the interface at a place, lent for good. It does not end with a NUL.
+/* The name of the interface at a place, which is valid for good. It does not end with a NUL.
  * WAYWIRE_NOT_FOUND past the tables. */
 waywire_status waywire_tables_name(const waywire_tables *tables, uint16_t interface,
 	const char **name, size_t *length);
@@ -298,15 +299,15 @@ waywire_status waywire_tables_version(const waywire_tables *tables, uint16_t int
 
 /* ---- a client */
 
-/* The client's end of a connection: its objects, its two boxes, the globals that it was told. */
+/* The client's end of a connection: its objects, its inbox and outbox, the globals that it was told of. */
 typedef struct waywire_client waywire_client;
 
-/* Makes a client with wl_display alone and empty boxes. The caller frees it; the tables must stay as
- * long as it. WAYWIRE_BAD_SIZES, WAYWIRE_NO_MEMORY. */
+/* Makes a client with wl_display alone, an empty inbox and an empty outbox. The caller frees it.
+ * WAYWIRE_BAD_SIZES, WAYWIRE_NO_MEMORY. */
 waywire_status waywire_client_new(const waywire_tables *tables, const waywire_sizes *sizes,
 	waywire_client **client);
 
-/* Frees a client, and what it lent. Null is let pass. */
+/* Frees a client, and what it lent. Null is allowed. */
 void waywire_client_free(waywire_client *client);
 
 /* wl_display, which every connection has: id 1, birth 0. */
@@ -320,28 +321,28 @@ waywire_status waywire_client_live(const waywire_client *client, waywire_object 
 /* The free bytes and tokens of the inbox; zeros at a failed client. */
 waywire_status waywire_client_in_room(const waywire_client *client, waywire_amounts *room);
 
-/* Whether nothing waits in either box. */
+/* Whether nothing waits in the inbox or the outbox. */
 waywire_status waywire_client_is_drained(const waywire_client *client, bool *drained);
 
-/* Writes a request. One of its arguments may be WAYWIRE_NEW, the place of the object that it makes;
- * that object is written to `made`, or id 0 where there is none. An object that the request destroys
- * is dead afterwards: events for it may still come (WAYWIRE_DISCARDED), and WAYWIRE_DELETED ends it.
+/* Writes a request. If one of its arguments is WAYWIRE_NEW, the request makes an object, which is
+ * written to `made`; else `made` gets id 0. An object that the request destroys is dead afterwards:
+ * events for it may still come (WAYWIRE_DISCARDED), until WAYWIRE_DELETED ends it.
  * wl_registry.bind is WAYWIRE_NO_SUCH_MESSAGE: waywire_client_bind writes it.
  * Statuses 1 to 6 and 8 to 11, and WAYWIRE_BAD_VALUE before these. `made` and `place` may be null;
  * `place` is written with WAYWIRE_WRONG_ARGS and WAYWIRE_BAD_OBJECT, counted from 0. */
 waywire_status waywire_client_send(waywire_client *client, waywire_object target, uint16_t opcode,
 	const waywire_arg *args, size_t arg_count, waywire_object *made, size_t *place);
 
-/* Binds a global that the client was told, of this name and interface (which ends with a NUL), and
+/* Binds a global that was announced to the client, of this name and interface (which ends with a NUL), and
  * writes the new object to `bound`, which may be null. WAYWIRE_FAILED, WAYWIRE_STALE,
  * WAYWIRE_NO_SUCH_MESSAGE where `registry` is no wl_registry, WAYWIRE_BAD_BIND, WAYWIRE_FULL,
  * WAYWIRE_NO_IDS, WAYWIRE_NO_MEMORY. */
 waywire_status waywire_client_bind(waywire_client *client, waywire_object registry, uint32_t name,
 	const char *interface, uint32_t version, waywire_object *bound);
 
-/* Takes in what came: as many tokens as fit, and where these are all, as many bytes as fit. What was
- * not taken in is fed again later. A failed client takes nothing in. The inbox copies; `bytes` and
- * `tokens` are not kept. Either may be null where its length is 0. */
+/* Copies what came into the inbox: as many tokens as fit, and if these are all, as many bytes as fit.
+ * `fed` says how much that was; feed the rest again later. A failed client takes nothing in. `bytes`
+ * and `tokens` may be null where their length is 0. */
 waywire_status waywire_client_feed(waywire_client *client, const void *bytes, size_t length,
 	const uint32_t *tokens, size_t token_count, waywire_amounts *fed);
 
@@ -349,24 +350,24 @@ waywire_status waywire_client_feed(waywire_client *client, const void *bytes, si
 waywire_status waywire_client_goes(const waywire_client *client, size_t bytes, size_t tokens,
 	waywire_amounts *amounts);
 
-/* Moves what waits to go into the caller's memory, as much as it holds, also at a failed client. The
+/* Moves what waits in the outbox into the caller's memory, as much as it holds, also at a failed client. The
  * tokens of a message go with its first byte: pass their descriptors on with these bytes. What was
  * taken is gone from the outbox. */
 waywire_status waywire_client_take(waywire_client *client, void *bytes, size_t length,
 	uint32_t *tokens, size_t token_count, waywire_amounts *taken);
 
 /* Reads the next message once it is whole; `report` says WAYWIRE_NOTHING before. Its report is lent
- * until the next call that changes the client. Takes no memory.
+ * until the next call that changes the client. It allocates nothing.
  * With a status of WAYWIRE_FAULT_.. the report is written too (kind WAYWIRE_FAULT) and the client has
- * failed for good; so it has after a report WAYWIRE_ERROR. WAYWIRE_FAILED where it had failed. */
+ * failed for good, as it has after a report WAYWIRE_ERROR. WAYWIRE_FAILED where it had failed before. */
 waywire_status waywire_client_next(waywire_client *client, waywire_report *report);
 
 /* ---- a server */
 
-/* The server's end of one connection: its objects, its two boxes, and the globals it advertises. */
+/* The server's end of one connection: its objects, its inbox and outbox, and the globals it advertises. */
 typedef struct waywire_server waywire_server;
 
-/* As for a client. A server without globals. */
+/* As for a client. A new server has no globals. */
 waywire_status waywire_server_new(const waywire_tables *tables, const waywire_sizes *sizes,
 	waywire_server **server);
 void waywire_server_free(waywire_server *server);
@@ -392,8 +393,8 @@ waywire_status waywire_server_add_global(waywire_server *server, uint16_t interf
  * told of it. WAYWIRE_FAILED, WAYWIRE_NO_SUCH_GLOBAL. */
 waywire_status waywire_server_withdraw(waywire_server *server, uint32_t name);
 
-/* Writes to the open registries what they are owed, wl_registry.global and global_remove, as far as it
- * fits, and writes the number of events to `count`, which may be null. Call it after a request has
+/* Writes to the open registries what they have not been told yet, by wl_registry.global and global_remove,
+ * as far as it fits. `count`, which may be null, gets the number of these events. Call it after a request has
  * made a registry, after a change of the globals, and after a `take` where not all had fitted.
  * WAYWIRE_FAILED. */
 waywire_status waywire_server_announce(waywire_server *server, size_t *count);
@@ -409,7 +410,7 @@ waywire_status waywire_server_send(waywire_server *server, waywire_object target
 waywire_status waywire_server_drop_object(waywire_server *server, waywire_object object);
 
 /* Ends the connection with wl_display.error about an object. The text ends with a NUL and has at most
- * 40 bytes before it. There is always room for it. The server has failed afterwards: take what waits,
+ * 40 bytes before it. The outbox always has room for it. The server has failed afterwards: take what waits,
  * write it and close the socket. WAYWIRE_FAILED, WAYWIRE_STALE, WAYWIRE_WRONG_ARGS for the text. */
 waywire_status waywire_server_post_error(waywire_server *server, waywire_object object, uint32_t code,
 	const char *text);
@@ -420,7 +421,7 @@ waywire_status waywire_server_post_error(waywire_server *server, waywire_object 
  * WAYWIRE_OUT_FULL where there is no room for that, and WAYWIRE_NO_MEMORY where there is none for the
  * object that the request opens: the request stays, and can be read again. With a status of
  * WAYWIRE_FAULT_.. the report is written too (kind WAYWIRE_FAULT), wl_display.error is the last that
- * waits to be taken, and the server has failed for good. WAYWIRE_FAILED where it had failed. */
+ * waits to be taken, and the server has failed for good. WAYWIRE_FAILED where it had failed before. */
 waywire_status waywire_server_next(waywire_server *server, waywire_report *report);
 
 #ifdef __cplusplus

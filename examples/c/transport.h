@@ -1,8 +1,8 @@
 /* A transport for the ends of waywire: a Unix socket, and descriptors as tokens.
  *
- * A link is an end and its socket. A token is the number of a descriptor of this process: what is sent
- * is closed here once the socket has taken it, and what came belongs to whoever reads its token out of
- * a report. Take this file, or write your own. */
+ * A link is an end and its socket. A token is the number of a descriptor of this process. A descriptor
+ * that is sent is closed here once the socket has taken it; one that came belongs to the caller, who
+ * reads its token out of a report. Copy this file, or write your own. */
 #ifndef TRANSPORT_H
 #define TRANSPORT_H
 
@@ -16,7 +16,7 @@ struct link {
 	int socket;
 	waywire_client *client; /* one of the two is null */
 	waywire_server *server;
-	/* What was taken from the outbox and not yet from us by the socket. */
+	/* What was taken from the outbox and not yet written to the socket. */
 	unsigned char bytes[LINK_BYTES];
 	size_t from, to;
 	uint32_t tokens[LINK_DESCRIPTORS];
@@ -36,11 +36,11 @@ int link_flush(struct link *link);
  * end of the connection (errno 0) or an error. */
 int link_fill(struct link *link);
 
-/* Flushes, then waits until something came, and reads it. 1, 0 after so many milliseconds (-1: no
+/* Flushes, then waits until something comes, and reads it. 1, or 0 after this many milliseconds (-1: no
  * limit), or -1 as link_fill. */
 int link_wait(struct link *link, int milliseconds);
 
-/* Closes the socket and the descriptors that were not sent. The end is the caller's to free. */
+/* Closes the socket and the descriptors that were not sent. The caller frees the end. */
 void link_close(struct link *link);
 
 #endif

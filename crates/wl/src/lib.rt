@@ -34,8 +34,8 @@
 //!
 //! # Tokens
 //!
-//! File descriptors do not stand among the bytes. A token is a `u32` of the caller's choice that
-//! stands for one, say its number. [`Arg::Fd`] sends a token, `take` returns it together with the
+//! File descriptors are not among the bytes. A token is a `u32` of the caller's choice that stands
+//! for one, say its number. [`Arg::Fd`] sends a token, `take` returns it together with the
 //! first byte of its message, and the caller passes the descriptor along with these bytes. On the
 //! other side the caller feeds a token for each descriptor that came, with the bytes that they came
 //! with, and the report has it as [`GotRef::Fd`]. No token is lost or given to another message, and no
@@ -46,9 +46,9 @@
 //! - [`Tables`] say which messages there are: those of the core interfaces ([`Tables::core`]), and
 //!   those that a text declares ([`Tables::read_more`]). They are made once, and lent to any number
 //!   of ends.
-//! - An end owns its objects, the two boxes and their room. [`Sizes`] says how large the boxes are,
-//!   which never grow, and how long a message may be ([`Limit`]). Its objects stand in a [`Table`]:
-//!   [`SlotTable`], in which every call takes constant time, but for an opening that doubles its
+//! - An end owns its objects, its inbox and its outbox. [`Sizes`] says how large these two boxes
+//!   are, which never grow, and how long a message may be ([`Limit`]). The objects are kept in a
+//!   [`Table`]: [`SlotTable`], whose calls take constant time, but for an opening that doubles its
 //!   vector, or its plain twin [`MapTable`].
 //! - An [`Object`] is a plain value: an id and a birth, which tells it from every other object that
 //!   ever had that id. A call that names an object of the past is refused, and never reaches its
@@ -84,8 +84,9 @@
 //!
 //! # A client and a server
 //!
-//! The crate `hello` is this program. A buffer stands where a connection has a socket; the `for`
-//! loops have an upper bound since every loop here is proved to end.
+//! The crate `hello` is this program. A buffer stands where a connection has a socket. The lines
+//! with `ghost` and `requires` are for the proof, and the `for` loops have an upper bound since
+//! every loop here is proved to end.
 //!
 //! ```
 //! ghost use Rattle.std.specs.Prelude.{◌≤◌, length};
@@ -93,8 +94,8 @@
 //! use anyhow::{Context, Result, bail};
 //! use std::io::Write;
 //! use wl::{
-//!     Arg, Direction, Got, GotRef, OwnedArgs, Incoming, Limit, Object, OwnedIncoming, Recording, Sizes,
-//!     SlotTable, Tables, event, request, trace,
+//!     Arg, Direction, Got, GotRef, Incoming, Limit, Object, OwnedArgs, OwnedIncoming, Recording,
+//!     Sizes, SlotTable, Tables, event, request, trace,
 //! };
 //!
 //! type Client<'t> = wl::Client<'t, SlotTable>;
