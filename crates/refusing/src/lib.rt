@@ -1,8 +1,8 @@
 //! An allocator for tests, which refuses one chosen allocation and passes each other call on.
 //!
-//! A test keeps one handle, gives clones of it to the values that it tests, and says on its own handle which of
-//! the coming allocations is refused. So it can refuse each allocation of a call in turn, until the call is
-//! granted all that it asks for.
+//! A test keeps one handle, gives clones of it to the values that it tests, and says on its own
+//! handle which of the coming allocations is refused. So it can refuse each allocation of a call in
+//! turn, until the call is granted all that it asks for.
 #![tactic(auto)]
 
 use std::alloc::{AllocError, Allocator, Global};
@@ -16,16 +16,17 @@ use plan::Plan;
 #[cfg(test)]
 mod tests;
 
-/// An allocator that refuses one chosen allocation, as if there were no memory, and grants each other that the
-/// allocator below it grants.
+/// An allocator that refuses one chosen allocation, as if there were no memory, and grants each
+/// other that the allocator below it grants.
 ///
-/// The clones of a handle share one count and one choice: what is said on one of them holds for all. A new handle
-/// refuses none. Growing and shrinking a block is one allocation, since each takes a new block; freeing a block is
-/// none. The count and the choice lie in memory of their own, which is not counted and is never refused.
+/// The clones of a handle share one count and one choice: what is said on one of them holds for
+/// all. A new handle refuses none. Growing and shrinking a block is one allocation, since each
+/// takes a new block; freeing a block is none. The count and the choice lie in memory of their own,
+/// which is not counted and is never refused.
 ///
-/// No contract can say what a cell holds, so that the choice reaches each clone is tested. What is proved is that
-/// every block is taken and freed by the rules of [`Allocator`], and that a plan refuses just the chosen
-/// allocation.
+/// No contract can say what a cell holds, so that the choice reaches each clone is tested. What is
+/// proved is that every block is taken and freed by the rules of [`Allocator`], and that a plan
+/// refuses just the chosen allocation.
 #[derive(Clone, Drop)]
 pub struct RefusingAllocator<B: Allocator = Global> {
     inner: B,
@@ -33,22 +34,23 @@ pub struct RefusingAllocator<B: Allocator = Global> {
 }
 
 impl RefusingAllocator<Global> {
-    /// A handle over the program's own memory. Its only error is that there is no memory for the count.
+    /// A handle over the program's own memory. Its only error is that there is no memory for the
+    /// count.
     pub fn new(alloc: Global) -> Result<RefusingAllocator<Global>, AllocError> {
         RefusingAllocator::over(alloc, alloc)
     }
 }
 
 impl<B: Allocator> RefusingAllocator<B> {
-    /// A handle over the allocator `inner`, with its count in memory of `alloc`. Its only error is that there is no
-    /// memory for the count.
+    /// A handle over the allocator `inner`, with its count in memory of `alloc`. Its only error is
+    /// that there is no memory for the count.
     pub fn over(alloc: Global, inner: B) -> Result<RefusingAllocator<B>, AllocError> {
         let plan = Rc::new(alloc, Cell::new(Plan::GRANTING))?;
         Ok(RefusingAllocator { inner, plan })
     }
 
-    /// Refuses the allocation of this number, counted from now: 0 is the next one. Each other is granted, before it
-    /// and after it. The count begins anew.
+    /// Refuses the allocation of this number, counted from now: 0 is the next one. Each other is
+    /// granted, before it and after it. The count begins anew.
     pub fn refuse_nth(&self, number: u64) {
         self.plan.set(Plan::refusing(number));
     }
@@ -58,8 +60,8 @@ impl<B: Allocator> RefusingAllocator<B> {
         self.plan.set(Plan::GRANTING);
     }
 
-    /// How many allocations were asked for, a refused one too, since the last `refuse_nth` or `refuse_none`, or
-    /// since the handle was made.
+    /// How many allocations were asked for, a refused one too, since the last `refuse_nth` or
+    /// `refuse_none`, or since the handle was made.
     pub fn asked(&self) -> u64 {
         self.plan.get().asked()
     }

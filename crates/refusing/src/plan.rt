@@ -1,5 +1,6 @@
 // Which allocation is refused, and how many were asked for.
-ghost use Rattle.std.specs.Prelude.{◌≡◌, ◌+◌, ◌-◌, ◌<◌, ◌^◌, ◌↔◌, Some, None, IsTrue, IsSomeAnd, min};
+ghost use Rattle.std.specs.Prelude.{◌≡◌, ◌+◌, ◌-◌, ◌<◌, ◌^◌, ◌↔◌, Some, None, IsTrue, IsSomeAnd};
+ghost use Rattle.std.specs.Prelude.{min};
 
 #[derive(Clone, Copy)]
 pub(crate) struct Plan {
@@ -37,8 +38,8 @@ impl Plan {
         self.refused.is_some_and(|number| number < self.asked)
     }
 
-    // Counts one more allocation, and says whether it is refused: exactly the one of the chosen number is. The count
-    // stops at the largest `u64`, which no run reaches.
+    // Counts one more allocation, and says whether it is refused: exactly the one of the chosen
+    // number is. The count stops at the largest `u64`, which no run reaches.
     pub(crate) fn ask(&mut self) -> bool
         ensures refused { IsTrue result ↔ (self.old.refused ≡ Some self.old.asked) }
         ensures asked { self.new.asked ≡ min (self.old.asked + 1) (2 ^ 64 - 1) }

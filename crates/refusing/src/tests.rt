@@ -61,7 +61,8 @@ fn asks_five_times(memory: &RefusingAllocator) -> Result<bool, AllocError> {
     Ok(is_filled && !memory.has_refused())
 }
 
-// A vector takes room for 4, 8, 16, 32 and 64 numbers in turn, and keeps those that it has where it is refused more.
+// A vector takes room for 4, 8, 16, 32 and 64 numbers in turn, and keeps those that it has where it
+// is refused more.
 #[test]
 fn a_growing_vec_is_refused_at_each_allocation_in_turn(rt: HostRuntime) -> Result<(), Fail> {
     let memory = RefusingAllocator::new(rt.alloc())?;
@@ -143,7 +144,8 @@ fn adds_refused(memory: &RefusingAllocator, number: u64) -> Result<bool, AllocEr
     Ok(adds(memory, &mut names))
 }
 
-// The loop that other crates use: the call is refused each of its allocations in turn, until it is granted them all.
+// The loop that other crates use: the call is refused each of its allocations in turn, until it is
+// granted them all.
 #[test]
 fn a_call_is_refused_each_of_its_allocations_in_turn(rt: HostRuntime) -> Result<(), Fail> {
     let memory = RefusingAllocator::new(rt.alloc())?;

@@ -30,12 +30,12 @@ fd-is body parsed_as.Null = refl
 fd-is body (parsed_as.Int z) = refl
 fd-is body (parsed_as.Uint n) = refl
 fd-is body (parsed_as.Fixed z) = refl
-fd-is body (parsed_as.Str start len) = refl
+fd-is body (parsed_as.Str len start) = refl
 fd-is body (parsed_as.NoObject id) = refl
 fd-is body (parsed_as.Object id birth state) = refl
 fd-is body (parsed_as.New id) = refl
-fd-is body (parsed_as.Bound start len version id) = refl
-fd-is body (parsed_as.Array start len) = refl
+fd-is body (parsed_as.Bound len start version id) = refl
+fd-is body (parsed_as.Array len start) = refl
 fd-is body (parsed_as.Fd place) = refl
 
 same-place : (body : List ℕ) (p : ParsedArg) (v : Argument) (place : ℕ) → argument_of body p ≡ v → place_behind p place ≡ place_after v place

@@ -28,12 +28,12 @@ argument_of body parsed_as.Null = Str None
 argument_of body (parsed_as.Int z) = Int z
 argument_of body (parsed_as.Uint n) = Uint n
 argument_of body (parsed_as.Fixed z) = Fixed (units z)
-argument_of body (parsed_as.Str start len) = Str (Some (part body start len))
+argument_of body (parsed_as.Str len start) = Str (Some (part body start len))
 argument_of body (parsed_as.NoObject id) = Obj id
 argument_of body (parsed_as.Object id birth state) = Obj id
 argument_of body (parsed_as.New id) = New id
-argument_of body (parsed_as.Bound start len version id) = NewNamed (part body start len) version id
-argument_of body (parsed_as.Array start len) = Array (part body start len)
+argument_of body (parsed_as.Bound len start version id) = NewNamed (part body start len) version id
+argument_of body (parsed_as.Array len start) = Array (part body start len)
 argument_of body (parsed_as.Fd place) = Fd tt
 
 -- An argument as it is reported, where a new object gets this birth; of a descriptor the place of
@@ -43,14 +43,14 @@ placed_of body birth parsed_as.Null = Str None
 placed_of body birth (parsed_as.Int z) = Int z
 placed_of body birth (parsed_as.Uint n) = Uint n
 placed_of body birth (parsed_as.Fixed z) = Fixed (units z)
-placed_of body birth (parsed_as.Str start len) = Str (Some (part body start len))
+placed_of body birth (parsed_as.Str len start) = Str (Some (part body start len))
 placed_of body birth (parsed_as.NoObject id) = Obj named_as.Null
 placed_of body birth (parsed_as.Object id held state) =
     Obj (in_state state (record { id = id; birth = held }))
 placed_of body birth (parsed_as.New id) = New (record { id = id; birth = birth })
-placed_of body birth (parsed_as.Bound start len version id) =
+placed_of body birth (parsed_as.Bound len start version id) =
     NewNamed (part body start len) version (record { id = id; birth = birth })
-placed_of body birth (parsed_as.Array start len) = Array (part body start len)
+placed_of body birth (parsed_as.Array len start) = Array (part body start len)
 placed_of body birth (parsed_as.Fd place) = Fd place
 
 -- the token at a place; 0 where there is none

@@ -1,14 +1,13 @@
 -- What a call's arguments must be, and the message that they become.
 use Rattle.std.specs.Prelude.{ℕ, suc, ◌+◌, Bool, true, false, ◌&&◌, not, List, [], ◌∷◌, ◌++◌, map}
 use Rattle.std.specs.Prelude.{nat_eq, nat_lt, if◌then◌else◌, Option, Some, None}
-use Rattle.std.specs.List.{list_any}
 use Rattle.wl_wire.specs.declared.kind.Kind.{Kind}
 use Rattle.wl_wire.specs.declared.kind.Kind.TheVariants as kinds
 use Rattle.wl_wire.specs.declared.kind.Iface.{Iface}
 use Rattle.wl_wire.specs.Argument.{Argument, Shape, reshaped, units, Int, Uint, Fixed, Str, Obj}
 use Rattle.wl_wire.specs.Argument.{New, NewNamed, Array, Fd}
 use Rattle.wl_wire.specs.Word.{header_bytes}
-use Rattle.wl_wire.specs.Spelling.{canonical, spelled_len, Fits}
+use Rattle.wl_wire.specs.Spelling.{canonical, spelled_len, Fits, has_nul}
 use Rattle.wl_objects.specs.declared.argument.Arg.{Arg}
 use Rattle.wl_objects.specs.declared.argument.Arg.TheVariants as args
 use Rattle.wl_table.specs.declared.object.Object.{Object}
@@ -23,7 +22,7 @@ Given = Shape (Option Object) (Unit {0}) ℕ
 
 -- a text that a string can hold
 abbrev pub has_no_nul : List ℕ → Bool
-has_no_nul text = not (list_any (λ b. nat_eq b 0) text)
+has_no_nul text = not (has_nul text)
 
 abbrev pub text_suits : Bool → Option (List ℕ) → Bool
 text_suits null None = null

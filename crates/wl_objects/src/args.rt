@@ -131,7 +131,7 @@ fn got_of<'a>(body: &'a [u8], birth: u64, tokens: &[u32], parsed: ParsedArg) -> 
         ParsedArg::Int(number) => GotRef::Int(number),
         ParsedArg::Uint(number) => GotRef::Uint(number),
         ParsedArg::Fixed(number) => GotRef::Fixed(number),
-        ParsedArg::Str { start, len } => GotRef::Str(Some(part(body, start, len as usize))),
+        ParsedArg::Str { len, start } => GotRef::Str(Some(part(body, start, len as usize))),
         ParsedArg::NoObject { .. } => GotRef::Obj(Named::Null),
         ParsedArg::Object { id, birth, state } => GotRef::Obj(in_state(
             state,
@@ -139,8 +139,8 @@ fn got_of<'a>(body: &'a [u8], birth: u64, tokens: &[u32], parsed: ParsedArg) -> 
         )),
         ParsedArg::New { id } => GotRef::New(Object { id, birth }),
         ParsedArg::Bound {
-            start,
             len,
+            start,
             version,
             id,
         } => GotRef::Bound {
@@ -148,7 +148,7 @@ fn got_of<'a>(body: &'a [u8], birth: u64, tokens: &[u32], parsed: ParsedArg) -> 
             version,
             object: Object { id, birth },
         },
-        ParsedArg::Array { start, len } => GotRef::Array(part(body, start, len as usize)),
+        ParsedArg::Array { len, start } => GotRef::Array(part(body, start, len as usize)),
         ParsedArg::Fd { place } => GotRef::Fd(token_at(tokens, place)),
     }
 }

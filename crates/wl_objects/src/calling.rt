@@ -1,5 +1,5 @@
 //! The arguments of a call, checked before a message is made of them.
-ghost use Rattle.std.specs.Prelude.{◌≡◌, ◌≤◌, ℕ, suc, ◌<◌, ◌≤◌, ◌+◌, IfOk, IfSome, length, Some};
+ghost use Rattle.std.specs.Prelude.{◌≡◌, ◌≤◌, ℕ, IfOk, IfSome, length, Some};
 ghost use Rattle.std.specs.List.{All};
 ghost use Rattle.wl_sigs.specs.Valid.{Valid};
 ghost use Rattle.wl_table.specs.View.{look, Sound};
@@ -7,7 +7,8 @@ ghost use Rattle.wl_objects.specs.Reading.{is_of, iface_of};
 ghost use Rattle.wl_objects.specs.Messages.{checked, live_row};
 ghost use Rattle.wl_objects.specs.Carried.{InRange, IsTyped};
 ghost use Rattle.wl_objects.specs.Seen.{signature_in};
-ghost use Rattle.wl_objects.specs.Writing.{EachFits, can_name, given, given_of, has_no_nul, lost_place, message_len, names_one, on_wire, suits, wrong_place};
+ghost use Rattle.wl_objects.specs.Writing.{EachFits, can_name, given, given_of, lost_place};
+ghost use Rattle.wl_objects.specs.Writing.{message_len, names_one, on_wire, suits, wrong_place};
 
 use crate::argument::Arg;
 use crate::error::SendError;
@@ -15,7 +16,7 @@ use crate::messages::is_hidden;
 use crate::writing::message_len;
 use wl_sigs::{Side, Signature, Tables};
 use wl_table::{Entry, Object, State, Table};
-use wl_wire::{Iface, Kind};
+use wl_wire::{Iface, Kind, has_nul};
 
 /// A call that passed its checks.
 #[derive(Clone, Copy, Debug)]
@@ -100,13 +101,6 @@ fn live_row<T: Table>(table: &T, object: Object) -> Option<Entry>
     }
 }
 
-/// Whether a text can stand in a string.
-fn has_no_nul(text: &[u8]) -> bool
-    ensures { result ≡ has_no_nul text.now }
-{
-    !text.contains(&0)
-}
-
 /// Whether an argument is of the kind.
 fn suits(kind: Kind, arg: &Arg<'_>) -> bool
     ensures { result ≡ suits kind (given_of arg.now) }
@@ -119,7 +113,7 @@ fn suits(kind: Kind, arg: &Arg<'_>) -> bool
         | (Kind::Array, Arg::Array(_))
         | (Kind::Fd, Arg::Fd(_)) => true,
         (Kind::Str { null }, Arg::Str(None)) | (Kind::Obj { null, .. }, Arg::Obj(None)) => null,
-        (Kind::Str { .. }, Arg::Str(Some(text))) => has_no_nul(text),
+        (Kind::Str { .. }, Arg::Str(Some(text))) => !has_nul(text),
         (Kind::Obj { .. }, Arg::Obj(Some(_))) => true,
         _ => false,
     }

@@ -2,7 +2,7 @@
 //! written against the objects of one end. (Chapter "Wayland Protocol and Model of Operation",
 //! sections "Wire Format" and "Creating Objects".)
 //!
-//! The table of objects stands in `wl_table`, and is given out here too.
+//! The table of objects is in `wl_table`, whose public items are re-exported here.
 #![tactic(auto)]
 
 mod args;

@@ -10,14 +10,16 @@ use crate::lookup::Lookup;
 use crate::reading::{iface_of, new_fault, object_fault};
 use std::fmt::{self, Debug, Formatter};
 use std::marker::Model;
+use std::mem::size_of;
 use wl_table::{Entry, State};
 use wl_wire::{Fixed, Kind, ValueRef, read_ref};
 
 /// The most arguments that a message has.
 pub const MAX_ARGS: usize = 20;
 
-/// One argument of a message that was read. A string or an array is given by where it lies in the
-/// message's body, an object by its entry when the message was read.
+/// One argument of a message that was read. A string or an array is given by its length and by
+/// where it starts in the message's body, an object by its entry when the message was read. The
+/// order of the fields keeps an argument at 24 bytes, of which a report holds `MAX_ARGS`.
 #[derive(Clone, Copy, Debug)]
 pub enum ParsedArg {
     /// The null string.
@@ -26,8 +28,8 @@ pub enum ParsedArg {
     Uint(u32),
     Fixed(Fixed),
     Str {
-        start: usize,
         len: u32,
+        start: usize,
     },
     /// An object argument that is null, or names no object of the reader.
     NoObject {
@@ -43,20 +45,22 @@ pub enum ParsedArg {
     },
     /// A new object whose interface, a string, and version the message gives.
     Bound {
-        start: usize,
         len: u32,
+        start: usize,
         version: u32,
         id: u32,
     },
     Array {
-        start: usize,
         len: u32,
+        start: usize,
     },
     /// A descriptor, by how many stand before it in the message.
     Fd {
         place: usize,
     },
 }
+
+const _: () = prove!(size_of::<ParsedArg>() == 24);
 
 /// The arguments of one message, at most `MAX_ARGS`. They take no memory and lend nothing.
 #[derive(Drop)]
@@ -115,12 +119,12 @@ pub(crate) fn value_of(body: &[u8], parsed: ParsedArg) -> ValueRef<'_>
         ParsedArg::Int(number) => ValueRef::Int(number),
         ParsedArg::Uint(number) => ValueRef::Uint(number),
         ParsedArg::Fixed(number) => ValueRef::Fixed(number),
-        ParsedArg::Str { start, len } => ValueRef::Str(Some(part(body, start, len as usize))),
+        ParsedArg::Str { len, start } => ValueRef::Str(Some(part(body, start, len as usize))),
         ParsedArg::NoObject { id } | ParsedArg::Object { id, .. } => ValueRef::Obj(id),
         ParsedArg::New { id } => ValueRef::New(id),
         ParsedArg::Bound {
-            start,
             len,
+            start,
             version,
             id,
         } => ValueRef::NewNamed {
@@ -128,7 +132,7 @@ pub(crate) fn value_of(body: &[u8], parsed: ParsedArg) -> ValueRef<'_>
             version,
             id,
         },
-        ParsedArg::Array { start, len } => ValueRef::Array(part(body, start, len as usize)),
+        ParsedArg::Array { len, start } => ValueRef::Array(part(body, start, len as usize)),
         ParsedArg::Fd { .. } => ValueRef::Fd,
     }
 }
@@ -284,8 +288,8 @@ fn resolve<L: Lookup>(
         ValueRef::Str(string) => match string {
             None => Ok(ParsedArg::Null),
             Some(text) => Ok(ParsedArg::Str {
-                start: start + 4,
                 len: text.len() as u32,
+                start: start + 4,
             }),
         },
         ValueRef::Obj(id) => {
@@ -311,15 +315,15 @@ fn resolve<L: Lookup>(
                 return Err(fault);
             }
             Ok(ParsedArg::Bound {
-                start: start + 4,
                 len: iface.len() as u32,
+                start: start + 4,
                 version,
                 id,
             })
         }
         ValueRef::Array(bytes) => Ok(ParsedArg::Array {
-            start: start + 4,
             len: bytes.len() as u32,
+            start: start + 4,
         }),
         ValueRef::Fd => Ok(ParsedArg::Fd { place: descriptors }),
     }

@@ -61,7 +61,7 @@ IsTextFault more bytes NullNotAllowed = Holds more 0 bytes
 IsTextFault more bytes NoEndingNul = LacksEndingNul more bytes
 IsTextFault more bytes InnerNul = HasInnerNul more bytes
 
-no_zero : (xs : List ℕ) → list_any (λ b. b == 0) xs ≡ false → All (λ b. b ≢ 0) xs
+pub no_zero : (xs : List ℕ) → list_any (λ b. b == 0) xs ≡ false → All (λ b. b ≢ 0) xs
 no_zero xs e k d h z = both_ways _ e (list_any_at (λ (b : ℕ). b == 0) xs k d h (eq-eqb _ 0 z))
 
 zero_in : (xs : List ℕ) → list_any (λ b. b == 0) xs ≡ true → Contains xs 0

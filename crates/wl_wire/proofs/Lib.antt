@@ -6,3 +6,4 @@ pub mod Zeros
 pub mod Canonicals
 pub mod Refused
 pub mod Texts
+pub mod Nuls

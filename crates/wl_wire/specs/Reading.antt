@@ -2,7 +2,6 @@
 -- function of the bytes.
 use Rattle.std.specs.Prelude.{◌≡◌, ℕ, ◌+◌, ◌-◌, ◌==◌, ◌&&◌, nat_lt, if◌then◌else◌, List, take, drop}
 use Rattle.std.specs.Prelude.{length, slice_index, Some, None, Result, Ok, Err}
-use Rattle.std.specs.List.{list_any}
 use Rattle.wl_wire.specs.declared.kind.Kind.{Kind}
 use Rattle.wl_wire.specs.declared.kind.Kind.TheVariants as kinds
 use Rattle.wl_wire.specs.declared.kind.ArgFault.{ArgFault}
@@ -14,7 +13,7 @@ use Rattle.wl_wire.specs.declared.value.Value.{Value}
 use Rattle.wl_wire.specs.declared.value.ValueRef.{ValueRef}
 use Rattle.wl_wire.specs.Argument.{Argument, Int, Uint, Fixed, Str, Obj, New, NewNamed, Array, Fd}
 use Rattle.wl_wire.specs.Argument.{plain, lent}
-use Rattle.wl_wire.specs.Spelling.{padded}
+use Rattle.wl_wire.specs.Spelling.{padded, has_nul}
 pub use Rattle.wl_wire.specs.Word.{number_at, signed}
 
 -- How many bytes an argument takes: its words, and the padded bytes that a length asks for.
@@ -38,7 +37,7 @@ abbrev pub text_of : ℕ → List ℕ → Result (List ℕ) ArgFault
 text_of n bytes =
     if n == 0 then Err NullNotAllowed
     else if slice_index bytes (n + 3) == 0
-    then (if list_any (λ b. b == 0) (counted (n - 1) bytes)
+    then (if has_nul (counted (n - 1) bytes)
     then Err InnerNul else Ok (counted (n - 1) bytes))
     else Err NoEndingNul
 
@@ -85,8 +84,8 @@ abbrev pub seen : Result (ValueRef × ℕ) ArgFault → Result (Argument × ℕ)
 seen (Ok found) = Ok (lent found.0, found.1)
 seen (Err fault) = Err fault
 
--- This is the answer of a reader that makes a value of its own: as `reading`, or want of memory,
--- which only a value with bytes meets.
+-- This is the answer of a reader that makes a value of its own: as `reading`, or out of memory,
+-- which only a value with bytes can be.
 abbrev pub IsRead : {A : Type 0} → Kind → List ℕ → Result (Value A × ℕ) ReadError → Type 0
 IsRead kind bytes (Ok found) = reading kind bytes ≡ Ok (plain found.0, found.1)
 IsRead kind bytes (Err (errors.Arg fault)) = reading kind bytes ≡ Err fault

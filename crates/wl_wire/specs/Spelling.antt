@@ -1,7 +1,8 @@
 -- How the values of a message's arguments stand on the wire.
 use Rattle.std.specs.Prelude.{◌≡◌, ◌≢◌, ℕ, ℤ, ◌+◌, ◌*◌, ◌/◌, ◌-◌, ◌<◌, ◌^◌, Bool, true, List, []}
 use Rattle.std.specs.Prelude.{◌∷◌, ◌++◌, length, replicate, Option, Some, None, FitsSigned}
-use Rattle.std.specs.List.{All}
+use Rattle.std.specs.Prelude.{◌==◌}
+use Rattle.std.specs.List.{All, list_any}
 use Rattle.std.specs.Int.{w32}
 use Rattle.wl_wire.specs.declared.kind.Kind.{Kind}
 use Rattle.wl_wire.specs.declared.kind.Kind.TheVariants as kinds
@@ -18,6 +19,10 @@ pub record Padded (bytes spelled : List ℕ) : Type 0 where
   pub padding : List ℕ
   pub whole : spelled ≡ bytes ++ padding
   pub len : length spelled ≡ padded (length bytes)
+
+-- whether a byte of the text is 0
+abbrev pub has_nul : List ℕ → Bool
+has_nul text = list_any (λ b. b == 0) text
 
 -- a string that can stand on the wire: no byte is 0, and its length with the ending NUL is a word
 pub record IsText (text : List ℕ) : Type 0 where

@@ -1,13 +1,16 @@
 //! One argument, read without a copy.
-ghost use Rattle.std.specs.Prelude.{◌≡◌, ◌≤◌, ◌+◌, ℕ, length, take, nat_lt, if◌then◌else◌, IfOk, IfErr, MatchResult, Ok, Err};
+ghost use Rattle.std.specs.Prelude.{◌≡◌, ◌≤◌, ◌+◌, ℕ, length, take, nat_lt, if◌then◌else◌};
+ghost use Rattle.std.specs.Prelude.{IfOk, IfErr, Ok, Err};
 ghost use Rattle.wl_wire.specs.declared.kind.ArgFault.TheVariants.{Short};
 ghost use Rattle.wl_wire.specs.Argument.{Argument, lent};
 ghost use Rattle.wl_wire.specs.Spelling.{Spells, padded};
 ghost use Rattle.wl_wire.specs.Faults.{IsFirstFault};
-ghost use Rattle.wl_wire.specs.Reading.{asked, argument_of, number_at, on_found, reading, seen, text_of};
+ghost use Rattle.wl_wire.specs.Reading.{asked, argument_of, number_at, on_found, reading, seen};
+ghost use Rattle.wl_wire.specs.Reading.{text_of};
 
 use crate::fixed::Fixed;
 use crate::kind::{ArgFault, Kind};
+use crate::text::has_nul;
 use crate::value::ValueRef;
 use crate::word::{int_at, padded_len, word_at};
 
@@ -112,7 +115,7 @@ fn text_at<'a>(bytes: &'a [u8]) -> Result<&'a [u8], ArgFault>
         return Err(ArgFault::NoEndingNul);
     }
     let text = &bytes[4..len + 3];
-    if text.contains(&0) {
+    if has_nul(text) {
         return Err(ArgFault::InnerNul);
     }
     Ok(text)

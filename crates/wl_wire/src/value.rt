@@ -5,6 +5,7 @@ ghost use Rattle.wl_wire.specs.Spelling.{Fits, IsText, padded, spelled_len};
 
 use crate::bytes::Bytes;
 use crate::fixed::Fixed;
+use crate::text::has_nul;
 use crate::word::padded_len;
 use std::alloc::{Allocator, Global};
 
@@ -105,5 +106,5 @@ impl<'a> ValueRef<'a> {
 fn is_text(text: &[u8]) -> bool
     ensures { IsTrue result ↔ IsText text.now }
 {
-    text.len() < u32::MAX as usize && !text.contains(&0)
+    text.len() < u32::MAX as usize && !has_nul(text)
 }
