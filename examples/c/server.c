@@ -96,6 +96,12 @@ static void on_surface(const waywire_report *report)
 		}
 }
 
+/* Whether a name, which does not end with a NUL, is this one. */
+static bool is(const char *name, size_t length, const char *wanted)
+{
+	return length == strlen(wanted) && !memcmp(name, wanted, length);
+}
+
 /* Does what a request asks. Which interface its target has, the end knows. */
 static void read_request(const waywire_report *report)
 {
@@ -106,17 +112,17 @@ static void read_request(const waywire_report *report)
 	if (waywire_server_live(link_to.server, report->target, &interface, NULL))
 		return; /* it was a destructor */
 	waywire_tables_name(tables, interface, &name, &length);
-	if (!strncmp(name, "wl_display", length)) {
+	if (is(name, length, "wl_display")) {
 		if (report->opcode == WAYWIRE_WL_DISPLAY_REQUEST_SYNC)
 			event(report->args[0].object, WAYWIRE_WL_CALLBACK_EVENT_DONE, &number, 1);
-	} else if (!strncmp(name, "wl_registry", length)) {
+	} else if (is(name, length, "wl_registry")) {
 		if (!strcmp(report->args[1].bytes, "wl_shm"))
 			event(report->args[1].object, WAYWIRE_WL_SHM_EVENT_FORMAT, &number, 1);
-	} else if (!strncmp(name, "wl_shm", length)) {
+	} else if (is(name, length, "wl_shm")) {
 		on_shm(report);
-	} else if (!strncmp(name, "wl_shm_pool", length)) {
+	} else if (is(name, length, "wl_shm_pool")) {
 		on_pool(report);
-	} else if (!strncmp(name, "wl_surface", length)) {
+	} else if (is(name, length, "wl_surface")) {
 		on_surface(report);
 	}
 }

@@ -125,8 +125,10 @@ int link_fill(struct link *link)
 		waywire_client_in_room(link->client, &room);
 	else
 		waywire_server_in_room(link->server, &room);
-	if (!room.bytes || room.tokens < LINK_DESCRIPTORS)
-		return 0; /* read what is there first */
+	if (!room.bytes || room.tokens < LINK_DESCRIPTORS) {
+		errno = ENOBUFS;
+		return -1;
+	}
 	struct iovec data = { bytes, room.bytes < sizeof bytes ? room.bytes : sizeof bytes };
 	struct msghdr message = { .msg_iov = &data, .msg_iovlen = 1, .msg_control = control.bytes,
 		.msg_controllen = sizeof control.bytes };

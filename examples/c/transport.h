@@ -32,8 +32,9 @@ int link_listen(const char *path);
 /* Writes what waits in the outbox, as much as the socket takes. 0, or -1 with errno set. */
 int link_flush(struct link *link);
 
-/* Reads once from the socket into the inbox. 1 if something came, 0 if nothing is there yet, -1 at the
- * end of the connection (errno 0) or an error. */
+/* Reads once from the socket into the inbox, out of which all reports were read before. 1 if something
+ * came, 0 if nothing is there yet, -1 at the end of the connection (errno 0) or an error; ENOBUFS if the
+ * inbox has no room, since the other end sent descriptors that no message takes. */
 int link_fill(struct link *link);
 
 /* Flushes, then waits until something comes, and reads it. 1, or 0 after this many milliseconds (-1: no

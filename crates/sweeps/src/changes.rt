@@ -10,14 +10,14 @@ use wl_recording::Recording;
 use wl_scenes::Trouble;
 use wl_session::{Verdict, check, trace};
 
-/// What becomes of a byte.
+/// How a byte is changed.
 #[derive(Clone, Copy)]
 pub enum Change {
     /// 00
     Zero,
     /// ff
     Ones,
-    /// Its lowest bit is turned.
+    /// Its lowest bit flipped.
     LowestBit,
 }
 
@@ -25,7 +25,7 @@ impl Change {
     pub const ALL: [Change; 3] = [Change::Zero, Change::Ones, Change::LowestBit];
 
     /// Changes the byte at a place, where there is one.
-    pub fn make(self, bytes: &mut [u8], place: usize) {
+    pub fn apply(self, bytes: &mut [u8], place: usize) {
         if let Some(byte) = bytes.get_mut(place) {
             *byte = match self {
                 Change::Zero => 0,
@@ -36,8 +36,7 @@ impl Change {
     }
 }
 
-/// Changes each byte of a recording in turn: there is one verdict, that of the check and that of the
-/// trace.
+/// Changes each byte of a recording in turn: `check` and `trace` return the same verdict.
 pub fn judge_changed(props: Props<'_>, sample: &Sample<'_>) -> Result<Tally, Trouble> {
     let mut tally = Tally::NONE;
     for place in 0..sample.len() {
@@ -45,14 +44,14 @@ pub fn judge_changed(props: Props<'_>, sample: &Sample<'_>) -> Result<Tally, Tro
             let changed = changed_at(props, sample, place, change)?;
             let verdict = check(props.memory.clone()?, &changed, props.tables, Limit::USUAL)?;
             let is_broken = matches!(verdict, Verdict::Broken { .. });
-            tally.count(is_broken, traces(props, &changed, verdict)?);
+            tally.count(is_broken, has_trace_verdict(props, &changed, verdict)?);
         }
     }
     Ok(tally)
 }
 
-/// Whether the trace has this verdict too.
-fn traces(
+/// Whether `trace` returns this verdict.
+fn has_trace_verdict(
     props: Props<'_>,
     recording: &Recording<RefusingAllocator>,
     verdict: Verdict,
@@ -74,7 +73,7 @@ fn changed_at(
         let bytes = piece.bytes.as_slice();
         let mut copy = copy_of(props.alloc, bytes)?;
         if let Some(place) = place.checked_sub(before) {
-            change.make(&mut copy, place);
+            change.apply(&mut copy, place);
         }
         changed.add(piece.direction, &copy, piece.tokens.min(65_535))?;
         before = before.saturating_add(bytes.len());

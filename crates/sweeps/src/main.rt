@@ -1,6 +1,6 @@
-//! Plays recorded sessions cut, changed and without memory, and prints for each how often, and how often
-//! it went otherwise than it must. The recordings are those that the command line names.
-//! (docs/SCENES.md)
+//! Plays recorded sessions cut, changed and without memory, and prints for each sweep how often it played
+//! and how often the result was wrong. The recordings are those that the command line names
+//! (docs/SCENES.md).
 #![tactic(auto)]
 
 mod births;
@@ -99,9 +99,9 @@ fn sweep_all(rt: &HostRuntime) -> io::Result<bool> {
 /// Plays the runs, and prints how they and their moves went. Whether all went well.
 fn tell_runs(rt: &HostRuntime, props: Props<'_>) -> io::Result<bool> {
     match judge_runs(props) {
-        Ok(judged) => {
-            let mut all = report(rt, "recorded lawfully", Ok(judged.runs))?;
-            for (name, tally) in KINDS.iter().zip(judged.moves.iter()) {
+        Ok(tallies) => {
+            let mut all = report(rt, "recorded lawfully", Ok(tallies.runs))?;
+            for (name, tally) in KINDS.iter().zip(tallies.moves.iter()) {
                 all = report(rt, name, Ok(*tally))? && all;
             }
             Ok(all)

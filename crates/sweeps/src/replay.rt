@@ -40,9 +40,10 @@ enum Cut {
     Bytewise,
 }
 
-/// What an end said while a session was played at it.
+/// What came of playing a session at an end.
 #[derive(Drop)]
-struct Said {
+struct Outcome {
+    /// The replies to its calls and its reports, in the words of a scene.
     text: String,
     /// The bytes that it wrote.
     written: Vec<u8>,
@@ -52,9 +53,9 @@ struct Said {
     is_right: bool,
 }
 
-impl Said {
-    fn nothing(alloc: Global) -> Said {
-        Said {
+impl Outcome {
+    fn new(alloc: Global) -> Outcome {
+        Outcome {
             text: String::new(alloc),
             written: Vec::new(alloc),
             fault: None,
@@ -104,8 +105,8 @@ fn sweep(props: Props<'_>, sample: &Sample<'_>, direction: Direction) -> Result<
     for place in 0..stream.len() {
         for change in Change::ALL {
             let mut changed = copy_of(props.alloc, &stream)?;
-            change.make(&mut changed, place);
-            play_both(props, session, &changed, &mut tally)?;
+            change.apply(&mut changed, place);
+            play_both_ways(props, session, &changed, &mut tally)?;
         }
     }
     Ok(tally)
@@ -124,22 +125,22 @@ fn play_as_it_is(
         Direction::ToClient => Direction::ToServer,
     };
     let written = sample.stream(props.alloc, other)?;
-    let mut said = Said::nothing(props.alloc);
-    play_at(props, session, stream, Cut::Whole, &mut said)?;
-    let is_right = said.fault.is_none() && said.written.as_slice() == written.as_slice();
-    tally.count(said.fault.is_some(), is_right);
+    let mut outcome = Outcome::new(props.alloc);
+    play_at(props, session, stream, Cut::Whole, &mut outcome)?;
+    let is_right = outcome.fault.is_none() && outcome.written.as_slice() == written.as_slice();
+    tally.count(outcome.fault.is_some(), is_right);
     Ok(())
 }
 
-/// Plays a session whole and byte by byte, and counts whether the end says and writes the same.
-fn play_both(
+/// Plays a session whole and byte by byte, and counts whether the outcome is the same.
+fn play_both_ways(
     props: Props<'_>,
     session: Session<'_>,
     stream: &[u8],
     tally: &mut Tally,
 ) -> Result<(), Trouble> {
-    let mut whole = Said::nothing(props.alloc);
-    let mut alone = Said::nothing(props.alloc);
+    let mut whole = Outcome::new(props.alloc);
+    let mut alone = Outcome::new(props.alloc);
     play_at(props, session, stream, Cut::Whole, &mut whole)?;
     play_at(props, session, stream, Cut::Bytewise, &mut alone)?;
     let is_right = is_same(&whole, &alone) && whole.is_right && alone.is_right;
@@ -147,7 +148,7 @@ fn play_both(
     Ok(())
 }
 
-fn is_same(one: &Said, other: &Said) -> bool {
+fn is_same(one: &Outcome, other: &Outcome) -> bool {
     one.text.as_str() == other.text.as_str()
         && one.written.as_slice() == other.written.as_slice()
         && one.fault == other.fault
@@ -159,17 +160,17 @@ fn play_at(
     session: Session<'_>,
     stream: &[u8],
     cut: Cut,
-    said: &mut Said,
+    outcome: &mut Outcome,
 ) -> Result<(), Trouble> {
     let alloc = props.alloc;
     match session.direction {
         Direction::ToServer => {
             let server = Server::<SlotTable<Global>>::new(alloc, props.tables, SIZES)?;
-            at_end(props, server, session, stream, cut, said)
+            at_end(props, server, session, stream, cut, outcome)
         }
         Direction::ToClient => {
             let client = Client::<SlotTable<Global>>::new(alloc, props.tables, SIZES)?;
-            at_end(props, client, session, stream, cut, said)
+            at_end(props, client, session, stream, cut, outcome)
         }
     }
 }
@@ -180,7 +181,7 @@ fn at_end<T: Table<Alloc = Global>, E: End<Table = T> + Drop>(
     session: Session<'_>,
     stream: &[u8],
     cut: Cut,
-    said: &mut Said,
+    outcome: &mut Outcome,
 ) -> Result<(), Trouble> {
     let mut replay = Replay {
         props,
@@ -188,14 +189,14 @@ fn at_end<T: Table<Alloc = Global>, E: End<Table = T> + Drop>(
         actor: Actor::new(props.alloc, props.tables)?,
         reports: Vec::new(props.alloc),
     };
-    replay.give_tokens(session.tokens)?;
-    replay.play(session.steps, stream, cut, said)?;
-    replay.finish(said)
+    replay.feed_tokens(session.tokens)?;
+    replay.play(session.steps, stream, cut, outcome)?;
+    replay.finish(outcome)
 }
 
 impl<'a, E: End + Drop> Replay<'a, E> {
     /// Feeds tokens, numbered from 1.
-    fn give_tokens(&mut self, count: u32) -> Result<(), AllocError> {
+    fn feed_tokens(&mut self, count: u32) -> Result<(), AllocError> {
         let mut tokens = Vec::new(self.props.alloc);
         for token in 0..count {
             tokens.push(token.saturating_add(1))?;
@@ -210,15 +211,15 @@ impl<'a, E: End + Drop> Replay<'a, E> {
         steps: &[Step<'_>],
         stream: &[u8],
         cut: Cut,
-        said: &mut Said,
+        outcome: &mut Outcome,
     ) -> Result<(), Trouble> {
         let mut rest = stream;
         for step in steps {
             match step {
-                Step::Call(call) => self.call(call, said)?,
+                Step::Call(call) => self.call(call, outcome)?,
                 Step::Read(len) => {
                     let (now, behind) = rest.split_at(rest.len().min(*len));
-                    self.read(now, cut, said)?;
+                    self.read(now, cut, outcome)?;
                     rest = behind;
                 }
             }
@@ -227,43 +228,43 @@ impl<'a, E: End + Drop> Replay<'a, E> {
     }
 
     /// Makes a call of the end.
-    fn call(&mut self, call: &str, said: &mut Said) -> Result<(), Trouble> {
+    fn call(&mut self, call: &str, outcome: &mut Outcome) -> Result<(), Trouble> {
         let mut words = Words::of(call);
         let verb = words.word()?;
         if !self
             .actor
-            .act(&mut self.end, verb, &mut words, &mut said.text)?
+            .act(&mut self.end, verb, &mut words, &mut outcome.text)?
         {
             return Err(Trouble::Unreadable);
         }
-        Ok(said.text.push_str("\n")?)
+        Ok(outcome.text.push_str("\n")?)
     }
 
     /// Reads bytes, and appends what was read, and why it stopped.
-    fn read(&mut self, bytes: &[u8], cut: Cut, said: &mut Said) -> Result<(), Trouble> {
+    fn read(&mut self, bytes: &[u8], cut: Cut, outcome: &mut Outcome) -> Result<(), Trouble> {
         let pieces = pieces_of(self.props.alloc, bytes, cut)?;
         let end = self.end.read_all(&pieces, &mut self.reports);
-        self.write_reports(said)?;
+        self.write_reports(outcome)?;
         let Some(why) = end.stop else {
             return Ok(());
         };
-        write_stop(&mut said.text, why)?;
-        said.text.push_str("\n")?;
+        write_stop(&mut outcome.text, why)?;
+        outcome.text.push_str("\n")?;
         if let NextError::Fault { fault, .. } = why {
-            said.fault = Some(fault);
-            said.is_right = self.has_failed();
+            outcome.fault = Some(fault);
+            outcome.is_right = self.has_failed();
         }
         Ok(())
     }
 
     /// Appends the reports that wait, one a line.
-    fn write_reports(&mut self, said: &mut Said) -> Result<(), AllocError> {
+    fn write_reports(&mut self, outcome: &mut Outcome) -> Result<(), AllocError> {
         for report in &self.reports {
             E::learn(&mut self.actor.names, self.props.tables, report)?;
         }
         for report in &self.reports {
-            E::write_report(self.actor.teller(), &mut said.text, report)?;
-            said.text.push_str("\n")?;
+            E::write_report(self.actor.teller(), &mut outcome.text, report)?;
+            outcome.text.push_str("\n")?;
         }
         self.reports.clear();
         Ok(())
@@ -278,22 +279,22 @@ impl<'a, E: End + Drop> Replay<'a, E> {
 
     /// Appends the numbers of objects, and keeps what was written. After a fault a server's last message
     /// tells of it.
-    fn finish(&mut self, said: &mut Said) -> Result<(), Trouble> {
+    fn finish(&mut self, outcome: &mut Outcome) -> Result<(), Trouble> {
         let table = self.end.table();
         write!(
-            &mut said.text,
+            &mut outcome.text,
             "{} {} {}",
             table.used(),
             table.births(),
             table.len()
         )?;
-        said.written = vec![in self.props.alloc; 0u8; 4160]?;
+        outcome.written = vec![in self.props.alloc; 0u8; 4160]?;
         let mut tokens = vec![in self.props.alloc; 0u32; 64]?;
-        let taken = self.end.take(&mut said.written, &mut tokens);
-        said.written.truncate(taken.bytes);
-        if let (Direction::ToServer, Some(fault)) = (E::READS, said.fault) {
+        let taken = self.end.take(&mut outcome.written, &mut tokens);
+        outcome.written.truncate(taken.bytes);
+        if let (Direction::ToServer, Some(fault)) = (E::READS, outcome.fault) {
             let event = error_event(self.props.alloc, fault)?;
-            said.is_right = said.written.ends_with(&event) && said.is_right;
+            outcome.is_right = outcome.written.ends_with(&event) && outcome.is_right;
         }
         Ok(())
     }

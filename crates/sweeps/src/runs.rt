@@ -29,7 +29,7 @@ const SIZES: Sizes = Sizes {
     limit: Limit::USUAL,
 };
 
-const DISPLAY: Seen = Seen {
+const DISPLAY: KnownObject = KnownObject {
     object: Object { id: 1, birth: 0 },
     iface: Iface(0),
 };
@@ -54,7 +54,7 @@ pub const KINDS: [&str; 12] = [
 
 /// How all runs went.
 #[derive(Clone, Copy)]
-pub struct Judged {
+pub struct RunTallies {
     /// How many recordings were lawful up to the error.
     pub runs: Tally,
     /// Of each kind how many moves were made; those that did nothing are counted as faults.
@@ -63,75 +63,75 @@ pub struct Judged {
 
 /// An object that was made in a run, with its interface.
 #[derive(Clone, Copy)]
-struct Seen {
+struct KnownObject {
     object: Object,
     iface: Iface,
 }
 
 /// A move, and the interface of the object that it makes.
 #[derive(Drop)]
-struct Drawn {
+struct RandomMove {
     action: Move,
     makes: Option<Iface>,
 }
 
-impl Drawn {
-    fn of(action: Move) -> Drawn {
-        Drawn {
+impl RandomMove {
+    fn of(action: Move) -> RandomMove {
+        RandomMove {
             action,
             makes: None,
         }
     }
 }
 
-/// What a run draws from.
+/// A run, and what its random moves are made of.
 #[derive(Drop)]
 struct Run<'a> {
     alloc: Global,
     tables: &'a Tables,
     dice: Dice,
     /// The objects made so far, ended ones too.
-    seen: Vec<Seen>,
+    known: Vec<KnownObject>,
     /// The interfaces of the globals, by their names.
     globals: Vec<Iface>,
 }
 
 /// Plays all runs.
-pub fn judge_runs(props: Props<'_>) -> Result<Judged, Trouble> {
-    let mut judged = Judged {
+pub fn judge_runs(props: Props<'_>) -> Result<RunTallies, Trouble> {
+    let mut tallies = RunTallies {
         runs: Tally::NONE,
         moves: [Tally::NONE; 12],
     };
     for seed in 0..RUNS {
         let mut pair = Pair::<SlotTable<Global>>::new(props.alloc, props.tables, SIZES, SIZES)?;
         let mut run = Run::new(props, seed)?;
-        run.play(&mut pair, MOVES, &mut judged.moves)?;
+        run.play(&mut pair, MOVES, &mut tallies.moves)?;
         let error = run.error();
-        run.make(&mut pair, error, &mut judged.moves)?;
-        run.play(&mut pair, LAST_MOVES, &mut judged.moves)?;
+        run.do_move(&mut pair, error, &mut tallies.moves)?;
+        run.play(&mut pair, LAST_MOVES, &mut tallies.moves)?;
         let verdict = own_verdict(&props.alloc, props.tables, &pair, Limit::USUAL)?;
         let is_lawful = matches!(verdict, Verdict::Lawful { .. });
-        judged
+        tallies
             .runs
             .count(false, is_lawful && pair.ended_at().is_some());
     }
-    Ok(judged)
+    Ok(tallies)
 }
 
 impl<'a> Run<'a> {
     fn new(props: Props<'a>, seed: u64) -> Result<Run<'a>, AllocError> {
-        let mut seen = Vec::new(props.alloc);
-        seen.push(DISPLAY)?;
+        let mut known = Vec::new(props.alloc);
+        known.push(DISPLAY)?;
         Ok(Run {
             alloc: props.alloc,
             tables: props.tables,
             dice: Dice::new(seed),
-            seen,
+            known,
             globals: Vec::new(props.alloc),
         })
     }
 
-    /// Makes so many random moves.
+    /// Makes this many random moves.
     fn play(
         &mut self,
         pair: &mut Pair<'_, SlotTable<Global>>,
@@ -139,22 +139,22 @@ impl<'a> Run<'a> {
         moves: &mut [Tally],
     ) -> Result<(), AllocError> {
         for _ in 0..count {
-            let drawn = self.draw()?;
-            self.make(pair, drawn, moves)?;
+            let random = self.random_move()?;
+            self.do_move(pair, random, moves)?;
         }
         Ok(())
     }
 
-    /// Makes a move, in a run of its own.
-    fn make(
+    /// Makes a move, alone in its run of the pair.
+    fn do_move(
         &mut self,
         pair: &mut Pair<'_, SlotTable<Global>>,
-        drawn: Drawn,
+        random: RandomMove,
         moves: &mut [Tally],
     ) -> Result<(), AllocError> {
-        let kind = kind_of(&drawn.action);
+        let kind = kind_of(&random.action);
         let mut list = Vec::new(self.alloc);
-        list.push(drawn.action)?;
+        list.push(random.action)?;
         let replies = pair.run(&list)?;
         if let Some(tally) = moves.get_mut(kind) {
             tally.count(
@@ -162,15 +162,15 @@ impl<'a> Run<'a> {
                 replies.len() == 1,
             );
         }
-        if let (Some(iface), Some(object)) = (drawn.makes, replies.first().and_then(made_by)) {
-            self.seen.push(Seen { object, iface })?;
+        if let (Some(iface), Some(object)) = (random.makes, replies.first().and_then(object_made)) {
+            self.known.push(KnownObject { object, iface })?;
         }
         Ok(())
     }
 
     /// An error about wl_display.
-    fn error(&self) -> Drawn {
-        Drawn::of(Move::PostError {
+    fn error(&self) -> RandomMove {
+        RandomMove::of(Move::PostError {
             object: DISPLAY.object,
             code: 3,
             text: Vec::new(self.alloc),
@@ -178,23 +178,23 @@ impl<'a> Run<'a> {
     }
 
     /// A move of any kind but an error.
-    fn draw(&mut self) -> Result<Drawn, AllocError> {
+    fn random_move(&mut self) -> Result<RandomMove, AllocError> {
         match self.dice.below(24) {
             0 | 1 | 2 | 3 | 4 => self.request(),
             5 | 6 => self.bind(),
             7 | 8 | 9 => self.event(),
-            10 => Ok(Drawn::of(Move::ServerDrop {
-                object: self.some_object().object,
+            10 => Ok(RandomMove::of(Move::ServerDrop {
+                object: self.random_object().object,
             })),
             11 => self.global(),
-            12 => Ok(Drawn::of(Move::Withdraw {
+            12 => Ok(RandomMove::of(Move::Withdraw {
                 name: self.dice.below(12) as u32,
             })),
-            13 => Ok(Drawn::of(Move::Announce)),
-            14 | 15 => Ok(Drawn::of(Move::CarryToServer(self.amount()))),
-            16 | 17 => Ok(Drawn::of(Move::CarryToClient(self.amount()))),
-            18 | 19 | 20 => Ok(Drawn::of(Move::ClientNext)),
-            _ => Ok(Drawn::of(Move::ServerNext)),
+            13 => Ok(RandomMove::of(Move::Announce)),
+            14 | 15 => Ok(RandomMove::of(Move::CarryToServer(self.amount()))),
+            16 | 17 => Ok(RandomMove::of(Move::CarryToClient(self.amount()))),
+            18 | 19 | 20 => Ok(RandomMove::of(Move::ClientNext)),
+            _ => Ok(RandomMove::of(Move::ServerNext)),
         }
     }
 
@@ -208,29 +208,29 @@ impl<'a> Run<'a> {
     }
 
     /// wl_display, or one of the last objects that were made.
-    fn some_object(&mut self) -> Seen {
+    fn random_object(&mut self) -> KnownObject {
         if self.dice.below(6) == 0 {
             return DISPLAY;
         }
-        let back = self.dice.below(self.seen.len().min(16)).saturating_add(1);
-        let place = self.seen.len().saturating_sub(back);
-        self.seen.get(place).copied().unwrap_or(DISPLAY)
+        let back = self.dice.below(self.known.len().min(16)).saturating_add(1);
+        let place = self.known.len().saturating_sub(back);
+        self.known.get(place).copied().unwrap_or(DISPLAY)
     }
 
     /// One of the last objects with this interface, or with any.
-    fn object_of(&mut self, iface: Option<Iface>) -> Option<Object> {
+    fn random_object_of(&mut self, iface: Option<Iface>) -> Option<Object> {
         let mut fitting = Vec::new(self.alloc);
-        for seen in self.seen.iter().rev() {
-            if fitting.len() < 4 && iface.is_none_or(|iface| iface == seen.iface) {
-                fitting.push(seen.object).ok()?;
+        for known in self.known.iter().rev() {
+            if fitting.len() < 4 && iface.is_none_or(|iface| iface == known.iface) {
+                fitting.push(known.object).ok()?;
             }
         }
         self.dice.pick(&fitting)
     }
 
     /// A request of an object.
-    fn request(&mut self) -> Result<Drawn, AllocError> {
-        let target = self.some_object();
+    fn request(&mut self) -> Result<RandomMove, AllocError> {
+        let target = self.random_object();
         let opcode = self.dice.below(8) as u16;
         let kinds = self.kinds_of(target.iface, Side::Request, opcode)?;
         let args = self.arguments(&kinds)?;
@@ -239,19 +239,19 @@ impl<'a> Run<'a> {
             opcode,
             args,
         };
-        Ok(Drawn {
+        Ok(RandomMove {
             action,
-            makes: kinds.iter().find_map(|kind| made_kind(*kind)),
+            makes: kinds.iter().find_map(|kind| interface_made(*kind)),
         })
     }
 
     /// An event of an object.
-    fn event(&mut self) -> Result<Drawn, AllocError> {
-        let target = self.some_object();
+    fn event(&mut self) -> Result<RandomMove, AllocError> {
+        let target = self.random_object();
         let opcode = self.dice.below(6) as u16;
         let kinds = self.kinds_of(target.iface, Side::Event, opcode)?;
         let args = self.arguments(&kinds)?;
-        Ok(Drawn::of(Move::ServerSend {
+        Ok(RandomMove::of(Move::ServerSend {
             target: target.object,
             opcode,
             args,
@@ -259,33 +259,35 @@ impl<'a> Run<'a> {
     }
 
     /// A bind of a global by its right interface.
-    fn bind(&mut self) -> Result<Drawn, AllocError> {
+    fn bind(&mut self) -> Result<RandomMove, AllocError> {
         let place = self.dice.below(self.globals.len());
         let iface = self.globals.get(place).copied().unwrap_or(REGISTRY);
         let mut name = Vec::new(self.alloc);
         name.extend_from_slice(self.tables.name(iface).unwrap_or(&[]))?;
-        let registry = self.object_of(Some(REGISTRY)).unwrap_or(DISPLAY.object);
+        let registry = self
+            .random_object_of(Some(REGISTRY))
+            .unwrap_or(DISPLAY.object);
         let action = Move::ClientBind {
             registry,
             name: u32::try_from(place.saturating_add(1)).unwrap_or(u32::MAX),
             iface: name,
             version: self.dice.below(4) as u32,
         };
-        Ok(Drawn {
+        Ok(RandomMove {
             action,
             makes: Some(iface),
         })
     }
 
     /// One more global, of any interface.
-    fn global(&mut self) -> Result<Drawn, AllocError> {
+    fn global(&mut self) -> Result<RandomMove, AllocError> {
         let iface = Iface(self.dice.below(20) as u16);
         let version = self.dice.below(6) as u32;
         let most = self.tables.version(iface).unwrap_or(0);
         if iface.0 >= 2 && version >= 1 && version <= most {
             self.globals.push(iface)?;
         }
-        Ok(Drawn::of(Move::AddGlobal { iface, version }))
+        Ok(RandomMove::of(Move::AddGlobal { iface, version }))
     }
 
     /// The kinds of a message's arguments; none where there is no such message.
@@ -312,7 +314,7 @@ impl<'a> Run<'a> {
             Kind::Uint => SendArg::Uint(self.dice.word()),
             Kind::Fixed => SendArg::Fixed(Fixed::from_raw(self.dice.below(1000) as i32)),
             Kind::Str { .. } => SendArg::Str(Some(self.text()?)),
-            Kind::Obj { iface, .. } => SendArg::Obj(self.object_of(iface)),
+            Kind::Obj { iface, .. } => SendArg::Obj(self.random_object_of(iface)),
             Kind::New(_) => SendArg::New,
             Kind::Array => SendArg::Array(self.text()?),
             Kind::Fd => SendArg::Fd(self.dice.word()),
@@ -330,7 +332,7 @@ impl<'a> Run<'a> {
 }
 
 /// The interface of the object that an argument of a request makes.
-fn made_kind(kind: Kind) -> Option<Iface> {
+fn interface_made(kind: Kind) -> Option<Iface> {
     match kind {
         Kind::New(made) => made,
         _ => None,
@@ -356,7 +358,7 @@ fn kind_of(action: &Move) -> usize {
 }
 
 /// The object that a move made.
-fn made_by(reply: &Reply) -> Option<Object> {
+fn object_made(reply: &Reply) -> Option<Object> {
     match reply {
         Reply::ClientSend(Ok(made)) => *made,
         Reply::ClientBind(Ok(made)) => Some(*made),

@@ -7,8 +7,8 @@ use wl_end::ReadAll;
 use wl_message::Piece;
 use wl_objects::{NextError, Object, State, Table};
 use wl_scenes::{
-    Actor, Chunk, End, Repeated, Trouble, Words, put_name, read_chunk, read_chunks, write_chunk,
-    write_stop,
+    Actor, Chunk, End, OUT_OF_MEMORY, Repeated, Trouble, Words, put_name, read_chunk, read_chunks,
+    write_chunk, write_stop,
 };
 use wl_sigs::Tables;
 use wl_wire::Iface;
@@ -92,7 +92,7 @@ impl<'a, E: End + Drop> AtEnd<'a, E> {
         Ok(write_amount(reply, fed.bytes, fed.tokens)?)
     }
 
-    /// Takes into so many places for bytes and for tokens, and appends what was taken, or how much.
+    /// Takes into slices of the lengths that the words give, and appends what was taken, or how much.
     fn take(
         &mut self,
         words: &mut Words<'_>,
@@ -124,7 +124,7 @@ impl<'a, E: End + Drop> AtEnd<'a, E> {
         self.pieces = 0;
         if end.stop == Some(NextError::Memory) {
             self.pieces = taken;
-            return Ok(reply.push_str("out of memory")?);
+            return Ok(reply.push_str(OUT_OF_MEMORY)?);
         }
         Ok(write_end(reply, taken, end)?)
     }

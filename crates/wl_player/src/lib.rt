@@ -1,5 +1,5 @@
-//! Plays scenes at a client, a server, a pair or a recording, and says what went otherwise than they
-//! say. (docs/SCENES.md)
+//! Plays scenes at a client, a server, a pair or a recording, and says which results differ from those
+//! that the scenes demand (docs/SCENES.md).
 #![tactic(auto)]
 
 mod ends;

@@ -16,7 +16,7 @@ use wl_scenes::{Actor, End, Line, Row, Scene, Trouble, Words};
 use wl_server::Server;
 use wl_session::Pair;
 
-/// The boxes of an end of which a scene says nothing.
+/// The sizes of an end's boxes where a scene names none.
 const USUAL: Sizes = Sizes {
     out_bytes: 65_536,
     out_tokens: 64,
@@ -52,7 +52,7 @@ fn boxes_of(sizes: Sizes) -> Result<Boxes, Trouble> {
     }
 }
 
-/// A limit of a word's bytes; none where no limit has so many.
+/// The limit that a word gives in bytes; none where it cannot be a limit.
 fn limit_of(words: &mut Words<'_>) -> Result<Limit, Trouble> {
     match Limit::new(words.number()?) {
         Some(limit) => Ok(limit),
@@ -61,7 +61,7 @@ fn limit_of(words: &mut Words<'_>) -> Result<Limit, Trouble> {
 }
 
 /// The boxes of some words: `out` and two numbers, `in` and two numbers, `limit` and a number, any of
-/// which may lack.
+/// which may be missing.
 fn read_boxes(text: &str) -> Result<Boxes, Trouble> {
     let mut sizes = USUAL;
     for part in text.split(',') {
@@ -105,8 +105,8 @@ pub fn play_at(
     }
 }
 
-/// Which allocation is refused of the making of what a scene is played at: a first row `begin` stands
-/// for that.
+/// Which allocation is refused when the client, server or pair of a scene is made, which its first row
+/// `begin` stands for.
 fn begins_refused(scene: &Scene<'_>, refusal: Option<Refusal>) -> Option<u64> {
     match refusal {
         Some(refusal) if refusal.row == 0 && begins(&scene.rows) => Some(refusal.number),
@@ -142,7 +142,7 @@ fn at_place(
     }
 }
 
-/// A scene that says no place.
+/// A scene whose place cannot be read.
 fn nowhere(props: Props<'_>, scene: &Scene<'_>) -> Result<Played, AllocError> {
     Ok(Played {
         met: false,

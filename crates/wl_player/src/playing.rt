@@ -3,10 +3,7 @@
 use crate::stage::{Props, Stage};
 use std::alloc::{AllocError, Global};
 use std::fmt::Write;
-use wl_scenes::{Line, Memory, Row, Trouble, is_told};
-
-/// What is said where there is no memory.
-const OUT_OF_MEMORY: &str = "out of memory";
+use wl_scenes::{Line, Memory, OUT_OF_MEMORY, Row, Trouble, is_told};
 
 /// The allocation that is refused in one playing of a scene: of which row, and which of its
 /// allocations, counted from 0.
@@ -30,7 +27,7 @@ pub struct Played {
 struct Turn<'a> {
     row: Row<'a>,
     line: Line<'a>,
-    /// The rows behind it.
+    /// The rows after it.
     rest: &'a [Row<'a>],
     /// Which of its allocations is refused.
     refused: Option<u64>,

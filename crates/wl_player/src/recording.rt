@@ -5,7 +5,7 @@ use std::alloc::{AllocError, Allocator, Global};
 use std::fmt::Write;
 use wl_message::Limit;
 use wl_recording::{Direction, Recording, RecordingError};
-use wl_scenes::{Trouble, Words, put_name, read_chunk, write_verdict};
+use wl_scenes::{OUT_OF_MEMORY, Trouble, Words, put_name, read_chunk, write_verdict};
 use wl_session::{check, trace};
 use wl_sigs::Tables;
 
@@ -50,7 +50,7 @@ impl<'a, A: Allocator + Clone + Drop> AtRecording<'a, A> {
         let tokens = chunk.tokens.first().copied().unwrap_or(0).min(65_536);
         match self.recording.add(direction, &chunk.bytes, tokens) {
             Ok(()) => Ok(reply.push_str("added")?),
-            Err(_) => Ok(reply.push_str("out of memory")?),
+            Err(_) => Ok(reply.push_str(OUT_OF_MEMORY)?),
         }
     }
 
@@ -81,7 +81,7 @@ impl<'a, A: Allocator + Clone + Drop> AtRecording<'a, A> {
                 Ok(())
             }
             Err(RecordingError::BadLine { line }) => Ok(write!(reply, "bad line {line}")?),
-            Err(RecordingError::Memory) => Ok(reply.push_str("out of memory")?),
+            Err(RecordingError::Memory) => Ok(reply.push_str(OUT_OF_MEMORY)?),
         }
     }
 
@@ -104,7 +104,7 @@ impl<'a, A: Allocator + Clone + Drop> AtRecording<'a, A> {
                 write!(reply, "{} bytes", text.len())?;
                 write_lines(reply, &text)
             }
-            Err(_) => reply.push_str("out of memory"),
+            Err(_) => reply.push_str(OUT_OF_MEMORY),
         }
     }
 
@@ -117,7 +117,7 @@ impl<'a, A: Allocator + Clone + Drop> AtRecording<'a, A> {
             self.limit,
         ) {
             Ok(verdict) => write_verdict(reply, &verdict),
-            Err(_) => reply.push_str("out of memory"),
+            Err(_) => reply.push_str(OUT_OF_MEMORY),
         }
     }
 
@@ -133,7 +133,7 @@ impl<'a, A: Allocator + Clone + Drop> AtRecording<'a, A> {
                 write_verdict(reply, &verdict)?;
                 write_lines(reply, &lines)
             }
-            Err(_) => reply.push_str("out of memory"),
+            Err(_) => reply.push_str(OUT_OF_MEMORY),
         }
     }
 }

@@ -6,18 +6,15 @@ use wl_objects::SlotTable;
 use wl_scenes::Trouble;
 use wl_sigs::Tables;
 
-/// The memory of all that a scene plays at.
-pub type Memory = RefusingAllocator;
-
 /// The object tables of all that a scene plays at.
-pub type Objects = SlotTable<Memory>;
+pub type Objects = SlotTable<RefusingAllocator>;
 
 /// What a scene is played at.
 pub trait Stage {
     /// Makes a call, and appends its reply.
     fn play(&mut self, call: &str, reply: &mut String) -> Result<(), Trouble>;
 
-    /// Appends what can be seen of the value: it stays as it is where a call is refused memory.
+    /// Appends what can be seen of the value, which a call that is refused memory must not change.
     fn show(&self, text: &mut String) -> Result<(), AllocError>;
 }
 
@@ -26,5 +23,5 @@ pub trait Stage {
 pub struct Props<'a> {
     pub alloc: Global,
     pub tables: &'a Tables,
-    pub memory: &'a Memory,
+    pub memory: &'a RefusingAllocator,
 }

@@ -27,7 +27,7 @@ pub fn play_scene(props: Props<'_>, scene: &Scene<'_>) -> Result<String, AllocEr
     Ok(play_at(props, scene, None)?.wrong)
 }
 
-/// Plays a scene once for each allocation of one of its rows, and refuses that; and once more.
+/// Plays a scene once for each allocation of one of its rows, with that one refused, and once more.
 fn sweep(
     props: Props<'_>,
     scene: &Scene<'_>,
@@ -46,7 +46,7 @@ fn sweep(
     format!(in props.alloc; "there is no end of the allocations")
 }
 
-/// What is wrong where a row asks for so many allocations.
+/// What is wrong where a row asks for this number of allocations.
 fn miscounted(props: Props<'_>, number: u64, count: Option<u64>) -> Result<String, AllocError> {
     match count {
         Some(count) if count != number => {

@@ -114,8 +114,8 @@ impl<'a> Actor<'a> {
         }
     }
 
-    /// Makes the move of these words so many times in one run at a pair. Appends how many replies there
-    /// are, and each; equal ones that follow one another are one line.
+    /// Makes the move of these words this many times in one run at a pair. Appends the number of replies,
+    /// and each reply; equal ones in a row are one line.
     pub fn run_many<T: Table>(
         &mut self,
         pair: &mut Pair<'_, T>,
@@ -158,7 +158,7 @@ impl<'a> Actor<'a> {
     }
 }
 
-/// Appends so many moves of these words; none where they are those of no move.
+/// Appends this many moves of these words, or none where the words are those of no move.
 fn read_moves<A: Allocator + Clone + Drop>(
     alloc: &A,
     tables: &Tables,

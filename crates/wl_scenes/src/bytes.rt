@@ -68,7 +68,7 @@ fn put_tokens(tokens: &mut Vec<u32>, word: &str) -> Result<(), Trouble> {
 }
 
 /// Appends the bytes of a word: hexadecimal digits; a text in double quotes; `-` for none; `800*WORD`
-/// for a word 800 times; `each:2..9:WORD` for a word and behind it a number of 32 bits, from 2 to 8.
+/// for a word 800 times; `each:2..9:WORD` for a word followed by a number of 32 bits, from 2 to 8.
 pub fn put_bytes<A: Allocator + Clone + Drop>(
     bytes: &mut Vec<u8, A>,
     word: &str,

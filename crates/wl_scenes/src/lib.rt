@@ -19,17 +19,13 @@ mod trouble;
 mod words;
 
 pub use acting::Actor;
-pub use bytes::{Chunk, put_bytes, read_chunk, read_chunks, write_bytes, write_chunk, write_text};
+pub use bytes::{Chunk, read_chunk, read_chunks, write_chunk};
 pub use ends::End;
 pub use line::{Line, Memory};
-pub use moves::{arguments_of, bytes_of, iface_of, lend, message_of, read_arguments, read_move};
 pub use names::Names;
 pub use own::{own_verdict, verdict_on};
 pub use repeated::Repeated;
-pub use replies::{
-    OUT_OF_MEMORY, Teller, put_name, write_arguments, write_object, write_sent, write_stop,
-    write_verdict,
-};
+pub use replies::{OUT_OF_MEMORY, Teller, put_name, write_stop, write_verdict};
 pub use scene::{Row, Scene, is_told, read_scenes};
 pub use trouble::Trouble;
-pub use words::{Words, object_of};
+pub use words::Words;

@@ -5,7 +5,7 @@
 pub enum Memory {
     /// It has all that it asks for.
     Granted,
-    /// Each allocation that it asks for is refused in turn; where a number is given, there are so
+    /// Each allocation that it asks for is refused in turn; where a number is given, there are that
     /// many.
     Refused(Option<u64>),
     /// It asks for none.

@@ -109,7 +109,7 @@ fn read_global<A: Allocator>(tables: &Tables, words: &mut Words<'_>) -> Result<M
 }
 
 /// The place of an interface: by its name, or by its number.
-pub fn iface_of(tables: &Tables, word: &str) -> Result<Iface, Trouble> {
+fn iface_of(tables: &Tables, word: &str) -> Result<Iface, Trouble> {
     match tables.interface(word.as_bytes()) {
         Some(iface) => Ok(iface),
         None => Ok(Iface(word.parse::<u16>()?)),
@@ -118,7 +118,7 @@ pub fn iface_of(tables: &Tables, word: &str) -> Result<Iface, Trouble> {
 
 /// The interface and the opcode of a message such as `wl_surface.commit`, or, with its number,
 /// `wl_surface.6`.
-pub fn message_of(tables: &Tables, side: Side, word: &str) -> Result<(Iface, u16), Trouble> {
+fn message_of(tables: &Tables, side: Side, word: &str) -> Result<(Iface, u16), Trouble> {
     let (iface, message) = word.split_once('.').ok_or(Trouble::Unreadable)?;
     let iface = iface_of(tables, iface)?;
     match opcode_of(tables, side, iface, message.as_bytes()) {
@@ -137,7 +137,7 @@ fn opcode_of(tables: &Tables, side: Side, iface: Iface, name: &[u8]) -> Option<u
 }
 
 /// The arguments that the words left stand for.
-pub fn read_arguments<A: Allocator + Clone + Drop>(
+fn read_arguments<A: Allocator + Clone + Drop>(
     alloc: &A,
     words: &Words<'_>,
 ) -> Result<Vec<SendArg<A>, A>, Trouble> {
@@ -181,7 +181,7 @@ fn read_name<A: Allocator>(word: &str) -> Result<SendArg<A>, Trouble> {
 }
 
 /// The bytes of a word.
-pub fn bytes_of<A: Allocator + Clone + Drop>(alloc: &A, word: &str) -> Result<Vec<u8, A>, Trouble> {
+fn bytes_of<A: Allocator + Clone + Drop>(alloc: &A, word: &str) -> Result<Vec<u8, A>, Trouble> {
     let mut bytes = Vec::new(alloc.clone()?);
     put_bytes(&mut bytes, word)?;
     Ok(bytes)

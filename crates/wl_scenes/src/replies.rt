@@ -10,7 +10,7 @@ use wl_server::{GlobalError, OwnedRequest};
 use wl_session::{Carried, Direction, Reply, Verdict};
 use wl_sigs::{Side, Tables};
 
-/// What is said where there is no memory.
+/// The reply of a call that is out of memory.
 pub const OUT_OF_MEMORY: &str = "out of memory";
 
 /// Writes replies: with the names of messages, from the tables and the objects that were seen.
@@ -151,7 +151,7 @@ pub fn put_name(out: &mut String, name: &[u8]) -> Result<(), AllocError> {
 }
 
 /// Appends an object: its id and its birth.
-pub fn write_object(out: &mut String, object: Object) -> Result<(), AllocError> {
+fn write_object(out: &mut String, object: Object) -> Result<(), AllocError> {
     write!(out, "{}/{}", object.id, object.birth)
 }
 
@@ -174,7 +174,7 @@ fn write_named(out: &mut String, named: Named) -> Result<(), AllocError> {
 }
 
 /// Appends the arguments of a report, a space before each.
-pub fn write_arguments<A: Allocator>(out: &mut String, args: &[Got<A>]) -> Result<(), AllocError> {
+fn write_arguments<A: Allocator>(out: &mut String, args: &[Got<A>]) -> Result<(), AllocError> {
     for arg in args {
         out.push_str(" ")?;
         write_argument(out, arg)?;
@@ -216,10 +216,7 @@ fn write_argument<A: Allocator>(out: &mut String, arg: &Got<A>) -> Result<(), Al
 }
 
 /// Appends the answer to a message that was sent.
-pub fn write_sent(
-    out: &mut String,
-    sent: Result<Option<Object>, SendError>,
-) -> Result<(), AllocError> {
+fn write_sent(out: &mut String, sent: Result<Option<Object>, SendError>) -> Result<(), AllocError> {
     match sent {
         Ok(Some(object)) => write_object(out, object),
         Ok(None) => out.push_str("done"),
