@@ -7,8 +7,9 @@ use std::alloc::Global;
 use std::test::Fail;
 use wl_message::{Fed, Inbox, Limit, Outbox, Taken};
 
-/// How many messages go in at a box. Beside those that wait at the end, more come out than the larger
-/// ring has places, 4163, so they begin at each place: neither 2 nor 3 divides the number of places.
+/// How many messages go in at a box. Beside those that wait at the end, more come out than the
+/// larger ring has places, 4163, so they begin at each place: neither 2 nor 3 divides the number of
+/// places.
 const ROUNDS: u16 = 4700;
 
 /// Messages that go through a box.

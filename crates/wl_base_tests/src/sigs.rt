@@ -5,10 +5,10 @@ use std::test::Fail;
 use wl_sigs::{Destroys, Side, Signature, Tables};
 use wl_wire::{Iface, Kind};
 
-// Each interface with its version, its requests and its events, in the order of their opcodes. Arguments: i int,
-// u uint, f fixed, s string, o object, n new_id, a array, h descriptor; with `?` null is allowed. D: the message
-// destroys its target; D(0): the object that its argument at place 0 names. `@k`: since version k, where that is not 1.
-// Written from wayland.xml.
+// Each interface with its version, its requests and its events, in the order of their opcodes.
+// Arguments: i int, u uint, f fixed, s string, o object, n new_id, a array, h descriptor; with `?`
+// null is allowed. D: the message destroys its target; D(0): the object that its argument at place
+// 0 names. `@k`: since version k, where that is not 1. Written from wayland.xml.
 static TABLE: [&str; 19] = [
     "wl_display 1 | sync n(wl_callback); get_registry n(wl_registry) | error o(any) u s; delete_id u",
     "wl_registry 1 | bind u n(no interface) | global u s u; global_remove u",
@@ -222,8 +222,8 @@ fn refused_in_turn(alloc: Global) -> Result<Option<u64>, AllocError> {
     Ok(None)
 }
 
-// One for the interfaces, and for each interface and each message one for its name and one for each of its lists
-// that is not empty.
+// One for the interfaces, and for each interface and each message one for its name and one for each
+// of its lists that is not empty.
 #[test]
 fn the_core_tables_are_refused_each_allocation_in_turn(rt: HostRuntime) -> Result<(), Fail> {
     assert_eq!(rt; refused_in_turn(rt.alloc())?, Some(229));

@@ -16,8 +16,8 @@ const VIEWPORTER_ROWS: [&str; 2] = [
     "wp_viewport 1 | destroy D; set_source f f f f; set_destination i i | none",
 ];
 
-// Each kind and each ending, skipped lines, a carriage return, a name that stands further down, a name of the core,
-// and a last line without a line feed.
+// Each kind and each ending, skipped lines, a carriage return, a name that stands further down, a
+// name of the core, and a last line without a line feed.
 const EVERY_FORM: &str =
     "# every form\r\n\ninterface first 4294967295\nrequest all i u f s ?s a h o(wl_output) ?o(first) n(second)\nrequest later D @2\nevent plain o ?o @4294967295\r\ninterface second 007\nevent gone o(first) D\n#";
 
@@ -26,7 +26,8 @@ const EVERY_FORM_ROWS: [&str; 2] = [
     "second 7 | none | gone o(first) D",
 ];
 
-// Texts of which each line has a form, with the first line that breaks a rule, and the least rule there.
+// Texts of which each line has a form, with the first line that breaks a rule, and the least rule
+// there.
 static BROKEN: [(&str, usize, u8); 24] = [
     // V1: a name of the core, of the same text, and names with other bytes.
     ("interface wl_seat 9", 1, 1),
@@ -71,7 +72,8 @@ static BROKEN: [(&str, usize, u8); 24] = [
     ("interface a 1\nrequest r n o @2", 2, 5),
 ];
 
-// Texts with a line that has no form, before or behind a broken rule, with the number of the first such line.
+// Texts with a line that has no form, before or behind a broken rule, with the number of the first
+// such line.
 static BAD_LINES: [(&str, usize); 10] = [
     ("request poke", 1),
     ("interface wl_seat 9\n\n#\nrequest  poke", 4),
@@ -158,7 +160,8 @@ fn put_interfaces(text: &mut String, most: u32) -> Result<(), AllocError> {
     Ok(())
 }
 
-// 1,024 interfaces with those of the core, of 256 messages each; with one interface or message more it is V3.
+// 1,024 interfaces with those of the core, of 256 messages each; with one interface or message more
+// it is V3.
 #[test]
 fn the_largest_text_is_read(rt: HostRuntime) -> Result<(), Fail> {
     let core = Tables::core(rt.alloc())?;
@@ -179,8 +182,8 @@ fn the_largest_text_is_read(rt: HostRuntime) -> Result<(), Fail> {
     Ok(())
 }
 
-/// Whether the reading is refused, where the allocation of this number is, for lack of memory, and the same call
-/// with memory returns the tables. Where it is not met the tables are read.
+/// Whether the reading is refused, where the allocation of this number is, for lack of memory, and
+/// the same call with memory returns the tables. Where it is not met the tables are read.
 fn is_read_at_last(
     alloc: Global,
     memory: &RefusingAllocator,

@@ -187,7 +187,8 @@ fn are_same<T: Table, U: Table>(one: &T, other: &U) -> bool {
     true
 }
 
-/// Opens this number of objects, and closes the last three where they are more than three. Whether it did.
+/// Opens this number of objects, and closes the last three where they are more than three. Whether
+/// it did.
 fn fill<T: Table>(table: &mut T, objects: u32) -> bool
     requires { objects < 100 }
 {
@@ -237,8 +238,8 @@ fn open<T: Table>(table: &mut T, id: u32, named: bool) -> Result<Object, TableEr
     }
 }
 
-/// Whether an opening returns this object where no allocation was refused. Else whether it is out of
-/// memory, the table is as it was before, and the same call returns the object with memory.
+/// Whether an opening returns this object where no allocation was refused. Else whether it is out
+/// of memory, the table is as it was before, and the same call returns the object with memory.
 fn opens_or_is_as_before<T: Table>(
     memory: &RefusingAllocator,
     before: &T,

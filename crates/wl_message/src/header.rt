@@ -35,8 +35,8 @@ pub(crate) fn header_of<A: Allocator>(
     Header::from_bytes(header)
 }
 
+/// The header of the whole message in front, if one is there.
 #[tactic(auto, using(crate::proofs::Fronts::size_is, crate::proofs::Fronts::parts_of), unfolding(crate::specs::Cut::front))]
-/// The header of the whole message in front, if one stands there.
 pub(crate) fn header_in_front<A: Allocator>(
     bytes: &HeapCircularBuffer<u8, A>,
     store: &mut Vec<u8, A>,

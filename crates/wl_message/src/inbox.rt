@@ -1,10 +1,12 @@
 //! Bytes and tokens that came in.
-ghost use Rattle.std.specs.Prelude.{◌≡◌, ◌≤◌, ◌<◌, ◌↔◌, [], length, take, IfOk, OnErr, IsTrue, slice_get};
+ghost use Rattle.std.specs.Prelude.{◌≡◌, ◌≤◌, ◌<◌, ◌↔◌, [], length, take, IfOk, OnErr, IsTrue};
+ghost use Rattle.std.specs.Prelude.{slice_get};
 ghost use Rattle.std.specs.Borrow.{sem};
 ghost use Rattle.std.specs.Io.BufRead.{Rests};
 ghost use Rattle.std.specs.Io.KnownBytes.{Keeps};
 ghost use Rattle.wl_message.specs.Cut.{HasMessage, message_size};
-ghost use Rattle.wl_message.specs.Arrived.{nothing_arrived, free_bytes, free_tokens, fed, with_more, without_first, in_front, Tells};
+ghost use Rattle.wl_message.specs.Arrived.{nothing_arrived, free_bytes, free_tokens, fed};
+ghost use Rattle.wl_message.specs.Arrived.{with_more, without_first, in_front, Tells};
 ghost use Rattle.wl_message.specs.Streams.{TakesIn};
 ghost use Rattle.wl_message.specs.contracts.inbox.Inbox.{the_row};
 
@@ -140,7 +142,7 @@ impl<A: Allocator> Inbox<A> {
     }
 
     /// Takes in as many of the tokens as fit, from the first on, and where these are all of them,
-    /// as many of the bytes as fit. Answers how many of each.
+    /// as many of the bytes as fit. Returns how many of each.
     pub fn feed(&mut self, bytes: &[u8], tokens: &[u32]) -> Fed
         ensures amount { result ≡ fed self.old bytes.now tokens.now }
         ensures waits { self.new

@@ -1,13 +1,17 @@
 //! What holds of streams and queues as such. These functions do nothing: each is called for what
 //! it ensures.
-ghost use Rattle.std.specs.Prelude.{◌≡◌, ◌≢◌, ◌<◌, ◌≤◌, ◌⊎◌, ◌^◌, ℕ, List, [], ◌∷◌, ◌++◌, length, map, take, drop};
+ghost use Rattle.std.specs.Prelude.{◌≡◌, ◌≢◌, ◌<◌, ◌≤◌, ◌⊎◌, ◌^◌, ℕ, List, [], ◌∷◌, ◌++◌, length};
+ghost use Rattle.std.specs.Prelude.{map, take, drop};
 ghost use Rattle.std.specs.List.{concat, AllByRecursion};
 ghost use Rattle.wl_wire.specs.declared.header.Header.{Header};
 ghost use Rattle.wl_wire.specs.Word.{header_bytes};
 ghost use Rattle.wl_message.specs.declared.amounts.Taken.{Taken};
-ghost use Rattle.wl_message.specs.Cut.{front, Bad, Whole, IsSize, IsMessage, IsCut, messages_of, rest_of};
-ghost use Rattle.wl_message.specs.Outgoing.{Message, Outgoing, Goes, goes, newly_begun, after_taking};
-ghost use Rattle.wl_message.specs.InStep.{Part, Need, need, part_tokens, InStep, Passes, Carried, part_taken, Gave};
+ghost use Rattle.wl_message.specs.Cut.{front, Bad, Whole, IsSize, IsMessage, IsCut, messages_of};
+ghost use Rattle.wl_message.specs.Cut.{rest_of};
+ghost use Rattle.wl_message.specs.Outgoing.{Message, Outgoing, Goes, goes, newly_begun};
+ghost use Rattle.wl_message.specs.Outgoing.{after_taking};
+ghost use Rattle.wl_message.specs.InStep.{Part, Need, need, part_tokens, InStep, Passes, Carried};
+ghost use Rattle.wl_message.specs.InStep.{part_taken, Gave};
 
 /// A header whose size is the number of bytes makes a whole message, if a message may have that
 /// size.

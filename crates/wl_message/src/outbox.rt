@@ -1,7 +1,10 @@
 //! Messages that wait to go out.
-ghost use Rattle.std.specs.Prelude.{◌≡◌, ◌≤◌, ◌<◌, ◌+◌, ◌↔◌, ◌⊎◌, ◌++◌, false, [], length, take, drop, IfOk, OnOk, OnErr, IsErr, IsTrue};
+ghost use Rattle.std.specs.Prelude.{◌≡◌, ◌≤◌, ◌<◌, ◌+◌, ◌↔◌, ◌⊎◌, ◌++◌, false, [], length, take};
+ghost use Rattle.std.specs.Prelude.{drop, IfOk, OnOk, OnErr, IsErr, IsTrue};
 ghost use Rattle.wl_message.specs.Cut.{IsMessage};
-ghost use Rattle.wl_message.specs.Outgoing.{no_messages, waiting_bytes, waiting_tokens, ordinary_len, room_of, token_room_of, with_message, with_error, MayGo, Goes, goes, after_taking};
+ghost use Rattle.wl_message.specs.Outgoing.{no_messages, waiting_bytes, waiting_tokens};
+ghost use Rattle.wl_message.specs.Outgoing.{ordinary_len, room_of, token_room_of, with_message};
+ghost use Rattle.wl_message.specs.Outgoing.{with_error, MayGo, Goes, goes, after_taking};
 ghost use Rattle.wl_message.specs.Marks.{Reaches};
 ghost use Rattle.wl_message.specs.Streams.{NextHasTokens};
 
@@ -81,8 +84,8 @@ impl<A: Allocator> Model for Outbox<A> {
 }
 
 impl<A: Allocator + Clone + Drop> Outbox<A> {
-    /// An outbox with room for this number of bytes and tokens, and for an error event beyond these,
-    /// for messages within this limit. Nothing waits in it.
+    /// An outbox with room for this number of bytes and tokens, and for an error event beyond
+    /// these, for messages within this limit. Nothing waits in it.
     pub fn new(alloc: A, bytes: usize, tokens: usize, limit: Limit) -> Result<Outbox<A>, AllocError>
         requires bytes { bytes ≤ 16777216 }
         requires tokens { tokens ≤ 65536 }
@@ -104,8 +107,8 @@ impl<A: Allocator + Clone + Drop> Outbox<A> {
 }
 
 impl<A: Allocator> Outbox<A> {
-    /// How many bytes are free for ordinary messages. The bytes kept for an error event and those of
-    /// the event itself are not counted.
+    /// How many bytes are free for ordinary messages. The bytes kept for an error event and those
+    /// of the event itself are not counted.
     pub fn room(&self) -> usize
         ensures room { result ≡ room_of self.now }
         ensures within { result + ordinary_len self.now ≡ self.now.capacity }
@@ -139,8 +142,8 @@ impl<A: Allocator> Outbox<A> {
         self.bytes.is_empty()
     }
 
-    /// Adds a whole message and its tokens at the end, or is `Full` where the bytes or the tokens do
-    /// not fit.
+    /// Adds a whole message and its tokens at the end, or is `Full` where the bytes or the tokens
+    /// do not fit.
     pub fn push(&mut self, message: &[u8], tokens: &[u32]) -> Result<(), Full>
         requires { IsMessage self.old.limit.bytes message.now }
         ensures ok { OnOk result (self.new ≡ with_message self.old message.now tokens.now) }
@@ -226,8 +229,9 @@ impl<A: Allocator> Outbox<A> {
     /// Takes bytes and tokens out, from the front of the messages on, into the fronts of these
     /// slices, and returns how many of each.
     ///
-    /// The tokens of a message go out with its first byte. It stops where the byte slice is full, or
-    /// before a message not yet begun whose tokens do not all fit in the rest of the token slice.
+    /// The tokens of a message go out with its first byte. It stops where the byte slice is full,
+    /// or before a message not yet begun whose tokens do not all fit in the rest of the token
+    /// slice.
     pub fn take(&mut self, bytes: &mut [u8], tokens: &mut [u32]) -> Taken
         ensures longest { Goes self.old (length bytes.old) (length tokens.old) result }
         ensures computed { result ≡ goes self.old (length bytes.old) (length tokens.old) }

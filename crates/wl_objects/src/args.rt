@@ -1,5 +1,6 @@
 //! The arguments of a report, lent.
-ghost use Rattle.std.specs.Prelude.{◌≡◌, ◌≢◌, ◌↔◌, IsTrue, [], ◌∷◌, ◌++◌, IfOk, OnErr, MatchOption, length, take, drop};
+ghost use Rattle.std.specs.Prelude.{◌≡◌, ◌≢◌, ◌↔◌, IsTrue, [], ◌∷◌, ◌++◌, IfOk, OnErr, MatchOption};
+ghost use Rattle.std.specs.Prelude.{length, take, drop};
 ghost use Rattle.wl_objects.specs.Reading.{in_state};
 ghost use Rattle.wl_objects.specs.Seen.{got, got_values};
 ghost use Rattle.wl_objects.specs.Parsed.{lent_got, reported_in, reported_of, seen_args, token_at};
@@ -76,7 +77,8 @@ impl<'a> Args<'a> {
 }
 
 impl<'a> Args<'a> {
-    /// The arguments that are left, in memory of their own. Of none it takes no memory.
+    /// The arguments that are left, in memory of their own. Where none is left it allocates
+    /// nothing.
     pub fn to_owned<A: Allocator + Clone + Drop>(
         &self,
         alloc: &A,

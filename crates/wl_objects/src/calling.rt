@@ -29,9 +29,9 @@ pub struct CheckedCall<'t> {
     pub len: usize,
 }
 
-/// Checks a call before its room is looked at: the first of S2, S3, S4, S5, S6 and S8, by this limit
-/// of a message's bytes, else the target's entry, the message's signature and its length. Takes no
-/// memory.
+/// Checks a call before its room is looked at: the first of S2, S3, S4, S5, S6 and S8, by this
+/// limit of a message's bytes, else the target's entry, the message's signature and its length.
+/// Takes no memory.
 pub fn check_call<'t, T: Table>(
     tables: &'t Tables,
     side: Side,

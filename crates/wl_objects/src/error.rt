@@ -75,8 +75,8 @@ pub enum NextError {
     Failed,
     /// There is no memory for the report. The message stays and can be read again.
     Memory,
-    /// The outbox has no room for the delete_id that follows a request that destroys an object. The message
-    /// stays and can be read again.
+    /// The outbox has no room for the delete_id that follows a request that destroys an object. The
+    /// message stays and can be read again.
     OutFull,
 }
 

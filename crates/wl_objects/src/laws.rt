@@ -1,5 +1,6 @@
 //! Laws of arguments and messages. Each is the contract of a function that does nothing.
-ghost use Rattle.std.specs.Prelude.{◌≡◌, ◌≢◌, ◌↔◌, ◌^◌, ◌<◌, ◌≤◌, ◌%◌, ℕ, List, [], Option, Some, None, Ok, Err, false, length, map, option_map};
+ghost use Rattle.std.specs.Prelude.{◌≡◌, ◌≢◌, ◌↔◌, ◌^◌, ◌<◌, ◌≤◌, ◌%◌, ℕ, List, [], Option, Some};
+ghost use Rattle.std.specs.Prelude.{None, Ok, Err, false, length, map, option_map};
 ghost use Rattle.std.specs.List.{All};
 ghost use Rattle.wl_wire.specs.declared.kind.Kind.{Kind as SpecKind};
 ghost use Rattle.wl_wire.specs.Argument.{Argument, Obj};
@@ -12,9 +13,11 @@ ghost use Rattle.wl_table.specs.declared.object.Object.{Object as SpecObject};
 ghost use Rattle.wl_table.specs.View.{View, look};
 ghost use Rattle.wl_objects.specs.Reading.{Reader, arguments_at, kind_at};
 ghost use Rattle.wl_objects.specs.Spelling.{Meets, FirstFault, SpellsAll};
-ghost use Rattle.wl_objects.specs.Writing.{Given, call_makes, given, message_bytes, message_len, on_wire, spelled, tokens_of, wired, wrong_place};
+ghost use Rattle.wl_objects.specs.Writing.{Given, call_makes, given, message_bytes, message_len};
+ghost use Rattle.wl_objects.specs.Writing.{on_wire, spelled, tokens_of, wired, wrong_place};
 ghost use Rattle.wl_objects.specs.Messages.{checked, made, received};
-ghost use Rattle.wl_objects.specs.Carried.{AreWritten, Arrive, InRange, IsExpected, IsTarget, Passes, received_by};
+ghost use Rattle.wl_objects.specs.Carried.{AreWritten, Arrive, InRange, IsExpected, IsTarget};
+ghost use Rattle.wl_objects.specs.Carried.{Passes, received_by};
 
 /// What one end writes arrives at the other: arguments that suit the message and name live objects
 /// of the writer, spelled with the new id n, are read by any reader that holds each named object

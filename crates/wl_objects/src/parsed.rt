@@ -1,9 +1,13 @@
 //! The arguments of a message, parsed once.
-ghost use Rattle.std.specs.Prelude.{◌≡◌, ◌≤◌, ◌+◌, ℕ, List, IfOk, drop, length, option_map, slice_get, take};
+ghost use Rattle.std.specs.Prelude.{◌≡◌, ◌≤◌, ◌+◌, ℕ, List, IfOk, drop, length, option_map};
+ghost use Rattle.std.specs.Prelude.{slice_get, take};
 ghost use Rattle.wl_wire.specs.Argument.{Obj, lent};
 ghost use Rattle.wl_wire.specs.Reading.{reading};
-ghost use Rattle.wl_objects.specs.Reading.{arguments_at, forgiving, judged, kind_at, named, object_fault, value_fault};
-ghost use Rattle.wl_objects.specs.Parsed.{AreParsed, Lies, argument_of, made_of, made_of_one, made_unless, one_in, parsed_in, parsed_one, part, place_behind, placed_of, spelled_in, whole_in};
+ghost use Rattle.wl_objects.specs.Reading.{arguments_at, forgiving, judged, kind_at, named};
+ghost use Rattle.wl_objects.specs.Reading.{object_fault, value_fault};
+ghost use Rattle.wl_objects.specs.Parsed.{AreParsed, Lies, argument_of, made_of, made_of_one};
+ghost use Rattle.wl_objects.specs.Parsed.{made_unless, one_in, parsed_in, parsed_one, part};
+ghost use Rattle.wl_objects.specs.Parsed.{place_behind, placed_of, spelled_in, whole_in};
 
 use crate::error::Fault;
 use crate::lookup::Lookup;
@@ -62,7 +66,7 @@ pub enum ParsedArg {
 
 const _: () = prove!(size_of::<ParsedArg>() == 24);
 
-/// The arguments of one message, at most `MAX_ARGS`. They take no memory and lend nothing.
+/// The arguments of one message, at most `MAX_ARGS`. They hold no allocation and borrow nothing.
 #[derive(Drop)]
 pub struct ParsedArgs {
     pub(crate) items: [ParsedArg; MAX_ARGS],

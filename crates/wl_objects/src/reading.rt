@@ -47,8 +47,8 @@ impl<'t, 'a> Received<'t, 'a> {
 /// Reads one whole message, where this number of tokens waits, for whatever knows the objects and
 /// ids. Allocates nothing.
 ///
-/// Returns the first fault: F2; F3; for each argument from the left F4, F5, F6, F10; then F7 and F8.
-/// An object may be a zombie. In wl_display.error the object may be null or unknown.
+/// Returns the first fault: F2; F3; for each argument from the left F4, F5, F6, F10; then F7 and
+/// F8. An object may be a zombie. In wl_display.error the object may be null or unknown.
 #[inline(always)]
 pub fn receive<'t: 'a, 'a, L: Lookup>(
     tables: &'t Tables,

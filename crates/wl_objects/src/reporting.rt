@@ -29,22 +29,22 @@ impl<A: Allocator> Model for OwnedArgs<A> {
 }
 
 impl<A: Allocator> OwnedArgs<A> {
-    /// No arguments. Takes no memory, and needs no allocator.
+    /// No arguments. Allocates nothing, and needs no allocator.
     pub fn none() -> Self
         ensures { result ≡ [] }
     {
         Self { items: None }
     }
 
-    /// Takes over a vector, without taking memory.
+    /// Takes over a vector. Allocates nothing.
     pub fn from_vec(items: Vec<Got<A>, A>) -> Self
         ensures { result ≡ got_values items.items }
     {
         Self { items: Some(items) }
     }
 
-    /// Gives the vector back, without taking memory. None where there is none, as at a message
-    /// without arguments.
+    /// Returns the vector. None where there is none, as at a message without arguments. Allocates
+    /// nothing.
     pub fn into_vec(self) -> Option<Vec<Got<A>, A>>
         ensures { option_map_or (λ v. got_values v.items) result [] ≡ self }
     {

@@ -3,8 +3,13 @@
 ghost use Rattle.std.specs.Prelude.{◌≡◌, [], ◌∷◌, codes, Ok, Err};
 ghost use Rattle.wl_wire.specs.declared.kind.ArgFault.TheVariants.{NoEndingNul};
 ghost use Rattle.wl_wire.specs.Argument.{Uint, Obj, New, NewNamed};
-ghost use Rattle.wl_objects.specs.declared.error.Fault.TheVariants.{UnknownObject, UnknownMessage, BadArgument, BadObject, BadNewId, TrailingBytes, MissingDescriptor, TooManyObjects};
-ghost use Rattle.wl_objects.specs.Samples.{request, request_to, full, fresh, with_registry, with_callback, with_shm, with_surface, bind_body};
+ghost use Rattle.wl_objects.specs.declared.error.Fault.TheVariants.{UnknownObject, UnknownMessage};
+ghost use Rattle.wl_objects.specs.declared.error.Fault.TheVariants.{BadArgument, BadObject};
+ghost use Rattle.wl_objects.specs.declared.error.Fault.TheVariants.{BadNewId, TrailingBytes};
+ghost use Rattle.wl_objects.specs.declared.error.Fault.TheVariants.{MissingDescriptor};
+ghost use Rattle.wl_objects.specs.declared.error.Fault.TheVariants.{TooManyObjects};
+ghost use Rattle.wl_objects.specs.Samples.{request, request_to, full, fresh, with_registry};
+ghost use Rattle.wl_objects.specs.Samples.{with_callback, with_shm, with_surface, bind_body};
 
 /// wl_display.get_registry of id 2 and wl_display.sync of id 3, in front of a server that has read
 /// nothing; then of id 2, which is in use, in front of one that has a registry there.

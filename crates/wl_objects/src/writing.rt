@@ -1,9 +1,12 @@
 //! Messages made of a call's arguments.
-ghost use Rattle.std.specs.Prelude.{◌≡◌, ◌<◌, ◌≤◌, ◌+◌, ◌++◌, ◌∷◌, [], ℕ, MatchOption, length, take, vec_len, vec_capacity};
+ghost use Rattle.std.specs.Prelude.{◌≡◌, ◌<◌, ◌≤◌, ◌+◌, ◌++◌, ◌∷◌, [], ℕ, MatchOption, length};
+ghost use Rattle.std.specs.Prelude.{take, vec_len, vec_capacity};
 ghost use Rattle.wl_wire.specs.Argument.{lent, Uint};
 ghost use Rattle.wl_wire.specs.Spelling.{canonical, spelled_len, padded, Fits, IsText};
 ghost use Rattle.wl_wire.specs.Word.{header_bytes};
-ghost use Rattle.wl_objects.specs.Writing.{given, given_of, wired, on_wire, message_len, len_in_limit, tokens_of, message_bytes, bind_values, error_values, global_values, EachFits};
+ghost use Rattle.wl_objects.specs.Writing.{given, given_of, wired, on_wire, message_len};
+ghost use Rattle.wl_objects.specs.Writing.{len_in_limit, tokens_of, message_bytes, bind_values};
+ghost use Rattle.wl_objects.specs.Writing.{error_values, global_values, EachFits};
 
 use crate::argument::Arg;
 use std::alloc::Allocator;
@@ -89,7 +92,7 @@ pub fn tokens_of(args: &[Arg<'_>], tokens: &mut [u32; 20]) -> usize
 }
 
 /// Writes the message of this length that a call becomes, where the new object gets this id. It is
-/// the whole contents of the store afterwards. Takes no memory.
+/// the whole contents of the store afterwards. Allocates nothing.
 pub fn encode_call<A: Allocator>(
     store: &mut Vec<u8, A>,
     object: u32,

@@ -1,7 +1,8 @@
 //! An interface and its messages.
 ghost use Rattle.wl_sigs.specs.Joined.{message_placed, interface_placed};
 ghost use Rattle.wl_sigs.specs.Places.{place_in};
-ghost use Rattle.std.specs.Prelude.{◌≡◌, ℕ, ◌<◌, List, unwrap_or, IfOk, map, slice_get, option_copied, option_map};
+ghost use Rattle.std.specs.Prelude.{◌≡◌, ℕ, ◌<◌, List, unwrap_or, IfOk, map, slice_get};
+ghost use Rattle.std.specs.Prelude.{option_copied, option_map};
 ghost use Rattle.wl_sigs.specs.Tables.{has_destroying_event, message_of};
 ghost use Rattle.wl_sigs.specs.Written.{message_written, interface_written};
 

@@ -1,5 +1,6 @@
 //! The first places of names.
-ghost use Rattle.std.specs.Prelude.{◌≡◌, ℕ, List, map, Some, None, IfOk, OnOk, option_copied, if◌then◌else◌, is_some, bytes_eq};
+ghost use Rattle.std.specs.Prelude.{◌≡◌, ℕ, List, map, Some, None, IfOk, OnOk, option_copied};
+ghost use Rattle.std.specs.Prelude.{if◌then◌else◌, is_some, bytes_eq};
 ghost use Rattle.wl_sigs.specs.Joined.{first_place};
 ghost use Rattle.wl_sigs.specs.Places.{place_in};
 

@@ -1,7 +1,12 @@
 //! The rules of valid tables, at the lines of a text.
-ghost use Rattle.std.specs.Prelude.{◌≡◌, ℕ, ◌+◌, ◌<◌, ◌≤◌, not, List, map, length, Some, None, option_map, option_copied, is_some, IfOk};
+ghost use Rattle.std.specs.Prelude.{◌≡◌, ℕ, ◌+◌, ◌<◌, ◌≤◌, not, List, map, length, Some, None};
+ghost use Rattle.std.specs.Prelude.{option_map, option_copied, is_some, IfOk};
 ghost use Rattle.std.specs.List.{list_all, list_any, count_by};
-ghost use Rattle.wl_sigs.specs.Broken.{is_first, is_object, makes_object, makes_unnamed, takes_any, takes_ended, names_missing, interface_rule, message_rule, names_objects, is_race_free, most_new, earlier, broken_at, messages_broken, side_broken, interface_broken, interfaces_broken, is_ended};
+ghost use Rattle.wl_sigs.specs.Broken.{is_first, is_object, makes_object, makes_unnamed, takes_any};
+ghost use Rattle.wl_sigs.specs.Broken.{takes_ended, names_missing, interface_rule, message_rule};
+ghost use Rattle.wl_sigs.specs.Broken.{names_objects, is_race_free, most_new, earlier, broken_at};
+ghost use Rattle.wl_sigs.specs.Broken.{messages_broken, side_broken, interface_broken};
+ghost use Rattle.wl_sigs.specs.Broken.{interfaces_broken, is_ended};
 ghost use Rattle.wl_sigs.specs.Places.{place_in};
 ghost use Rattle.wl_sigs.specs.BrokenLines.{broken};
 ghost use Rattle.wl_sigs.specs.Rules.{is_name, is_name_byte, is_empty};

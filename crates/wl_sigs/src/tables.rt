@@ -1,5 +1,6 @@
 //! Interfaces in their order.
-ghost use Rattle.std.specs.Prelude.{◌≡◌, ◌⊎◌, Err, None, IfOk, map, slice_get, option_copied, option_map, position, bytes_eq, length, IfSome, ◌<◌};
+ghost use Rattle.std.specs.Prelude.{◌≡◌, ◌⊎◌, Err, None, IfOk, map, slice_get, option_copied};
+ghost use Rattle.std.specs.Prelude.{option_map, position, bytes_eq, length, IfSome, ◌<◌};
 ghost use Rattle.wl_sigs.specs.Core.{core_tables};
 ghost use Rattle.wl_sigs.specs.Tables.{interface_at, signature_at, place_of};
 ghost use Rattle.wl_sigs.specs.Rules.{is_ended_by_event};

@@ -1,8 +1,10 @@
 //! What follows from the definitions of a table. Each law is the contract of a function that does
 //! nothing.
-ghost use Rattle.std.specs.Prelude.{◌≡◌, ◌≢◌, ℕ, ◌+◌, true, not, ◌&&◌, ltb, leb, eqb, length, drop, if◌then◌else◌};
+ghost use Rattle.std.specs.Prelude.{◌≡◌, ◌≢◌, ℕ, ◌+◌, true, not, ◌&&◌, ltb, leb, eqb, length, drop};
+ghost use Rattle.std.specs.Prelude.{if◌then◌else◌};
 ghost use Rattle.wl_wire.specs.declared.kind.Iface.{Iface};
-ghost use Rattle.wl_table.specs.View.{View, Sound, is_held, free_or_next, has_room, can_open, next_id, opening, opened, opened_at, closed, zombied};
+ghost use Rattle.wl_table.specs.View.{View, Sound, is_held, free_or_next, has_room, can_open};
+ghost use Rattle.wl_table.specs.View.{next_id, opening, opened, opened_at, closed, zombied};
 
 /// What each call makes of a sound table is sound.
 pub fn tables_stay_sound()

@@ -2,7 +2,8 @@
 ghost use Rattle.std.specs.Prelude.{◌≡◌, ◌≤◌, OnOk, OnErr, IfOk, IfErr, IsTrue, vec_capacity};
 ghost use Rattle.std.specs.Ordering.{nat_cmp};
 ghost use Rattle.std.specs.FinMap.{from_entries, insert as with_row};
-ghost use Rattle.wl_table.specs.View.{View, free_or_next, has_room, next_id, opened_at, times, without};
+ghost use Rattle.wl_table.specs.View.{View, free_or_next, has_room, next_id, opened_at, times};
+ghost use Rattle.wl_table.specs.View.{without};
 
 use super::table::{DISPLAY_ID, MAX_IDS};
 use super::{Entry, Object, State, Table, TableError};

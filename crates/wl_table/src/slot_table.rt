@@ -1,7 +1,9 @@
 //! A table of objects in a vector of slots.
-ghost use Rattle.std.specs.Prelude.{◌≡◌, ◌≤◌, ◌<◌, ◌+◌, OnOk, OnErr, IfOk, IfErr, IsTrue, length, eqb, if◌then◌else◌};
+ghost use Rattle.std.specs.Prelude.{◌≡◌, ◌≤◌, ◌<◌, ◌+◌, OnOk, OnErr, IfOk, IfErr, IsTrue, length};
+ghost use Rattle.std.specs.Prelude.{eqb, if◌then◌else◌};
 ghost use Rattle.wl_table.specs.View.{View, free_or_next, has_room, next_id, opened_at, times};
-ghost use Rattle.wl_table.specs.Slots.{row, new_row, slot_at, IsPut, IsOlderSet, IsNewerSet, IsTakenOut, IsPutFirst, HasSameRows, HasNoRowAt};
+ghost use Rattle.wl_table.specs.Slots.{row, new_row, slot_at, IsPut, IsOlderSet, IsNewerSet};
+ghost use Rattle.wl_table.specs.Slots.{IsTakenOut, IsPutFirst, HasSameRows, HasNoRowAt};
 
 use super::table::MAX_IDS;
 use super::{Entry, Object, State, Table, TableError};

@@ -1,7 +1,9 @@
 //! The table of objects of one end, whatever keeps it.
 ghost use Rattle.std.specs.Prelude.{◌≡◌, ◌≢◌, ◌↔◌, not, ◌&&◌, IfOk, OnOk, OnErr, IsTrue};
 ghost use Rattle.std.specs.FinMap.{len as row_count};
-ghost use Rattle.wl_table.specs.View.{View, Sound, look, is_held, is_live, free_or_next, has_room, can_open, next_id, opening, opened, opened_at, closed, zombied};
+ghost use Rattle.wl_table.specs.View.{View, Sound, look, is_held, is_live, free_or_next, has_room};
+ghost use Rattle.wl_table.specs.View.{can_open, next_id, opening, opened, opened_at, closed};
+ghost use Rattle.wl_table.specs.View.{zombied};
 
 use super::{Entry, Object, TableError};
 use std::alloc::{AllocError, Allocator};

@@ -1,5 +1,6 @@
 //! Laws of the wire format. Each is the contract of a function that does nothing.
-ghost use Rattle.std.specs.Prelude.{◌≡◌, ◌↔◌, ◌<◌, ◌≤◌, ◌^◌, ◌++◌, ℕ, ℤ, List, All, length, take, FitsSigned, Ok, Err};
+ghost use Rattle.std.specs.Prelude.{◌≡◌, ◌↔◌, ◌<◌, ◌≤◌, ◌^◌, ◌++◌, ℕ, ℤ, List, All, length, take};
+ghost use Rattle.std.specs.Prelude.{FitsSigned, Ok, Err};
 ghost use Rattle.std.specs.Int.{w32};
 ghost use Rattle.wl_wire.specs.declared.header.Header.{Header as SpecHeader};
 ghost use Rattle.wl_wire.specs.declared.kind.ArgFault.{ArgFault as SpecFault};

@@ -12,8 +12,8 @@ use crate::reading::read_ref;
 use crate::value::{Value, ValueRef};
 use std::alloc::{AllocError, Allocator};
 
-/// The argument of this kind at the front of the bytes, with the number of bytes that spell it. Only
-/// a string that is not null, a name and an array allocate.
+/// The argument of this kind at the front of the bytes, with the number of bytes that spell it.
+/// Only a string that is not null, a name and an array allocate.
 pub fn read_value<A: Allocator>(
     alloc: A,
     kind: Kind,

@@ -1,5 +1,6 @@
 //! One argument, written.
-ghost use Rattle.std.specs.Prelude.{◌≡◌, ◌<◌, ◌≤◌, ◌+◌, ◌-◌, ◌++◌, length, OnOk, OnErr, IsOk, vec_len, vec_capacity};
+ghost use Rattle.std.specs.Prelude.{◌≡◌, ◌<◌, ◌≤◌, ◌+◌, ◌-◌, ◌++◌, length, OnOk, OnErr, IsOk};
+ghost use Rattle.std.specs.Prelude.{vec_len, vec_capacity};
 ghost use Rattle.wl_wire.specs.Argument.{lent};
 ghost use Rattle.wl_wire.specs.Spelling.{canonical, padded, zeros, Fits, spelled_len};
 ghost use Rattle.wl_wire.specs.Word.{int_word, word};
