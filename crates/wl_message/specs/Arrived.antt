@@ -57,7 +57,7 @@ fed a bytes tokens = record {
 abbrev pub with_more : Arrived → List ℕ → List ℕ → Arrived
 with_more a bytes tokens = record a { bytes = a.bytes ++ bytes; tokens = a.tokens ++ tokens }
 
--- without the message in front, which has so many bytes and takes so many tokens
+-- without the message in front, of these numbers of bytes and tokens
 abbrev pub without_first : Arrived → ℕ → ℕ → Arrived
 without_first a bytes tokens = record a {
   bytes = drop bytes a.bytes;
@@ -79,7 +79,7 @@ TellsHeader limit bytes (Ok (Some h)) =
     (front limit bytes ≡ Whole h.size) × (take 8 bytes ≡ header_bytes h)
 TellsHeader limit bytes (Err e) = front limit bytes ≡ Bad e.size
 
--- so many bytes as the header tells are there: the header, and what stands behind it
+-- as many bytes are there as the header tells: the header, and what follows it
 pub record HasParts (bytes : List ℕ) (h : Header) : Type 0 where
   pub header : 8 ≤ h.size
   pub there : h.size ≤ length bytes

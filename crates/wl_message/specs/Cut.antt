@@ -31,7 +31,7 @@ is_size limit n = (nat_le 8 n && n % 4 == 0) && nat_le n limit
 abbrev pub told_size : List ℕ → ℕ
 told_size bytes = slice_index bytes 6 + 256 * slice_index bytes 7
 
--- a whole message: its header tells how many bytes there are, and a message may have so many
+-- a whole message: it has as many bytes as its header tells, and a message may have that many
 pub record IsMessage (limit : ℕ) (bytes : List ℕ) : Type 0 where
   pub told : told_size bytes ≡ length bytes
   pub size : IsSize limit (length bytes)
@@ -42,7 +42,7 @@ pub data Front : Type 0 where
   More : Front
   -- a header that tells a size which no message has
   Bad : ℕ → Front
-  -- a message of so many bytes
+  -- a message of this number of bytes
   Whole : ℕ → Front
 
 -- A header is judged as soon as its 8 bytes are there.
@@ -76,7 +76,7 @@ pub record Cut : Type 0 where
   pub messages : List (List ℕ)
   pub rest : List ℕ
 
--- at most so many messages are cut off
+-- at most `count` messages are cut off
 unfoldable pub cut_within : ℕ → ℕ → List ℕ → Cut
 cut_within zero limit bytes = record { messages = []; rest = bytes }
 cut_within (suc count) limit bytes = elim (front limit bytes) [

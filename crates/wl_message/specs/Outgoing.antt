@@ -95,7 +95,7 @@ newly_begun o n = begun (n - length o.left) o.messages
 pub record MayGo (o : Outgoing) (b t n : ℕ) : Type 0 where
   pub there : n ≤ length (waiting_bytes o)
   pub within : n ≤ b
-  -- the messages newly begun have at most so many tokens together
+  -- the messages newly begun have at most t tokens together
   pub tokens_within : length (all_tokens (newly_begun o n)) ≤ t
 
 -- What goes where there is room for b bytes and t tokens: the longest beginning of the waiting

@@ -19,7 +19,7 @@ impl Limit {
         bytes: MAX_MESSAGE_LEN,
     };
 
-    /// The limit of this number of bytes; none where no limit has so many.
+    /// The limit of this number of bytes; none where no limit has it.
     pub fn new(bytes: u32) -> Option<Limit>
         ensures some { IsSome result ↔ IsLimit bytes }
         ensures bytes { IfSome result (λ limit. limit.bytes ≡ bytes) }

@@ -12,12 +12,12 @@ use std::io::{Read, Write};
 /// Why bytes are left in an outbox after a `flush`.
 #[derive(Clone, Copy, Debug, PartialEq, Eq)]
 pub enum FlushError {
-    /// A write failed, or took no byte.
+    /// FL1: a write failed, or took no byte.
     Io {
         /// The number of bytes that were written before.
         written: usize,
     },
-    /// The next message has tokens, which no writer takes.
+    /// FL2: the next message has tokens, which no writer takes.
     NeedsTokens {
         /// The number of bytes that were written before.
         written: usize,
@@ -48,9 +48,9 @@ impl Error for FlushError {}
 /// Why a `fill` read nothing.
 #[derive(Clone, Copy, Debug, PartialEq, Eq)]
 pub enum FillError {
-    /// The read failed.
+    /// FI1: the read failed.
     Io,
-    /// No byte of the inbox is free.
+    /// FI2: no byte of the inbox is free, and nothing was read.
     NoRoom,
 }
 

@@ -103,7 +103,7 @@ received_by tables side reader header body waiting (Some entry) =
     received_as side reader header body waiting entry
     (signature_at tables entry.iface.0 side header.opcode)
 
--- What a message of one side is to its reader, where so many tokens wait: what was read, or the
+-- What a message of one side is to its reader, where `waiting` tokens wait: what was read, or the
 -- first fault of F2; F3; for each argument from the left F4, F5, F6, F10; then F7, F8.
 abbrev pub received : List Interface → Side → Reader → Header → List ℕ → ℕ → Result Received Fault
 received tables side reader header body waiting =

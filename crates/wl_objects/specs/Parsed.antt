@@ -18,7 +18,7 @@ use Rattle.wl_objects.specs.declared.args.Args.{Args}
 use Rattle.wl_objects.specs.Reading.{Reader, Reported, in_state, is_descriptor, report_of}
 use Rattle.wl_objects.specs.Reading.{reports_of}
 
--- so many bytes from a place on, as far as there are such
+-- `len` bytes from a place on, as far as there are such
 abbrev pub part : List ℕ → ℕ → ℕ → List ℕ
 part bytes start len = take len (drop start bytes)
 
@@ -92,7 +92,7 @@ both_of body birth parsed = (argument_of body parsed, placed_of body birth parse
 abbrev pub all_parsed : List ℕ → ℕ → List ParsedArg → List Both
 all_parsed body birth parsed = map (both_of body birth) parsed
 
--- what the reader makes of an argument, before which so many descriptors stand
+-- what the reader makes of an argument that has `place` descriptors before it
 abbrev pub both : Reader → ℕ → Argument → Both
 both r place value = (value, report_of r place value)
 

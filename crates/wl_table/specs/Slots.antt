@@ -124,7 +124,7 @@ next_in None = 0
 next_in (Some (Row birth version iface state)) = 0
 next_in (Some (Free newer older)) = older
 
--- the first so many ids of the chain that begins at an id
+-- the first n ids of the chain that begins at an id
 abbrev pub followed : ℕ → List Slot → ℕ → List ℕ
 followed zero slots id = []
 followed (suc n) slots id = id ∷ followed n slots (next_in (slot_at slots id))

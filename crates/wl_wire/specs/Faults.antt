@@ -73,7 +73,7 @@ IsFirstFault kind bytes NullNotAllowed = IsNull kind bytes
 IsFirstFault kind bytes NoEndingNul = LacksNul kind bytes
 IsFirstFault kind bytes InnerNul = HasNul kind bytes
 
--- what stands in place of a value: the first fault, or want of memory
+-- what stands in place of a value: the first fault, or out of memory
 abbrev pub IsReason : Kind → List ℕ → ReadError → Type 0
 IsReason kind bytes (errors.Arg fault) = IsFirstFault kind bytes fault
 IsReason kind bytes errors.Memory = Unit {0}
