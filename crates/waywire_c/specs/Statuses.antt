@@ -8,8 +8,8 @@ use Rattle.wl_objects.specs.declared.error.NextError.{NextError}
 use Rattle.wl_objects.specs.declared.error.NextError.TheVariants as errors
 use Rattle.wl_objects.specs.declared.error.Fault.{Fault}
 use Rattle.wl_objects.specs.declared.error.Fault.TheVariants as faults
-use Rattle.wl_server.specs.declared.request.GlobalError.{GlobalError}
-use Rattle.wl_server.specs.declared.request.GlobalError.TheVariants as globals
+use Rattle.wl_server.specs.declared.globals.GlobalError.{GlobalError}
+use Rattle.wl_server.specs.declared.globals.GlobalError.TheVariants as globals
 
 -- S1 to S12
 abbrev pub send_status : SendError → ℕ

@@ -17,7 +17,7 @@ use Rattle.wl_end.specs.Receiving.{Found, found}
 use Rattle.wl_end.specs.Outcomes.{AnswersOrMemory, left}
 use Rattle.wl_end.proofs.Coming.{is_found, past_shorter, none_short}
 use Rattle.wl_end.proofs.Receivings.{some_report}
-use Rattle.wl_client.specs.declared.incoming.OwnedIncoming.{OwnedIncoming}
+use Rattle.wl_client.specs.declared.report.OwnedIncoming.{OwnedIncoming}
 use Rattle.wl_client.specs.Seen.{report_of, report_in}
 use Rattle.wl_client.specs.State.{State}
 use Rattle.wl_client.specs.Reports.{Report, IsNext, needs_memory, Stray, plain_report, error_report, delete_report, deleted, deleted_id, is_error_event, is_delete_event, answer_found, next_answer, state_found, after_next}

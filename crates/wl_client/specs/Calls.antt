@@ -1,10 +1,9 @@
 -- What a client's bind of a global returns and writes.
 use Rattle.std.specs.Prelude.{ℕ, Bool, false, ◌&&◌, not, nat_le, bytes_eq, if◌then◌else◌, List, []}
-use Rattle.std.specs.Prelude.{◌∷◌, Option, Some, None}
+use Rattle.std.specs.Prelude.{Option, Some, None}
 use Rattle.std.specs.declared.result.Result.{Result}
 use Rattle.std.specs.declared.result.Result.TheVariants.{Err}
 use Rattle.wl_wire.specs.declared.kind.Iface.{Iface}
-use Rattle.wl_wire.specs.Argument.{Argument, Uint, NewNamed}
 use Rattle.wl_sigs.specs.Tables.{Interface, interface_at}
 use Rattle.wl_sigs.specs.Fixed.{registry}
 use Rattle.wl_table.specs.declared.object.Object.{Object}
@@ -12,7 +11,7 @@ use Rattle.wl_table.specs.declared.object.Entry.{Entry}
 use Rattle.wl_objects.specs.declared.error.SendError.{SendError}
 use Rattle.wl_objects.specs.declared.error.SendError.TheVariants as refusals
 use Rattle.wl_table.specs.View.{next_id, opened}
-use Rattle.wl_objects.specs.Writing.{message_len}
+use Rattle.wl_objects.specs.Writing.{bind_values, message_len}
 use Rattle.wl_objects.specs.Messages.{NewObject, live_row, same_iface}
 use Rattle.wl_end.specs.Core.{with_view}
 use Rattle.wl_end.specs.Sending.{fits, with_sent, opening_answer}
@@ -30,10 +29,6 @@ abbrev pub can_bind : List Interface → List ℕ → ℕ → Option Global → 
 can_bind tables iface version None = false
 can_bind tables iface version (Some global) =
     version_fits version global.version (interface_at tables global.iface.0) iface
-
--- the arguments of wl_registry.bind
-abbrev pub bind_values : ℕ → List ℕ → ℕ → ℕ → List Argument
-bind_values name iface version id = Uint name ∷ NewNamed iface version id ∷ []
 
 abbrev pub iface_or : Option Global → Iface
 iface_or None = registry

@@ -10,10 +10,10 @@ use Rattle.wl_message.specs.Arrived.{Arrived}
 use Rattle.wl_table.specs.declared.table.Table as table
 use Rattle.wl_objects.specs.declared.error.NextError.{NextError}
 use Rattle.wl_objects.specs.Parsed.{reported_in, spelled_in, seen_args}
-use Rattle.wl_client.specs.declared.incoming.Incoming.{Incoming}
-use Rattle.wl_client.specs.declared.incoming.Incoming.TheVariants as incoming
-use Rattle.wl_client.specs.declared.incoming.Outline.{Outline}
-use Rattle.wl_client.specs.declared.incoming.Outline.TheVariants as outlines
+use Rattle.wl_client.specs.declared.report.Incoming.{Incoming}
+use Rattle.wl_client.specs.declared.report.Incoming.TheVariants as incoming
+use Rattle.wl_client.specs.declared.outline.Outline.{Outline}
+use Rattle.wl_client.specs.declared.outline.Outline.TheVariants as outlines
 use Rattle.wl_client.specs.Reports.{Report, Event, Discarded, Deleted, Stray, Error, argument}
 use Rattle.wl_client.specs.Reports.{text_in}
 use Rattle.wl_client.specs.contracts.client.Client.{the_row}

@@ -2,11 +2,9 @@
 use Rattle.std.specs.Prelude.{Option, Some, None}
 use Rattle.std.specs.declared.result.Result.{Result}
 use Rattle.std.specs.declared.result.Result.TheVariants.{Ok, Err}
-use Rattle.wl_table.specs.declared.object.Object.{Object}
 use Rattle.wl_objects.specs.declared.error.NextError.{NextError}
-use Rattle.wl_objects.specs.declared.error.SendError.{SendError}
-use Rattle.wl_client.specs.declared.incoming.OwnedIncoming.{OwnedIncoming}
-use Rattle.wl_client.specs.declared.incoming.OwnedIncoming.TheVariants as incoming
+use Rattle.wl_client.specs.declared.report.OwnedIncoming.{OwnedIncoming}
+use Rattle.wl_client.specs.declared.report.OwnedIncoming.TheVariants as incoming
 use Rattle.wl_client.specs.Reports.{Report, Event, Discarded, Deleted, Stray, Error}
 
 -- what an owned report is
@@ -23,8 +21,3 @@ abbrev pub report_in : {A : Type 0} → Result (Option (OwnedIncoming A)) NextEr
 report_in (Err why) = Err why
 report_in (Ok None) = Ok None
 report_in (Ok (Some read)) = Ok (Some (report_of read))
-
--- what `bind` answered: always a new object, where it was accepted
-abbrev pub new_in : Result Object SendError → Result (Option Object) SendError
-new_in (Err why) = Err why
-new_in (Ok object) = Ok (Some object)

@@ -1,9 +1,8 @@
 //! How a client binds a global.
 ghost use Rattle.std.specs.Prelude.{◌≡◌, Some, true, OnErr, OnOk};
-ghost use Rattle.wl_end.specs.Outcomes.{AnswersOrMemory};
+ghost use Rattle.wl_end.specs.Outcomes.{AnswersOrMemory, new_in};
 ghost use Rattle.wl_client.specs.Calls.{after_bind, bind_answer, can_bind};
 ghost use Rattle.wl_client.specs.Binding.{FitsBind};
-ghost use Rattle.wl_client.specs.Seen.{new_in};
 
 use crate::client::Client;
 use crate::globals::Global;
@@ -53,14 +52,10 @@ impl<'t, T: Table> Client<'t, T> {
         if !self.core.fits(len, 0) {
             return Err(SendError::Full);
         }
-        match self.core.open_new(Some(global.iface), version)? {
-            None => Err(SendError::NoIds),
-            Some(object) => {
-                self.core
-                    .write_bind(registry.id, name, iface, version, object.id);
-                Ok(object)
-            }
-        }
+        let object = self.core.open_next(global.iface, version)?;
+        self.core
+            .write_bind(registry.id, name, iface, version, object.id);
+        Ok(object)
     }
 }
 

@@ -3,7 +3,8 @@
 ghost use Rattle.std.specs.Prelude.{◌≡◌, List};
 ghost use Rattle.wl_end.specs.Core.{with_view};
 ghost use Rattle.wl_client.specs.State.{Global as Told};
-ghost use Rattle.wl_client.specs.Steps.{CanChange, changed, found_as, globals_by, with_global_change};
+ghost use Rattle.wl_client.specs.Steps.{CanChange, changed, found_as, globals_by};
+ghost use Rattle.wl_client.specs.Steps.{with_global_change};
 
 use crate::arguments::{number_at, text_at};
 use crate::globals::Global;

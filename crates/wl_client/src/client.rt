@@ -2,7 +2,8 @@
 ghost use Rattle.std.specs.Prelude.{◌≡◌, ◌≤◌, ◌++◌, IfOk, length, take, drop};
 ghost use Rattle.wl_message.specs.Arrived.{AreSizes};
 ghost use Rattle.wl_message.specs.Outgoing.{goes, waiting_bytes, waiting_tokens};
-ghost use Rattle.wl_end.specs.Core.{display_object, live, in_room, is_drained, feeds, with_arrived, with_gone};
+ghost use Rattle.wl_end.specs.Core.{display_object, live, in_room, is_drained, feeds, with_arrived};
+ghost use Rattle.wl_end.specs.Core.{with_gone};
 ghost use Rattle.wl_client.specs.State.{new_state, with_core};
 
 use crate::globals::Remembered;
@@ -20,7 +21,7 @@ use wl_wire::Iface;
 pub struct Client<'t, T: Table> {
     pub(crate) core: Core<'t, T>,
     pub(crate) globals: Remembered<T::Alloc>,
-    // What gives the reports their memory.
+    /// Allocates owned reports.
     pub(crate) alloc: T::Alloc,
 }
 

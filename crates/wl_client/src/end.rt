@@ -1,7 +1,7 @@
-//! The client, as whoever carries bytes to it and from it sees it.
+//! The client as seen by whoever carries its bytes.
 use crate::client::Client;
-use crate::incoming::OwnedIncoming;
-use crate::receive::step_in_front;
+use crate::pending::find_event;
+use crate::report::OwnedIncoming;
 use wl_end::{End, Receiver};
 use wl_message::{Fed, Taken};
 use wl_objects::{NextError, Table};
@@ -59,7 +59,7 @@ impl<'t, T: Table> Receiver for Client<'t, T> {
     }
 
     fn has_report(&mut self) -> bool {
-        match step_in_front(&mut self.core) {
+        match find_event(&mut self.core) {
             Ok(Some(_)) => true,
             _ => false,
         }

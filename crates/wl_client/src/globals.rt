@@ -38,7 +38,10 @@ impl<A: Allocator> Model for Remembered<A> {
 
     ghost view = { λ r. r.items.items };
 
-    ghost invariant = { λ r. record { few : length r.items.items ≤ 1024; reserved : 1024 ≤ vec_capacity r.items } };
+    ghost invariant = { λ r. record {
+      few : length r.items.items ≤ 1024;
+      reserved : 1024 ≤ vec_capacity r.items;
+    } };
 }
 
 impl<A: Allocator> Remembered<A> {

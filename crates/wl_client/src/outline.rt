@@ -1,126 +1,142 @@
-//! What a message is to a client: what is reported of it, and what it changes among the objects.
-ghost use Rattle.std.specs.Prelude.{◌≡◌, ◌≢◌, ℕ, List, [], Some, false};
-ghost use Rattle.wl_sigs.specs.declared.signature.Side.TheVariants.{Event};
-ghost use Rattle.wl_sigs.specs.Tables.{destroys_argument};
-ghost use Rattle.wl_table.specs.View.{look};
-ghost use Rattle.wl_end.specs.Core.{HasDisplay};
-ghost use Rattle.wl_client.specs.Outlines.{outlined};
-ghost use Rattle.wl_client.specs.Reports.{delete_report, error_report, is_error_event};
-ghost use Rattle.wl_client.specs.Steps.{CanChange, changed, end_with, found_as, report_by, view_by};
-ghost use Rattle.wl_objects.specs.Messages.{after_delete_id, is_error, reader_of};
-ghost use Rattle.wl_objects.specs.Parsed.{AreParsed, spelled_in};
-ghost use Rattle.wl_objects.specs.Reading.{descriptors};
-ghost use Rattle.wl_objects.specs.Seen.{message_of};
+//! The report of a message without its body and its tokens, which it lends or copies.
+ghost use Rattle.std.specs.Prelude.{◌≡◌, IfOk, OnErr, ◌≤◌, true, length, take};
+ghost use Rattle.wl_client.specs.Reports.{needs_memory};
+ghost use Rattle.wl_client.specs.Seen.{report_of};
+ghost use Rattle.wl_client.specs.Outlines.{lent_report, outlined};
 
-use crate::arguments::{id_at, number_at};
-use crate::changes::ObjectChange;
-use crate::incoming::Outline;
-use wl_objects::{Object, ParsedArgs, Received, State, Table, is_delete_id, named};
-use wl_sigs::{Destroys, Side};
+use crate::arguments::text_at;
+use crate::report::{Incoming, OwnedIncoming};
+use crate::tokens::Tokens;
+use std::alloc::{AllocError, Allocator};
+use wl_objects::{Args, Named, Object, ParsedArgs};
+use wl_wire::Bytes;
 
-/// What a message is to a client, but for the globals.
+/// What is reported of a message. Where its arguments and its tokens lie is said when the report is
+/// lent or copied.
 #[derive(Drop)]
-pub(crate) struct Meaning {
-    pub(crate) outline: Outline,
-    pub(crate) change: ObjectChange,
-    /// Whether it is wl_display.error, after which nothing is read.
-    pub(crate) last: bool,
+pub(crate) enum Outline {
+    Event {
+        target: Object,
+        opcode: u16,
+        args: ParsedArgs,
+        /// The birth that an object got which the message made.
+        birth: u64,
+    },
+    Discarded {
+        target: Object,
+        opcode: u16,
+        /// How many tokens the message took.
+        tokens: usize,
+    },
+    Deleted {
+        object: Object,
+    },
+    Stray {
+        id: u32,
+    },
+    Error {
+        id: u32,
+        named: Named,
+        code: u32,
+        args: ParsedArgs,
+    },
 }
 
-/// What a message is.
-pub(crate) fn meaning_of<T: Table>(table: &T, opcode: u16, message: Received<'_, '_>) -> Meaning
-    requires parsed { AreParsed (reader_of (T.view table.now)) message.body.now message.args
-        (message_of message).values }
-    requires tokens { message.tokens ≡ descriptors message.signature.now.kinds }
-    requires error { message.is_error ≡ is_error Event message.entry.iface opcode }
-    requires display { HasDisplay (T.view table.now) }
-    requires row { look (T.view table.now) message.target.id ≡ Some message.entry }
-    requires lasts { message.target.id ≡ 1 → message.signature.now.destroys ≢ Destroys.Target }
-    requires argument { destroys_argument message.signature.now.destroys ≡ false }
-    ensures outline { (tokens : List ℕ) → outlined message.entry.body.now tokens result.outline
-        ≡ report_by (T.view table.now) tokens (found_as opcode message.entry) }
-    ensures changed { changed (T.view table.now) result.change
-        ≡ view_by (T.view table.now) (found_as opcode message.entry) }
-    ensures can { CanChange (T.view table.now) result.change }
-    ensures last { result.last ≡ is_error_event (found_as opcode message.entry) }
-{
-    if message.is_error {
-        return Meaning {
-            outline: error_outline(table, message.args, message.body),
-            change: ObjectChange::Nothing,
-            last: true,
-        };
-    }
-    if is_delete_id(Side::Event, message.entry.iface, opcode) {
-        return meaning_of_delete_id(table, number_at(&message.args, message.body, 0));
-    }
-    let target = message.target;
-    match message.entry.state {
-        State::Zombie => Meaning {
-            outline: Outline::Discarded {
+impl Outline {
+    /// The report of a message with this body and these tokens, which are lent.
+    pub(crate) fn lend<'a>(&self, body: &'a [u8], tokens: &'a [u32]) -> Incoming<'a>
+        ensures { lent_report result ≡ outlined body.now tokens.now self.now }
+    {
+        match self {
+            Outline::Event {
                 target,
                 opcode,
-                tokens: message.tokens,
+                args,
+                birth,
+            } => Incoming::Event {
+                target: *target,
+                opcode: *opcode,
+                args: Args::of(args, body, tokens, *birth),
             },
-            change: ObjectChange::Nothing,
-            last: false,
-        },
-        State::Live => Meaning {
-            outline: Outline::Event {
+            Outline::Discarded {
                 target,
                 opcode,
-                args: message.args,
-                birth: table.births(),
+                tokens: count,
+            } => Incoming::Discarded {
+                target: *target,
+                opcode: *opcode,
+                tokens: first(tokens, *count),
             },
-            change: match message.signature.destroys() {
-                Destroys::Nothing => ObjectChange::Nothing,
-                // No event destroys an argument.
-                Destroys::Arg(_) => ObjectChange::Nothing,
-                Destroys::Target => ObjectChange::Zombie(target.id),
+            Outline::Deleted { object } => Incoming::Deleted { object: *object },
+            Outline::Stray { id } => Incoming::Stray { id: *id },
+            Outline::Error {
+                id,
+                named,
+                code,
+                args,
+            } => Incoming::Error {
+                id: *id,
+                named: *named,
+                code: *code,
+                text: text_at(args, body, 2),
             },
-            last: false,
-        },
+        }
+    }
+
+    /// The report of a message with this body and these tokens, in memory of its own. Memory is
+    /// taken only for the arguments of an event, where there are some, and for the text of an
+    /// error.
+    pub(crate) fn to_owned<A: Allocator + Clone + Drop>(
+        &self,
+        alloc: &A,
+        body: &[u8],
+        tokens: &[u32],
+    ) -> Result<OwnedIncoming<A>, AllocError>
+        requires { length tokens.now ≤ 20 }
+        ensures ok { IfOk result
+            (λ report. report_of report ≡ outlined body.now tokens.now self.now) }
+        ensures err { OnErr result (needs_memory (outlined body.now tokens.now self.now) ≡ true) }
+    {
+        match self {
+            Outline::Event {
+                target,
+                opcode,
+                args,
+                birth,
+            } => Ok(OwnedIncoming::Event {
+                target: *target,
+                opcode: *opcode,
+                args: Args::of(args, body, tokens, *birth).to_owned(alloc)?,
+            }),
+            Outline::Discarded {
+                target,
+                opcode,
+                tokens: count,
+            } => Ok(OwnedIncoming::Discarded {
+                target: *target,
+                opcode: *opcode,
+                tokens: Tokens::copy_of(first(tokens, *count)),
+            }),
+            Outline::Deleted { object } => Ok(OwnedIncoming::Deleted { object: *object }),
+            Outline::Stray { id } => Ok(OwnedIncoming::Stray { id: *id }),
+            Outline::Error {
+                id,
+                named,
+                code,
+                args,
+            } => Ok(OwnedIncoming::Error {
+                id: *id,
+                named: *named,
+                code: *code,
+                text: Bytes::copy_of(alloc.clone()?, text_at(args, body, 2))?,
+            }),
+        }
     }
 }
 
-/// The outline of wl_display.error.
-fn error_outline<T: Table>(table: &T, args: ParsedArgs, body: &[u8]) -> Outline
-    ensures { (tokens : List ℕ) → outlined body.now tokens result
-        ≡ error_report (end_with [] (T.view table.now) tokens) (spelled_in body.now args) }
+/// The first `count` tokens, or all where there are fewer.
+fn first(tokens: &[u32], count: usize) -> &[u32]
+    ensures { result.now ≡ take count tokens.now }
 {
-    let id = id_at(&args, body, 0);
-    Outline::Error {
-        id,
-        named: named(table, id),
-        code: number_at(&args, body, 1),
-        args,
-    }
-}
-
-/// What wl_display.delete_id of an id is: the object of the id, if it has one, is gone.
-fn meaning_of_delete_id<T: Table>(table: &T, id: u32) -> Meaning
-    ensures outline { (body tokens : List ℕ) → outlined body tokens result.outline
-        ≡ delete_report (end_with [] (T.view table.now) tokens) id }
-    ensures changed { changed (T.view table.now) result.change
-        ≡ after_delete_id (T.view table.now) id }
-    ensures can { CanChange (T.view table.now) result.change }
-    ensures last { result.last ≡ false }
-{
-    match table.look(id) {
-        Some(entry) if id != 1 => Meaning {
-            outline: Outline::Deleted {
-                object: Object {
-                    id,
-                    birth: entry.birth,
-                },
-            },
-            change: ObjectChange::Close(id),
-            last: false,
-        },
-        _ => Meaning {
-            outline: Outline::Stray { id },
-            change: ObjectChange::Nothing,
-            last: false,
-        },
-    }
+    &tokens[..count.min(tokens.len())]
 }

@@ -7,7 +7,7 @@ ghost use Rattle.wl_client.specs.Seen.{report_of};
 ghost use Rattle.wl_client.specs.Streams.{reading};
 
 use crate::client::Client;
-use crate::incoming::OwnedIncoming;
+use crate::report::OwnedIncoming;
 use wl_end::ReadAll;
 use wl_message::Piece;
 use wl_objects::{NextError, Table};

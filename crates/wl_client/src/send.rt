@@ -1,10 +1,8 @@
 //! What a client writes.
 ghost use Rattle.std.specs.Prelude.{◌≡◌, OnErr, OnOk};
 ghost use Rattle.wl_sigs.specs.declared.signature.Side.TheVariants.{Request as request_side};
-ghost use Rattle.wl_objects.specs.Messages.{checked};
 ghost use Rattle.wl_objects.specs.Writing.{given};
-ghost use Rattle.wl_end.specs.Outcomes.{AnswersOrMemory};
-ghost use Rattle.wl_end.specs.Sending.{after_send, opens_object, send_answer};
+ghost use Rattle.wl_end.specs.Sending.{IsSendAnswer, after_send};
 ghost use Rattle.wl_client.specs.State.{with_core};
 
 use crate::client::Client;
@@ -23,11 +21,8 @@ impl<'t, T: Table> Client<'t, T> {
         opcode: u16,
         args: &[Arg<'_>],
     ) -> Result<Option<Object>, SendError>
-        ensures answer { AnswersOrMemory SendError.Memory
-            (opens_object
-            (checked self.old.core.outbox.limit.bytes self.old.core.tables request_side
-            self.old.core.view target opcode (given args.now)))
-            (send_answer self.old.core request_side target opcode (given args.now)) result }
+        ensures answer { IsSendAnswer self.old.core request_side target opcode (given args.now)
+            result }
         ensures ok { OnOk result
             (self.new ≡ with_core self.old
             (after_send self.old.core request_side target opcode (given args.now))) }

@@ -1,5 +1,6 @@
 pub mod Descriptors
 pub mod Coming
+pub mod Frames
 pub mod Pieces
 pub mod Displays
 pub mod Messages

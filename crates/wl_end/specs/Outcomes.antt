@@ -2,6 +2,7 @@
 use Rattle.std.specs.Prelude.{◌≡◌, ◌⊎◌, Bool, true, false, IsOk, Option, Some, None}
 use Rattle.std.specs.declared.result.Result.{Result}
 use Rattle.std.specs.declared.result.Result.TheVariants.{Ok, Err}
+use Rattle.wl_table.specs.declared.object.Object.{Object}
 use Rattle.wl_objects.specs.declared.error.NextError.{NextError}
 use Rattle.wl_objects.specs.declared.error.NextError.TheVariants as errors
 
@@ -20,6 +21,11 @@ answers_with is _ = false
 abbrev pub left : {S R : Type 0} → S → S → Result R NextError → S
 left before after (Err errors.Memory) = before
 left before after result = after
+
+-- what a call that makes an object returned, as of a call that may make one
+abbrev pub new_in : {E : Type 0} → Result Object E → Result (Option Object) E
+new_in (Err why) = Err why
+new_in (Ok object) = Ok (Some object)
 
 -- why a call was refused, if it was
 abbrev pub refusal_in : {X E : Type 0} → Result X E → Option E

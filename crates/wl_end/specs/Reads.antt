@@ -148,7 +148,7 @@ PieceIsRead e state piece reports (Err ended) end =
 
 -- ---- pieces that come in step
 
--- What waits begins with messages that need so much: each is read before the next stands in front.
+-- What waits begins with messages of these needs: each is read before the next stands in front.
 -- Messages of this side come in.
 pub data Begins {S R : Type 0} (e : Reading S R) (side : Side) : S → List Need → Type 0 where
   here : {state : S} → Begins e side state []

@@ -16,8 +16,10 @@ use Rattle.wl_objects.specs.declared.error.SendError.TheVariants as refusals
 use Rattle.wl_wire.specs.declared.kind.Iface.{Iface}
 use Rattle.wl_table.specs.View.{View, next_id, can_open, look}
 use Rattle.wl_objects.specs.Writing.{Given, wired, message_len, message_bytes, tokens_of}
-use Rattle.wl_objects.specs.Messages.{NewObject, made, checked, End, Client, Server, after, ended_id}
+use Rattle.wl_objects.specs.Messages.{NewObject, made, checked, End, Client, Server, after}
+use Rattle.wl_objects.specs.Messages.{ended_id}
 use Rattle.wl_end.specs.Core.{Core, with_view}
+use Rattle.wl_end.specs.Outcomes.{AnswersOrMemory}
 
 -- whether this number of bytes and tokens is free in the outbox
 abbrev pub fits : Outgoing → ℕ → ℕ → Bool
@@ -135,3 +137,13 @@ after_send core side target opcode given =
 abbrev pub opens_object : Result Message SendError → Bool
 opens_object (Err refusal) = false
 opens_object (Ok signature) = is_some (makes signature)
+
+-- What `send` returns where memory can be refused: out of memory stands only in place of the
+-- acceptance of a message that opens an object.
+abbrev pub IsSendAnswer : Core → Side → Object → ℕ → List Given → Result (Option Object) SendError
+    → Type 0
+IsSendAnswer core side target opcode given result =
+    AnswersOrMemory refusals.Memory
+    (opens_object
+    (checked core.outbox.limit.bytes core.tables side core.view target opcode given))
+    (send_answer core side target opcode given) result

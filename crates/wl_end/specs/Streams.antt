@@ -18,8 +18,7 @@ waiting core = record { bytes = core.inbox.bytes; tokens = core.inbox.tokens }
 abbrev pub need_of : Found → Need
 need_of f = record { size = f.size; tokens = takes f.message }
 
--- A message stands in front which needs so much: it is found there, or would be, if only some more
--- tokens waited.
+-- A message with this need stands in front: it is found there, or would be if more tokens waited.
 pub record Wants (core : Core) (side : Side) (need : Need) : Type 0 where
   pub more : List ℕ
   pub message : Found

@@ -1,4 +1,4 @@
-//! An end, as whoever carries bytes to it and from it sees it.
+//! An end as seen by whoever carries its bytes.
 ghost use Rattle.std.specs.Prelude.{◌≡◌, ◌≤◌, ◌++◌, length, take, drop};
 ghost use Rattle.wl_message.specs.Outgoing.{goes, waiting_bytes, waiting_tokens};
 ghost use Rattle.wl_end.specs.Core.{Core, feeds, in_room, with_arrived, with_gone};
@@ -6,7 +6,7 @@ ghost use Rattle.wl_end.specs.Reads.{IsCoreOf};
 
 use wl_message::{Fed, Taken};
 
-/// A client or a server, as whoever carries bytes and tokens to it and from it sees it.
+/// A client or a server, as seen by whoever carries its bytes and tokens.
 pub trait End {
     ghost core: { Self → Core };
 

@@ -7,17 +7,17 @@
 
 mod end;
 mod laws;
+mod receive;
 mod receiver;
-mod sending;
+mod send;
 mod shared;
 mod streams;
-mod taking;
 mod transport;
 
 pub use end::End;
 pub use laws::{found_stays, taking_keeps_pieces};
+pub use receive::MAX_TOKENS;
 pub use receiver::Receiver;
-pub use sending::DELETE_ID_LEN;
+pub use send::DELETE_ID_LEN;
 pub use shared::{Core, MAX_GLOBALS};
 pub use streams::{ReadAll, read_all};
-pub use taking::MAX_TOKENS;

@@ -1,7 +1,8 @@
-//! One end of a connection, whichever.
+//! What both ends of a connection have: tables, objects and two boxes.
 ghost use Rattle.std.specs.Prelude.{◌≡◌, ◌≤◌, ◌↔◌, IfOk, IsTrue, length, take};
 ghost use Rattle.wl_message.specs.Arrived.{AreSizes};
-ghost use Rattle.wl_end.specs.Core.{new_core, display_object, live, in_room, feeds, with_arrived, is_drained};
+ghost use Rattle.wl_end.specs.Core.{new_core, display_object, live, in_room, feeds, with_arrived};
+ghost use Rattle.wl_end.specs.Core.{is_drained};
 
 use std::alloc::AllocError;
 use std::marker::Model;
@@ -23,11 +24,11 @@ pub struct Core<'t, T: Table> {
     pub table: T,
     pub inbox: Inbox<T::Alloc>,
     pub outbox: Outbox<T::Alloc>,
-    /// Room for the longest message, for the one that is being written.
+    /// Where a message is encoded before it goes to the outbox, with room for the longest.
     pub store: Vec<u8, T::Alloc>,
     /// Whether the end has failed. It stays so for good.
     pub failed: bool,
-    /// The number of bytes of the messages that were read. It stays at the greatest number.
+    /// How many bytes the messages had that were read; no more than the greatest number.
     pub read: u64,
 }
 
@@ -41,7 +42,14 @@ impl<'t, T: Table> Model for Core<'t, T> {
 
     ghost coded = { Prim.hlevel (codes, view_code) };
 
-    ghost view = { λ c. record { tables = c.tables.now; view = T.view c.table; inbox = c.inbox; outbox = c.outbox; failed = c.failed; read = c.read } };
+    ghost view = { λ c. record {
+      tables = c.tables.now;
+      view = T.view c.table;
+      inbox = c.inbox;
+      outbox = c.outbox;
+      failed = c.failed;
+      read = c.read;
+    } };
 
     // The error event is written once, by an end that fails with it.
     ghost invariant = { λ c. record {

@@ -17,8 +17,8 @@ pub struct ReadAll {
     pub pieces: usize,
     /// What was taken of the next one: nothing, or all of its tokens and some of its bytes.
     pub part: Fed,
-    /// Why the reading stopped; none where it went on to the end, to wl_display.error, or to a piece
-    /// whose tokens do not all find room.
+    /// Why the reading stopped; none where it went on to the end, to wl_display.error, or to a
+    /// piece whose tokens do not all find room.
     pub stop: Option<NextError>,
 }
 
@@ -44,8 +44,8 @@ impl ReadAll {
 /// and the rest of it after what waits was read again. Room for a report is made before its message
 /// is read. `stop` is `Memory` if that room or the report's own memory is refused, and then the
 /// message stands in front and can be read again. The reading ends early where no message can be
-/// read, after the last report, and before a piece whose tokens do not all fit; what was read before
-/// stays read. An end that has failed reads nothing, not even where there are no pieces.
+/// read, after the last report, and before a piece whose tokens do not all fit; what was read
+/// before stays read. An end that has failed reads nothing, not even where there are no pieces.
 pub fn read_all<E: Receiver, A: Allocator>(
     end: &mut E,
     pieces: &[Piece<'_>],

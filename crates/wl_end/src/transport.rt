@@ -11,8 +11,8 @@ use wl_message::{FillError, FlushError};
 use wl_objects::Table;
 
 impl<'t, T: Table> Core<'t, T> {
-    /// Reads once from a reader, as `wl_message::fill` does. A failed end reads nothing, and returns
-    /// 0.
+    /// Reads once from a reader, as `wl_message::fill` does. A failed end reads nothing, and
+    /// returns 0.
     pub fn fill<R: Read>(&mut self, reader: &mut R) -> Result<usize, FillError>
         ensures fills { EndFills self.old (R.remaining reader.old) result self.new
             (R.remaining reader.new) }

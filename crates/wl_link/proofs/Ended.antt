@@ -18,7 +18,7 @@ use Rattle.wl_end.specs.Core.{Core}
 use Rattle.wl_end.specs.Receiving.{Found}
 use Rattle.wl_end.specs.Sending.{after_checked, with_following}
 use Rattle.wl_message.specs.declared.amounts.Taken.{Taken}
-use Rattle.wl_server.specs.declared.request.GlobalError.{GlobalError}
+use Rattle.wl_server.specs.declared.globals.GlobalError.{GlobalError}
 use Rattle.wl_server.specs.State as server
 use Rattle.wl_server.specs.Announcing.{owed}
 use Rattle.wl_server.specs.Requests as requests

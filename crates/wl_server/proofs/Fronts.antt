@@ -1,5 +1,5 @@
 -- What stands in front of a server's waiting bytes, and that it can be taken.
-use Rattle.std.proofs.Common.{◌≡◌, ◌≢◌, ℕ, zero, suc, ◌≤◌, Bool, true, false, List, [], ◌∷◌, ◌++◌, length, take, drop, Some, refl, sym, ap, subst, ◌∙◌, arith, append_assoc}
+use Rattle.std.proofs.Common.{◌≡◌, ◌≢◌, ℕ, zero, suc, ◌≤◌, Bool, true, false, List, [], ◌∷◌, length, take, drop, Some, refl, sym, ap, subst, ◌∙◌, arith}
 use Rattle.std.specs.Prelude.{Option, not, ◌&&◌, nat_lt, nat_eq, slice_get, IsTrue, is_some}
 use Rattle.std.specs.Option.{option_and_then}
 use Rattle.std.specs.declared.result.Result.{Result}
@@ -7,21 +7,14 @@ use Rattle.std.specs.declared.result.Result.TheVariants.{Ok, Err}
 use Rattle.std.proofs.lemmas.List.{take-append-drop, length-take-le}
 use Rattle.std.proofs.lemmas.Bool.Decides.{nat_tests}
 use Rattle.std.proofs.lemmas.Grind.{common_steps}
-use Rattle.wl_wire.specs.Word.{header_bytes, IsHeader}
 use Rattle.wl_wire.specs.declared.header.Header.{Header}
 use Rattle.wl_wire.specs.declared.kind.Iface.{Iface}
-use Rattle.wl_wire.specs.declared.kind.Kind.{Kind}
-use Rattle.wl_wire.proofs.Canonicals.{header_at-bytes}
 use Rattle.wl_sigs.specs.declared.signature.Side.TheVariants.{Request as request_side}
 use Rattle.wl_sigs.specs.declared.signature.Destroys.{Destroys}
 use Rattle.wl_sigs.specs.declared.signature.Destroys.TheVariants.{Nothing, Target, Arg}
 use Rattle.wl_sigs.specs.Tables.{Interface, Message, signature_at, message_of, destroys_one}
 use Rattle.wl_sigs.specs.Fixed.{wl_display, display}
 use Rattle.wl_sigs.specs.Valid.{Valid}
-use Rattle.wl_message.specs.Arrived.{in_front}
-use Rattle.wl_message.specs.Cut.{Whole}
-use Rattle.wl_message.specs.declared.inbox.Frame.{Frame}
-use Rattle.wl_message.specs.Arrived.{Tells}
 use Rattle.wl_message.specs.Outgoing.{room_of}
 use Rattle.wl_objects.specs.declared.error.Fault.{Fault}
 use Rattle.wl_objects.specs.declared.error.Fault.TheVariants as faults
@@ -35,41 +28,26 @@ use Rattle.wl_wire.specs.Argument.{Obj}
 use Rattle.wl_table.specs.View.{View, look}
 use Rattle.wl_objects.specs.declared.parsed.ParsedArg.{ParsedArg}
 use Rattle.wl_objects.specs.Parsed.{AreParsed, reported_in}
-use Rattle.wl_objects.specs.Reading.{Reader, in_state, descriptors, reports_of, Reported}
+use Rattle.wl_objects.specs.Reading.{Reader, in_state, reports_of, Reported}
 use Rattle.wl_objects.specs.Messages.{Received, received, reader_of, is_bind}
 use Rattle.wl_end.specs.Core.{Core, HasDisplay}
-use Rattle.wl_end.specs.Receiving.{Found, found, reported, found_at, found_in, header_of, takes}
+use Rattle.wl_end.specs.Receiving.{Found, found, reported, found_in, takes}
 use Rattle.wl_end.specs.Sending.{delete_id_len, fits}
 use Rattle.wl_end.proofs.Receivings.{is_received}
 use Rattle.wl_end.proofs.Coming.{is_found}
+use Rattle.wl_end.proofs.Frames.{IsFrame, descriptors-le, found_frame}
 use Rattle.wl_end.proofs.Ends.{argument_received}
 use Rattle.wl_end.proofs.Descriptors.{fds, reports_stay}
 use Rattle.wl_server.specs.State.{Global}
 use Rattle.wl_server.specs.Requests.{Report, report, request, judged, is_good_bind_of, object_in}
 use Rattle.wl_server.specs.Steps.{Step, step_of, step_found, front_step, state_of, pending_in, pending_of, ended_by, report_with, HasRow, CanTake}
 
--- A whole message stands in front, of this header and body, with so many tokens waiting.
-pub record Stands (core : Core) (h : Header) (body : List ℕ) (waiting : ℕ) : Type 0 where
-  pub whole : in_front core.inbox ≡ Whole h.size
-  pub bytes : take h.size core.inbox.bytes ≡ header_bytes h ++ body
-  pub tokens : waiting ≡ length core.inbox.tokens
-  pub header : IsHeader h
-
 abbrev pub read_by : Core → Header → List ℕ → ℕ → Result Received Fault
 read_by core h body waiting = received core.tables request_side (reader_of core.view) h body waiting
 
-pub found_is : (core : Core) (h : Header) (body : List ℕ) (waiting : ℕ) → Stands core h body waiting → (r : Result Received Fault) → r ≡ read_by core h body waiting
+pub found_is : (core : Core) (h : Header) (body : List ℕ) (waiting : ℕ) → IsFrame core h body waiting → (r : Result Received Fault) → r ≡ read_by core h body waiting
     → found core request_side ≡ found_in h.size h.opcode r
-found_is core h body waiting s r e =
-    let bytes = core.inbox.bytes in
-    let split : bytes ≡ header_bytes h ++ (body ++ drop h.size bytes) = sym (take-append-drop h.size bytes) ∙ (ap (λ (x : List ℕ). x ++ drop h.size bytes) s.bytes ∙ append_assoc (header_bytes h) body (drop h.size bytes)) in
-    let header : header_of bytes ≡ h = ap header_of split ∙ header_at-bytes h (body ++ drop h.size bytes) s.header in
-    let rest : drop 8 (take h.size bytes) ≡ body = ap (drop 8) s.bytes in
-    let read : Header → List ℕ → ℕ → Result (Option Found) Fault = λ x y n. found_in h.size x.opcode (received core.tables request_side (reader_of core.view) x y n) in
-    ap (found_at core request_side) s.whole
-    ∙ (ap (λ (x : Header). read x (drop 8 (take h.size bytes)) (length core.inbox.tokens)) header
-    ∙ (ap (λ (x : List ℕ). read h x (length core.inbox.tokens)) rest
-    ∙ (ap (read h body) (sym s.tokens) ∙ ap (found_in h.size h.opcode) (sym e))))
+found_is core h body waiting s r e = found_frame core request_side h body waiting s ∙ ap (found_in h.size h.opcode) (sym e)
 
 abbrev the_found : Header → Received → Found
 the_found h m = record { size = h.size; opcode = h.opcode; message = m }
@@ -79,7 +57,7 @@ is_bad tables globals opcode m = is_bind request_side m.entry.iface opcode && no
 
 -- ---- what is answered
 
-request_is : (core : Core) (globals : List Global) (h : Header) (body : List ℕ) (waiting : ℕ) → Stands core h body waiting → (r : Result Received Fault) → r ≡ read_by core h body waiting
+request_is : (core : Core) (globals : List Global) (h : Header) (body : List ℕ) (waiting : ℕ) → IsFrame core h body waiting → (r : Result Received Fault) → r ≡ read_by core h body waiting
     → request (state_of core globals) ≡ judged (state_of core globals) (found_in h.size h.opcode r)
 request_is core globals h body waiting s r e = ap (judged (state_of core globals)) (found_is core h body waiting s r e)
 
@@ -89,32 +67,28 @@ Answers core globals result = result ≡ front_step (state_of core globals)
 answers_as : (core : Core) (globals : List Global) (x : Result (Option Found) Fault) (result : Result (Option Step) NextError) → request (state_of core globals) ≡ x → result ≡ step_found core x → Answers core globals result
 answers_as core globals x result e h = h ∙ sym (ap (step_found core) e)
 
-pub answers_fault : (core : Core) (globals : List Global) (h : Header) (body : List ℕ) (waiting : ℕ) (fault : Fault) → Stands core h body waiting → Err fault ≡ read_by core h body waiting
+pub answers_fault : (core : Core) (globals : List Global) (h : Header) (body : List ℕ) (waiting : ℕ) (fault : Fault) → IsFrame core h body waiting → Err fault ≡ read_by core h body waiting
     → Answers core globals (Err (errors.Fault fault core.read))
 answers_fault core globals h body waiting fault s e = answers_as core globals (Err fault) _ (request_is core globals h body waiting s (Err fault) e) refl
 
-pub answers_bad : (core : Core) (globals : List Global) (h : Header) (body : List ℕ) (waiting : ℕ) (m : Received) → Stands core h body waiting → Ok m ≡ read_by core h body waiting
+pub answers_bad : (core : Core) (globals : List Global) (h : Header) (body : List ℕ) (waiting : ℕ) (m : Received) → IsFrame core h body waiting → Ok m ≡ read_by core h body waiting
     → is_bad core.tables globals h.opcode m ≡ true → Answers core globals (Err (errors.Fault faults.BadBind core.read))
 answers_bad core globals h body waiting m s e b = answers_as core globals (Err faults.BadBind) _ (request_is core globals h body waiting s (Ok m) e ∙ rw b refl) refl
 
-request_some : (core : Core) (globals : List Global) (h : Header) (body : List ℕ) (waiting : ℕ) (m : Received) → Stands core h body waiting → Ok m ≡ read_by core h body waiting
+request_some : (core : Core) (globals : List Global) (h : Header) (body : List ℕ) (waiting : ℕ) (m : Received) → IsFrame core h body waiting → Ok m ≡ read_by core h body waiting
     → is_bad core.tables globals h.opcode m ≡ false → request (state_of core globals) ≡ Ok (Some (the_found h m))
 request_some core globals h body waiting m s e b = request_is core globals h body waiting s (Ok m) e ∙ rw b refl
 
-pub answers_full : (core : Core) (globals : List Global) (h : Header) (body : List ℕ) (waiting : ℕ) (m : Received) → Stands core h body waiting → Ok m ≡ read_by core h body waiting
+pub answers_full : (core : Core) (globals : List Global) (h : Header) (body : List ℕ) (waiting : ℕ) (m : Received) → IsFrame core h body waiting → Ok m ≡ read_by core h body waiting
     → is_bad core.tables globals h.opcode m ≡ false → (destroys_one m.signature.destroys && nat_lt (room_of core.outbox) delete_id_len) ≡ true → Answers core globals (Err errors.OutFull)
 answers_full core globals h body waiting m s e b f = answers_as core globals (Ok (Some (the_found h m))) _ (request_some core globals h body waiting m s e b) (rw f refl)
 
-front_ok : (core : Core) (globals : List Global) (h : Header) (body : List ℕ) (waiting : ℕ) (m : Received) → Stands core h body waiting → Ok m ≡ read_by core h body waiting
+front_ok : (core : Core) (globals : List Global) (h : Header) (body : List ℕ) (waiting : ℕ) (m : Received) → IsFrame core h body waiting → Ok m ≡ read_by core h body waiting
     → is_bad core.tables globals h.opcode m ≡ false → (destroys_one m.signature.destroys && nat_lt (room_of core.outbox) delete_id_len) ≡ false
     → front_step (state_of core globals) ≡ Ok (Some (step_of core (the_found h m)))
 front_ok core globals h body waiting m s e b f = ap (step_found core) (request_some core globals h body waiting m s e b) ∙ rw f refl
 
 -- ---- what is known of a request that was read
-
-fewer_kinds : (ks : List Kind) → descriptors ks ≤ length ks
-fewer_kinds [] = omega arith
-fewer_kinds (k ∷ ks) = let more = fewer_kinds ks in grind (arith, common_steps, more)
 
 pub few_kinds : (tables : List Interface) → Valid tables → (place opcode : ℕ) (m : Message) → signature_at tables place request_side opcode ≡ Some m → length m.kinds ≤ 20
 few_kinds tables v place opcode m s = v.small.arguments request_side place opcode m s
@@ -223,14 +197,14 @@ full_by core m args ended b k e =
     ap (λ (x : Bool). x && nat_lt (room_of core.outbox) delete_id_len)
     (sym (ap is_some (k 0 0 [] []) ∙ is_some_ended m.signature.destroys (report_with m.target 0 (reported_in [] 0 [] args)))) ∙ e
 
-can_take_found : (core : Core) (h : Header) (body : List ℕ) (waiting : ℕ) (m : Received) → Valid core.tables → HasDisplay core.view → Stands core h body waiting → Ok m ≡ read_by core h body waiting
+can_take_found : (core : Core) (h : Header) (body : List ℕ) (waiting : ℕ) (m : Received) → Valid core.tables → HasDisplay core.view → IsFrame core h body waiting → Ok m ≡ read_by core h body waiting
     → (destroys_one m.signature.destroys && nat_lt (room_of core.outbox) delete_id_len) ≡ false → CanTake core (step_of core (the_found h m))
 can_take_found core h body waiting m v d s e f =
     let r = is_received core.tables request_side (reader_of core.view) h body waiting m (sym e) in
     record {
       whole = s.whole;
       tokens = omega (arith, r.tokens, s.tokens);
-      few = omega (arith, fewer_kinds m.signature.kinds, few_kinds core.tables v m.entry.iface.0 h.opcode m.signature r.signature);
+      few = omega (arith, descriptors-le m.signature.kinds, few_kinds core.tables v m.entry.iface.0 h.opcode m.signature r.signature);
       birth = refl;
       ended = λ object is.
           let there = ended_there core h body waiting m v d e object is in
@@ -249,10 +223,10 @@ tokens_enough core f e =
     sym (reports_stay (reader_of core.view) (take n tokens) (drop n tokens) f.message.values enough)
     ∙ ap (λ (l : List ℕ). reports_of (reader_of core.view) l f.message.values) (take-append-drop n tokens)
 
-same_step : (core : Core) (h : Header) (body : List ℕ) (waiting : ℕ) (m : Received) (args : List ParsedArg) (ended : Option Object) → Stands core h body waiting → Ok m ≡ read_by core h body waiting
+same_step : (core : Core) (h : Header) (body : List ℕ) (waiting : ℕ) (m : Received) (args : List ParsedArg) (ended : Option Object) → IsFrame core h body waiting → Ok m ≡ read_by core h body waiting
     → AreParsed (reader_of core.view) body args m.values → IsEndedBy m args ended → pending_in core (pending_of core.tables core.view.births ended h m args) ≡ step_of core (the_found h m)
 same_step core h body waiting m args ended s e a k =
-    let rest : drop 8 (take h.size core.inbox.bytes) ≡ body = ap (drop 8) s.bytes in
+    let rest : drop 8 (take h.size core.inbox.bytes) ≡ body = ap (drop 8) s.parts in
     let tokens = take (takes m) core.inbox.tokens in
     let f = the_found h m in
     let same : reported_in (drop 8 (take h.size core.inbox.bytes)) core.view.births tokens args ≡ reported core m =
@@ -261,19 +235,15 @@ same_step core h body waiting m args ended s e a k =
     let ends = ended_is core h body m args ended a k in
     (λ i. let step = step_of core f in let it : Step = record step { report = record step.report { args = same i }; ended = ends i } in it)
 
-pub can_take : (core : Core) (h : Header) (body : List ℕ) (waiting : ℕ) (m : Received) (args : List ParsedArg) (ended : Option Object) → Valid core.tables → HasDisplay core.view → Stands core h body waiting → Ok m ≡ read_by core h body waiting
+pub can_take : (core : Core) (h : Header) (body : List ℕ) (waiting : ℕ) (m : Received) (args : List ParsedArg) (ended : Option Object) → Valid core.tables → HasDisplay core.view → IsFrame core h body waiting → Ok m ≡ read_by core h body waiting
     → AreParsed (reader_of core.view) body args m.values → IsEndedBy m args ended → (is_some ended && nat_lt (room_of core.outbox) delete_id_len) ≡ false
     → CanTake core (pending_in core (pending_of core.tables core.view.births ended h m args))
 can_take core h body waiting m args ended v d s e a k f =
     subst (CanTake core) (sym (same_step core h body waiting m args ended s e a k)) (can_take_found core h body waiting m v d s e (full_by core m args ended false k f))
 
-pub answers_ok : (core : Core) (globals : List Global) (h : Header) (body : List ℕ) (waiting : ℕ) (m : Received) (args : List ParsedArg) (ended : Option Object) → Stands core h body waiting → Ok m ≡ read_by core h body waiting
+pub answers_ok : (core : Core) (globals : List Global) (h : Header) (body : List ℕ) (waiting : ℕ) (m : Received) (args : List ParsedArg) (ended : Option Object) → IsFrame core h body waiting → Ok m ≡ read_by core h body waiting
     → is_bad core.tables globals h.opcode m ≡ false → (is_some ended && nat_lt (room_of core.outbox) delete_id_len) ≡ false → AreParsed (reader_of core.view) body args m.values → IsEndedBy m args ended
     → Answers core globals (Ok (Some (pending_in core (pending_of core.tables core.view.births ended h m args))))
 answers_ok core globals h body waiting m args ended s e b f a k =
     ap (λ (x : Step). let it : Result (Option Step) NextError = Ok (Some x) in it) (same_step core h body waiting m args ended s e a k)
     ∙ sym (front_ok core globals h body waiting m s e b (full_by core m args ended false k f))
-
--- what `frame` tells
-pub stands_by : (core : Core) (o : Option Frame) (f : Frame) → o ≡ Some f → Tells core.inbox (Ok o) → IsHeader f.header → Stands core f.header f.body.now f.tokens
-stands_by core o f e t h = let k = subst (λ (x : Option Frame). Tells core.inbox (Ok x)) e t in record { whole = k.0; bytes = k.1; tokens = k.2; header = h }

@@ -30,7 +30,8 @@ use Rattle.wl_end.specs.Sending.{after_send, after_checked, made_at, version_at,
 use Rattle.wl_server.specs.State.{Registry, untold}
 use Rattle.wl_server.specs.Registries.{without_registry, registry_birth, IsAmong, IsRegistry, IsFresh, HasRegistries, BirthsAreOnce}
 use Rattle.wl_server.specs.Requests.{registries_after}
-use Rattle.wl_server.specs.Calls.{ends_by_event, drop_at, drop_refusal, after_drop}
+use Rattle.wl_sigs.specs.Rules.{is_ended_by_event}
+use Rattle.wl_server.specs.Calls.{drop_at, drop_refusal, after_drop}
 use Rattle.wl_server.specs.Announcing.{Due, marked_in, all_marked}
 use Rattle.wl_end.proofs.Ends.{no_event}
 use Rattle.wl_server.specs.Steps.{Step, CanEnd, core_without, core_by, registries_by, registries_without, CanTake}
@@ -318,19 +319,19 @@ births_sent core now target opcode list v e h =
 
 -- ---- an object is dropped
 
-no_registry : (tables : List Interface) → Valid tables → ends_by_event (interface_at tables registry.0) ≡ false
+no_registry : (tables : List Interface) → Valid tables → is_ended_by_event (interface_at tables registry.0) ≡ false
 no_registry tables v = rw v.fixed_four.registry refl
 
 -- what can be dropped is no registry
 not_dropped : (core : Core) (object : Object) → Valid core.tables → drop_refusal core object ≡ None → (d : Entry) → look core.view object.id ≡ Some d → d.iface ≢ registry
 not_dropped core object v e d row is = by_failed core.failed e
   where
-    by_ends : (b : Bool) → ends_by_event (interface_at core.tables d.iface.0) ≡ b → (x : Option SendError) → (if not b then Some refusals.NotDroppable else x) ≡ None → ⊥
-    by_ends true t x h = let no = sym t ∙ (ap (λ (i : Iface). ends_by_event (interface_at core.tables i.0)) is ∙ no_registry core.tables v) in cc no
+    by_ends : (b : Bool) → is_ended_by_event (interface_at core.tables d.iface.0) ≡ b → (x : Option SendError) → (if not b then Some refusals.NotDroppable else x) ≡ None → ⊥
+    by_ends true t x h = let no = sym t ∙ (ap (λ (i : Iface). is_ended_by_event (interface_at core.tables i.0)) is ∙ no_registry core.tables v) in cc no
     by_ends false t x h = cc h
 
     by_birth : (b : Bool) → drop_at core (if b then look core.view object.id else None) ≡ None → ⊥
-    by_birth true h = by_ends (ends_by_event (interface_at core.tables d.iface.0)) refl (if fits core.outbox delete_id_len 0 then None else Some refusals.Full) (ap (drop_at core) (sym row) ∙ h)
+    by_birth true h = by_ends (is_ended_by_event (interface_at core.tables d.iface.0)) refl (if fits core.outbox delete_id_len 0 then None else Some refusals.Full) (ap (drop_at core) (sym row) ∙ h)
     by_birth false h = cc h
 
     by_failed : (b : Bool) → (if b then Some refusals.Failed else drop_at core (live_row core.view object)) ≡ None → ⊥

@@ -18,7 +18,7 @@ use Rattle.wl_end.specs.Streams.{waiting}
 use Rattle.wl_end.specs.Outcomes.{AnswersOrMemory, left}
 use Rattle.wl_end.proofs.Coming.{is_found, past_shorter, none_short}
 use Rattle.wl_end.proofs.Receivings.{some_report}
-use Rattle.wl_server.specs.declared.request.OwnedRequest.{OwnedRequest}
+use Rattle.wl_server.specs.declared.report.OwnedRequest.{OwnedRequest}
 use Rattle.wl_server.specs.Seen.{report_of, report_in}
 use Rattle.wl_server.specs.State.{State}
 use Rattle.wl_server.specs.Requests.{Report, IsNext, needs_memory, report, judged, request, destroys_it, ended, made_in, is_out_full, state_past, answer_found, next_answer, state_found, after_next}

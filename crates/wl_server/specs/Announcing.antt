@@ -76,7 +76,7 @@ abbrev pub due_len : List Interface → List Due → ℕ
 due_len tables [] = 0
 due_len tables (due ∷ dues) = message_len (values_of tables due.owing) + due_len tables dues
 
--- So many of the first owed events are the most that fit into the outbox.
+-- This number of the first owed events is the most that fits into the outbox.
 pub record Fitting (state : State) (count : ℕ) : Type 0 where
   pub there : count ≤ length (owed state)
   pub fits : due_len state.core.tables (take count (owed state)) ≤ room_of state.core.outbox

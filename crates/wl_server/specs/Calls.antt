@@ -17,20 +17,18 @@ use Rattle.wl_table.specs.View.{closed}
 use Rattle.wl_objects.specs.Messages.{live_row, same_iface}
 use Rattle.wl_end.specs.Core.{Core, with_view}
 use Rattle.wl_end.specs.Sending.{fits, with_delete_id, delete_id_len, with_error_event}
-use Rattle.wl_server.specs.declared.request.GlobalError.{GlobalError}
-use Rattle.wl_server.specs.declared.request.GlobalError.TheVariants as global_errors
+use Rattle.wl_server.specs.declared.globals.GlobalError.{GlobalError}
+use Rattle.wl_server.specs.declared.globals.GlobalError.TheVariants as global_errors
 use Rattle.wl_server.specs.State.{State, Global, global_of, max_globals}
 
 -- ---- ending an object without an event
-
-abbrev pub ends_by_event : Option Interface → Bool
-ends_by_event interface = is_ended_by_event interface
 
 -- a refusal, or none
 abbrev pub drop_at : Core → Option Entry → Option SendError
 drop_at core None = Some refusals.Stale
 drop_at core (Some entry) =
-    if not (ends_by_event (interface_at core.tables entry.iface.0)) then Some refusals.NotDroppable
+    if not (is_ended_by_event (interface_at core.tables entry.iface.0))
+    then Some refusals.NotDroppable
     else if fits core.outbox delete_id_len 0 then None else Some refusals.Full
 
 -- Why `drop_object` is refused: S1, S2, S12, S9.
@@ -86,7 +84,7 @@ with_global state iface version = record state {
 abbrev pub next_name : State → ℕ
 next_name state = length state.globals + 1
 
--- whether a name was given and is not withdrawn
+-- whether there is a global of a name that is not withdrawn
 abbrev pub is_present : Option Global → Bool
 is_present None = false
 is_present (Some global) = global.present

@@ -1,8 +1,8 @@
 -- How errors are printed.
 use Rattle.std.specs.Prelude.{ℕ, List, codes}
-use Rattle.wl_server.specs.declared.request.GlobalError.{GlobalError}
-use Rattle.wl_server.specs.declared.request.GlobalError.TheVariants.{Failed, BadGlobal, TooMany}
-use Rattle.wl_server.specs.declared.request.GlobalError.TheVariants.{Memory, NoSuchGlobal}
+use Rattle.wl_server.specs.declared.globals.GlobalError.{GlobalError}
+use Rattle.wl_server.specs.declared.globals.GlobalError.TheVariants.{Failed, BadGlobal, TooMany}
+use Rattle.wl_server.specs.declared.globals.GlobalError.TheVariants.{Memory, NoSuchGlobal}
 
 abbrev pub global_error_text : GlobalError → List ℕ
 global_error_text Failed = codes "this end has failed"

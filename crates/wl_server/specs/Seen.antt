@@ -4,8 +4,8 @@ use Rattle.std.specs.declared.result.Result.{Result}
 use Rattle.std.specs.declared.result.Result.TheVariants.{Ok, Err}
 use Rattle.wl_objects.specs.declared.error.NextError.{NextError}
 use Rattle.wl_objects.specs.Parsed.{seen_args}
-use Rattle.wl_server.specs.declared.request.Request.{Request}
-use Rattle.wl_server.specs.declared.request.OwnedRequest.{OwnedRequest}
+use Rattle.wl_server.specs.declared.report.Request.{Request}
+use Rattle.wl_server.specs.declared.report.OwnedRequest.{OwnedRequest}
 use Rattle.wl_server.specs.Requests.{Report}
 
 -- what an owned report is

@@ -1,4 +1,4 @@
--- What a server is: an end, the globals that it has given, and what each open registry was told.
+-- What a server is: an end, the globals that it has added, and what each open registry was told.
 use Rattle.std.specs.Prelude.{ℕ, zero, suc, ◌-◌, ◌≤◌, Bool, true, false, List, [], ◌∷◌, slice_get}
 use Rattle.std.specs.Prelude.{slice_set, unwrap_or, replicate, Option, None}
 use Rattle.wl_wire.specs.declared.kind.Iface.{Iface}
@@ -13,8 +13,8 @@ pub record Global : Type 0 where
   pub version : ℕ
   pub present : Bool
 
--- an open registry, with a mark for each name that it was told, and for each that it was told to be
--- removed
+-- an open registry, with a mark for each name that it was told, and for each whose removal it was
+-- told
 pub record Registry : Type 0 where
   pub object : Object
   pub told : List Bool
@@ -27,7 +27,7 @@ pub record State : Type 0 where
   pub globals : List Global
   pub registries : List Registry
 
--- the most globals that a server gives in its life
+-- the most globals that a server adds in its life
 abbrev pub max_globals : ℕ
 max_globals = 1024
 

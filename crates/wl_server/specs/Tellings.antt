@@ -15,7 +15,7 @@ use Rattle.wl_server.specs.Announcing.{all_marked}
 abbrev pub dues_for : Object → List Owing → List Due
 dues_for object list = map (λ owing. record { object = object; owing = owing }) list
 
--- Of all that was owed so many events are written and marked, and these are left.
+-- Of all that was owed this number of events is written and marked, and these are left.
 pub record Progress (core : Core) (registries : List Registry) (all : List Due) (count : ℕ)
     (now : Core) (marked : List Registry) (rest : List Due) : Type 0 where
   pub done : List Due

@@ -1,16 +1,17 @@
 //! What a server writes to its client's registries: wl_registry.global and global_remove.
-ghost use Rattle.std.specs.Prelude.{◌≡◌, ◌≤◌, ◌<◌, ◌∷◌, [], false, true, IfErr, IfOk, length};
+ghost use Rattle.std.specs.Prelude.{◌≡◌, ◌≤◌, ◌∷◌, [], false, true, IfErr, IfOk, length};
 ghost use Rattle.wl_wire.specs.Spelling.{IsText};
 ghost use Rattle.wl_objects.specs.declared.error.SendError.TheVariants as refusals;
 ghost use Rattle.wl_end.specs.Core.{IsOrdinary};
-ghost use Rattle.wl_server.specs.State.{RiseFrom, mark_of, with_mark};
+ghost use Rattle.wl_server.specs.State.{RiseFrom};
 ghost use Rattle.wl_server.specs.Registries.{HasRegistries};
-ghost use Rattle.wl_server.specs.Announcing.{Fitting, Removal, Telling, after_announce, due_to, name_at, owed_in, owes_removal, owes_telling};
+ghost use Rattle.wl_server.specs.Announcing.{Fitting, Removal, Telling, after_announce, due_to};
+ghost use Rattle.wl_server.specs.Announcing.{name_at, owed_in};
 ghost use Rattle.wl_server.specs.Tellings.{IsTold, IsWritten};
 
-use crate::advertised::{Advertised, OpenRegistry};
+use crate::globals::Advertised;
+use crate::registry::OpenRegistry;
 use crate::server::Server;
-use std::alloc::Allocator;
 use wl_end::Core;
 use wl_objects::{SendError, Table, encode_global, encode_number};
 use wl_sigs::Tables;
@@ -23,48 +24,6 @@ use wl_wire::Iface;
 pub(crate) struct Announced {
     pub(crate) count: usize,
     pub(crate) all: bool,
-}
-
-/// The mark of a name.
-fn mark_of(marks: &[bool], name: u32) -> bool
-    requires { 0 < name }
-    ensures { result ≡ mark_of marks.now name }
-{
-    marks.get(name as usize - 1).copied().unwrap_or(false)
-}
-
-impl<A: Allocator> OpenRegistry<A> {
-    /// Whether the registry is owed global_remove of a name.
-    fn owes_removal(&self, name: u32, global: Advertised) -> bool
-        requires { 0 < name }
-        ensures { result ≡ owes_removal self.now name global }
-    {
-        mark_of(&self.told, name) && !global.present && !mark_of(&self.removed, name)
-    }
-
-    /// Whether the registry is owed global of a name.
-    fn owes_telling(&self, name: u32, global: Advertised) -> bool
-        requires { 0 < name }
-        ensures { result ≡ owes_telling self.now name global }
-    {
-        global.present && !mark_of(&self.told, name)
-    }
-
-    /// Marks a name as told to be removed.
-    fn mark_removed(&mut self, name: u32)
-        requires { (0 < name) × (name ≤ 1024) }
-        ensures { self.new ≡ record self.old { removed = with_mark self.old.removed name } }
-    {
-        self.removed[name as usize - 1] = true;
-    }
-
-    /// Marks a name as told.
-    fn mark_told(&mut self, name: u32)
-        requires { (0 < name) × (name ≤ 1024) }
-        ensures { self.new ≡ record self.old { told = with_mark self.old.told name } }
-    {
-        self.told[name as usize - 1] = true;
-    }
 }
 
 /// The name of an interface; none past the tables, where no global is.
@@ -160,10 +119,10 @@ fn announce_to_all<T: Table>(
 }
 
 impl<'t, T: Table> Server<'t, T> {
-    /// Writes to the open registries what they are owed: by rising birth, to each first global_remove
-    /// for the globals that were withdrawn, then global for those that are new to it, by rising name.
-    /// Stops at the first event that does not fit. Returns how many events were written, and refuses
-    /// only with S1. Never runs out of memory.
+    /// Writes to the open registries what they are owed: by rising birth, to each first
+    /// global_remove for the globals that were withdrawn, then global for those that are new to it,
+    /// by rising name. Stops at the first event that does not fit. Returns how many events were
+    /// written, and refuses only with S1. Never runs out of memory.
     pub fn announce(&mut self) -> Result<usize, SendError>
         // These are the open registries: all of them and no other object, by rising births.
         ensures registries { HasRegistries self.old.core.view self.old.registries }

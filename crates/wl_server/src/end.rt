@@ -1,6 +1,6 @@
-//! The server, as whoever carries bytes to it and from it sees it.
-use crate::receive::find_request;
-use crate::request::OwnedRequest;
+//! The server as seen by whoever carries its bytes.
+use crate::pending::find_request;
+use crate::report::OwnedRequest;
 use crate::server::Server;
 use wl_end::{End, Receiver};
 use wl_message::{Fed, Taken};

@@ -1,12 +1,25 @@
-//! The error event by which a server ends the connection after a fault.
-ghost use Rattle.std.specs.Prelude.{◌≡◌, ◌≤◌, IsTrue, length};
+//! What a server writes after a fault: wl_display.error, by which the connection ends.
+ghost use Rattle.std.specs.Prelude.{◌≡◌, ◌≤◌, IsTrue, false, length};
 ghost use Rattle.wl_objects.specs.Writing.{has_no_nul};
 ghost use Rattle.wl_server.specs.Requests.{fault_code, fault_message};
+ghost use Rattle.wl_server.specs.Steps.{core_told};
 
-use wl_objects::Fault;
+use wl_end::Core;
+use wl_objects::{Fault, NextError, Table};
+use wl_table::DISPLAY_ID;
+
+/// Writes the error event of a fault, which is the end of the connection.
+pub(crate) fn report_fault<T: Table>(core: &mut Core<'_, T>, why: NextError)
+    requires { core.old.failed ≡ false }
+    ensures { core.new ≡ core_told core.old why }
+{
+    if let NextError::Fault { fault, .. } = why {
+        core.write_error(DISPLAY_ID, fault_code(fault), fault_message(fault));
+    }
+}
 
 /// The code of the error: 0 invalid_object, 1 invalid_method, 2 no_memory.
-pub(crate) fn fault_code(fault: Fault) -> u32
+fn fault_code(fault: Fault) -> u32
     ensures { result ≡ fault_code fault }
 {
     match fault {
@@ -17,7 +30,7 @@ pub(crate) fn fault_code(fault: Fault) -> u32
 }
 
 /// The text of the error.
-pub(crate) fn fault_message(fault: Fault) -> &'static [u8]
+fn fault_message(fault: Fault) -> &'static [u8]
     ensures text { result.now ≡ fault_message fault }
     ensures plain { IsTrue (has_no_nul result.now) }
     ensures short { length result.now ≤ 40 }

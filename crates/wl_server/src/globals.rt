@@ -1,23 +1,79 @@
-//! What a server advertises, by name.
+//! The globals that a server advertises.
 ghost use Rattle.std.specs.Prelude.{◌≡◌, OnOk, OnErr, true};
 ghost use Rattle.wl_end.specs.Outcomes.{AnswersOrMemory, refusal_in};
 ghost use Rattle.wl_server.specs.State.{global_of};
-ghost use Rattle.wl_server.specs.Calls.{add_answer, after_withdraw, can_be_global, version_in, with_global, withdraw_refusal};
-ghost use Rattle.wl_server.specs.Requests.{can_bind, is_good_bind_of};
+ghost use Rattle.wl_server.specs.Calls.{add_answer, after_withdraw, can_be_global, version_in};
+ghost use Rattle.wl_server.specs.Calls.{with_global, withdraw_refusal};
 
-use crate::advertised::Advertised;
-use crate::request::GlobalError;
 use crate::server::Server;
+use std::error::Error;
+use std::fmt::{self, Display, Formatter};
+use std::marker::Model;
 use wl_end::MAX_GLOBALS;
-use wl_objects::{DISPLAY, REGISTRY, Table, Values};
+use wl_objects::{DISPLAY, REGISTRY, Table};
 use wl_sigs::Tables;
-use wl_wire::{Iface, ValueRef};
+use wl_wire::Iface;
+
+/// A global. Its name is its place, counted from 1.
+#[derive(Clone, Copy, Debug)]
+pub(crate) struct Advertised {
+    pub(crate) iface: Iface,
+    pub(crate) version: u32,
+    /// False once it is withdrawn.
+    pub(crate) present: bool,
+}
+
+impl Model for Advertised {
+    ghost use Rattle.wl_server.specs.State.{Global};
+
+    ghost Value = { Global };
+
+    ghost view = { λ g. record { iface = g.iface; version = g.version; present = g.present } };
+
+    ghost inverse = { λ g. record { iface = g.iface; version = g.version; present = g.present } };
+}
+
+/// Why a global is not added or not withdrawn. The causes are tested in this order.
+#[derive(Clone, Copy, Debug, PartialEq, Eq)]
+pub enum GlobalError {
+    /// G1: the server has failed.
+    Failed,
+    /// G2: wl_display, wl_registry, an interface that is not in the tables, or a version that is 0
+    /// or above the one in the tables.
+    BadGlobal,
+    /// G3: 1,024 globals were added in the server's life.
+    TooMany,
+    /// G4: there is no memory for the global.
+    Memory,
+    /// G5: no global was added under this name, or it is withdrawn.
+    NoSuchGlobal,
+}
+
+impl Display for GlobalError {
+    ghost use Rattle.std.specs.Prelude.{Some};
+    ghost use Rattle.wl_server.specs.Errors.{global_error_text};
+
+    ghost output = { λ error. Some (global_error_text error) };
+
+    fn fmt<W: fmt::Write>(&self, f: &mut Formatter<W>) -> fmt::Result {
+        f.write_str(match self {
+            GlobalError::Failed => "this end has failed",
+            GlobalError::BadGlobal => "no such interface to advertise at this version",
+            GlobalError::TooMany => "too many globals",
+            GlobalError::Memory => "out of memory",
+            GlobalError::NoSuchGlobal => "no such global",
+        })
+    }
+}
+
+impl Error for GlobalError {}
 
 impl<'t, T: Table> Server<'t, T> {
-    /// Adds a global, and returns its name. G1 to G4 are tested in their order. `announce` writes it
-    /// to the registries.
+    /// Adds a global, and returns its name. The refusals are tested in this order: G1, G2, G3, G4.
+    /// `announce` writes the global to the registries.
     pub fn add_global(&mut self, iface: Iface, version: u32) -> Result<u32, GlobalError>
-        ensures answer { AnswersOrMemory GlobalError.Memory true (add_answer self.old iface version) result }
+        ensures answer { AnswersOrMemory GlobalError.Memory true
+            (add_answer self.old iface version) result }
         ensures ok { OnOk result (self.new ≡ with_global self.old iface version) }
         ensures err { OnErr result (self.new ≡ self.old) }
     {
@@ -27,8 +83,8 @@ impl<'t, T: Table> Server<'t, T> {
         if !can_be_global(self.core.tables, iface, version) {
             return Err(GlobalError::BadGlobal);
         }
-        let given = self.globals.len();
-        if given >= MAX_GLOBALS {
+        let count = self.globals.len();
+        if count >= MAX_GLOBALS {
             return Err(GlobalError::TooMany);
         }
         let global = Advertised {
@@ -37,13 +93,13 @@ impl<'t, T: Table> Server<'t, T> {
             present: true,
         };
         match self.globals.push(global) {
-            Ok(()) => Ok(given as u32 + 1),
+            Ok(()) => Ok(count as u32 + 1),
             Err(_) => Err(GlobalError::Memory),
         }
     }
 
-    /// Withdraws a global. G1 is tested before G5. It can still be bound, and `announce` sends the
-    /// registries that were told of it. Never returns out of memory.
+    /// Withdraws a global. G1 is tested before G5. The global can still be bound, and `announce`
+    /// sends global_remove to the registries that were told of it. Allocates nothing.
     pub fn withdraw(&mut self, name: u32) -> Result<(), GlobalError>
         ensures answer { refusal_in result ≡ withdraw_refusal self.old name }
         ensures ok { OnOk result (self.new ≡ after_withdraw self.old name) }
@@ -79,40 +135,9 @@ fn can_be_global(tables: &Tables, iface: Iface, version: u32) -> bool
 }
 
 /// The global of a name, whether present or withdrawn.
-fn global_of(globals: &[Advertised], name: u32) -> Option<Advertised>
+pub(crate) fn global_of(globals: &[Advertised], name: u32) -> Option<Advertised>
     ensures { result ≡ global_of globals.now name }
 {
     let place = name.checked_sub(1)?;
     globals.get(place as usize).copied()
-}
-
-/// Whether the arguments of a bind name a global that was ever advertised, by its interface and a
-/// version from 1 to the advertised one.
-pub(crate) fn is_good_bind(tables: &Tables, globals: &[Advertised], values: &Values<'_>) -> bool
-    ensures { result ≡ is_good_bind_of tables.now globals.now values.now }
-{
-    let mut left = values.again();
-    let name = match left.next() {
-        Some(ValueRef::Uint(name)) => name,
-        _ => return false,
-    };
-    match left.next() {
-        Some(ValueRef::NewNamed { iface, version, .. }) => {
-            left.next().is_none() && can_bind(tables, iface, version, global_of(globals, name))
-        }
-        _ => false,
-    }
-}
-
-/// Whether a global, present or withdrawn, is of this interface and was advertised with at least this
-/// version.
-fn can_bind(tables: &Tables, iface: &[u8], version: u32, global: Option<Advertised>) -> bool
-    ensures { result ≡ can_bind tables.now iface.now version global }
-{
-    match global {
-        Some(global) => {
-            tables.name(global.iface) == Some(iface) && 1 <= version && version <= global.version
-        }
-        None => false,
-    }
 }

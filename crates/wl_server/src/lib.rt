@@ -1,8 +1,9 @@
 //! The server's end of a Wayland connection: what a compositor keeps for one client.
 #![tactic(auto)]
 
-mod advertised;
 mod announce;
+mod bind;
+mod changes;
 mod end;
 mod faults;
 mod globals;
@@ -10,11 +11,13 @@ mod laws;
 mod pending;
 mod read_all;
 mod receive;
-mod request;
+mod registry;
+mod report;
 mod send;
 mod server;
 mod transport;
 
+pub use globals::GlobalError;
 pub use laws::{any_cut_reads, one_reading, own_messages_are_spelled};
-pub use request::{GlobalError, OwnedRequest, Request};
+pub use report::{OwnedRequest, Request};
 pub use server::Server;

@@ -6,7 +6,7 @@ ghost use Rattle.wl_end.specs.Reads.{appended, ReadsAll};
 ghost use Rattle.wl_server.specs.Seen.{report_of};
 ghost use Rattle.wl_server.specs.Streams.{reading};
 
-use crate::request::OwnedRequest;
+use crate::report::OwnedRequest;
 use crate::server::Server;
 use wl_end::ReadAll;
 use wl_message::Piece;

@@ -1,40 +1,24 @@
-//! What a server reads.
-ghost use Rattle.std.specs.Prelude.{◌≡◌, ◌≢◌, Some, None, [], IsTrue, OnOk, true, false, not, ◌&&◌, nat_lt, IfOk, IfSome, OnErr, is_some};
+//! How a server reads the requests that come in.
+ghost use Rattle.std.specs.Prelude.{◌≡◌, ◌≢◌, None, [], OnOk, IfOk, IfSome, OnErr};
 ghost use Rattle.std.specs.Borrow.{sem};
 ghost use Rattle.std.specs.Io.BufRead.{Rests};
-ghost use Rattle.wl_sigs.specs.declared.signature.Side.TheVariants.{Request as request_side};
-ghost use Rattle.wl_wire.specs.Word.{IsHeader};
-ghost use Rattle.wl_sigs.specs.Valid.{Valid};
-ghost use Rattle.wl_objects.specs.Messages.{is_bind, opens, received};
-ghost use Rattle.wl_objects.specs.Parsed.{AreParsed};
-ghost use Rattle.wl_objects.specs.Reading.{descriptors};
-ghost use Rattle.wl_objects.specs.Seen.{message_of, received_in};
-ghost use Rattle.wl_table.specs.View.{is_held};
-ghost use Rattle.wl_end.specs.Core.{with_view};
 ghost use Rattle.wl_end.specs.Outcomes.{left};
-ghost use Rattle.wl_end.specs.Sending.{delete_id_len, fits};
 ghost use Rattle.wl_server.specs.State.{with_core};
-ghost use Rattle.wl_server.specs.Requests.{is_good_bind_of, after_next, registries_after, IsLentNext, IsNext};
-ghost use Rattle.wl_server.specs.Registries.{IsFresh, without_registry, registry_birth};
+ghost use Rattle.wl_server.specs.Requests.{after_next, IsLentNext, IsNext};
 ghost use Rattle.wl_server.specs.Seen.{lent_in, lent_report, report_in, report_of};
-ghost use Rattle.wl_server.specs.Steps.{CanTake, after_step, checked_front, core_by, core_told, core_unless, core_without, front_step, pending_in, pending_of, pendings_in, registries_by, registries_without, report_over, state_of, taken_in, taken_report};
+ghost use Rattle.wl_server.specs.Steps.{CanTake, after_step, checked_front, core_unless};
+ghost use Rattle.wl_server.specs.Steps.{pending_in, pendings_in, report_over, taken_in};
+ghost use Rattle.wl_server.specs.Steps.{taken_report};
 ghost use Rattle.wl_server.specs.Lent.{server_row};
 
-use crate::advertised::{Advertised, OpenRegistry};
-use crate::faults::{fault_code, fault_message};
-use crate::globals::is_good_bind;
-use crate::pending::{PendingRequest, ended_by};
-use crate::request::{OwnedRequest, Request};
+use crate::changes::{close_object, open_new_object};
+use crate::faults::report_fault;
+use crate::pending::{PendingRequest, find_request};
+use crate::report::{OwnedRequest, Request};
 use crate::server::Server;
 use std::alloc::{AllocError, Allocator};
-use wl_end::{Core, DELETE_ID_LEN, MAX_TOKENS};
-use wl_objects::{
-    Args, Fault, Lookup, NewObject, NextError, Object, REGISTRY, Received, Table, TableLookup,
-    is_bind, made_by_message, receive,
-};
-use wl_sigs::{Side, Tables};
-use wl_table::DISPLAY_ID;
-use wl_wire::Header;
+use wl_end::MAX_TOKENS;
+use wl_objects::{Args, NextError, Table};
 
 impl<'t, T: Table> Server<'t, T> {
     /// Reads the next request once it is whole, and lends its report: strings, arrays and tokens
@@ -176,183 +160,6 @@ impl<'t, T: Table> Server<'t, T> {
     }
 }
 
-/// Writes the error event of a fault, which is the end of the connection.
-fn report_fault<T: Table>(core: &mut Core<'_, T>, why: NextError)
-    requires { core.old.failed ≡ false }
-    ensures { core.new ≡ core_told core.old why }
-{
-    if let NextError::Fault { fault, .. } = why {
-        core.write_error(DISPLAY_ID, fault_code(fault), fault_message(fault));
-    }
-}
-
-/// Opens the object that a request makes, if it makes one, with this birth.
-fn open_new_object<T: Table>(
-    core: &mut Core<'_, T>,
-    registries: &mut Vec<OpenRegistry<T::Alloc>, T::Alloc>,
-    alloc: &T::Alloc,
-    made: Option<NewObject>,
-    birth: u64,
-) -> Result<(), AllocError>
-    requires { birth ≡ core.old.view.births }
-    ensures core { OnOk result (core.new ≡ with_view core.old (opens core.old.view made)) }
-    ensures registries { OnOk result
-        (registries.new.items ≡ registries_after core.old registries.old.items made) }
-    ensures err { OnErr result
-        ((core.new ≡ core.old) × (registries.new.items ≡ registries.old.items)) }
-    ensures wants { OnErr result (made ≢ None) }
-    ensures fresh { OnOk result (IsFresh core.old.view made) }
-{
-    match made {
-        Some(made) => open_object(core, registries, alloc, made, birth),
-        None => Ok(()),
-    }
-}
-
-/// Opens an object, and where it is a registry makes room for its marks. Where there is no memory
-/// nothing changes.
-fn open_object<T: Table>(
-    core: &mut Core<'_, T>,
-    registries: &mut Vec<OpenRegistry<T::Alloc>, T::Alloc>,
-    alloc: &T::Alloc,
-    made: NewObject,
-    birth: u64,
-) -> Result<(), AllocError>
-    requires { birth ≡ core.old.view.births }
-    ensures core { OnOk result (core.new ≡ with_view core.old (opens core.old.view (Some made))) }
-    ensures registries { OnOk result
-        (registries.new.items ≡ registries_after core.old registries.old.items (Some made)) }
-    ensures err { OnErr result
-        ((core.new ≡ core.old) × (registries.new.items ≡ registries.old.items)) }
-    ensures fresh { OnOk result (IsFresh core.old.view (Some made)) }
-{
-    if made.iface == REGISTRY {
-        let object = Object { id: made.id, birth };
-        let registry = OpenRegistry::new(alloc, object)?;
-        registries.reserve(1)?;
-        match core.open_at(made) {
-            Ok(_) => registries.push_reserved(registry),
-            Err(_) => return Err(AllocError),
-        }
-    } else if core.open_at(made).is_err() {
-        return Err(AllocError);
-    }
-    Ok(())
-}
-
-/// Closes an object that a request destroys, and writes its delete_id.
-fn close_object<T: Table>(
-    core: &mut Core<'_, T>,
-    registries: &mut Vec<OpenRegistry<T::Alloc>, T::Alloc>,
-    object: Object,
-)
-    requires held { IsTrue (is_held core.old.view object.id) }
-    requires not_display { object.id ≢ 1 }
-    requires room { IsTrue (fits core.old.outbox delete_id_len 0) }
-    ensures core { core.new ≡ core_without (Some object) core.old }
-    ensures registries { registries.new.items
-        ≡ registries_without (Some object) registries.old.items }
-{
-    core.close(object.id);
-    core.write_delete_id(object.id);
-    remove_registry(registries, object.birth);
-}
-
-/// Takes out the registry of this birth, if it is one.
-fn remove_registry<A: Allocator + Drop>(registries: &mut Vec<OpenRegistry<A>, A>, birth: u64)
-    ensures { registries.new.items
-        ≡ without_registry registry_birth true birth registries.old.items }
-{
-    registries.retain(|registry| registry.object.birth != birth);
-}
-
-/// The request in front, once it is whole, judged: it can be taken. Nothing changes.
-pub(crate) fn find_request<T: Table>(
-    core: &mut Core<'_, T>,
-    globals: &[Advertised],
-) -> Result<Option<PendingRequest>, NextError>
-    ensures answer { pendings_in core.old result ≡ front_step (state_of core.old globals.now) }
-    ensures can { IfOk result
-        (λ found. IfSome found (λ request. CanTake core.old (pending_in core.old request))) }
-    ensures same { core.new ≡ core.old }
-{
-    let offset = core.read;
-    let birth = core.table.births();
-    let room = core.outbox.room();
-    let frame = match core.inbox.frame() {
-        Ok(Some(frame)) => frame,
-        Ok(None) => return Ok(None),
-        Err(_) => return Err(NextError::Fault {
-            fault: Fault::BadSize,
-            offset,
-        }),
-    };
-    let header = frame.header;
-    let lookup = TableLookup { table: &core.table };
-    let received = match read_message(core.tables, &lookup, header, frame.body, frame.tokens) {
-        Ok(received) => received,
-        Err(fault) => return Err(NextError::Fault { fault, offset }),
-    };
-    if is_bad_bind(core.tables, globals, header.opcode, &received) {
-        return Err(NextError::Fault {
-            fault: Fault::BadBind,
-            offset,
-        });
-    }
-    let ended = ended_by(
-        received.signature.destroys(),
-        received.target,
-        &received.args,
-    );
-    if lacks_room(room, ended) {
-        return Err(NextError::OutFull);
-    }
-    Ok(Some(pending_of(core.tables, birth, ended, header, received)))
-}
-
-/// Reads one whole request. It stands apart: compiled into its caller it would copy the arguments
-/// more often.
-#[inline(never)]
-fn read_message<'t: 'a, 'a, L: Lookup>(
-    tables: &'t Tables,
-    lookup: &L,
-    header: Header,
-    body: &'a [u8],
-    waiting: usize,
-) -> Result<Received<'t, 'a>, Fault>
-    ensures answer { received_in result
-        ≡ received tables.now request_side (L.reader lookup.now) header body.now waiting }
-    ensures args { IfOk result
-        (λ m. AreParsed (L.reader lookup.now) body.now m.args (message_of m).values) }
-    ensures body { IfOk result (λ m. m.body.now ≡ body.now) }
-    ensures tokens { IfOk result (λ m. m.tokens ≡ descriptors m.signature.now.kinds) }
-    ensures valid { IfOk result (λ _. Valid tables.now) }
-    ensures header { IsHeader header }
-{
-    receive(tables, Side::Request, lookup, header, body, waiting)
-}
-
-/// Whether a message is a bind that names no global that was ever advertised so.
-fn is_bad_bind(
-    tables: &Tables,
-    globals: &[Advertised],
-    opcode: u16,
-    message: &Received<'_, '_>,
-) -> bool
-    ensures { result ≡ (is_bind request_side message.now.entry.iface opcode && not
-        (is_good_bind_of tables.now globals.now (message_of message.now).values)) }
-{
-    is_bind(Side::Request, message.entry.iface, opcode)
-        && !is_good_bind(tables, globals, &message.values())
-}
-
-/// Whether an object is destroyed whose delete_id needs more room than there is.
-fn lacks_room(room: usize, ended: Option<Object>) -> bool
-    ensures { result ≡ (is_some ended && nat_lt room delete_id_len) }
-{
-    ended.is_some() && room < DELETE_ID_LEN
-}
-
 /// A copy of a request's report, where these are its body and its tokens.
 fn copy_of<A: Allocator + Clone + Drop>(
     request: &PendingRequest,
@@ -371,30 +178,5 @@ fn copy_of<A: Allocator + Clone + Drop>(
             args,
         }),
         Err(error) => Err(error),
-    }
-}
-
-/// What a message is and does, where it destroys this object and a new one gets this birth.
-fn pending_of(
-    tables: &Tables,
-    birth: u64,
-    ended: Option<Object>,
-    header: Header,
-    message: Received<'_, '_>,
-) -> PendingRequest
-    requires tokens { message.tokens ≡ descriptors message.signature.now.kinds }
-    ensures { result ≡ pending_of tables.now birth ended header (message_of message.entry)
-        message.entry.args }
-{
-    let kinds = message.signature.kinds();
-    PendingRequest {
-        target: message.target,
-        opcode: header.opcode,
-        birth,
-        size: header.size,
-        tokens: message.tokens,
-        made: made_by_message(tables, message.entry.version, kinds, &message.values()),
-        ended,
-        args: message.args,
     }
 }

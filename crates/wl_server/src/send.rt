@@ -2,12 +2,12 @@
 ghost use Rattle.std.specs.Prelude.{◌≡◌, IfOk, OnOk, OnErr};
 ghost use Rattle.wl_sigs.specs.declared.signature.Side.TheVariants.{Event as event_side};
 ghost use Rattle.wl_sigs.specs.Valid.{Valid};
-ghost use Rattle.wl_objects.specs.Messages.{checked};
 ghost use Rattle.wl_objects.specs.Writing.{given};
-ghost use Rattle.wl_end.specs.Outcomes.{AnswersOrMemory, refusal_in};
-ghost use Rattle.wl_end.specs.Sending.{after_send, opens_object, send_answer};
+ghost use Rattle.wl_end.specs.Outcomes.{refusal_in};
+ghost use Rattle.wl_end.specs.Sending.{IsSendAnswer, after_send};
 ghost use Rattle.wl_server.specs.State.{with_core};
-ghost use Rattle.wl_server.specs.Calls.{after_drop, after_error, drop_refusal, error_refusal, is_error_text};
+ghost use Rattle.wl_server.specs.Calls.{after_drop, after_error, drop_refusal, error_refusal};
+ghost use Rattle.wl_server.specs.Calls.{is_error_text};
 
 use crate::server::Server;
 use wl_end::{Core, DELETE_ID_LEN};
@@ -18,18 +18,20 @@ use wl_sigs::Side;
 const MAX_ERROR_TEXT: usize = 40;
 
 impl<'t, T: Table> Server<'t, T> {
-    /// Writes an event. S1 to S6, S8 and S9 are tested in their order. A destroying event closes
-    /// its object, and delete_id follows it directly: all is written, or nothing.
+    /// Writes an event with these arguments. An object that it destroys is closed, and its
+    /// delete_id follows directly: both are written, or neither. No event makes an object, so `Ok`
+    /// has `None`.
+    ///
+    /// The refusals are tested in the order of their numbers: S1, S2, S3, S4, S5, S6, S8, S9. The
+    /// events of wl_display and wl_registry, which other calls write, are S3.
     pub fn send(
         &mut self,
         target: Object,
         opcode: u16,
         args: &[Arg<'_>],
     ) -> Result<Option<Object>, SendError>
-        ensures answer { AnswersOrMemory SendError.Memory
-            (opens_object (checked self.old.core.outbox.limit.bytes self.old.core.tables event_side
-            self.old.core.view target opcode (given args.now)))
-            (send_answer self.old.core event_side target opcode (given args.now)) result }
+        ensures answer { IsSendAnswer self.old.core event_side target opcode (given args.now)
+            result }
         ensures ok { OnOk result
             (self.new ≡ with_core self.old
             (after_send self.old.core event_side target opcode (given args.now))) }
@@ -38,8 +40,8 @@ impl<'t, T: Table> Server<'t, T> {
         self.core.send(Side::Event, target, opcode, args)
     }
 
-    /// Ends an object without its event, as a callback that nobody waits for. S1, S2, S12 and S9
-    /// are tested in their order. Never returns out of memory.
+    /// Ends an object without its event, as a callback that nobody waits for, and writes its
+    /// delete_id. The refusals are tested in this order: S1, S2, S12, S9. Allocates nothing.
     pub fn drop_object(&mut self, object: Object) -> Result<(), SendError>
         ensures answer { refusal_in result ≡ drop_refusal self.old.core object }
         ensures ok { OnOk result (self.new ≡ with_core self.old (after_drop self.old.core object)) }
@@ -48,9 +50,9 @@ impl<'t, T: Table> Server<'t, T> {
         close_dropped(&mut self.core, object)
     }
 
-    /// Ends the connection with an error about an object. S1, S2 and S5, for a text above 40 bytes
-    /// or with a byte 0, are tested in their order. There is always room for it. The server has
-    /// failed afterwards. Never returns out of memory.
+    /// Ends the connection with an error about an object, for which there is always room. The
+    /// server has failed afterwards. The refusals are tested in this order: S1, S2, and S5 where
+    /// the text has more than 40 bytes or a byte 0. Allocates nothing.
     pub fn post_error(&mut self, object: Object, code: u32, text: &[u8]) -> Result<(), SendError>
         ensures answer { refusal_in result ≡ error_refusal self.old.core object text.now }
         ensures ok { OnOk result
@@ -76,7 +78,7 @@ fn close_dropped<T: Table>(core: &mut Core<'_, T>, object: Object) -> Result<(),
     ensures answer { refusal_in result ≡ drop_refusal core.old object }
     ensures ok { OnOk result (core.new ≡ after_drop core.old object) }
     ensures err { OnErr result (core.new ≡ core.old) }
-    // Always so, and known because the tables were asked.
+    // Tables are always valid; a proof learns it from a call that looked into them.
     ensures valid { IfOk result (λ _. Valid core.old.tables) }
 {
     if core.failed {
@@ -91,8 +93,7 @@ fn close_dropped<T: Table>(core: &mut Core<'_, T>, object: Object) -> Result<(),
     if !core.fits(DELETE_ID_LEN, 0) {
         return Err(SendError::Full);
     }
-    core.close(object.id);
-    core.write_delete_id(object.id);
+    core.delete_object(object.id);
     Ok(())
 }
 

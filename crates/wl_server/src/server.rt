@@ -1,11 +1,13 @@
-//! A server, and what it shares with the other end.
+//! The server's end.
 ghost use Rattle.std.specs.Prelude.{◌≡◌, ◌≤◌, IfOk, length, take, drop, ◌++◌};
 ghost use Rattle.wl_message.specs.Arrived.{AreSizes};
 ghost use Rattle.wl_message.specs.Outgoing.{goes, waiting_bytes, waiting_tokens};
-ghost use Rattle.wl_end.specs.Core.{display_object, live, in_room, feeds, with_arrived, with_gone, is_drained};
+ghost use Rattle.wl_end.specs.Core.{display_object, live, in_room, feeds, with_arrived, with_gone};
+ghost use Rattle.wl_end.specs.Core.{is_drained};
 ghost use Rattle.wl_server.specs.State.{new_state, with_core};
 
-use crate::advertised::{Advertised, OpenRegistry};
+use crate::globals::Advertised;
+use crate::registry::OpenRegistry;
 use std::alloc::AllocError;
 use std::marker::Model;
 use wl_end::Core;
@@ -38,7 +40,11 @@ impl<'t, T: Table> Model for Server<'t, T> {
 
     ghost coded = { Prim.hlevel (codes, view_code) };
 
-    ghost view = { λ s. record { core = s.core; globals = s.globals.items; registries = s.registries.items } };
+    ghost view = { λ s. record {
+      core = s.core;
+      globals = s.globals.items;
+      registries = s.registries.items;
+    } };
 
     ghost invariant = { λ s. record {
       few : length s.globals.items ≤ 1024;
@@ -99,8 +105,8 @@ impl<'t, T: Table> Server<'t, T> {
         &self.core.table
     }
 
-    /// Takes in what was received: as many tokens as fit, and if these are all, as many bytes as fit.
-    /// A failed server takes nothing. Whatever waits, the inbox can hold the longest message.
+    /// Takes in what was received: as many tokens as fit, and if these are all, as many bytes as
+    /// fit. A failed server takes nothing. Whatever waits, the inbox can hold the longest message.
     pub fn feed(&mut self, bytes: &[u8], tokens: &[u32]) -> Fed
         ensures fed { result ≡ feeds self.old.core bytes.now tokens.now }
         ensures state { self.new

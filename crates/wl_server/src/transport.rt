@@ -28,8 +28,8 @@ impl<'t, T: Table> Server<'t, T> {
         self.core.fill(reader)
     }
 
-    /// Writes the bytes that wait to go, and returns their number. What was written is gone from the
-    /// outbox; also at a failed server.
+    /// Writes the bytes that wait to go, and returns their number. What was written is gone from
+    /// the outbox; also at a failed server.
     ///
     /// It sends no tokens: it stops with `NeedsTokens` before a message that is not begun and has
     /// tokens. It stops with `Io` where a write fails, an interrupted one too, or takes no byte; it

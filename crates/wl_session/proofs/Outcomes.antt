@@ -19,8 +19,8 @@ use Rattle.wl_client.specs.State as client
 use Rattle.wl_client.specs.Reports as events
 use Rattle.wl_server.specs.State as server
 use Rattle.wl_server.specs.Requests as requests
-use Rattle.wl_server.specs.declared.request.GlobalError.{GlobalError}
-use Rattle.wl_server.specs.declared.request.GlobalError.TheVariants as global_errors
+use Rattle.wl_server.specs.declared.globals.GlobalError.{GlobalError}
+use Rattle.wl_server.specs.declared.globals.GlobalError.TheVariants as global_errors
 use Rattle.wl_server.specs.Calls.{ok_unless, error_refusal, after_error}
 use Rattle.wl_server.specs.Announcing.{Fitting, after_announce}
 use Rattle.wl_end.proofs.Receivings.{some_report}

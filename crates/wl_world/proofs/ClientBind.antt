@@ -25,13 +25,13 @@ use Rattle.wl_table.specs.declared.object.State.TheVariants as states
 use Rattle.wl_objects.specs.declared.error.SendError.{SendError}
 use Rattle.wl_objects.specs.declared.error.SendError.TheVariants as refusals
 use Rattle.wl_table.specs.View.{View, look, next_id, can_open, opened_at}
-use Rattle.wl_objects.specs.Writing.{is_live_as, message_bytes}
+use Rattle.wl_objects.specs.Writing.{bind_values, is_live_as, message_bytes}
 use Rattle.wl_objects.specs.Messages.{live_row, same_iface}
 use Rattle.wl_end.specs.Sending.{opening_answer}
 use Rattle.wl_client.specs.declared.globals.Global.{Global as Remembered}
 use Rattle.wl_client.specs.State as client
 use Rattle.wl_client.specs.State.{is_named}
-use Rattle.wl_client.specs.Calls.{version_fits, can_bind, bind_values, iface_or, bound, bind_at, bind_answer, after_bind}
+use Rattle.wl_client.specs.Calls.{version_fits, can_bind, iface_or, bound, bind_at, bind_answer, after_bind}
 use Rattle.wl_server.specs.State as server
 use Rattle.wl_server.specs.Requests.{can_bind as bind_fits, name_fits}
 use Rattle.wl_world.specs.Meant.{Known, Message, Coming, renamed, born_of, plain}

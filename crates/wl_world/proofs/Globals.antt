@@ -15,8 +15,8 @@ use Rattle.wl_client.specs.declared.globals.Global.{Global as Remembered}
 use Rattle.wl_world.specs.Meant.{Known, Message, Coming, Event, Delete}
 use Rattle.wl_world.specs.World.{World, Each}
 use Rattle.wl_world.specs.Pair.{PairState, AddGlobal, Withdraw, with_server, Adds, added, refused, no_memory, Calls, done}
-use Rattle.wl_server.specs.declared.request.GlobalError.{GlobalError}
-use Rattle.wl_server.specs.declared.request.GlobalError.TheVariants.{Failed, BadGlobal, TooMany}
+use Rattle.wl_server.specs.declared.globals.GlobalError.{GlobalError}
+use Rattle.wl_server.specs.declared.globals.GlobalError.TheVariants.{Failed, BadGlobal, TooMany}
 use Rattle.wl_world.specs.Answers.{NotEnded, before}
 use Rattle.wl_world.specs.Stands.{StandsBy, WasGiven, AsksFitly, ComesFitly, IsGlobal}
 use Rattle.wl_world.proofs.Wholes.{each_by, each_more}

@@ -7,7 +7,7 @@ use Rattle.std.specs.declared.result.Result.{Result}
 use Rattle.wl_table.specs.declared.object.Object.{Object}
 use Rattle.wl_objects.specs.declared.error.SendError.{SendError}
 use Rattle.wl_objects.specs.declared.error.NextError.{NextError}
-use Rattle.wl_server.specs.declared.request.GlobalError.{GlobalError}
+use Rattle.wl_server.specs.declared.globals.GlobalError.{GlobalError}
 use Rattle.wl_message.specs.declared.amounts.Taken.{Taken}
 use Rattle.wl_recording.specs.Piece.{Piece}
 use Rattle.wl_world.specs.Pair.{PairState, Move, Reply, ClientSend, ClientBind, ServerSend, ServerDrop, PostError, AddGlobal, Withdraw, Announce, CarryToServer, CarryToClient, ClientNext, ServerNext, Does, Writes, Calls, Adds, Announces, Nexts, Carries, Carried, accepted, refused, no_memory, done, added, announced, answered, moved, marked}

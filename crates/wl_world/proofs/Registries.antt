@@ -16,7 +16,7 @@ use Rattle.wl_server.specs.State.{untold}
 use Rattle.wl_server.specs.Registries.{without_registry, registry_birth, IsFresh, HasRegistries}
 use Rattle.wl_server.specs.Requests.{registries_after}
 use Rattle.wl_server.proofs.Registries.{has_opened, has_closed, has_fewer, row_kept, births_opened, births_of_sound}
-use Rattle.wl_server.specs.Calls.{ends_by_event}
+use Rattle.wl_sigs.specs.Rules.{is_ended_by_event}
 use Rattle.wl_world.specs.Meant.{Born, Known, born_of, plain}
 use Rattle.wl_world.specs.World.{Marks, IfThere, marks_birth, registries_without, registries_after as marks_after}
 use Rattle.wl_world.specs.Flight.{server_rows, Fresh}
@@ -68,7 +68,7 @@ left_are b birth (Some x) rs f h = λ i. without_registry registry_birth (f i) (
 
 -- ---- an object with a destroying event is no registry
 
-pub registry_plain : (tables : List Interface) → Valid tables → ends_by_event (interface_at tables 1) ≡ false
+pub registry_plain : (tables : List Interface) → Valid tables → is_ended_by_event (interface_at tables 1) ≡ false
 registry_plain tables v = rw v.fixed_four.registry refl
 
 pub no_registry : (tables : List Interface) → Valid tables → (v : View) (x : Known) → ThereRow (server_rows v) x → by_event tables x.born ≡ true → (d : Entry) → look v x.id ≡ Some d → d.iface ≢ registry
@@ -77,7 +77,7 @@ no_registry tables valid v x t e d row is =
     let one = sym r.there ∙ row in
     let same : r.entry ≡ d = cc one in
     let iface : x.born.iface ≡ registry = sym (ap (λ (b : Born). b.iface) r.same) ∙ (ap (λ (y : Entry). y.iface) same ∙ is) in
-    let no : true ≡ false = sym e ∙ (ap (λ (i : Iface). ends_by_event (interface_at tables i.0)) iface ∙ registry_plain tables valid) in
+    let no : true ≡ false = sym e ∙ (ap (λ (i : Iface). is_ended_by_event (interface_at tables i.0)) iface ∙ registry_plain tables valid) in
     cc no
 
 -- ---- the list after a request and after an event

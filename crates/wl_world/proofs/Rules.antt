@@ -23,7 +23,7 @@ use Rattle.wl_table.specs.View.{View, look}
 use Rattle.wl_objects.specs.Reading.{iface_of}
 use Rattle.wl_objects.specs.Writing.{Given, suits, is_live_as, row_is_of}
 use Rattle.wl_objects.specs.Messages.{is_hidden}
-use Rattle.wl_server.specs.Calls.{ends_by_event}
+use Rattle.wl_sigs.specs.Rules.{is_ended_by_event}
 use Rattle.wl_world.specs.Meant.{Born, Known, objects}
 use Rattle.wl_world.specs.World.{Each}
 use Rattle.wl_world.specs.Stands.{by_event}
@@ -60,10 +60,10 @@ with_event i true opcode m e h k =
 pub target_plain : (tables : List Interface) → Valid tables → (x : Born) (opcode : ℕ) (m : Message) → signature_at tables x.iface.0 Request opcode ≡ Some m → by_event tables x ≡ false
 target_plain tables v x opcode m h =
     let o = of_message tables x.iface.0 Request opcode m h in
-    ap ends_by_event o.there ∙ with_event o.interface (has_destroying_event o.interface) opcode m refl (v.race_free.no_requests x.iface.0 o.interface o.there) o.message
+    ap is_ended_by_event o.there ∙ with_event o.interface (has_destroying_event o.interface) opcode m refl (v.race_free.no_requests x.iface.0 o.interface o.there) o.message
 
 -- nor has the interface of an object that a request names
-argument_plain : (tables : List Interface) (iface : Iface) (e : Iface) (o : Option Interface) → interface_at tables e.0 ≡ o → nat_eq iface.0 e.0 ≡ true → ((i : Interface) → interface_at tables iface.0 ≡ Some i → has_destroying_event i ≡ false) → ends_by_event o ≡ false
+argument_plain : (tables : List Interface) (iface : Iface) (e : Iface) (o : Option Interface) → interface_at tables e.0 ≡ o → nat_eq iface.0 e.0 ≡ true → ((i : Interface) → interface_at tables iface.0 ≡ Some i → has_destroying_event i ≡ false) → is_ended_by_event o ≡ false
 argument_plain tables iface e None h s f = refl
 argument_plain tables iface e (Some i) h s f = f i (ap (interface_at tables) (eqb-true iface.0 e.0 s) ∙ h)
 
@@ -155,10 +155,10 @@ event_ends i opcode m h d =
 pub ends_so : (tables : List Interface) (x : Born) (opcode : ℕ) (m : Message) → signature_at tables x.iface.0 Event opcode ≡ Some m → destroys_target m.destroys ≡ true → by_event tables x ≡ true
 ends_so tables x opcode m h d =
     let o = of_message tables x.iface.0 Event opcode m h in
-    ap ends_by_event o.there ∙ event_ends o.interface opcode m o.message d
+    ap is_ended_by_event o.there ∙ event_ends o.interface opcode m o.message d
 
 pub no_event_new : (tables : List Interface) → Valid tables → (place opcode : ℕ) (m : Message) → signature_at tables place Event opcode ≡ Some m → length (new_objects m.kinds) ≤ 0
 no_event_new tables v place opcode m h = let e = ap length (v.few_objects_made.events place opcode m h) in omega (arith, e)
 
-pub display_plain : (tables : List Interface) → Valid tables → ends_by_event (interface_at tables 0) ≡ false
+pub display_plain : (tables : List Interface) → Valid tables → is_ended_by_event (interface_at tables 0) ≡ false
 display_plain tables v = rw v.fixed_four.display refl

@@ -23,7 +23,8 @@ use Rattle.wl_objects.specs.Messages.{NewObject, ended_id, Server as server_end,
 use Rattle.wl_end.specs.Core.{Core}
 use Rattle.wl_end.specs.Sending.{send_answer, after_send, after_checked, made_at, opens_object, with_following}
 use Rattle.wl_end.proofs.Ends.{no_event}
-use Rattle.wl_server.specs.Calls.{drop_refusal, drop_at, ends_by_event, after_drop, error_refusal}
+use Rattle.wl_sigs.specs.Rules.{is_ended_by_event}
+use Rattle.wl_server.specs.Calls.{drop_refusal, drop_at, after_drop, error_refusal}
 use Rattle.wl_world.specs.Meant.{Known, Arg, ended_by, Message, Coming, Event as event_of, Delete, renamed, born_of, birth_of, spelled, made_in, objects, plain}
 use Rattle.wl_world.specs.World.{World, Each, IfThere, IsThere, delete, event_written, dropped, Steps, writes_event, drops, WriteEvent}
 use Rattle.wl_world.specs.Pair.{marked, after_post, PairState, ServerSend, ServerDrop, PostError, with_server_core, Writes, accepted, refused, no_memory, Calls, done}
@@ -168,14 +169,14 @@ record Droppable (core : Core) (object : Object) : Type 0 where
   entry : Entry
   there : look core.view object.id ≡ Some entry
   birth : entry.birth ≡ object.birth
-  by : ends_by_event (interface_at core.tables entry.iface.0) ≡ true
+  by : is_ended_by_event (interface_at core.tables entry.iface.0) ≡ true
 
 not_false : (b : Bool) → not b ≡ false → b ≡ true
 not_false true h = refl
 not_false false h = absurd (cc h)
 
-by_row : (core : Core) (entry : Entry) (b : Bool) (why : SendError) (rest : Option SendError) → not (ends_by_event (interface_at core.tables entry.iface.0)) ≡ b → cond b (Some why) rest ≡ None
-    → ends_by_event (interface_at core.tables entry.iface.0) ≡ true
+by_row : (core : Core) (entry : Entry) (b : Bool) (why : SendError) (rest : Option SendError) → not (is_ended_by_event (interface_at core.tables entry.iface.0)) ≡ b → cond b (Some why) rest ≡ None
+    → is_ended_by_event (interface_at core.tables entry.iface.0) ≡ true
 by_row core entry true why rest e h = absurd (cc h)
 by_row core entry false why rest e h = not_false _ e
 

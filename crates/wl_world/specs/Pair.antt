@@ -23,8 +23,8 @@ use Rattle.wl_end.specs.Sending.{send_answer, after_send, opens_object}
 use Rattle.wl_client.specs.State as client
 use Rattle.wl_client.specs.Reports as events
 use Rattle.wl_client.specs.Calls.{bind_answer, after_bind}
-use Rattle.wl_server.specs.declared.request.GlobalError.{GlobalError}
-use Rattle.wl_server.specs.declared.request.GlobalError.TheVariants as global_errors
+use Rattle.wl_server.specs.declared.globals.GlobalError.{GlobalError}
+use Rattle.wl_server.specs.declared.globals.GlobalError.TheVariants as global_errors
 use Rattle.wl_server.specs.State as server
 use Rattle.wl_server.specs.State.{max_globals, global_of}
 use Rattle.wl_server.specs.Requests as requests

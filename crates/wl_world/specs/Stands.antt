@@ -26,7 +26,8 @@ use Rattle.wl_server.specs.State as server
 use Rattle.wl_server.specs.State.{global_of, max_globals}
 use Rattle.wl_server.specs.Registries.{HasRegistries}
 use Rattle.wl_server.specs.Requests.{can_bind}
-use Rattle.wl_server.specs.Calls.{ends_by_event, can_be_global}
+use Rattle.wl_sigs.specs.Rules.{is_ended_by_event}
+use Rattle.wl_server.specs.Calls.{can_be_global}
 use Rattle.wl_server.specs.Announcing.{name_at}
 use Rattle.wl_world.specs.Meant.{Born, Known, Message, Coming, Event, Delete, Arg, renamed}
 use Rattle.wl_world.specs.Meant.{recoming, born_of, birth_of, made_in, new_in, ended_by, wire}
@@ -174,7 +175,7 @@ pub record IsGlobal (tables : List Interface) (global : server.Global) : Type 0 
 
 -- whether an object's interface has a destroying event
 abbrev pub by_event : List Interface → Born → Bool
-by_event tables x = ends_by_event (interface_at tables x.iface.0)
+by_event tables x = is_ended_by_event (interface_at tables x.iface.0)
 
 -- The requests and events in flight are these, each object by its id and as it was meant.
 pub record StandsBy (p : PairState) (w : World) (asked : List (Message Known))

@@ -9,7 +9,7 @@ use Rattle.wl_client.specs.declared.globals.Global.{Global as Remembered}
 use Rattle.wl_client.specs.Reports.{globals_told}
 use Rattle.wl_server.specs.State.{Global, max_globals}
 use Rattle.wl_server.specs.Registries.{with_registry, without_registry}
-use Rattle.wl_server.specs.Calls.{ends_by_event}
+use Rattle.wl_sigs.specs.Rules.{is_ended_by_event}
 use Rattle.wl_world.specs.Meant.{Born, Message, Coming, Event, Delete, objects, made_in, Arg}
 
 -- an object at the client: open, or ending
@@ -194,7 +194,7 @@ pub data Steps (tables : List Interface) (w : World) : Action → World → Type
   writes_event : (m : Message Born) → IsThere w.server m.target
       → Each (IsThere w.server) (objects m.args) → Steps tables w (WriteEvent m) (event_written w m)
   -- An object of an interface with a destroying event is closed without one.
-  drops : (x : Born) → IsThere w.server x → ends_by_event (interface_at tables x.iface.0) ≡ true
+  drops : (x : Born) → IsThere w.server x → is_ended_by_event (interface_at tables x.iface.0) ≡ true
       → Steps tables w (Drop x) (dropped w x)
   -- The first event is read: an object that it destroys becomes ending.
   reads_event : (m : Message Born) (rest : List (Coming Born)) → w.events ≡ Event m ∷ rest

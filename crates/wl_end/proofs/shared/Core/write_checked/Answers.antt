@@ -18,7 +18,7 @@ use Rattle.wl_end.proofs.shared.Core.write_checked.Goals as goal
 pub returns-in_err-new-clause-answer : goal.returns-in_err-new-clause-answer
 returns-in_err-new-clause-answer g c =
     let fit = fits-known c.args.self.now.outbox c.args.args.now c.args.call.len c.following_len.result (following_len c.args.side c.args.call.signature.now.destroys) c.tokens_of-count.result
-    c.tokens_of-count.new.tokens true (c.requires.len 0) (c.following_len.ensures ∙ ap (following_len c.args.side) c.destroys.ensures) c.tokens_of-count.ensures.tokens
+    c.tokens_of-count.new.tokens true (c.requires.len 0) (c.following_len.ensures ∙ ap (following_len c.args.side) c.destroys-what.ensures) c.tokens_of-count.ensures.tokens
     (omega (arith, c.tokens_of-count.array_long, c.tokens_of-count.ensures.few, c.requires.few)) c.if-not-fits.ensures in
     let iface : c.call_makes.result ≡ call_makes c.args.call.signature.now.kinds = c.call_makes.ensures ∙ ap call_makes c.kinds.ensures in
     let p = err_from_is_err_and c.from_residual.result c.from_residual.ensures.1 in
@@ -29,7 +29,7 @@ returns-in_err-new-clause-answer g c =
 pub write_call-requires-clause-room : goal.write_call-requires-clause-room
 write_call-requires-clause-room g c =
     let fit = fits-known c.args.self.now.outbox c.args.args.now c.args.call.len c.following_len.result (following_len c.args.side c.args.call.signature.now.destroys) c.tokens_of-count.result
-    c.tokens_of-count.new.tokens true (c.requires.len 0) (c.following_len.ensures ∙ ap (following_len c.args.side) c.destroys.ensures) c.tokens_of-count.ensures.tokens
+    c.tokens_of-count.new.tokens true (c.requires.len 0) (c.following_len.ensures ∙ ap (following_len c.args.side) c.destroys-what.ensures) c.tokens_of-count.ensures.tokens
     (omega (arith, c.tokens_of-count.array_long, c.tokens_of-count.ensures.few, c.requires.few)) c.if-not-fits.ensures in
     let tokens : take c.tokens_of-count.result c.tokens_of-count.new.tokens ≡ tokens_of (given c.args.args.now) = c.tokens_of-count.ensures.tokens in
     subst (λ (core : Core). fits core.outbox (message_len (on_wire (id_of c.in_ok-new.new) c.args.args.now)) (length (take c.tokens_of-count.result c.tokens_of-count.new.tokens)) ≡ true) (sym c.in_ok-new.ensures.ok)
@@ -52,7 +52,7 @@ end_object-requires-clause-other g c =
 pub end_object-requires-clause-room : goal.end_object-requires-clause-room
 end_object-requires-clause-room g c =
     let fit = fits-known c.args.self.now.outbox c.args.args.now c.args.call.len c.following_len.result (following_len c.args.side c.args.call.signature.now.destroys) c.tokens_of-count.result
-    c.tokens_of-count.new.tokens true (c.requires.len 0) (c.following_len.ensures ∙ ap (following_len c.args.side) c.destroys.ensures) c.tokens_of-count.ensures.tokens
+    c.tokens_of-count.new.tokens true (c.requires.len 0) (c.following_len.ensures ∙ ap (following_len c.args.side) c.destroys-what.ensures) c.tokens_of-count.ensures.tokens
     (omega (arith, c.tokens_of-count.array_long, c.tokens_of-count.ensures.few, c.requires.few)) c.if-not-fits.ensures in
     let tokens : take c.tokens_of-count.result c.tokens_of-count.new.tokens ≡ tokens_of (given c.args.args.now) = c.tokens_of-count.ensures.tokens in
     let view = opens c.args.self.now.view (next_object c.args.self.now.view c.args.call.entry.version c.call_makes.result) in
@@ -65,7 +65,7 @@ end_object-requires-clause-room g c =
 pub returns-clause-answer : goal.returns-clause-answer
 returns-clause-answer g c =
     let fit = fits-known c.args.self.now.outbox c.args.args.now c.args.call.len c.following_len.result (following_len c.args.side c.args.call.signature.now.destroys) c.tokens_of-count.result
-    c.tokens_of-count.new.tokens true (c.requires.len 0) (c.following_len.ensures ∙ ap (following_len c.args.side) c.destroys.ensures) c.tokens_of-count.ensures.tokens
+    c.tokens_of-count.new.tokens true (c.requires.len 0) (c.following_len.ensures ∙ ap (following_len c.args.side) c.destroys-what.ensures) c.tokens_of-count.ensures.tokens
     (omega (arith, c.tokens_of-count.array_long, c.tokens_of-count.ensures.few, c.requires.few)) c.if-not-fits.ensures in
     let iface : c.call_makes.result ≡ call_makes c.args.call.signature.now.kinds = c.call_makes.ensures ∙ ap call_makes c.kinds.ensures in
     answered c.args.self.now c.args.side c.args.target c.args.opcode c.args.args.now c.args.call.signature.now c.args.call.entry (Ok c.in_ok-new.new) c.requires.passes c.requires.entry (sym fit)

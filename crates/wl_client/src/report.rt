@@ -1,0 +1,67 @@
+//! What a client reports.
+use crate::tokens::Tokens;
+use std::alloc::{Allocator, Global};
+use wl_objects::{Args, Named, Object, OwnedArgs};
+use wl_wire::Bytes;
+
+/// A message that the client read. What it lends is lent from the client, until it reads the next
+/// message.
+#[derive(Clone, Copy)]
+pub enum Incoming<'a> {
+    /// An event for a live object.
+    Event {
+        target: Object,
+        opcode: u16,
+        args: Args<'a>,
+    },
+    /// An event for an object that the client has destroyed. The tokens that came with it are
+    /// returned, so that the caller can close what they stand for.
+    Discarded {
+        target: Object,
+        opcode: u16,
+        tokens: &'a [u32],
+    },
+    /// wl_display.delete_id of an object: its id is free again.
+    Deleted {
+        object: Object,
+    },
+    /// wl_display.delete_id of an id that names no object, or of wl_display's own. Nothing changed.
+    Stray {
+        id: u32,
+    },
+    /// wl_display.error, which is fatal: the client has failed. `named` is the object that the
+    /// client has under the id; null where that is 0 or unknown.
+    Error {
+        id: u32,
+        named: Named,
+        code: u32,
+        text: &'a [u8],
+    },
+}
+
+/// A message that the client read, in memory of its own. The cases are those of `Incoming`.
+#[derive(Debug, Drop)]
+pub enum OwnedIncoming<A: Allocator = Global> {
+    Event {
+        target: Object,
+        opcode: u16,
+        args: OwnedArgs<A>,
+    },
+    Discarded {
+        target: Object,
+        opcode: u16,
+        tokens: Tokens,
+    },
+    Deleted {
+        object: Object,
+    },
+    Stray {
+        id: u32,
+    },
+    Error {
+        id: u32,
+        named: Named,
+        code: u32,
+        text: Bytes<A>,
+    },
+}

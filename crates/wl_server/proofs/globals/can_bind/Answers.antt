@@ -1,5 +1,0 @@
-use Rattle.std.proofs.Common.{rules}
-use Rattle.wl_server.proofs.globals.can_bind.Goals as goal
-
-pub returns-then-version-ge1 : goal.returns-then-version-ge1
-returns-then-version-ge1 c = search rules

@@ -1,0 +1,56 @@
+//! Which binds of its client a server accepts.
+ghost use Rattle.std.specs.Prelude.{◌≡◌, ◌&&◌, not};
+ghost use Rattle.wl_sigs.specs.declared.signature.Side.TheVariants.{Request as request_side};
+ghost use Rattle.wl_objects.specs.Messages.{is_bind};
+ghost use Rattle.wl_objects.specs.Seen.{message_of};
+ghost use Rattle.wl_server.specs.Requests.{can_bind, is_good_bind_of};
+
+use crate::globals::{Advertised, global_of};
+use wl_objects::{Received, Values, is_bind};
+use wl_sigs::{Side, Tables};
+use wl_wire::ValueRef;
+
+/// Whether a message is a bind that names no global that was ever advertised so.
+pub(crate) fn is_bad_bind(
+    tables: &Tables,
+    globals: &[Advertised],
+    opcode: u16,
+    message: &Received<'_, '_>,
+) -> bool
+    ensures { result ≡ (is_bind request_side message.now.entry.iface opcode && not
+        (is_good_bind_of tables.now globals.now (message_of message.now).values)) }
+{
+    is_bind(Side::Request, message.entry.iface, opcode)
+        && !is_good_bind(tables, globals, &message.values())
+}
+
+/// Whether the arguments of a bind name a global that was ever advertised, by its interface and a
+/// version from 1 to the advertised one.
+fn is_good_bind(tables: &Tables, globals: &[Advertised], values: &Values<'_>) -> bool
+    ensures { result ≡ is_good_bind_of tables.now globals.now values.now }
+{
+    let mut left = values.again();
+    let name = match left.next() {
+        Some(ValueRef::Uint(name)) => name,
+        _ => return false,
+    };
+    match left.next() {
+        Some(ValueRef::NewNamed { iface, version, .. }) => {
+            left.next().is_none() && can_bind(tables, iface, version, global_of(globals, name))
+        }
+        _ => false,
+    }
+}
+
+/// Whether a global, present or withdrawn, is of this interface and was advertised with at least
+/// this version.
+fn can_bind(tables: &Tables, iface: &[u8], version: u32, global: Option<Advertised>) -> bool
+    ensures { result ≡ can_bind tables.now iface.now version global }
+{
+    match global {
+        Some(global) => {
+            tables.name(global.iface) == Some(iface) && 1 <= version && version <= global.version
+        }
+        None => false,
+    }
+}

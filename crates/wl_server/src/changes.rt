@@ -1,0 +1,93 @@
+//! The changes that a request makes at a server: among its objects, and its open registries.
+ghost use Rattle.std.specs.Prelude.{◌≡◌, ◌≢◌, Some, None, IsTrue, OnOk, true, OnErr};
+ghost use Rattle.wl_objects.specs.Messages.{opens};
+ghost use Rattle.wl_table.specs.View.{is_held};
+ghost use Rattle.wl_end.specs.Core.{with_view};
+ghost use Rattle.wl_end.specs.Sending.{delete_id_len, fits};
+ghost use Rattle.wl_server.specs.Requests.{registries_after};
+ghost use Rattle.wl_server.specs.Registries.{IsFresh, without_registry, registry_birth};
+ghost use Rattle.wl_server.specs.Steps.{core_without, registries_without};
+
+use crate::registry::OpenRegistry;
+use std::alloc::{AllocError, Allocator};
+use wl_end::Core;
+use wl_objects::{NewObject, Object, REGISTRY, Table};
+
+/// Opens the object that a request makes, if it makes one, with this birth.
+pub(crate) fn open_new_object<T: Table>(
+    core: &mut Core<'_, T>,
+    registries: &mut Vec<OpenRegistry<T::Alloc>, T::Alloc>,
+    alloc: &T::Alloc,
+    made: Option<NewObject>,
+    birth: u64,
+) -> Result<(), AllocError>
+    requires { birth ≡ core.old.view.births }
+    ensures core { OnOk result (core.new ≡ with_view core.old (opens core.old.view made)) }
+    ensures registries { OnOk result
+        (registries.new.items ≡ registries_after core.old registries.old.items made) }
+    ensures err { OnErr result
+        ((core.new ≡ core.old) × (registries.new.items ≡ registries.old.items)) }
+    ensures wants { OnErr result (made ≢ None) }
+    ensures fresh { OnOk result (IsFresh core.old.view made) }
+{
+    match made {
+        Some(made) => open_object(core, registries, alloc, made, birth),
+        None => Ok(()),
+    }
+}
+
+/// Opens an object, and where it is a registry makes room for its marks. Where there is no memory
+/// nothing changes.
+fn open_object<T: Table>(
+    core: &mut Core<'_, T>,
+    registries: &mut Vec<OpenRegistry<T::Alloc>, T::Alloc>,
+    alloc: &T::Alloc,
+    made: NewObject,
+    birth: u64,
+) -> Result<(), AllocError>
+    requires { birth ≡ core.old.view.births }
+    ensures core { OnOk result (core.new ≡ with_view core.old (opens core.old.view (Some made))) }
+    ensures registries { OnOk result
+        (registries.new.items ≡ registries_after core.old registries.old.items (Some made)) }
+    ensures err { OnErr result
+        ((core.new ≡ core.old) × (registries.new.items ≡ registries.old.items)) }
+    ensures fresh { OnOk result (IsFresh core.old.view (Some made)) }
+{
+    if made.iface == REGISTRY {
+        let object = Object { id: made.id, birth };
+        let registry = OpenRegistry::new(alloc, object)?;
+        registries.reserve(1)?;
+        match core.open_at(made) {
+            Ok(_) => registries.push_reserved(registry),
+            Err(_) => return Err(AllocError),
+        }
+    } else if core.open_at(made).is_err() {
+        return Err(AllocError);
+    }
+    Ok(())
+}
+
+/// Closes an object that a request destroys, and writes its delete_id.
+pub(crate) fn close_object<T: Table>(
+    core: &mut Core<'_, T>,
+    registries: &mut Vec<OpenRegistry<T::Alloc>, T::Alloc>,
+    object: Object,
+)
+    requires held { IsTrue (is_held core.old.view object.id) }
+    requires not_display { object.id ≢ 1 }
+    requires room { IsTrue (fits core.old.outbox delete_id_len 0) }
+    ensures core { core.new ≡ core_without (Some object) core.old }
+    ensures registries { registries.new.items
+        ≡ registries_without (Some object) registries.old.items }
+{
+    core.delete_object(object.id);
+    remove_registry(registries, object.birth);
+}
+
+/// Takes out the registry of this birth, if it is one.
+fn remove_registry<A: Allocator + Drop>(registries: &mut Vec<OpenRegistry<A>, A>, birth: u64)
+    ensures { registries.new.items
+        ≡ without_registry registry_birth true birth registries.old.items }
+{
+    registries.retain(|registry| registry.object.birth != birth);
+}
