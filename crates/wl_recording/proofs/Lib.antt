@@ -1,5 +1,4 @@
 pub mod FillLemmas
-mod LineLemmas
 mod PieceLemmas
 mod Progress
 pub mod TextLemmas

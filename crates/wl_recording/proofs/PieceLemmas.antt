@@ -5,10 +5,13 @@ use Rattle.std.specs.List.{All}
 use Rattle.std.proofs.lemmas.List.Elements.{All-head, All-tail, All-cons, All-nil, All-weaker}
 use Rattle.hex.specs.Hex.{decode_of, is_hex_digit}
 use Rattle.hex.proofs.HexLemmas.{decode_of-ok, decode_of-same}
+use Rattle.wl_text.specs.Number.{number_of}
+use Rattle.wl_text.proofs.Numbers.{number_some}
 use Rattle.wl_recording.specs.declared.piece.Direction.{Direction}
 use Rattle.wl_recording.specs.declared.piece.Direction.TheVariants.{ToServer, ToClient}
 use Rattle.wl_recording.specs.Piece.{Piece}
-use Rattle.wl_recording.specs.Line.{IsSkipped, is_empty, is_comment, sign, SpellsBytes, no_bytes, some_bytes, SpellsTokens, no_tokens, some_tokens, IsPiece}
+use Rattle.wl_text.specs.Lines.{IsSkipped, is_empty, is_comment}
+use Rattle.wl_recording.specs.Line.{sign, SpellsBytes, no_bytes, some_bytes, SpellsTokens, no_tokens, some_tokens, IsPiece}
 
 -- no byte is a space
 abbrev pub NoSpace : List ℕ → Type 0
@@ -89,6 +92,15 @@ one_count count a b x y = elim x [
         let same : digits ≡ digits' = let e : codes " +" ++ digits ≡ codes " +" ++ digits' = sym is ∙ is' in cc e in
         sym value ∙ rw same value'
   ]
+]
+
+-- a count is the number behind its plus sign
+pub number_of-count : (count digits : List ℕ) (tokens : ℕ) → count ≡ codes " +" ++ digits → SpellsTokens count tokens → number_of digits ≡ Some tokens
+number_of-count count digits tokens whole spelled = elim spelled [
+  | no_tokens is none ↦ absurd (let no : [] ≡ codes " +" ++ digits = sym is ∙ whole in cc no)
+  | some_tokens digits' is least most all value low high ↦
+      let same : digits' ≡ digits = let e : codes " +" ++ digits' ≡ codes " +" ++ digits = sym is ∙ whole in cc e in
+      rw (← same, ← value) (number_some digits' least (omega arith) all)
 ]
 
 -- a piece from its parts

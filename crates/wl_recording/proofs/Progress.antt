@@ -1,9 +1,10 @@
 -- How far a text has been read.
-use Rattle.std.proofs.Common.{◌≡◌, ℕ, ◌+◌, ◌<◌, ◌≤◌, List, [], ◌∷◌, ◌++◌, length, refl, sym, ap, ◌∙◌, inl, inr, append_assoc, append-nil, arith}
+use Rattle.std.proofs.Common.{◌≡◌, ℕ, ◌+◌, ◌<◌, List, [], ◌∷◌, ◌++◌, length, refl, sym, ap, ◌∙◌, inl, inr, append_assoc, append-nil, arith}
 use Rattle.std.specs.Str.Lines.{lines}
 use Rattle.std.proofs.lemmas.List.{length_push}
 use Rattle.wl_recording.specs.Piece.{Piece}
-use Rattle.wl_recording.specs.Line.{IsSkipped, IsPiece}
+use Rattle.wl_text.specs.Lines.{IsSkipped}
+use Rattle.wl_recording.specs.Line.{IsPiece}
 use Rattle.wl_recording.specs.Text.{Tell, ends, skips, tells, Recorded, IsFirstBad, IsRead}
 use Rattle.wl_recording.proofs.TextLemmas.{tell_append, tell_good}
 

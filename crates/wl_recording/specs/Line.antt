@@ -1,31 +1,31 @@
 -- The lines of a recording.
-use Rattle.std.specs.Prelude.{◌≡◌, ℕ, ◌<◌, ◌≤◌, ◌==◌, if◌then◌else◌, List, [], ◌∷◌, ◌++◌, length, codes, decimal, Ok}
+use Rattle.std.specs.Prelude.{◌≡◌, ℕ, ◌<◌, ◌≤◌, ◌==◌, if◌then◌else◌, List, [], ◌∷◌, ◌++◌, length}
+use Rattle.std.specs.Prelude.{codes, decimal, Ok}
 use Rattle.std.specs.Str.Parse.{AllDigits, digits_value}
 use Rattle.hex.specs.Hex.{decode_of, encode_lower}
 use Rattle.wl_recording.specs.declared.piece.Direction.{Direction}
 use Rattle.wl_recording.specs.declared.piece.Direction.TheVariants.{ToServer, ToClient}
 use Rattle.wl_recording.specs.Piece.{Piece}
 
--- a line that says nothing: it is empty, or a comment, which begins with #
-pub data IsSkipped (line : List ℕ) : Type 0 where
-  is_empty : line ≡ [] → IsSkipped line
-  is_comment : (comment : List ℕ) → line ≡ 35 ∷ comment → IsSkipped line
-
 -- the sign of a direction, > or <
 abbrev pub sign : Direction → ℕ
 sign ToServer = 62
 sign ToClient = 60
 
--- The digits stand for the bytes: - for none, and else two hexadecimal digits for each byte, of either case.
+-- The digits stand for the bytes: - for none, and otherwise two hexadecimal digits for each byte,
+-- of either case.
 pub data SpellsBytes (digits bytes : List ℕ) : Type 0 where
   no_bytes : digits ≡ codes "-" → bytes ≡ [] → SpellsBytes digits bytes
   some_bytes : 0 < length digits → decode_of digits ≡ Ok bytes → SpellsBytes digits bytes
 
--- The rest of a line stands for so many tokens: nothing for none, and else " +" and 1 to 5 decimal digits, of value 1 to 65,535.
+-- The rest of a line stands for this number of tokens: nothing for none, and otherwise " +" and 1
+-- to 5 decimal digits, of value 1 to 65,535.
 pub data SpellsTokens (count : List ℕ) (tokens : ℕ) : Type 0 where
   no_tokens : count ≡ [] → tokens ≡ 0 → SpellsTokens count tokens
-  some_tokens : (digits : List ℕ) → count ≡ codes " +" ++ digits → 1 ≤ length digits → length digits ≤ 5
-      → AllDigits 10 digits → digits_value 10 digits ≡ tokens → 1 ≤ tokens → tokens ≤ 65535 → SpellsTokens count tokens
+  some_tokens : (digits : List ℕ) → count ≡ codes " +" ++ digits
+      → 1 ≤ length digits → length digits ≤ 5
+      → AllDigits 10 digits → digits_value 10 digits ≡ tokens
+      → 1 ≤ tokens → tokens ≤ 65535 → SpellsTokens count tokens
 
 -- The line tells this piece: its direction's sign, a space, its bytes, its tokens.
 pub record IsPiece (line : List ℕ) (piece : Piece) : Type 0 where

@@ -19,13 +19,16 @@ pub record IsTellable (piece : Piece) : Type 0 where
   pub bytes : IsBytes piece.bytes
   pub tokens : piece.tokens ≤ 65535
 
--- What is recorded where these bytes and tokens, at most 65,536, pass at once. Where nothing moved it is no piece. One
--- piece counts at most 65,535 tokens, so 65,536 are two pieces: 65,535 tokens alone, then the bytes with one.
+-- What is recorded where these bytes and tokens, at most 65,536, pass at once. Where nothing passed
+-- it is no piece. One piece counts at most 65,535 tokens, so 65,536 are two pieces: 65,535 tokens
+-- alone, then the bytes with one.
 abbrev pub passed : Direction → List ℕ → ℕ → List Piece
 passed direction bytes tokens =
     if nat_lt 65535 tokens
-    then record { direction = direction; bytes = []; tokens = 65535 } ∷ record { direction = direction; bytes = bytes; tokens = tokens - 65535 } ∷ []
-    else (if length bytes == 0 && tokens == 0 then [] else record { direction = direction; bytes = bytes; tokens = tokens } ∷ [])
+    then record { direction = direction; bytes = []; tokens = 65535 }
+    ∷ record { direction = direction; bytes = bytes; tokens = tokens - 65535 } ∷ []
+    else (if length bytes == 0 && tokens == 0 then []
+    else record { direction = direction; bytes = bytes; tokens = tokens } ∷ [])
 
 -- how many bytes the last piece has, or 0 where there is none
 abbrev pub last_len : List Piece → ℕ

@@ -3,16 +3,19 @@ use Rattle.std.specs.Prelude.{◌≡◌, ℕ, ◌+◌, ◌≤◌, ◌⊎◌, Lis
 use Rattle.std.specs.List.{All}
 use Rattle.std.specs.Str.Lines.{lines}
 use Rattle.wl_recording.specs.Piece.{Piece}
-use Rattle.wl_recording.specs.Line.{IsSkipped, IsPiece, line_of}
+use Rattle.wl_text.specs.Lines.{IsSkipped}
+use Rattle.wl_recording.specs.Line.{IsPiece, line_of}
 
 -- Those of the lines that are not skipped tell these pieces, one each, in their order.
 pub data Tell : List (List ℕ) → List Piece → Type 0 where
   ends : Tell [] []
-  skips : {line : List ℕ} {more : List (List ℕ)} {pieces : List Piece} → IsSkipped line → Tell more pieces → Tell (line ∷ more) pieces
-  tells : {line : List ℕ} {more : List (List ℕ)} {piece : Piece} {pieces : List Piece} → IsPiece line piece → Tell more pieces → Tell (line ∷ more) (piece ∷ pieces)
+  skips : {line : List ℕ} {more : List (List ℕ)} {pieces : List Piece}
+      → IsSkipped line → Tell more pieces → Tell (line ∷ more) pieces
+  tells : {line : List ℕ} {more : List (List ℕ)} {piece : Piece} {pieces : List Piece}
+      → IsPiece line piece → Tell more pieces → Tell (line ∷ more) (piece ∷ pieces)
 
--- The text records these pieces. Its lines are each ended by a line feed, which the last may lack; one carriage return before
--- a line feed is no part of its line.
+-- The text records these pieces. Its lines are each ended by a line feed, which the last may lack;
+-- one carriage return before a line feed is no part of its line.
 abbrev pub Recorded : List ℕ → List Piece → Type 0
 Recorded text pieces = Tell (lines text) pieces
 
@@ -20,7 +23,8 @@ Recorded text pieces = Tell (lines text) pieces
 abbrev pub IsGood : List ℕ → Type 0
 IsGood line = IsSkipped line ⊎ ((piece : Piece) × IsPiece line piece)
 
--- Line n, counted from 1, skipped lines counted too, is the first of the text that may not stand in a recording.
+-- Line n, counted from 1, skipped lines counted too, is the first of the text that may not stand in
+-- a recording.
 pub record IsFirstBad (text : List ℕ) (n : ℕ) : Type 0 where
   pub before : List (List ℕ)
   pub line : List ℕ
@@ -30,7 +34,8 @@ pub record IsFirstBad (text : List ℕ) (n : ℕ) : Type 0 where
   pub good : All IsGood before
   pub bad : ¬ IsGood line
 
--- So much of a text was read: this is the rest, so many lines stand before it, and they tell these pieces.
+-- A text was read up to this rest: this number of lines stand before it, and they tell these
+-- pieces.
 pub record IsRead (text rest : List ℕ) (number : ℕ) (pieces : List Piece) : Type 0 where
   pub done : List (List ℕ)
   pub whole : lines text ≡ done ++ lines rest

@@ -1,13 +1,15 @@
 //! The pieces of a text, one after another.
-ghost use Rattle.std.specs.Prelude.{◌≡◌, ℕ, ◌+◌, ◌^◌, ◌<◌, List, [], ◌∷◌, ◌++◌, ◌⊎◌, length, IfOk, IfErr, IfSome, MatchOption};
+ghost use Rattle.std.specs.Prelude.{◌≡◌, ℕ, ◌+◌, ◌^◌, ◌<◌, List, [], ◌∷◌, ◌++◌, ◌⊎◌, length};
+ghost use Rattle.std.specs.Prelude.{IfOk, IfErr, IfSome, MatchOption};
 ghost use Rattle.wl_recording.specs.declared.recording.RecordingError.TheVariants.{BadLine, Memory};
 ghost use Rattle.wl_recording.specs.Piece.{Piece, plain};
 ghost use Rattle.wl_recording.specs.Text.{IsFirstBad, IsRead, Recorded};
 
-use crate::line::{first_line, is_skipped, read_piece};
+use crate::line::read_piece;
 use crate::piece::Passed;
 use crate::recording::RecordingError;
 use std::alloc::Allocator;
+use wl_text::{first_line, is_skipped};
 
 /// A text that is read piece by piece, so that no more than one of them is kept at a time.
 #[derive(Clone, Copy, Debug)]

@@ -1,8 +1,10 @@
 //! Recordings.
-ghost use Rattle.std.specs.Prelude.{◌≡◌, ℕ, ◌≤◌, List, [], ◌++◌, ◌⊎◌, length, map, replicate, Ok, Err, IfOk, IfErr, OnOk, OnErr};
+ghost use Rattle.std.specs.Prelude.{◌≡◌, ℕ, ◌≤◌, List, [], ◌++◌, ◌⊎◌, length, map, replicate};
+ghost use Rattle.std.specs.Prelude.{Ok, Err, IfOk, IfErr, OnOk, OnErr};
 ghost use Rattle.std.specs.List.{All};
 ghost use Rattle.wl_recording.specs.declared.recording.RecordingError.TheVariants.{BadLine, Memory};
-ghost use Rattle.wl_recording.specs.Piece.{Piece, plain, passed, last_len, with_last_bytes, IsTellable};
+ghost use Rattle.wl_recording.specs.Piece.{Piece, plain, passed, last_len, with_last_bytes};
+ghost use Rattle.wl_recording.specs.Piece.{IsTellable};
 ghost use Rattle.wl_recording.specs.Text.{Recorded, IsFirstBad, text_of};
 
 use crate::line::MOST_TOKENS;
@@ -18,7 +20,8 @@ use wl_wire::Bytes;
 /// Why a text is no recording.
 #[derive(Clone, Copy, Debug, PartialEq, Eq)]
 pub enum RecordingError {
-    /// RP1: this line, counted from 1, is neither skipped nor a piece, and it is the first such line.
+    /// RP1: this line, counted from 1, is neither skipped nor a piece, and it is the first such
+    /// line.
     BadLine { line: usize },
     /// RP2: out of memory, for the pieces.
     Memory,
@@ -97,10 +100,11 @@ impl<A: Allocator + Clone> Recording<A> {
     /// The recording of a text.
     ///
     /// The text is lines, each ended by a line feed, which the last may lack; one carriage return
-    /// before a line feed is dropped. An empty line and a line that begins with `#` are skipped. Each
-    /// other line is one piece, as `> 0100000001000c0002000000 +1`: `>` to the server or `<` to the
-    /// client; a space; `-` for no bytes, or two hexadecimal digits, of either case, for each byte; and
-    /// where tokens came, a space, a plus sign and their number, 1 to 65,535, in 1 to 5 decimal digits.
+    /// before a line feed is dropped. An empty line and a line that begins with `#` are skipped.
+    /// Each other line is one piece, as `> 0100000001000c0002000000 +1`: `>` to the server or `<`
+    /// to the client; a space; `-` for no bytes, or two hexadecimal digits, of either case, for
+    /// each byte; and where tokens came, a space, a plus sign and their number, 1 to 65,535, in 1
+    /// to 5 decimal digits.
     ///
     /// `BadLine` (RP1) comes exactly where some line is none of these, with the number of the first
     /// such line. `Memory` (RP2) may come in place of any result.
@@ -164,8 +168,9 @@ impl<A: Allocator + Clone> Recording<A> {
 
     /// Adds what is about to pass, with zeros in place of its bytes, as `add` would.
     ///
-    /// So everything is allocated before anything moves: what passes is then written over the zeros by
-    /// `fill_last`, which cannot fail. `filled_passed` of the proofs says that both together are `add`.
+    /// So everything is allocated before anything moves: what passes is then written over the zeros
+    /// by `fill_last`, which cannot fail. `filled_passed` of the proofs says that both together are
+    /// `add`.
     pub fn prepare(
         &mut self,
         direction: Direction,

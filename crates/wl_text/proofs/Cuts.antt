@@ -1,44 +1,11 @@
 -- The lines of a text, one after another.
-use Rattle.std.proofs.Common.{◌≡◌, ◌≢◌, ℕ, ◌-◌, ◌<◌, ◌≤◌, ◌==◌, true, false, cond, List, [], ◌∷◌, ◌++◌, length, get_or, take, drop, slice_index, refl, ap, ◌∙◌, arith}
-use Rattle.std.specs.Prelude.{unwrap_or, not}
-use Rattle.std.specs.List.{All, position, position_or_len, slice_split, onto_first}
+use Rattle.std.proofs.Common.{◌≡◌, ◌≢◌, ℕ, ◌-◌, ◌<◌, ◌≤◌, ◌==◌, true, false, cond, List, [], ◌∷◌, ◌++◌, length, take, drop, slice_index, refl, arith}
+use Rattle.std.specs.List.{All, slice_split, onto_first}
 use Rattle.std.specs.Str.Lines.{lines, strip_carriage_return}
-use Rattle.std.proofs.lemmas.List.{get_or-take, get_or-drop, length-take, length-drop}
 use Rattle.std.proofs.lemmas.List.Splits.{slice_split_at, slice_split_none}
-use Rattle.std.proofs.lemmas.List.Sums.{fails_before_first, passes_at_first, prefix_len-le-length}
 use Rattle.wl_text.specs.Lines.{words}
-use Rattle.std.proofs.lemmas.Bool.{eqb-true, eqb-false, ne_eqb}
+use Rattle.std.proofs.lemmas.Bool.{ne_eqb}
 use Rattle.std.proofs.lemmas.Grind.{common_steps}
-
--- where a byte first stands in a text, or the text's length
-abbrev pub place : List ℕ → ℕ → ℕ
-place text c = unwrap_or (position (λ b. b == c) text) (length text)
-
-pub place_is : (text : List ℕ) (c : ℕ) → place text c ≡ position_or_len (λ b. b == c) text
-place_is text c =
-    let le = prefix_len-le-length (λ b. not (b == c)) text in
-    grind (arith, le)
-
--- what stands before it has no such byte
-pub none_before : (text : List ℕ) (c : ℕ) → All (λ b. b ≢ c) (take (place text c) text)
-none_before text c k d lt =
-    let le = prefix_len-le-length (λ b. not (b == c)) text in
-    let e = place_is text c in
-    let len = length-take (place text c) text in
-    let here : k < place text c = omega (arith, len, lt) in
-    let below : k < position_or_len (λ b. b == c) text = omega (arith, here, e) in
-    let fails = fails_before_first (λ b. b == c) text k d below in
-    let same = get_or-take (place text c) text k d here in
-    rw same (eqb-false _ _ fails)
-
--- and it is the first behind that
-pub found_at : (text : List ℕ) (c : ℕ) → 0 < length (drop (place text c) text) → slice_index (drop (place text c) text) 0 ≡ c
-found_at text c lt =
-    let e = place_is text c in
-    let len = length-drop (place text c) text in
-    let below : position_or_len (λ b. b == c) text < length text = omega (arith, len, lt, e) in
-    let same : slice_index (drop (place text c) text) 0 ≡ get_or text (position_or_len (λ b. b == c) text) 0 = rw e (get_or-drop _ text 0 0 ∙ ap (λ (n : ℕ). get_or text n 0) (omega arith)) in
-    same ∙ eqb-true _ _ (passes_at_first (λ b. b == c) text 0 below)
 
 -- the parts of a text between line feeds: at least one
 abbrev pub parts : List ℕ → List (List ℕ)

@@ -1,8 +1,11 @@
 //! The lines of a text.
-ghost use Rattle.std.specs.Prelude.{◌≡◌, ◌≢◌, ◌<◌, ◌==◌, ◌↔◌, ◌∷◌, ◌++◌, [], length, slice_index, position, IsTrue, MatchOption, IfSome};
+ghost use Rattle.std.specs.Prelude.{◌≡◌, ◌≢◌, ◌<◌, ◌↔◌, ◌∷◌, ◌++◌, [], length, slice_index};
+ghost use Rattle.std.specs.Prelude.{IsTrue, MatchOption, IfSome};
 ghost use Rattle.std.specs.List.{All};
 ghost use Rattle.std.specs.Str.Lines.{lines, strip_carriage_return};
 ghost use Rattle.wl_text.specs.Lines.{IsSkipped, says_nothing, words};
+
+use memchr::memchr;
 
 /// The first line of a text, without its ending, and the text behind it.
 ///
@@ -26,7 +29,7 @@ pub fn split_before(text: &[u8], wanted: u8) -> (&[u8], &[u8])
     ensures front { All (λ byte. byte ≢ wanted) result.0.now }
     ensures rest { 0 < length result.1.now → slice_index result.1.now 0 ≡ wanted }
 {
-    text.split_at(place_of(text, wanted).unwrap_or(text.len()))
+    text.split_at(memchr(wanted, text).unwrap_or(text.len()))
 }
 
 /// The first word of a line, and what stands behind the space that ends it, if one does.
@@ -40,13 +43,6 @@ pub fn first_word(line: &[u8]) -> (&[u8], Option<&[u8]>)
         [_, after @ ..] => (word, Some(after)),
         [] => (word, None),
     }
-}
-
-// The first place of such a byte.
-fn place_of(text: &[u8], wanted: u8) -> Option<usize>
-    ensures { result ≡ position (λ byte. byte == wanted) text.now }
-{
-    text.iter().position(|byte| *byte == wanted)
 }
 
 // The line without the one carriage return at its end, if it has one.

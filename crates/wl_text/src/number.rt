@@ -3,8 +3,8 @@ ghost use Rattle.std.specs.Prelude.{◌≡◌, ℕ, ◌≤◌, length, IfSome, M
 ghost use Rattle.std.specs.Str.Parse.{AllDigits, digits_value};
 ghost use Rattle.wl_text.specs.Number.{number_of, digits_number};
 
-/// The number that 1 to 10 decimal digits write. None where there are more or fewer, or another byte,
-/// or where the number is above 4,294,967,295.
+/// The number that 1 to 10 decimal digits write. `None` where there are more or fewer, or another
+/// byte, or where the number is above 4,294,967,295.
 pub fn decimal_number(digits: &[u8]) -> Option<u32>
     ensures { result ≡ number_of digits.now }
 {

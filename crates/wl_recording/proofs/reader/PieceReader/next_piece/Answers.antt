@@ -14,13 +14,13 @@ returns-in-None-clause-bad g c text pieces read =
       _,
       refl,
       bad_line text _ c.first_line.result.1.now _ _ pieces (c.lines.invariant.read text pieces read) c.first_line.ensures.line
-          (λ skipped. let is : c.is_skipped.result ≡ true = c.is_skipped.ensures.1 skipped in cc)
+          (λ skipped. let is : c.is_skipped.result ≡ true = c.is_skipped.ensures.skipped.1 skipped in cc)
           (rw c.in-None.is at none),
     )
 
 pub lines-preserved : goal.lines-preserved
 lines-preserved g c = record {
-  read = λ text pieces read. skipped_line text _ c.first_line.result.1.now _ _ pieces (c.lines.invariant.read text pieces read) c.first_line.ensures.line c.first_line.ensures.shorter (c.is_skipped.ensures.0 c.if-not-is_skipped.false);
+  read = λ text pieces read. skipped_line text _ c.first_line.result.1.now _ _ pieces (c.lines.invariant.read text pieces read) c.first_line.ensures.line c.first_line.ensures.shorter (c.is_skipped.ensures.skipped.0 c.if-not-is_skipped.false);
   room = (let room = c.lines.invariant.room in let shorter = c.first_line.ensures.shorter in omega (arith, room, shorter));
   shorter = (let less = c.lines.invariant.shorter in let shorter = c.first_line.ensures.shorter in omega (arith, less, shorter));
 }

@@ -1,4 +1,4 @@
-use Rattle.std.proofs.Common.{◌≡◌, ◌<◌, length, replicate, sym, ◌∙◌, arith}
+use Rattle.std.proofs.Common.{◌<◌, length, replicate, sym, ◌∙◌, arith}
 use Rattle.std.proofs.lemmas.List.{length-replicate}
 use Rattle.wl_recording.proofs.FillLemmas.{last_len-passed, filled_passed}
 use Rattle.wl_recording.proofs.recording.Recording.add.Goals as goal

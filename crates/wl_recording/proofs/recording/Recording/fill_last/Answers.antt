@@ -1,9 +1,9 @@
-use Rattle.std.proofs.Common.{◌≡◌, List, ◌∷◌, [], ◌++◌, length, Some, sym, ap, ◌∙◌, arith}
+use Rattle.std.proofs.Common.{◌≡◌, ◌∷◌, [], length, Some, sym, ap, ◌∙◌, arith}
 use Rattle.std.specs.Prelude.{map}
 use Rattle.std.proofs.lemmas.List.{map-append}
 use Rattle.std.proofs.lemmas.List.Elements.{All-pop, All-push}
 use Rattle.hex.specs.Hex.{IsBytes}
-use Rattle.wl_recording.specs.Piece.{Piece, plain, last_len, IsTellable}
+use Rattle.wl_recording.specs.Piece.{plain, last_len, IsTellable}
 use Rattle.wl_recording.proofs.FillLemmas.{last_len-push, written_over, rewritten}
 use Rattle.wl_recording.proofs.WriteLemmas.{tellable_with}
 use Rattle.wl_recording.proofs.recording.Recording.fill_last.Goals as goal
