@@ -1,1 +1,4 @@
 pub mod Words
+pub mod Spelling
+pub mod TextLines
+pub mod Texts

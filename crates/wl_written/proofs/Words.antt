@@ -10,7 +10,7 @@ onto_first_some b [] = (b ∷ [], [], refl)
 onto_first_some b (p ∷ ps) = (b ∷ p, ps, refl)
 
 -- each line has a word
-words_some : (line : List ℕ) → (first : List ℕ) × (more : List (List ℕ)) × (words line ≡ first ∷ more)
+pub words_some : (line : List ℕ) → (first : List ℕ) × (more : List (List ℕ)) × (words line ≡ first ∷ more)
 words_some [] = ([], [], refl)
 words_some (b ∷ line) = elim (b == 32) as (λ t. (first : List ℕ) × (more : List (List ℕ)) × (cond t ([] ∷ words line) (onto_first b (words line)) ≡ first ∷ more)) [
   | true ↦ ([], words line, refl)

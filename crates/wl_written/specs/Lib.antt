@@ -1,3 +1,4 @@
 pub mod Text
+pub mod TableText
 pub mod Reading
 pub mod Errors

@@ -6,6 +6,7 @@
 
 mod fault;
 mod forms;
+pub mod laws;
 mod reading;
 mod written;
 
