@@ -42,11 +42,13 @@ pub extern "C" fn waywire_c_client_new(
     }
 }
 
+/// Frees a client, and what it lent.
 #[unsafe(no_mangle)]
 pub extern "C" fn waywire_c_client_free(client: ClientHandle) {
     drop(client.opened());
 }
 
+/// Writes wl_display, the first object, to `display`.
 #[unsafe(no_mangle)]
 pub extern "C" fn waywire_c_client_display(client: &mut ClientHandle, display: &mut CObject)
     ensures unchanged { client.new.held ≡ client.old.held }
@@ -54,6 +56,7 @@ pub extern "C" fn waywire_c_client_display(client: &mut ClientHandle, display: &
     *display = CObject::of(client.get_mut().client.display());
 }
 
+/// Writes the interface and the version of a live object to `interface` and `version`.
 #[unsafe(no_mangle)]
 pub extern "C" fn waywire_c_client_live(
     client: &mut ClientHandle,
@@ -73,6 +76,7 @@ pub extern "C" fn waywire_c_client_live(
     }
 }
 
+/// Writes the free bytes and tokens of the inbox to `room`; zeros at a failed client.
 #[unsafe(no_mangle)]
 pub extern "C" fn waywire_c_client_in_room(client: &mut ClientHandle, room: &mut CAmounts)
     ensures bytes { room.new.bytes ≡ (in_room client.old.held.client.core).bytes }
@@ -82,6 +86,7 @@ pub extern "C" fn waywire_c_client_in_room(client: &mut ClientHandle, room: &mut
     *room = CAmounts::fed(client.get_mut().client.in_room());
 }
 
+/// Whether nothing waits in either box.
 #[unsafe(no_mangle)]
 pub extern "C" fn waywire_c_client_is_drained(client: &mut ClientHandle) -> bool
     ensures answer { result ≡ is_drained client.old.held.client.core }
@@ -90,6 +95,7 @@ pub extern "C" fn waywire_c_client_is_drained(client: &mut ClientHandle) -> bool
     client.get_mut().client.is_drained()
 }
 
+/// Takes in what came, and writes how much of it to `fed`.
 #[unsafe(no_mangle)]
 pub extern "C" fn waywire_c_client_feed(
     client: &mut ClientHandle,
@@ -107,6 +113,7 @@ pub extern "C" fn waywire_c_client_feed(
     *fed = CAmounts::fed(client.get_mut().client.feed(bytes, tokens));
 }
 
+/// Writes how much `take` into memory of these lengths would take to `amounts`.
 #[unsafe(no_mangle)]
 pub extern "C" fn waywire_c_client_goes(
     client: &mut ClientHandle,
@@ -121,6 +128,7 @@ pub extern "C" fn waywire_c_client_goes(
     *amounts = CAmounts::taken(client.get_mut().client.goes(bytes, tokens));
 }
 
+/// Moves what waits to go into the caller's memory, and writes how much that was to `taken`.
 #[unsafe(no_mangle)]
 pub extern "C" fn waywire_c_client_take(
     client: &mut ClientHandle,
@@ -144,6 +152,8 @@ pub extern "C" fn waywire_c_client_take(
     *taken = CAmounts::taken(client.get_mut().client.take(bytes, tokens));
 }
 
+/// Writes a request, and to `made` the object that it makes. Where an argument is refused, its
+/// place is written to `place`.
 #[unsafe(no_mangle)]
 pub extern "C" fn waywire_c_client_send(
     client: &mut ClientHandle,
@@ -175,6 +185,7 @@ pub extern "C" fn waywire_c_client_send(
     }
 }
 
+/// Reads the next event, and writes its report and, as far as they hold them, its arguments.
 #[unsafe(no_mangle)]
 pub extern "C" fn waywire_c_client_next(
     client: &mut ClientHandle,
@@ -187,6 +198,7 @@ pub extern "C" fn waywire_c_client_next(
     read_event(&mut client.get_mut().client, report, args)
 }
 
+/// Binds a global, and writes the new object to `bound`.
 #[unsafe(no_mangle)]
 pub extern "C" fn waywire_c_client_bind(
     client: &mut ClientHandle,

@@ -45,11 +45,13 @@ pub extern "C" fn waywire_c_server_new(
     }
 }
 
+/// Frees a server, and what it lent.
 #[unsafe(no_mangle)]
 pub extern "C" fn waywire_c_server_free(server: ServerHandle) {
     drop(server.opened());
 }
 
+/// Writes wl_display, the first object, to `display`.
 #[unsafe(no_mangle)]
 pub extern "C" fn waywire_c_server_display(server: &mut ServerHandle, display: &mut CObject)
     ensures unchanged { server.new.held ≡ server.old.held }
@@ -57,6 +59,7 @@ pub extern "C" fn waywire_c_server_display(server: &mut ServerHandle, display: &
     *display = CObject::of(server.get_mut().server.display());
 }
 
+/// Writes the interface and the version of a live object to `interface` and `version`.
 #[unsafe(no_mangle)]
 pub extern "C" fn waywire_c_server_live(
     server: &mut ServerHandle,
@@ -76,6 +79,7 @@ pub extern "C" fn waywire_c_server_live(
     }
 }
 
+/// Writes the free bytes and tokens of the inbox to `room`; zeros at a failed server.
 #[unsafe(no_mangle)]
 pub extern "C" fn waywire_c_server_in_room(server: &mut ServerHandle, room: &mut CAmounts)
     ensures bytes { room.new.bytes ≡ (in_room server.old.held.server.core).bytes }
@@ -85,6 +89,7 @@ pub extern "C" fn waywire_c_server_in_room(server: &mut ServerHandle, room: &mut
     *room = CAmounts::fed(server.get_mut().server.in_room());
 }
 
+/// Whether nothing waits in either box.
 #[unsafe(no_mangle)]
 pub extern "C" fn waywire_c_server_is_drained(server: &mut ServerHandle) -> bool
     ensures answer { result ≡ is_drained server.old.held.server.core }
@@ -93,6 +98,7 @@ pub extern "C" fn waywire_c_server_is_drained(server: &mut ServerHandle) -> bool
     server.get_mut().server.is_drained()
 }
 
+/// Takes in what came, and writes how much of it to `fed`.
 #[unsafe(no_mangle)]
 pub extern "C" fn waywire_c_server_feed(
     server: &mut ServerHandle,
@@ -110,6 +116,7 @@ pub extern "C" fn waywire_c_server_feed(
     *fed = CAmounts::fed(server.get_mut().server.feed(bytes, tokens));
 }
 
+/// Writes how much `take` into memory of these lengths would take to `amounts`.
 #[unsafe(no_mangle)]
 pub extern "C" fn waywire_c_server_goes(
     server: &mut ServerHandle,
@@ -124,6 +131,7 @@ pub extern "C" fn waywire_c_server_goes(
     *amounts = CAmounts::taken(server.get_mut().server.goes(bytes, tokens));
 }
 
+/// Moves what waits to go into the caller's memory, and writes how much that was to `taken`.
 #[unsafe(no_mangle)]
 pub extern "C" fn waywire_c_server_take(
     server: &mut ServerHandle,
@@ -147,6 +155,8 @@ pub extern "C" fn waywire_c_server_take(
     *taken = CAmounts::taken(server.get_mut().server.take(bytes, tokens));
 }
 
+/// Writes an event, and to `made` that it makes no object. Where an argument is refused, its place
+/// is written to `place`.
 #[unsafe(no_mangle)]
 pub extern "C" fn waywire_c_server_send(
     server: &mut ServerHandle,
@@ -178,6 +188,7 @@ pub extern "C" fn waywire_c_server_send(
     }
 }
 
+/// Reads the next request, and writes its report and, as far as they hold them, its arguments.
 #[unsafe(no_mangle)]
 pub extern "C" fn waywire_c_server_next(
     server: &mut ServerHandle,
@@ -190,6 +201,7 @@ pub extern "C" fn waywire_c_server_next(
     read_request(&mut server.get_mut().server, report, args)
 }
 
+/// Ends an object without an event, and writes its delete_id.
 #[unsafe(no_mangle)]
 pub extern "C" fn waywire_c_server_drop_object(server: &mut ServerHandle, object: CObject) -> u32
     ensures answer { result ≡ sent (drop_refusal server.old.held.server.core (object_of object)) }
@@ -204,6 +216,7 @@ pub extern "C" fn waywire_c_server_drop_object(server: &mut ServerHandle, object
     }
 }
 
+/// Writes wl_display.error about an object, which ends the connection.
 #[unsafe(no_mangle)]
 pub extern "C" fn waywire_c_server_post_error(
     server: &mut ServerHandle,
@@ -228,6 +241,7 @@ pub extern "C" fn waywire_c_server_post_error(
     }
 }
 
+/// Adds a global, and writes its name to `name`.
 #[unsafe(no_mangle)]
 pub extern "C" fn waywire_c_server_add_global(
     server: &mut ServerHandle,
@@ -253,6 +267,7 @@ pub extern "C" fn waywire_c_server_add_global(
     }
 }
 
+/// Withdraws a global.
 #[unsafe(no_mangle)]
 pub extern "C" fn waywire_c_server_withdraw(server: &mut ServerHandle, name: u32) -> u32
     ensures answer { result ≡ settled (withdraw_refusal server.old.held.server name) }
@@ -266,6 +281,8 @@ pub extern "C" fn waywire_c_server_withdraw(server: &mut ServerHandle, name: u32
     }
 }
 
+/// Writes to the open registries what they are owed, as far as it fits, and the number of these
+/// events to `count`.
 #[unsafe(no_mangle)]
 pub extern "C" fn waywire_c_server_announce(server: &mut ServerHandle, count: &mut usize) -> u32
     ensures unchanged { result ≢ 0 → server.new.held ≡ server.old.held }

@@ -90,6 +90,7 @@ pub struct CAmounts {
 impl CObject {
     ghost use Rattle.waywire_c.specs.Values.{object_of};
 
+    /// What stands where there is no object.
     pub const fn none() -> CObject {
         CObject { birth: 0, id: 0 }
     }

@@ -17,9 +17,9 @@ use wl_objects::{Arg, Table};
 impl<'t, T: Table> Pair<'t, T> {
     /// Does these moves in their order, and returns one reply for each.
     ///
-    /// The list of replies is allocated first. The error comes only there, and then nothing was
-    /// done. A move that runs out of memory later has the reply of its call for that, and the next
-    /// moves are done all the same.
+    /// The room for all replies, and for the longest list of arguments, is allocated first. The
+    /// error comes only there, and then nothing was done. A move that runs out of memory later has
+    /// the reply of its call for that, and the next moves are done all the same.
     pub fn run(
         &mut self,
         moves: &[Move<T::Alloc>],

@@ -1,4 +1,4 @@
--- What each move is answered in the world, and what it does there.
+-- The reply that each move gets in the world, and what it does there.
 use Rattle.std.specs.Prelude.{◌≡◌, ◌≢◌, ℕ, ◌+◌, ◌<◌, true, false, List, [], ◌∷◌, ◌++◌, length, map}
 use Rattle.std.specs.Prelude.{take, Option, Some, None, is_some, option_map}
 use Rattle.std.specs.declared.result.Result.{Result}
@@ -54,7 +54,7 @@ writing request_side m = WriteRequest m
 writing event_side m = WriteEvent m
 
 -- The message is written whose objects have the births of those handed to the call; where it makes
--- an object, that is what was answered.
+-- an object, that is the one that the call returned.
 pub record WritesThat (tables : List Interface) (side : Side) (w : World) (target opcode : ℕ)
     (args : List (Arg ℕ)) (new : Option Object) (w' : World) : Type 0 where
   pub message : Message Born
@@ -221,7 +221,7 @@ pub record KeepsEvent (p : PairState) (w : World) (w' : World) : Type 0 where
 
 -- The server's read takes the first request and reports it, where a whole message waits. The
 -- request stays where its delete has no room, or where there is no memory for a report with
--- arguments; no fault is answered, and no failure.
+-- arguments; it reports no fault and no failure.
 abbrev pub ReadsAtServer : List Interface → PairState → World
     → Result (Option requests.Report) NextError → World → Type 0
 ReadsAtServer tables p w (Ok None) w' = HasNone p.server.core.inbox × (w' ≡ w)
@@ -290,7 +290,7 @@ pub record KeepsRecord (p p' : PairState) : Type 0 where
   pub pieces : p'.recording ≡ p.recording ++ more
   pub mark : (count : ℕ) → p.ended_at ≡ Some count → p'.ended_at ≡ Some count
 
--- What a move may be answered, and what it leaves of the pair and the world. After an error was
+-- The reply that a move may get, and what it leaves of the pair and the world. After an error was
 -- posted all is allowed, but what was recorded stays.
 pub data Answers (p : PairState) (w : World) (move : Move) (reply : Reply) (p' : PairState)
     (w' : World) : Type 0 where
