@@ -56,6 +56,7 @@ is_some_request w m r t h e = by_args r.args refl
 reports : (p : PairState) (w : World) (m : Message Known) (ms : List (Message Known)) (told : List (Coming Known)) (s : StandsBy p w (m ∷ ms) told) (n : ℕ) (i : InRequest p w m ms told s n)
     → ReportsRequest w (renamed born_of m) (report p.server.core (the_found n m i.entry s.asked_fit.0.fits.signature))
 reports p w m ms told s n i = record {
+  is_open = s.server_sets.shown m.target.id m.target.born i.asks_it.target;
   target = ap birth_of i.same_target;
   opcode = refl;
   args = rw i.tokens_are (reports_right p.server.core.view (rows_of_server w) m.args i.more i.met);
@@ -106,7 +107,7 @@ keeps_read p w m ms told s n z e i reply p' d room (no_memory {report = r} q h) 
     let needs = is_some_request w (renamed born_of m) _ (reports p w m ms told s n i) (ap needs_memory same ∙ h) in
     record {
       world = w;
-      answers = before z d (record { waits = subst HasMessage (sym e) tt; message = renamed born_of m; rest = map (renamed born_of) ms; first = s.requests; because = needs; same = refl });
+      answers = before z d (record { waits = subst HasMessage (sym e) tt; message = renamed born_of m; rest = map (renamed born_of) ms; first = s.requests; because = (needs, room); same = refl });
       outcome = goes_on (m ∷ ms) told z s stays;
     }
 
