@@ -5,8 +5,8 @@ ghost use Rattle.wl_end.specs.Core.{in_room, is_drained, feeds, with_arrived, wi
 ghost use Rattle.wl_client.specs.State.{with_core};
 ghost use Rattle.wl_client.specs.Calls.{after_bind};
 ghost use Rattle.wl_client.specs.Reports.{after_next, next_answer};
-ghost use Rattle.waywire_c.specs.Statuses.{read};
-ghost use Rattle.waywire_c.specs.Values.{object_of};
+ghost use Rattle.waywire_c.specs.Statuses.{read_outcome};
+ghost use Rattle.waywire_c.specs.Values.{fed_of, object_of, taken_of};
 
 use crate::client_handle::ClientHandle;
 use crate::making;
@@ -15,14 +15,11 @@ use crate::reading::read_event;
 use crate::reports::Report;
 use crate::statuses::{BAD_SIZES, BAD_VALUE, NO_MEMORY, NOT_FOUND, OK, send_place, send_status};
 use crate::tables_handle::TablesHandle;
-use crate::values::{CAmounts, CObject, CSizes, CallArg, ReportArg, put_args};
+use crate::values::{CAmounts, CObject, CSizes, CallArg, MAX_GIVEN, ReportArg, put_args};
 use std::alloc::Global;
 use wl_objects::Arg;
 
-/// The most arguments of a call that are looked at: one more than any message has, so that a call
-/// with too many is refused as such.
-const MAX_GIVEN: usize = 21;
-
+/// Makes a client with wl_display alone and empty boxes, and writes where it is to `client`.
 #[unsafe(no_mangle)]
 pub extern "C" fn waywire_c_client_new(
     alloc: Global,
@@ -79,8 +76,7 @@ pub extern "C" fn waywire_c_client_live(
 /// Writes the free bytes and tokens of the inbox to `room`; zeros at a failed client.
 #[unsafe(no_mangle)]
 pub extern "C" fn waywire_c_client_in_room(client: &mut ClientHandle, room: &mut CAmounts)
-    ensures bytes { room.new.bytes ≡ (in_room client.old.held.client.core).bytes }
-    ensures tokens { room.new.tokens ≡ (in_room client.old.held.client.core).tokens }
+    ensures room { fed_of room.new ≡ in_room client.old.held.client.core }
     ensures unchanged { client.new.held ≡ client.old.held }
 {
     *room = CAmounts::fed(client.get_mut().client.in_room());
@@ -103,8 +99,7 @@ pub extern "C" fn waywire_c_client_feed(
     tokens: &[u32],
     fed: &mut CAmounts,
 )
-    ensures bytes { fed.new.bytes ≡ (feeds client.old.held.client.core bytes.now tokens.now).bytes }
-    ensures tokens { fed.new.tokens ≡ (feeds client.old.held.client.core bytes.now tokens.now).tokens }
+    ensures count { fed_of fed.new ≡ feeds client.old.held.client.core bytes.now tokens.now }
     ensures state { client.new.held.client
         ≡ with_core client.old.held.client
         (with_arrived client.old.held.client.core (take fed.new.bytes bytes.now)
@@ -121,8 +116,7 @@ pub extern "C" fn waywire_c_client_goes(
     tokens: usize,
     amounts: &mut CAmounts,
 )
-    ensures bytes { amounts.new.bytes ≡ (goes client.old.held.client.core.outbox bytes tokens).bytes }
-    ensures tokens { amounts.new.tokens ≡ (goes client.old.held.client.core.outbox bytes tokens).tokens }
+    ensures count { taken_of amounts.new ≡ goes client.old.held.client.core.outbox bytes tokens }
     ensures unchanged { client.new.held ≡ client.old.held }
 {
     *amounts = CAmounts::taken(client.get_mut().client.goes(bytes, tokens));
@@ -136,10 +130,8 @@ pub extern "C" fn waywire_c_client_take(
     tokens: &mut [u32],
     taken: &mut CAmounts,
 )
-    ensures count { taken.new.bytes
-        ≡ (goes client.old.held.client.core.outbox (length bytes.old) (length tokens.old)).bytes }
-    ensures token_count { taken.new.tokens
-        ≡ (goes client.old.held.client.core.outbox (length bytes.old) (length tokens.old)).tokens }
+    ensures count { taken_of taken.new
+        ≡ goes client.old.held.client.core.outbox (length bytes.old) (length tokens.old) }
     ensures bytes { bytes.new
         ≡ take taken.new.bytes (waiting_bytes client.old.held.client.core.outbox)
         ++ drop taken.new.bytes bytes.old }
@@ -179,7 +171,9 @@ pub extern "C" fn waywire_c_client_send(
             OK
         }
         Err(why) => {
-            *place = send_place(why);
+            if let Some(refused) = send_place(why) {
+                *place = refused;
+            }
             send_status(why)
         }
     }
@@ -192,7 +186,7 @@ pub extern "C" fn waywire_c_client_next(
     report: &mut Report,
     args: &mut [ReportArg],
 ) -> u32
-    ensures answer { result ≡ read (next_answer client.old.held.client) }
+    ensures answer { result ≡ read_outcome (next_answer client.old.held.client) }
     ensures state { client.new.held.client ≡ after_next client.old.held.client }
 {
     read_event(&mut client.get_mut().client, report, args)

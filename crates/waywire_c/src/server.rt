@@ -5,8 +5,8 @@ ghost use Rattle.wl_end.specs.Core.{in_room, is_drained, feeds, with_arrived, wi
 ghost use Rattle.wl_server.specs.State.{with_core};
 ghost use Rattle.wl_server.specs.Calls.{after_drop, after_error, after_withdraw, drop_refusal, error_refusal, with_global, withdraw_refusal};
 ghost use Rattle.wl_server.specs.Requests.{after_next};
-ghost use Rattle.waywire_c.specs.Statuses.{sent, settled};
-ghost use Rattle.waywire_c.specs.Values.{iface_at, object_of};
+ghost use Rattle.waywire_c.specs.Statuses.{global_outcome, send_outcome};
+ghost use Rattle.waywire_c.specs.Values.{fed_of, iface_at, object_of, taken_of};
 
 use crate::making;
 use crate::parts::address;
@@ -17,15 +17,12 @@ use crate::statuses::{
     BAD_SIZES, BAD_VALUE, NO_MEMORY, NOT_FOUND, OK, global_status, send_place, send_status,
 };
 use crate::tables_handle::TablesHandle;
-use crate::values::{CAmounts, CObject, CSizes, CallArg, ReportArg, put_args};
+use crate::values::{CAmounts, CObject, CSizes, CallArg, MAX_GIVEN, ReportArg, put_args};
 use std::alloc::Global;
 use wl_objects::Arg;
 use wl_wire::Iface;
 
-/// The most arguments of a call that are looked at: one more than any message has, so that a call
-/// with too many is refused as such.
-const MAX_GIVEN: usize = 21;
-
+/// Makes a server with wl_display alone and empty boxes, and writes where it is to `server`.
 #[unsafe(no_mangle)]
 pub extern "C" fn waywire_c_server_new(
     alloc: Global,
@@ -82,8 +79,7 @@ pub extern "C" fn waywire_c_server_live(
 /// Writes the free bytes and tokens of the inbox to `room`; zeros at a failed server.
 #[unsafe(no_mangle)]
 pub extern "C" fn waywire_c_server_in_room(server: &mut ServerHandle, room: &mut CAmounts)
-    ensures bytes { room.new.bytes ≡ (in_room server.old.held.server.core).bytes }
-    ensures tokens { room.new.tokens ≡ (in_room server.old.held.server.core).tokens }
+    ensures room { fed_of room.new ≡ in_room server.old.held.server.core }
     ensures unchanged { server.new.held ≡ server.old.held }
 {
     *room = CAmounts::fed(server.get_mut().server.in_room());
@@ -106,8 +102,7 @@ pub extern "C" fn waywire_c_server_feed(
     tokens: &[u32],
     fed: &mut CAmounts,
 )
-    ensures bytes { fed.new.bytes ≡ (feeds server.old.held.server.core bytes.now tokens.now).bytes }
-    ensures tokens { fed.new.tokens ≡ (feeds server.old.held.server.core bytes.now tokens.now).tokens }
+    ensures count { fed_of fed.new ≡ feeds server.old.held.server.core bytes.now tokens.now }
     ensures state { server.new.held.server
         ≡ with_core server.old.held.server
         (with_arrived server.old.held.server.core (take fed.new.bytes bytes.now)
@@ -124,8 +119,7 @@ pub extern "C" fn waywire_c_server_goes(
     tokens: usize,
     amounts: &mut CAmounts,
 )
-    ensures bytes { amounts.new.bytes ≡ (goes server.old.held.server.core.outbox bytes tokens).bytes }
-    ensures tokens { amounts.new.tokens ≡ (goes server.old.held.server.core.outbox bytes tokens).tokens }
+    ensures count { taken_of amounts.new ≡ goes server.old.held.server.core.outbox bytes tokens }
     ensures unchanged { server.new.held ≡ server.old.held }
 {
     *amounts = CAmounts::taken(server.get_mut().server.goes(bytes, tokens));
@@ -139,10 +133,8 @@ pub extern "C" fn waywire_c_server_take(
     tokens: &mut [u32],
     taken: &mut CAmounts,
 )
-    ensures count { taken.new.bytes
-        ≡ (goes server.old.held.server.core.outbox (length bytes.old) (length tokens.old)).bytes }
-    ensures token_count { taken.new.tokens
-        ≡ (goes server.old.held.server.core.outbox (length bytes.old) (length tokens.old)).tokens }
+    ensures count { taken_of taken.new
+        ≡ goes server.old.held.server.core.outbox (length bytes.old) (length tokens.old) }
     ensures bytes { bytes.new
         ≡ take taken.new.bytes (waiting_bytes server.old.held.server.core.outbox)
         ++ drop taken.new.bytes bytes.old }
@@ -182,7 +174,9 @@ pub extern "C" fn waywire_c_server_send(
             OK
         }
         Err(why) => {
-            *place = send_place(why);
+            if let Some(refused) = send_place(why) {
+                *place = refused;
+            }
             send_status(why)
         }
     }
@@ -204,7 +198,8 @@ pub extern "C" fn waywire_c_server_next(
 /// Ends an object without an event, and writes its delete_id.
 #[unsafe(no_mangle)]
 pub extern "C" fn waywire_c_server_drop_object(server: &mut ServerHandle, object: CObject) -> u32
-    ensures answer { result ≡ sent (drop_refusal server.old.held.server.core (object_of object)) }
+    ensures answer { result
+        ≡ send_outcome (drop_refusal server.old.held.server.core (object_of object)) }
     ensures state { result ≡ 0
         → server.new.held.server ≡ with_core server.old.held.server
         (after_drop server.old.held.server.core (object_of object)) }
@@ -225,7 +220,7 @@ pub extern "C" fn waywire_c_server_post_error(
     text: &[u8],
 ) -> u32
     ensures answer { result
-        ≡ sent (error_refusal server.old.held.server.core (object_of object) text.now) }
+        ≡ send_outcome (error_refusal server.old.held.server.core (object_of object) text.now) }
     ensures state { result ≡ 0
         → server.new.held.server ≡ with_core server.old.held.server
         (after_error server.old.held.server.core (object_of object) code text.now) }
@@ -270,7 +265,7 @@ pub extern "C" fn waywire_c_server_add_global(
 /// Withdraws a global.
 #[unsafe(no_mangle)]
 pub extern "C" fn waywire_c_server_withdraw(server: &mut ServerHandle, name: u32) -> u32
-    ensures answer { result ≡ settled (withdraw_refusal server.old.held.server name) }
+    ensures answer { result ≡ global_outcome (withdraw_refusal server.old.held.server name) }
     ensures state { result ≡ 0
         → server.new.held.server ≡ after_withdraw server.old.held.server name }
     ensures unchanged { result ≢ 0 → server.new.held ≡ server.old.held }

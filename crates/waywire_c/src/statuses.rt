@@ -55,11 +55,11 @@ pub fn send_status(error: SendError) -> u32
     }
 }
 
-/// The place of the argument that a refusal names; 0 where it names none.
-pub fn send_place(error: SendError) -> usize {
+/// The place of the argument that a refusal names, if it names one.
+pub fn send_place(error: SendError) -> Option<usize> {
     match error {
-        SendError::WrongArgs(place) | SendError::BadObject(place) => place,
-        _ => 0,
+        SendError::WrongArgs(place) | SendError::BadObject(place) => Some(place),
+        _ => None,
     }
 }
 

@@ -7,6 +7,10 @@ use wl_message::{Fed, Limit, Sizes, Taken};
 use wl_objects::{Arg, GotRef, Named, Object};
 use wl_wire::Fixed;
 
+/// The most arguments of a call that are looked at: one more than any message has, so that a call
+/// with too many is refused as such.
+pub const MAX_GIVEN: usize = 21;
+
 /// What an argument is. A call takes those up to `FD`; the others stand in reports alone, which
 /// have no `NEW` without an object. 0 is none of them.
 pub const INT: u32 = 1;
@@ -139,8 +143,10 @@ impl CSizes {
 }
 
 impl CAmounts {
+    ghost use Rattle.waywire_c.specs.Values.{fed_of, taken_of};
+
     pub fn fed(fed: Fed) -> CAmounts
-        ensures { (result.bytes ≡ fed.bytes) × (result.tokens ≡ fed.tokens) }
+        ensures { fed_of result ≡ fed }
     {
         CAmounts {
             bytes: fed.bytes,
@@ -149,7 +155,7 @@ impl CAmounts {
     }
 
     pub fn taken(taken: Taken) -> CAmounts
-        ensures { (result.bytes ≡ taken.bytes) × (result.tokens ≡ taken.tokens) }
+        ensures { taken_of result ≡ taken }
     {
         CAmounts {
             bytes: taken.bytes,
@@ -197,7 +203,8 @@ fn arg_of<'a>(arg: &CallArg<'a>) -> Option<Arg<'a>> {
 /// number. None where one is of a kind that no call takes.
 #[inline(always)]
 pub fn put_args<'a>(args: &[CallArg<'a>], slots: &mut [Arg<'a>]) -> Option<usize>
-    ensures { IfSome result (λ count. (count ≤ length slots.new) × (length slots.new ≡ length slots.old)) }
+    ensures within { IfSome result (λ count. count ≤ length slots.new) }
+    ensures as_many { IfSome result (λ _. length slots.new ≡ length slots.old) }
 {
     let count = args.len().min(slots.len());
     'places: for place in 0..count {
