@@ -66,3 +66,8 @@ global_outcome (Some why) = global_status why
 abbrev pub read_outcome : {R : Type 0} → Result R NextError → ℕ
 read_outcome (Ok report) = 0
 read_outcome (Err why) = next_status why
+
+-- the status of looking for what is there or is not
+abbrev pub find_outcome : {X : Type 0} → Option X → ℕ
+find_outcome None = 64
+find_outcome (Some found) = 0

@@ -1,11 +1,11 @@
 //! What C calls of a client.
 ghost use Rattle.std.specs.Prelude.{◌≡◌, ◌≢◌, ◌++◌, length, take, drop};
 ghost use Rattle.wl_message.specs.Outgoing.{goes, waiting_bytes, waiting_tokens};
-ghost use Rattle.wl_end.specs.Core.{in_room, is_drained, feeds, with_arrived, with_gone};
+ghost use Rattle.wl_end.specs.Core.{in_room, is_drained, live, display_object, feeds, with_arrived, with_gone};
 ghost use Rattle.wl_client.specs.State.{with_core};
 ghost use Rattle.wl_client.specs.Calls.{after_bind};
 ghost use Rattle.wl_client.specs.Reports.{after_next, next_answer};
-ghost use Rattle.waywire_c.specs.Statuses.{read_outcome};
+ghost use Rattle.waywire_c.specs.Statuses.{find_outcome, read_outcome};
 ghost use Rattle.waywire_c.specs.Values.{fed_of, object_of, taken_of};
 
 use crate::client_handle::ClientHandle;
@@ -48,6 +48,7 @@ pub extern "C" fn waywire_c_client_free(client: ClientHandle) {
 /// Writes wl_display, the first object, to `display`.
 #[unsafe(no_mangle)]
 pub extern "C" fn waywire_c_client_display(client: &mut ClientHandle, display: &mut CObject)
+    ensures display { object_of display.new ≡ display_object }
     ensures unchanged { client.new.held ≡ client.old.held }
 {
     *display = CObject::of(client.get_mut().client.display());
@@ -61,6 +62,7 @@ pub extern "C" fn waywire_c_client_live(
     interface: &mut u16,
     version: &mut u32,
 ) -> u32
+    ensures answer { result ≡ find_outcome (live client.old.held.client.core (object_of object)) }
     ensures unchanged { client.new.held ≡ client.old.held }
 {
     match client.get_mut().client.live(object.object()) {

@@ -1,11 +1,11 @@
 //! What C calls of a server.
 ghost use Rattle.std.specs.Prelude.{◌≡◌, ◌≢◌, ◌++◌, length, take, drop};
 ghost use Rattle.wl_message.specs.Outgoing.{goes, waiting_bytes, waiting_tokens};
-ghost use Rattle.wl_end.specs.Core.{in_room, is_drained, feeds, with_arrived, with_gone};
+ghost use Rattle.wl_end.specs.Core.{in_room, is_drained, live, display_object, feeds, with_arrived, with_gone};
 ghost use Rattle.wl_server.specs.State.{with_core};
 ghost use Rattle.wl_server.specs.Calls.{after_drop, after_error, after_withdraw, drop_refusal, error_refusal, with_global, withdraw_refusal};
 ghost use Rattle.wl_server.specs.Requests.{after_next};
-ghost use Rattle.waywire_c.specs.Statuses.{global_outcome, send_outcome};
+ghost use Rattle.waywire_c.specs.Statuses.{find_outcome, global_outcome, send_outcome};
 ghost use Rattle.waywire_c.specs.Values.{fed_of, iface_at, object_of, taken_of};
 
 use crate::making;
@@ -51,6 +51,7 @@ pub extern "C" fn waywire_c_server_free(server: ServerHandle) {
 /// Writes wl_display, the first object, to `display`.
 #[unsafe(no_mangle)]
 pub extern "C" fn waywire_c_server_display(server: &mut ServerHandle, display: &mut CObject)
+    ensures display { object_of display.new ≡ display_object }
     ensures unchanged { server.new.held ≡ server.old.held }
 {
     *display = CObject::of(server.get_mut().server.display());
@@ -64,6 +65,7 @@ pub extern "C" fn waywire_c_server_live(
     interface: &mut u16,
     version: &mut u32,
 ) -> u32
+    ensures answer { result ≡ find_outcome (live server.old.held.server.core (object_of object)) }
     ensures unchanged { server.new.held ≡ server.old.held }
 {
     match server.get_mut().server.live(object.object()) {
