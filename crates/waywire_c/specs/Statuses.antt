@@ -54,15 +54,20 @@ next_status errors.Memory = 11
 next_status errors.OutFull = 51
 
 -- the status of a call that is refused with one of these, or not at all
-abbrev pub sent : Option SendError → ℕ
-sent None = 0
-sent (Some why) = send_status why
+abbrev pub send_outcome : Option SendError → ℕ
+send_outcome None = 0
+send_outcome (Some why) = send_status why
 
-abbrev pub settled : Option GlobalError → ℕ
-settled None = 0
-settled (Some why) = global_status why
+abbrev pub global_outcome : Option GlobalError → ℕ
+global_outcome None = 0
+global_outcome (Some why) = global_status why
 
 -- the status of a read
-abbrev pub read : {R : Type 0} → Result R NextError → ℕ
-read (Ok report) = 0
-read (Err why) = next_status why
+abbrev pub read_outcome : {R : Type 0} → Result R NextError → ℕ
+read_outcome (Ok report) = 0
+read_outcome (Err why) = next_status why
+
+-- the status of looking for what is there or is not
+abbrev pub find_outcome : {X : Type 0} → Option X → ℕ
+find_outcome None = 64
+find_outcome (Some found) = 0

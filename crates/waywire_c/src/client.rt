@@ -1,12 +1,12 @@
 //! What C calls of a client.
 ghost use Rattle.std.specs.Prelude.{◌≡◌, ◌≢◌, ◌++◌, length, take, drop};
 ghost use Rattle.wl_message.specs.Outgoing.{goes, waiting_bytes, waiting_tokens};
-ghost use Rattle.wl_end.specs.Core.{in_room, is_drained, feeds, with_arrived, with_gone};
+ghost use Rattle.wl_end.specs.Core.{in_room, is_drained, live, display_object, feeds, with_arrived, with_gone};
 ghost use Rattle.wl_client.specs.State.{with_core};
 ghost use Rattle.wl_client.specs.Calls.{after_bind};
 ghost use Rattle.wl_client.specs.Reports.{after_next, next_answer};
-ghost use Rattle.waywire_c.specs.Statuses.{read};
-ghost use Rattle.waywire_c.specs.Values.{object_of};
+ghost use Rattle.waywire_c.specs.Statuses.{find_outcome, read_outcome};
+ghost use Rattle.waywire_c.specs.Values.{fed_of, object_of, taken_of};
 
 use crate::client_handle::ClientHandle;
 use crate::making;
@@ -15,14 +15,11 @@ use crate::reading::read_event;
 use crate::reports::Report;
 use crate::statuses::{BAD_SIZES, BAD_VALUE, NO_MEMORY, NOT_FOUND, OK, send_place, send_status};
 use crate::tables_handle::TablesHandle;
-use crate::values::{CAmounts, CObject, CSizes, CallArg, ReportArg, put_args};
+use crate::values::{CAmounts, CObject, CSizes, CallArg, MAX_GIVEN, ReportArg, put_args};
 use std::alloc::Global;
 use wl_objects::Arg;
 
-/// The most arguments of a call that are looked at: one more than any message has, so that a call
-/// with too many is refused as such.
-const MAX_GIVEN: usize = 21;
-
+/// Makes a client with wl_display alone and empty boxes, and writes where it is to `client`.
 #[unsafe(no_mangle)]
 pub extern "C" fn waywire_c_client_new(
     alloc: Global,
@@ -42,18 +39,22 @@ pub extern "C" fn waywire_c_client_new(
     }
 }
 
+/// Frees a client, and what it lent.
 #[unsafe(no_mangle)]
 pub extern "C" fn waywire_c_client_free(client: ClientHandle) {
     drop(client.opened());
 }
 
+/// Writes wl_display, the first object, to `display`.
 #[unsafe(no_mangle)]
 pub extern "C" fn waywire_c_client_display(client: &mut ClientHandle, display: &mut CObject)
+    ensures display { object_of display.new ≡ display_object }
     ensures unchanged { client.new.held ≡ client.old.held }
 {
     *display = CObject::of(client.get_mut().client.display());
 }
 
+/// Writes the interface and the version of a live object to `interface` and `version`.
 #[unsafe(no_mangle)]
 pub extern "C" fn waywire_c_client_live(
     client: &mut ClientHandle,
@@ -61,6 +62,7 @@ pub extern "C" fn waywire_c_client_live(
     interface: &mut u16,
     version: &mut u32,
 ) -> u32
+    ensures answer { result ≡ find_outcome (live client.old.held.client.core (object_of object)) }
     ensures unchanged { client.new.held ≡ client.old.held }
 {
     match client.get_mut().client.live(object.object()) {
@@ -73,15 +75,16 @@ pub extern "C" fn waywire_c_client_live(
     }
 }
 
+/// Writes the free bytes and tokens of the inbox to `room`; zeros at a failed client.
 #[unsafe(no_mangle)]
 pub extern "C" fn waywire_c_client_in_room(client: &mut ClientHandle, room: &mut CAmounts)
-    ensures bytes { room.new.bytes ≡ (in_room client.old.held.client.core).bytes }
-    ensures tokens { room.new.tokens ≡ (in_room client.old.held.client.core).tokens }
+    ensures room { fed_of room.new ≡ in_room client.old.held.client.core }
     ensures unchanged { client.new.held ≡ client.old.held }
 {
     *room = CAmounts::fed(client.get_mut().client.in_room());
 }
 
+/// Whether nothing waits in either box.
 #[unsafe(no_mangle)]
 pub extern "C" fn waywire_c_client_is_drained(client: &mut ClientHandle) -> bool
     ensures answer { result ≡ is_drained client.old.held.client.core }
@@ -90,6 +93,7 @@ pub extern "C" fn waywire_c_client_is_drained(client: &mut ClientHandle) -> bool
     client.get_mut().client.is_drained()
 }
 
+/// Takes in what came, and writes how much of it to `fed`.
 #[unsafe(no_mangle)]
 pub extern "C" fn waywire_c_client_feed(
     client: &mut ClientHandle,
@@ -97,8 +101,7 @@ pub extern "C" fn waywire_c_client_feed(
     tokens: &[u32],
     fed: &mut CAmounts,
 )
-    ensures bytes { fed.new.bytes ≡ (feeds client.old.held.client.core bytes.now tokens.now).bytes }
-    ensures tokens { fed.new.tokens ≡ (feeds client.old.held.client.core bytes.now tokens.now).tokens }
+    ensures count { fed_of fed.new ≡ feeds client.old.held.client.core bytes.now tokens.now }
     ensures state { client.new.held.client
         ≡ with_core client.old.held.client
         (with_arrived client.old.held.client.core (take fed.new.bytes bytes.now)
@@ -107,6 +110,7 @@ pub extern "C" fn waywire_c_client_feed(
     *fed = CAmounts::fed(client.get_mut().client.feed(bytes, tokens));
 }
 
+/// Writes how much `take` into memory of these lengths would take to `amounts`.
 #[unsafe(no_mangle)]
 pub extern "C" fn waywire_c_client_goes(
     client: &mut ClientHandle,
@@ -114,13 +118,13 @@ pub extern "C" fn waywire_c_client_goes(
     tokens: usize,
     amounts: &mut CAmounts,
 )
-    ensures bytes { amounts.new.bytes ≡ (goes client.old.held.client.core.outbox bytes tokens).bytes }
-    ensures tokens { amounts.new.tokens ≡ (goes client.old.held.client.core.outbox bytes tokens).tokens }
+    ensures count { taken_of amounts.new ≡ goes client.old.held.client.core.outbox bytes tokens }
     ensures unchanged { client.new.held ≡ client.old.held }
 {
     *amounts = CAmounts::taken(client.get_mut().client.goes(bytes, tokens));
 }
 
+/// Moves what waits to go into the caller's memory, and writes how much that was to `taken`.
 #[unsafe(no_mangle)]
 pub extern "C" fn waywire_c_client_take(
     client: &mut ClientHandle,
@@ -128,10 +132,8 @@ pub extern "C" fn waywire_c_client_take(
     tokens: &mut [u32],
     taken: &mut CAmounts,
 )
-    ensures count { taken.new.bytes
-        ≡ (goes client.old.held.client.core.outbox (length bytes.old) (length tokens.old)).bytes }
-    ensures token_count { taken.new.tokens
-        ≡ (goes client.old.held.client.core.outbox (length bytes.old) (length tokens.old)).tokens }
+    ensures count { taken_of taken.new
+        ≡ goes client.old.held.client.core.outbox (length bytes.old) (length tokens.old) }
     ensures bytes { bytes.new
         ≡ take taken.new.bytes (waiting_bytes client.old.held.client.core.outbox)
         ++ drop taken.new.bytes bytes.old }
@@ -144,6 +146,8 @@ pub extern "C" fn waywire_c_client_take(
     *taken = CAmounts::taken(client.get_mut().client.take(bytes, tokens));
 }
 
+/// Writes a request, and to `made` the object that it makes. Where an argument is refused, its
+/// place is written to `place`.
 #[unsafe(no_mangle)]
 pub extern "C" fn waywire_c_client_send(
     client: &mut ClientHandle,
@@ -169,24 +173,28 @@ pub extern "C" fn waywire_c_client_send(
             OK
         }
         Err(why) => {
-            *place = send_place(why);
+            if let Some(refused) = send_place(why) {
+                *place = refused;
+            }
             send_status(why)
         }
     }
 }
 
+/// Reads the next event, and writes its report and, as far as they hold them, its arguments.
 #[unsafe(no_mangle)]
 pub extern "C" fn waywire_c_client_next(
     client: &mut ClientHandle,
     report: &mut Report,
     args: &mut [ReportArg],
 ) -> u32
-    ensures answer { result ≡ read (next_answer client.old.held.client) }
+    ensures answer { result ≡ read_outcome (next_answer client.old.held.client) }
     ensures state { client.new.held.client ≡ after_next client.old.held.client }
 {
     read_event(&mut client.get_mut().client, report, args)
 }
 
+/// Binds a global, and writes the new object to `bound`.
 #[unsafe(no_mangle)]
 pub extern "C" fn waywire_c_client_bind(
     client: &mut ClientHandle,

@@ -8,6 +8,7 @@ use wl_message::Sizes;
 use wl_server::Server;
 use wl_sigs::{TableFault, Tables};
 
+// A value in a box.
 fn boxed<T: Drop>(alloc: Global, value: T) -> Result<Box<T>, AllocError> {
     match Box::new(alloc, value) {
         Ok(boxed) => Ok(boxed),
@@ -44,6 +45,7 @@ pub fn more_tables(
     }
 }
 
+/// A client over these tables.
 pub fn client(
     alloc: Global,
     tables: &'static Tables,
@@ -55,6 +57,7 @@ pub fn client(
     boxed(alloc, HeldClient { client })
 }
 
+/// A server over these tables.
 pub fn server(
     alloc: Global,
     tables: &'static Tables,

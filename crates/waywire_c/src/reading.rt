@@ -2,7 +2,7 @@
 ghost use Rattle.std.specs.Prelude.{◌≡◌};
 ghost use Rattle.wl_client.specs.Reports.{after_next as after_event, next_answer};
 ghost use Rattle.wl_server.specs.Requests.{after_next as after_request};
-ghost use Rattle.waywire_c.specs.Statuses.{read};
+ghost use Rattle.waywire_c.specs.Statuses.{read_outcome};
 
 use crate::reports::{Report, incoming, nothing, request, unread};
 use crate::statuses::{OK, next_status};
@@ -17,7 +17,7 @@ pub fn read_event<'t>(
     report: &mut Report,
     args: &mut [ReportArg],
 ) -> u32
-    ensures answer { result ≡ read (next_answer client.old) }
+    ensures answer { result ≡ read_outcome (next_answer client.old) }
     ensures state { client.new ≡ after_event client.old }
 {
     match client.next() {

@@ -1,12 +1,12 @@
 //! What C calls of a server.
 ghost use Rattle.std.specs.Prelude.{◌≡◌, ◌≢◌, ◌++◌, length, take, drop};
 ghost use Rattle.wl_message.specs.Outgoing.{goes, waiting_bytes, waiting_tokens};
-ghost use Rattle.wl_end.specs.Core.{in_room, is_drained, feeds, with_arrived, with_gone};
+ghost use Rattle.wl_end.specs.Core.{in_room, is_drained, live, display_object, feeds, with_arrived, with_gone};
 ghost use Rattle.wl_server.specs.State.{with_core};
 ghost use Rattle.wl_server.specs.Calls.{after_drop, after_error, after_withdraw, drop_refusal, error_refusal, with_global, withdraw_refusal};
 ghost use Rattle.wl_server.specs.Requests.{after_next};
-ghost use Rattle.waywire_c.specs.Statuses.{sent, settled};
-ghost use Rattle.waywire_c.specs.Values.{iface_at, object_of};
+ghost use Rattle.waywire_c.specs.Statuses.{find_outcome, global_outcome, send_outcome};
+ghost use Rattle.waywire_c.specs.Values.{fed_of, iface_at, object_of, taken_of};
 
 use crate::making;
 use crate::parts::address;
@@ -17,15 +17,12 @@ use crate::statuses::{
     BAD_SIZES, BAD_VALUE, NO_MEMORY, NOT_FOUND, OK, global_status, send_place, send_status,
 };
 use crate::tables_handle::TablesHandle;
-use crate::values::{CAmounts, CObject, CSizes, CallArg, ReportArg, put_args};
+use crate::values::{CAmounts, CObject, CSizes, CallArg, MAX_GIVEN, ReportArg, put_args};
 use std::alloc::Global;
 use wl_objects::Arg;
 use wl_wire::Iface;
 
-/// The most arguments of a call that are looked at: one more than any message has, so that a call
-/// with too many is refused as such.
-const MAX_GIVEN: usize = 21;
-
+/// Makes a server with wl_display alone and empty boxes, and writes where it is to `server`.
 #[unsafe(no_mangle)]
 pub extern "C" fn waywire_c_server_new(
     alloc: Global,
@@ -45,18 +42,22 @@ pub extern "C" fn waywire_c_server_new(
     }
 }
 
+/// Frees a server, and what it lent.
 #[unsafe(no_mangle)]
 pub extern "C" fn waywire_c_server_free(server: ServerHandle) {
     drop(server.opened());
 }
 
+/// Writes wl_display, the first object, to `display`.
 #[unsafe(no_mangle)]
 pub extern "C" fn waywire_c_server_display(server: &mut ServerHandle, display: &mut CObject)
+    ensures display { object_of display.new ≡ display_object }
     ensures unchanged { server.new.held ≡ server.old.held }
 {
     *display = CObject::of(server.get_mut().server.display());
 }
 
+/// Writes the interface and the version of a live object to `interface` and `version`.
 #[unsafe(no_mangle)]
 pub extern "C" fn waywire_c_server_live(
     server: &mut ServerHandle,
@@ -64,6 +65,7 @@ pub extern "C" fn waywire_c_server_live(
     interface: &mut u16,
     version: &mut u32,
 ) -> u32
+    ensures answer { result ≡ find_outcome (live server.old.held.server.core (object_of object)) }
     ensures unchanged { server.new.held ≡ server.old.held }
 {
     match server.get_mut().server.live(object.object()) {
@@ -76,15 +78,16 @@ pub extern "C" fn waywire_c_server_live(
     }
 }
 
+/// Writes the free bytes and tokens of the inbox to `room`; zeros at a failed server.
 #[unsafe(no_mangle)]
 pub extern "C" fn waywire_c_server_in_room(server: &mut ServerHandle, room: &mut CAmounts)
-    ensures bytes { room.new.bytes ≡ (in_room server.old.held.server.core).bytes }
-    ensures tokens { room.new.tokens ≡ (in_room server.old.held.server.core).tokens }
+    ensures room { fed_of room.new ≡ in_room server.old.held.server.core }
     ensures unchanged { server.new.held ≡ server.old.held }
 {
     *room = CAmounts::fed(server.get_mut().server.in_room());
 }
 
+/// Whether nothing waits in either box.
 #[unsafe(no_mangle)]
 pub extern "C" fn waywire_c_server_is_drained(server: &mut ServerHandle) -> bool
     ensures answer { result ≡ is_drained server.old.held.server.core }
@@ -93,6 +96,7 @@ pub extern "C" fn waywire_c_server_is_drained(server: &mut ServerHandle) -> bool
     server.get_mut().server.is_drained()
 }
 
+/// Takes in what came, and writes how much of it to `fed`.
 #[unsafe(no_mangle)]
 pub extern "C" fn waywire_c_server_feed(
     server: &mut ServerHandle,
@@ -100,8 +104,7 @@ pub extern "C" fn waywire_c_server_feed(
     tokens: &[u32],
     fed: &mut CAmounts,
 )
-    ensures bytes { fed.new.bytes ≡ (feeds server.old.held.server.core bytes.now tokens.now).bytes }
-    ensures tokens { fed.new.tokens ≡ (feeds server.old.held.server.core bytes.now tokens.now).tokens }
+    ensures count { fed_of fed.new ≡ feeds server.old.held.server.core bytes.now tokens.now }
     ensures state { server.new.held.server
         ≡ with_core server.old.held.server
         (with_arrived server.old.held.server.core (take fed.new.bytes bytes.now)
@@ -110,6 +113,7 @@ pub extern "C" fn waywire_c_server_feed(
     *fed = CAmounts::fed(server.get_mut().server.feed(bytes, tokens));
 }
 
+/// Writes how much `take` into memory of these lengths would take to `amounts`.
 #[unsafe(no_mangle)]
 pub extern "C" fn waywire_c_server_goes(
     server: &mut ServerHandle,
@@ -117,13 +121,13 @@ pub extern "C" fn waywire_c_server_goes(
     tokens: usize,
     amounts: &mut CAmounts,
 )
-    ensures bytes { amounts.new.bytes ≡ (goes server.old.held.server.core.outbox bytes tokens).bytes }
-    ensures tokens { amounts.new.tokens ≡ (goes server.old.held.server.core.outbox bytes tokens).tokens }
+    ensures count { taken_of amounts.new ≡ goes server.old.held.server.core.outbox bytes tokens }
     ensures unchanged { server.new.held ≡ server.old.held }
 {
     *amounts = CAmounts::taken(server.get_mut().server.goes(bytes, tokens));
 }
 
+/// Moves what waits to go into the caller's memory, and writes how much that was to `taken`.
 #[unsafe(no_mangle)]
 pub extern "C" fn waywire_c_server_take(
     server: &mut ServerHandle,
@@ -131,10 +135,8 @@ pub extern "C" fn waywire_c_server_take(
     tokens: &mut [u32],
     taken: &mut CAmounts,
 )
-    ensures count { taken.new.bytes
-        ≡ (goes server.old.held.server.core.outbox (length bytes.old) (length tokens.old)).bytes }
-    ensures token_count { taken.new.tokens
-        ≡ (goes server.old.held.server.core.outbox (length bytes.old) (length tokens.old)).tokens }
+    ensures count { taken_of taken.new
+        ≡ goes server.old.held.server.core.outbox (length bytes.old) (length tokens.old) }
     ensures bytes { bytes.new
         ≡ take taken.new.bytes (waiting_bytes server.old.held.server.core.outbox)
         ++ drop taken.new.bytes bytes.old }
@@ -147,6 +149,8 @@ pub extern "C" fn waywire_c_server_take(
     *taken = CAmounts::taken(server.get_mut().server.take(bytes, tokens));
 }
 
+/// Writes an event, and to `made` that it makes no object. Where an argument is refused, its place
+/// is written to `place`.
 #[unsafe(no_mangle)]
 pub extern "C" fn waywire_c_server_send(
     server: &mut ServerHandle,
@@ -172,12 +176,15 @@ pub extern "C" fn waywire_c_server_send(
             OK
         }
         Err(why) => {
-            *place = send_place(why);
+            if let Some(refused) = send_place(why) {
+                *place = refused;
+            }
             send_status(why)
         }
     }
 }
 
+/// Reads the next request, and writes its report and, as far as they hold them, its arguments.
 #[unsafe(no_mangle)]
 pub extern "C" fn waywire_c_server_next(
     server: &mut ServerHandle,
@@ -190,9 +197,11 @@ pub extern "C" fn waywire_c_server_next(
     read_request(&mut server.get_mut().server, report, args)
 }
 
+/// Ends an object without an event, and writes its delete_id.
 #[unsafe(no_mangle)]
 pub extern "C" fn waywire_c_server_drop_object(server: &mut ServerHandle, object: CObject) -> u32
-    ensures answer { result ≡ sent (drop_refusal server.old.held.server.core (object_of object)) }
+    ensures answer { result
+        ≡ send_outcome (drop_refusal server.old.held.server.core (object_of object)) }
     ensures state { result ≡ 0
         → server.new.held.server ≡ with_core server.old.held.server
         (after_drop server.old.held.server.core (object_of object)) }
@@ -204,6 +213,7 @@ pub extern "C" fn waywire_c_server_drop_object(server: &mut ServerHandle, object
     }
 }
 
+/// Writes wl_display.error about an object, which ends the connection.
 #[unsafe(no_mangle)]
 pub extern "C" fn waywire_c_server_post_error(
     server: &mut ServerHandle,
@@ -212,7 +222,7 @@ pub extern "C" fn waywire_c_server_post_error(
     text: &[u8],
 ) -> u32
     ensures answer { result
-        ≡ sent (error_refusal server.old.held.server.core (object_of object) text.now) }
+        ≡ send_outcome (error_refusal server.old.held.server.core (object_of object) text.now) }
     ensures state { result ≡ 0
         → server.new.held.server ≡ with_core server.old.held.server
         (after_error server.old.held.server.core (object_of object) code text.now) }
@@ -228,6 +238,7 @@ pub extern "C" fn waywire_c_server_post_error(
     }
 }
 
+/// Adds a global, and writes its name to `name`.
 #[unsafe(no_mangle)]
 pub extern "C" fn waywire_c_server_add_global(
     server: &mut ServerHandle,
@@ -253,9 +264,10 @@ pub extern "C" fn waywire_c_server_add_global(
     }
 }
 
+/// Withdraws a global.
 #[unsafe(no_mangle)]
 pub extern "C" fn waywire_c_server_withdraw(server: &mut ServerHandle, name: u32) -> u32
-    ensures answer { result ≡ settled (withdraw_refusal server.old.held.server name) }
+    ensures answer { result ≡ global_outcome (withdraw_refusal server.old.held.server name) }
     ensures state { result ≡ 0
         → server.new.held.server ≡ after_withdraw server.old.held.server name }
     ensures unchanged { result ≢ 0 → server.new.held ≡ server.old.held }
@@ -266,6 +278,8 @@ pub extern "C" fn waywire_c_server_withdraw(server: &mut ServerHandle, name: u32
     }
 }
 
+/// Writes to the open registries what they are owed, as far as it fits, and the number of these
+/// events to `count`.
 #[unsafe(no_mangle)]
 pub extern "C" fn waywire_c_server_announce(server: &mut ServerHandle, count: &mut usize) -> u32
     ensures unchanged { result ≢ 0 → server.new.held ≡ server.old.held }

@@ -1,6 +1,7 @@
-//! What a call says of itself: a number for each refusal and each fault. The numbers of the
-//! refusals S1 to S12 are 1 to 12, those of G2, G3 and G5 are 22, 23 and 25, and those of the faults
-//! F1 to F10 are 31 to 40.
+//! What a call says of itself: a number for each refusal and each fault.
+//!
+//! The numbers of the refusals S1 to S12 are 1 to 12, those of G2, G3 and G5 are 22, 23 and 25, and
+//! those of the faults F1 to F10 are 31 to 40.
 ghost use Rattle.std.specs.Prelude.{◌≡◌};
 ghost use Rattle.waywire_c.specs.Statuses.{send_status, global_status, fault_status, next_status};
 
@@ -54,14 +55,15 @@ pub fn send_status(error: SendError) -> u32
     }
 }
 
-/// The place of the argument that a refusal names; 0 where it names none.
-pub fn send_place(error: SendError) -> usize {
+/// The place of the argument that a refusal names, if it names one.
+pub fn send_place(error: SendError) -> Option<usize> {
     match error {
-        SendError::WrongArgs(place) | SendError::BadObject(place) => place,
-        _ => 0,
+        SendError::WrongArgs(place) | SendError::BadObject(place) => Some(place),
+        _ => None,
     }
 }
 
+/// The status of a refusal to add or to withdraw a global.
 pub fn global_status(error: GlobalError) -> u32
     ensures { result ≡ global_status error }
 {
@@ -74,6 +76,7 @@ pub fn global_status(error: GlobalError) -> u32
     }
 }
 
+/// The status of a fault.
 fn fault_status(fault: Fault) -> u32
     ensures { result ≡ fault_status fault }
 {

@@ -8,6 +8,7 @@ use std::alloc::Global;
 use wl_sigs::TableFault;
 use wl_wire::Iface;
 
+/// Makes the core tables, and writes where they are to `tables`.
 #[unsafe(no_mangle)]
 pub extern "C" fn waywire_c_tables_core(alloc: Global, tables: &mut *mut u8) -> u32 {
     match core_tables(alloc) {
@@ -19,6 +20,8 @@ pub extern "C" fn waywire_c_tables_core(alloc: Global, tables: &mut *mut u8) -> 
     }
 }
 
+/// Makes tables of these and those of a text, and writes where they are to `more`. Where a line of
+/// the text is bad, its number is written to `line`, and the rule that it breaks to `rule`.
 #[unsafe(no_mangle)]
 pub extern "C" fn waywire_c_tables_read(
     alloc: Global,
@@ -51,6 +54,7 @@ pub extern "C" fn waywire_c_tables_read(
     }
 }
 
+/// Writes the place of the interface of this name to `interface`.
 #[unsafe(no_mangle)]
 pub extern "C" fn waywire_c_tables_interface(
     tables: &mut TablesHandle,
@@ -66,6 +70,7 @@ pub extern "C" fn waywire_c_tables_interface(
     }
 }
 
+/// Writes where the name of the interface at a place begins to `name`, and its length to `length`.
 #[unsafe(no_mangle)]
 pub extern "C" fn waywire_c_tables_name(
     tables: &mut TablesHandle,
@@ -83,6 +88,7 @@ pub extern "C" fn waywire_c_tables_name(
     }
 }
 
+/// Writes the newest version of the interface at a place to `version`.
 #[unsafe(no_mangle)]
 pub extern "C" fn waywire_c_tables_version(
     tables: &mut TablesHandle,

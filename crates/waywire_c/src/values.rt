@@ -1,11 +1,15 @@
 //! Values as C has them: objects, arguments, numbers of bytes and tokens.
-ghost use Rattle.std.specs.Prelude.{◌≡◌, ◌≤◌, length, IfSome};
+ghost use Rattle.std.specs.Prelude.{◌≡◌, ◌≤◌, length, IfSome, IsNone};
 ghost use Rattle.wl_message.specs.Arrived.{AreSizes};
 
 use std::ptr;
 use wl_message::{Fed, Limit, Sizes, Taken};
 use wl_objects::{Arg, GotRef, Named, Object};
 use wl_wire::Fixed;
+
+/// The most arguments of a call that are looked at: one more than any message has, so that a call
+/// with too many is refused as such.
+pub const MAX_GIVEN: usize = 21;
 
 /// What an argument is. A call takes those up to `FD`; the others stand in reports alone, which
 /// have no `NEW` without an object. 0 is none of them.
@@ -90,6 +94,7 @@ pub struct CAmounts {
 impl CObject {
     ghost use Rattle.waywire_c.specs.Values.{object_of};
 
+    /// What stands where there is no object.
     pub const fn none() -> CObject {
         CObject { birth: 0, id: 0 }
     }
@@ -114,9 +119,13 @@ impl CObject {
 }
 
 impl CSizes {
+    ghost use Rattle.waywire_c.specs.Values.{sizes_of};
+
     /// The sizes, where an end can have them.
     pub fn sizes(&self) -> Option<Sizes>
-        ensures { IfSome result (λ sizes. AreSizes sizes) }
+        ensures in_range { IfSome result (λ sizes. AreSizes sizes) }
+        ensures same { IfSome result (λ sizes. sizes ≡ sizes_of self.now) }
+        ensures only { IsNone result → AreSizes (sizes_of self.now) → ⊥ }
     {
         let in_range = self.out_bytes <= 16_777_216
             && self.out_tokens <= 65_536
@@ -138,8 +147,10 @@ impl CSizes {
 }
 
 impl CAmounts {
+    ghost use Rattle.waywire_c.specs.Values.{fed_of, taken_of};
+
     pub fn fed(fed: Fed) -> CAmounts
-        ensures { (result.bytes ≡ fed.bytes) × (result.tokens ≡ fed.tokens) }
+        ensures { fed_of result ≡ fed }
     {
         CAmounts {
             bytes: fed.bytes,
@@ -148,7 +159,7 @@ impl CAmounts {
     }
 
     pub fn taken(taken: Taken) -> CAmounts
-        ensures { (result.bytes ≡ taken.bytes) × (result.tokens ≡ taken.tokens) }
+        ensures { taken_of result ≡ taken }
     {
         CAmounts {
             bytes: taken.bytes,
@@ -196,7 +207,8 @@ fn arg_of<'a>(arg: &CallArg<'a>) -> Option<Arg<'a>> {
 /// number. None where one is of a kind that no call takes.
 #[inline(always)]
 pub fn put_args<'a>(args: &[CallArg<'a>], slots: &mut [Arg<'a>]) -> Option<usize>
-    ensures { IfSome result (λ count. (count ≤ length slots.new) × (length slots.new ≡ length slots.old)) }
+    ensures within { IfSome result (λ count. count ≤ length slots.new) }
+    ensures as_many { IfSome result (λ _. length slots.new ≡ length slots.old) }
 {
     let count = args.len().min(slots.len());
     'places: for place in 0..count {

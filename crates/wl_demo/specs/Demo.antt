@@ -42,7 +42,7 @@ sizes = record {
 }
 
 -- The text tells of two ends that began new, after the session of both, of which each carry moved
--- at most so many bytes.
+-- at most `piece` bytes.
 pub record IsShown (tables : List Interface) (piece : ℕ) (text : List ℕ) : Type 0 where
   pub last : PairState
   pub begins : Stands (new_pair tables sizes sizes) opening

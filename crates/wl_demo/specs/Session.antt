@@ -77,7 +77,7 @@ pub data Part : Type 0 where
 abbrev pub each_once : List Move → List Part
 each_once moves = map Once moves
 
--- all that waits is carried to the server, at most so many bytes at once, and read there; and
+-- all that waits is carried to the server, at most `piece` bytes at once, and read there; and
 -- likewise to the client
 abbrev pub to_server : ℕ → List Part
 to_server piece = Until (CarryToServer piece) ∷ Until ServerNext ∷ []

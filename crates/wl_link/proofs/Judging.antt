@@ -6,7 +6,7 @@ use Rattle.std.proofs.lemmas.List.{append_assoc, take_at, drop-drop}
 use Rattle.wl_wire.specs.declared.header.Header.{Header}
 use Rattle.wl_wire.specs.Word.{header_at, header_bytes}
 use Rattle.wl_wire.specs.Argument.{Int, Uint, Fixed, Str, Obj, New, NewNamed, Array, Fd}
-use Rattle.wl_sigs.specs.Tables.{Interface, signature_at}
+use Rattle.wl_sigs.specs.Tables.{Interface}
 use Rattle.wl_sigs.specs.Tables as sigs
 use Rattle.wl_message.specs.Cut.{IsMessage, is_size}
 use Rattle.wl_message.proofs.Fronts.{is_size-true}
@@ -15,6 +15,7 @@ use Rattle.wl_objects.specs.declared.lookup.NewId.TheVariants.{Free}
 use Rattle.wl_objects.specs.declared.error.Fault.TheVariants.{BadSize}
 use Rattle.wl_objects.specs.Reading.{Reader}
 use Rattle.wl_objects.specs.Writing.{spelled as spelled_values, message_len}
+use Rattle.wl_objects.proofs.Wholes.{length-message, length-spelled}
 use Rattle.wl_recording.specs.declared.piece.Direction.{Direction}
 use Rattle.wl_check.specs.Merged.{mark, framed}
 use Rattle.wl_check.specs.Effects.{Call, side_of}
@@ -23,7 +24,7 @@ use Rattle.wl_check.specs.Rules.{reader, called, judged, judged_as, is_bad_bind}
 use Rattle.wl_world.specs.Meant.{Known, Message, Arg, objects, new_in, wire, tokens, spelled}
 use Rattle.wl_world.specs.World.{Each, IfThere}
 use Rattle.wl_world.specs.Stands.{Fits}
-use Rattle.wl_world.proofs.Readings.{HasObject, Finds, received_by_any, bytes_len, parted, sized}
+use Rattle.wl_world.proofs.Readings.{HasObject, Finds, received_by_any, parted}
 
 pub all_found : (r : Reader) (args : List (Arg Known)) → Each (HasObject r) (objects args) → Each (λ a. IfThere (λ x. r.new_id x.id ≡ Free) (new_in a)) args → Each (Finds r) args
 all_found r [] o n = tt
@@ -51,10 +52,10 @@ body_is : (m : Message Known) (stream more : List ℕ) (p : ℕ) → drop p stre
     → take (length (spelled m).bytes - 8) (drop (p + 8) stream) ≡ spelled_values (map wire m.args)
 body_is m stream more p e =
     let vs = map wire m.args in
-    let s = sized vs in
-    let l = bytes_len m.target.id m.opcode vs in
+    let s = length-spelled vs in
+    let l = length-message m.target.id m.opcode vs in
     let header : Header = record { object = m.target.id; size = message_len vs; opcode = m.opcode } in
-    let n : length (spelled_values vs) ≡ length (spelled m).bytes - 8 = omega (arith, l, s.len) in
+    let n : length (spelled_values vs) ≡ length (spelled m).bytes - 8 = omega (arith, l, s) in
     let front : drop p stream ≡ header_bytes header ++ (spelled_values vs ++ more) = e ∙ append_assoc (header_bytes header) (spelled_values vs) more in
     let behind : drop (p + 8) stream ≡ spelled_values vs ++ more = sym (drop-drop 8 p stream) ∙ ap (drop 8) front in
     ap (take (length (spelled m).bytes - 8)) behind ∙ take_at (spelled_values vs) more (length (spelled m).bytes - 8) n

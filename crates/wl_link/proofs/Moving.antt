@@ -3,7 +3,7 @@ use Rattle.std.proofs.Common.{◌≡◌, ℕ, ◌<◌, ◌≤◌, Bool, true, fa
 use Rattle.std.specs.Prelude.{option_map, nat_eq, ◌&&◌, not}
 use Rattle.std.specs.declared.option.Option.{Option}
 use Rattle.std.specs.declared.option.Option.TheVariants.{None, Some}
-use Rattle.std.proofs.lemmas.Bool.{eqb-true, eq-eqb}
+use Rattle.std.proofs.lemmas.Bool.{eqb-true, eq-eqb, and_parts}
 use Rattle.std.proofs.lemmas.List.{append_assoc}
 use Rattle.wl_wire.specs.declared.kind.Iface.{Iface}
 use Rattle.wl_sigs.specs.declared.signature.Side.TheVariants.{Request as request_side, Event as event_side}
@@ -242,10 +242,6 @@ module _ (k : Knows) where
       global_is : (b : Bool) (opcode : ℕ) → b ≡ true → opcode ≡ 0 → (b && nat_eq opcode 0) ≡ true
       global_is b opcode e z = rw (e, eq-eqb opcode 0 z) refl
 
-both_true : (a b : Bool) → (a && b) ≡ true → a ≡ true
-both_true true b h = refl
-both_true false b h = h
-
 event_joins : (test : Born → Bool) (m : Message Known) (asked_later : List (Message Known)) (rest : List (Coming Known)) (here : Rows Row) (v : View) (tables : List Interface) (f : Fits tables event_side m)
     → Joins test (all_asks asked_later) (all_tells (Event m ∷ rest)) here (client_rows v) → Joins test (all_asks asked_later) (all_tells rest) here (client_rows (ended_view client_end v m.ends))
 event_joins test m asked_later rest here v tables f j =
@@ -286,7 +282,7 @@ event_links p w w' asked m cs n entry whole l s =
         here = f.here;
         known_as = f.known_as;
         joins = event_joins (by_event tables) m l.asked_later seen.rest f.here p.client.core.view tables l.stands.told_fit.0.fits joins;
-        remembers = learns (knows p) tables p.client.core.tables p.server.globals p.client.globals m l.stands.same_tables l.stands.told_fit.0 told.0 f.remembers (teaches m entry) (both_true (is_registry m.target.born) _);
+        remembers = learns (knows p) tables p.client.core.tables p.server.globals p.client.globals m l.stands.same_tables l.stands.told_fit.0 told.0 f.remembers (teaches m entry) (λ h. (and_parts (is_registry m.target.born) _ h).0);
         tells = told.1;
         binds = f.binds;
       };

@@ -14,6 +14,7 @@ use Rattle.wl_check.specs.Merged.{mark, Cutting, cutting, cut_at, same_direction
 use Rattle.wl_check.specs.Session.{Judged, judged_after}
 use Rattle.wl_check.proofs.Cutting.{step}
 use Rattle.wl_world.specs.World.{Each}
+use Rattle.wl_world.proofs.Channels.{front_nil}
 use Rattle.wl_link.specs.Follows.{knowledge}
 use Rattle.wl_link.proofs.Calls.{One}
 
@@ -48,10 +49,6 @@ apart x left m more e h =
       is = sym (take-append-drop n x) ∙ ap (λ (l : List ℕ). l ++ drop n x) front;
       behind = sym (drop-append-le n x left h) ∙ ap (drop n) e ∙ drop-append-le n m more (omega arith) ∙ ap (λ (l : List ℕ). l ++ more) (drop_all n m (omega arith));
     }
-
-nothing_in : (x left : List ℕ) → x ++ left ≡ [] → x ≡ []
-nothing_in [] left h = refl
-nothing_in (y ∷ x) left h = absurd (cc h)
 
 -- ---- the messages from a place of a stream on
 
@@ -130,7 +127,7 @@ module _ {M : Type 0} (sp : M → boxes.Message) (limit : ℕ) (tables : List In
       → map sp later ≡ begun ++ others → x ++ left ≡ all_bytes begun → Each (λ m. IsMessage limit m.bytes) begun
       → (knowledge tables e).taken d + length (all_tokens begun) ≤ t → Walked e seen later x (cutting limit (length (streams d)) (streams d) p)
   walk one later [] others e seen p x left f at within is bytes whole enough =
-      stops e seen later p x f at within (ap (front limit) (nothing_in x left bytes) ∙ front_none limit)
+      stops e seen later p x f at within (ap (front limit) (front_nil x left bytes) ∙ front_none limit)
   walk one [] (b ∷ begun) others e seen p x left f at within is bytes whole enough = absurd (cc is)
   walk one (m ∷ later) (b ∷ begun) others e seen p x left f at within is bytes whole enough =
       let first : sp m ≡ b = cc is in

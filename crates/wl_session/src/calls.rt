@@ -1,4 +1,5 @@
-//! The calls of the two ends, as the pair does them.
+//! The calls of the two ends, as the pair does them: what each does to both ends and to the
+//! recording.
 ghost use Rattle.wl_objects.specs.Writing.{given};
 ghost use Rattle.wl_client.specs.Seen as client_seen;
 ghost use Rattle.wl_server.specs.Seen as server_seen;

@@ -15,8 +15,8 @@ use wl_message::{Fed, Taken};
 use wl_objects::Table;
 use wl_recording::{Direction, Recording};
 
-/// Makes the room to record what goes, with zeros in place of its bytes. It allocates nothing where
-/// nothing goes.
+/// Makes the room to record what will go: a piece with zeros in place of its bytes. It allocates
+/// nothing where nothing goes.
 fn prepare<A: Allocator + Clone>(
     recording: &mut Recording<A>,
     direction: Direction,
@@ -35,7 +35,7 @@ fn prepare<A: Allocator + Clone>(
     recording.prepare(direction, going.bytes, going.tokens as u32)
 }
 
-/// Writes what went over the zeros.
+/// Writes what went over the zeros of the last piece.
 fn fill<A: Allocator + Clone>(recording: &mut Recording<A>, bytes: &[u8])
     requires { 0 < length bytes.now → length bytes.now ≡ last_len recording.old }
     ensures { recording.new ≡ filled recording.old bytes.now }
@@ -46,7 +46,7 @@ fn fill<A: Allocator + Clone>(recording: &mut Recording<A>, bytes: &[u8])
 }
 
 /// Moves what waits at one end to the other, as much as these slices hold, and writes it into the
-/// recording.
+/// piece that was prepared for it.
 fn hand_over<W: End, R: End, A: Allocator + Clone>(
     from: &mut W,
     to: &mut R,
@@ -79,7 +79,8 @@ fn hand_over<W: End, R: End, A: Allocator + Clone>(
     to.feed(bytes, &tokens[..taken.tokens]);
 }
 
-/// Does so by way of these buffers, within this limit.
+/// Moves what waits at one end to the other as `hand_over` does, by way of these buffers and within
+/// this limit.
 fn pass<W: End, R: End, A: Allocator + Clone>(
     from: &mut W,
     to: &mut R,

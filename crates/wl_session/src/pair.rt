@@ -161,7 +161,7 @@ fn ends<'t, T: Table + Drop>(
     Ok((client, server))
 }
 
-// All tables are valid.
+// All tables are valid, as each of their calls says.
 fn know_valid(tables: &Tables)
     ensures { Valid tables.now }
 {

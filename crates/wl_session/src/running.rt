@@ -17,9 +17,9 @@ use wl_objects::{Arg, Table};
 impl<'t, T: Table> Pair<'t, T> {
     /// Does these moves in their order, and returns one reply for each.
     ///
-    /// The list of replies is allocated first. The error comes only there, and then nothing was
-    /// done. A move that runs out of memory later has the reply of its call for that, and the next
-    /// moves are done all the same.
+    /// The room for all replies, and for the longest list of arguments, is allocated first. The
+    /// error comes only there, and then nothing was done. A move that runs out of memory later has
+    /// the reply of its call for that, and the next moves are done all the same.
     pub fn run(
         &mut self,
         moves: &[Move<T::Alloc>],
@@ -68,6 +68,12 @@ impl<'t, T: Table> Pair<'t, T> {
                 lend(args.as_slice(), list);
                 Reply::ClientSend(self.client_send(*target, *opcode, list.as_slice()))
             }
+            Move::ClientBind {
+                registry,
+                name,
+                iface,
+                version,
+            } => Reply::ClientBind(self.client_bind(*registry, *name, iface.as_slice(), *version)),
             Move::ServerSend {
                 target,
                 opcode,
@@ -76,16 +82,6 @@ impl<'t, T: Table> Pair<'t, T> {
                 lend(args.as_slice(), list);
                 Reply::ServerSend(self.server_send(*target, *opcode, list.as_slice()))
             }
-            Move::CarryToServer(most) => Reply::CarryToServer(self.carry_to_server(*most)),
-            Move::CarryToClient(most) => Reply::CarryToClient(self.carry_to_client(*most)),
-            Move::ClientNext => Reply::ClientNext(self.client_next()),
-            Move::ServerNext => Reply::ServerNext(self.server_next()),
-            Move::ClientBind {
-                registry,
-                name,
-                iface,
-                version,
-            } => Reply::ClientBind(self.client_bind(*registry, *name, iface.as_slice(), *version)),
             Move::ServerDrop { object } => Reply::ServerDrop(self.server_drop(*object)),
             Move::PostError { object, code, text } => {
                 Reply::PostError(self.post_error(*object, *code, text.as_slice()))
@@ -95,6 +91,10 @@ impl<'t, T: Table> Pair<'t, T> {
             }
             Move::Withdraw { name } => Reply::Withdraw(self.withdraw(*name)),
             Move::Announce => Reply::Announce(self.announce()),
+            Move::CarryToServer(most) => Reply::CarryToServer(self.carry_to_server(*most)),
+            Move::CarryToClient(most) => Reply::CarryToClient(self.carry_to_client(*most)),
+            Move::ClientNext => Reply::ClientNext(self.client_next()),
+            Move::ServerNext => Reply::ServerNext(self.server_next()),
         }
     }
 }

@@ -36,7 +36,7 @@ impl<A: Allocator> Model for Copied<A> {
 }
 
 impl<A: Allocator> Copied<A> {
-    /// No bytes yet, and room for so many.
+    /// No bytes yet, and room for this many.
     fn new(alloc: A, room: usize) -> Result<Self, AllocError>
         ensures { IfOk result (λ c. c ≡ record { bytes = []; room = room }) }
     {
@@ -59,6 +59,7 @@ impl<A: Allocator> Copied<A> {
         requires { length bytes.now ≤ left self.old }
         ensures { self.new ≡ with_copied self.old bytes.now }
     {
+        // The room was reserved, so this does not allocate and cannot fail.
         let _ = self.bytes.extend_from_slice(bytes);
     }
 
@@ -88,7 +89,7 @@ pub struct Tee<R, A: Allocator = Global> {
 }
 
 impl<R: Read, A: Allocator> Tee<R, A> {
-    /// Reads from this reader. There is room to copy so many bytes.
+    /// Reads from this reader, with room to copy `room` bytes until `add_to` is called.
     pub fn new(alloc: A, reader: R, room: usize) -> Result<Self, AllocError>
     where
         R: Drop,

@@ -17,7 +17,7 @@ use Rattle.wl_world.specs.World.{Row, Open, Ending, IfThere, Each}
 use Rattle.wl_world.specs.Flight.{Rows, at, row, as_row, client_rows, server_rows, Fresh, Held}
 use Rattle.wl_world.proofs.Wholes.{ThereRow, client_makes, client_ends, server_makes, server_ends}
 use Rattle.wl_world.proofs.Sets.{there_kept}
-use Rattle.wl_world.proofs.Bridges.{client_opened, server_opened, server_closed, client_zombied, fresh_free, fresh_room}
+use Rattle.wl_world.proofs.Bridges.{map_none, client_opened, server_opened, server_closed, client_zombied, fresh_free, fresh_room}
 use Rattle.wl_world.proofs.Readings.{made_of}
 use Rattle.wl_world.proofs.Ended.{Mortal, ended_view}
 
@@ -26,10 +26,6 @@ use Rattle.wl_world.proofs.Ended.{Mortal, ended_view}
 pub map_some : {X Y : Type 0} (f : X → Y) (o : Option X) (y : Y) → option_map f o ≡ Some y → (x : X) × (o ≡ Some x) × (f x ≡ y)
 map_some f None y h = absurd (cc h)
 map_some f (Some x) y h = (x, refl, cc h)
-
-pub map_none : {X Y : Type 0} (f : X → Y) (o : Option X) → option_map f o ≡ None → o ≡ None
-map_none f None h = refl
-map_none f (Some x) h = absurd (cc h)
 
 some_is : {X : Type 0} (o : Option X) (x : X) → o ≡ Some x → is_some o ≡ true
 some_is o x h = ap is_some h

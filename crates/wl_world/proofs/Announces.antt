@@ -12,7 +12,7 @@ use Rattle.wl_wire.specs.Spelling.{IsText}
 use Rattle.wl_sigs.specs.declared.signature.Side.TheVariants.{Event as event_side}
 use Rattle.wl_sigs.specs.declared.signature.Destroys.TheVariants.{Nothing}
 use Rattle.wl_sigs.specs.Tables.{Interface, interface_at, place_of}
-use Rattle.wl_sigs.specs.Fixed.{registry, wl_registry}
+use Rattle.wl_sigs.specs.Fixed.{registry}
 use Rattle.wl_sigs.specs.Fixed as fixed
 use Rattle.wl_sigs.specs.Valid.{Valid}
 use Rattle.wl_message.specs.Outgoing.{message}
@@ -66,13 +66,9 @@ each_get P [] k x h e = absurd (cc e)
 each_get P (y ∷ xs) zero x h e = subst P (cc e) h.0
 each_get P (y ∷ xs) (suc k) x h e = each_get P xs k x h.1 e
 
-each_join : {X : Type 0} (P : X → Type 0) (xs ys : List X) → Each P xs → Each P ys → Each P (xs ++ ys)
-each_join P [] ys h p = p
-each_join P (x ∷ xs) ys h p = (h.0, each_join P xs ys h.1 p)
-
 owing_all : (tables : List Interface) (given : List Global) (r : Registry) → length given ≤ max_globals → Each (IsGlobal tables) given → Each (IsOwing tables given) (owed_to given r)
 owing_all tables given r l g =
-    each_join (IsOwing tables given) (owings (owes_removal r) (λ name _. Removal name) 1 given) (owings (owes_telling r) Telling 1 given)
+    each_more (IsOwing tables given) (owings (owes_removal r) (λ name _. Removal name) 1 given) (owings (owes_telling r) Telling 1 given)
     (each_owing (IsOwing tables given) (owes_removal r) (λ name _. Removal name) 1 given (λ k x h. (let n = slice_get_within given k x h in omega (arith, n, l))))
     (each_owing (IsOwing tables given) (owes_telling r) Telling 1 given (λ k x h.
     (let n = slice_get_within given k x h in let e : 1 + k ≡ suc k = omega arith in
@@ -102,7 +98,7 @@ all_due : (tables : List Interface) (given : List Global) (v : View) (rs : List 
     → Each (IsDue tables given (server_rows v)) (owed_in given rs)
 all_due tables given v [] l g a i = tt
 all_due tables given v (r ∷ rs) l g a i =
-    each_join (IsDue tables given (server_rows v)) (due_to given r) (owed_in given rs) (dues_of tables given v r.object (owed_to given r) a (i r.object (inl refl)) (owing_all tables given r l g))
+    each_more (IsDue tables given (server_rows v)) (due_to given r) (owed_in given rs) (dues_of tables given v r.object (owed_to given r) a (i r.object (inl refl)) (owing_all tables given r l g))
     (all_due tables given v rs l g a (λ o h. i o (inr h)))
 
 each_take : {X : Type 0} (P : X → Type 0) (n : ℕ) (xs : List X) → Each P xs → Each P (take n xs)

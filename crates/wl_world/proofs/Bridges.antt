@@ -59,7 +59,7 @@ zombie_at v id e h q = look-zombied v id q ∙ elim (cases_eq q id) [
 pub client_zombied : (v : View) (id : ℕ) (e : Entry) → look v id ≡ Some e → client_rows (zombied v id) ≡ at (client_rows v) id (Some (Ending (plain e)))
 client_zombied v id e h = same_rows_at v.births (map_put row (look (zombied v id)) (look v) id (Some (zombie e)) (zombie_at v id e h)) refl
 
-map_none : {X Y : Type 0} (f : X → Y) (o : Option X) → option_map f o ≡ None → o ≡ None
+pub map_none : {X Y : Type 0} (f : X → Y) (o : Option X) → option_map f o ≡ None → o ≡ None
 map_none f None h = refl
 map_none f (Some x) h = absurd (cc h)
 

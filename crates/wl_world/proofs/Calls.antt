@@ -1,11 +1,11 @@
 -- The message that a call writes.
 use Rattle.std.proofs.Common.{◌≡◌, ◌≢◌, ℕ, suc, ◌<◌, ◌≤◌, ◌^◌, Bool, true, false, cond, List, [], ◌∷◌, map, length, ◌⊎◌, inl, inr, refl, sym, ap, subst, ◌∙◌, arith}
-use Rattle.std.specs.Prelude.{nat_eq, nat_lt, not, ◌&&◌}
+use Rattle.std.specs.Prelude.{nat_eq, nat_lt}
 use Rattle.std.specs.List.{All, list_any}
 use Rattle.std.specs.declared.option.Option.{Option}
 use Rattle.std.specs.declared.option.Option.TheVariants.{None, Some}
 use Rattle.std.specs.declared.result.Result.TheVariants.{Ok, Err}
-use Rattle.std.proofs.lemmas.Bool.{both_ways, eqb-true, eq-eqb, ltb-false}
+use Rattle.std.proofs.lemmas.Bool.{both_ways, eqb-true, eq-eqb, ltb-false, and_parts, not-true}
 use Rattle.std.proofs.lemmas.List.Folds.{list_any_at}
 use Rattle.std.proofs.lemmas.List.Elements.{All-tail}
 use Rattle.wl_wire.specs.declared.kind.Kind.{Kind}
@@ -47,10 +47,6 @@ pub record Checked (limit : ℕ) (tables : List Interface) (side : Side) (view :
   pub found : lost_place (look view) 0 signature.kinds given ≡ None
   pub len : message_len (map (wired 0) given) ≤ limit
 
-and_both : (a b : Bool) → (a && b) ≡ true → (a ≡ true) × (b ≡ true)
-and_both true b h = (refl, h)
-and_both false b h = absurd (cc h)
-
 is_live-state : (s : State) → is_live s ≡ true → s ≡ states.Live
 is_live-state states.Live h = refl
 is_live-state states.Zombie h = absurd (cc h)
@@ -63,7 +59,7 @@ pub record LiveAs (birth : ℕ) (o : Option Entry) : Type 0 where
 
 pub live_as : (birth : ℕ) (o : Option Entry) → is_live_as birth o ≡ true → LiveAs birth o
 live_as birth None h = absurd (cc h)
-live_as birth (Some e) h = let k = and_both (nat_eq e.birth birth) (is_live e.state) h in record { entry = e; there = refl; birth_is = eqb-true e.birth birth k.0; live = is_live-state e.state k.1 }
+live_as birth (Some e) h = let k = and_parts (nat_eq e.birth birth) (is_live e.state) h in record { entry = e; there = refl; birth_is = eqb-true e.birth birth k.0; live = is_live-state e.state k.1 }
 
 live_row_at : (birth : ℕ) (o : Option Entry) (b : Bool) → is_live_as birth o ≡ b → (e : Entry) → cond b o None ≡ Some e → LiveAs birth o × (o ≡ Some e)
 live_row_at birth o true h e k = (live_as birth o h, k)
@@ -179,22 +175,6 @@ tokens_all view new (NewNamed name own x ∷ given) = tokens_all view new given
 tokens_all view new (Array z ∷ given) = tokens_all view new given
 tokens_all view new (Fd z ∷ given) = ap (λ (l : List ℕ). z ∷ l) (tokens_all view new given)
 
-len_one : (n : ℕ) (a : Given) → spelled_len (wired n a) ≡ spelled_len (wired 0 a)
-len_one n (Int z) = refl
-len_one n (Uint z) = refl
-len_one n (Fixed z) = refl
-len_one n (Str None) = refl
-len_one n (Str (Some z)) = refl
-len_one n (Obj x) = refl
-len_one n (New x) = refl
-len_one n (NewNamed name own x) = refl
-len_one n (Array z) = refl
-len_one n (Fd z) = refl
-
-pub len_all : (n : ℕ) (given : List Given) → message_len (map (wired n) given) ≡ message_len (map (wired 0) given)
-len_all n [] = refl
-len_all n (a ∷ given) = rw (len_one n a, len_all n given) refl
-
 -- each suits its kind, and can be named
 pub record Right (view : View) (kind : Kind) (a : Given) : Type 0 where
   pub suit : suits kind a ≡ true
@@ -227,7 +207,7 @@ handed_one view new births k (Fixed z) e r = refl
 handed_one view new births k (Str z) e r = refl
 handed_one view new births k (Obj None) e r = refl
 handed_one view new births k (Obj (Some x)) e r =
-    let l = live_as x.birth (look view x.id) (and_both _ _ r.named).0 in
+    let l = live_as x.birth (look view x.id) (and_parts _ _ r.named).0 in
     ap (λ (b : ℕ). Obj (Some b)) (ap (λ o. (born_at o).birth) l.there ∙ l.birth_is)
 handed_one view new births k (New x) e r = ap (λ (b : ℕ). New b) e
 handed_one view new births k (NewNamed name own x) e r = ap (λ (b : ℕ). NewNamed name own b) e
@@ -251,7 +231,7 @@ pub record LiveAt (view : View) (x : Known) : Type 0 where
   pub live : entry.state ≡ states.Live
 
 pub live_at : (view : View) (k : Kind) (x : Object) → can_name (look view) k (Obj (Some x)) ≡ true → LiveAt view (record { id = x.id; born = born_at (look view x.id) })
-live_at view k x h = let l = live_as x.birth (look view x.id) (and_both _ _ h).0 in record { entry = l.entry; there = l.there; same = ap born_at (sym l.there); live = l.live }
+live_at view k x h = let l = live_as x.birth (look view x.id) (and_parts _ _ h).0 in record { entry = l.entry; there = l.there; same = ap born_at (sym l.there); live = l.live }
 
 pub all_live : (view : View) (new : Known) (ks : List Kind) (given : List Given) → AllRight view ks given → Each (LiveAt view) (objects (map (meant view new) given))
 all_live view new [] [] r = tt
@@ -313,12 +293,8 @@ matches tables view version id (_ ∷ ks) (_ ∷ given) r h u = absurd (cc r.0.s
 
 no_nul : (text : List ℕ) → has_no_nul text ≡ true → All (λ b. b ≢ 0) text
 no_nul text e k d h z =
-    let f : list_any (λ b. nat_eq b 0) text ≡ false = not_true (list_any (λ b. nat_eq b 0) text) e in
+    let f : list_any (λ b. nat_eq b 0) text ≡ false = not-true (list_any (λ b. nat_eq b 0) text) e in
     both_ways _ f (list_any_at (λ (b : ℕ). nat_eq b 0) text k d h (eq-eqb _ 0 z))
-  where
-    not_true : (b : Bool) → not b ≡ true → b ≡ false
-    not_true true e = sym e
-    not_true false e = refl
 
 -- an id with a row is from 1 to the last id
 pub row_low : (view : View) (id : ℕ) (e : Entry) → Sound view → look view id ≡ Some e → (0 < id) × (id ≤ max_ids)
@@ -338,7 +314,7 @@ fit_one tables view new version (kinds.Str null) (Str None) s n r m g l = (r.sui
 fit_one tables view new version (kinds.Str null) (Str (Some text)) s n r m g l = (record { no_nul = no_nul text r.suit; len = omega arith }, tt)
 fit_one tables view new version (kinds.Obj null iface) (Obj None) s n r m g l = ((omega arith, λ _. r.suit), tt)
 fit_one tables view new version (kinds.Obj null iface) (Obj (Some x)) s n r m g l =
-    let b = and_both _ _ r.named in
+    let b = and_parts _ _ r.named in
     let v = live_as x.birth (look view x.id) b.0 in
     let low = row_low view x.id v.entry s v.there in
     let of : row_is_of iface (Some v.entry) ≡ true = ap (row_is_of iface) (sym v.there) ∙ b.1 in
@@ -449,7 +425,7 @@ handed_if view new births k (Fixed z) e r = refl
 handed_if view new births k (Str z) e r = refl
 handed_if view new births k (Obj None) e r = refl
 handed_if view new births k (Obj (Some x)) e r =
-    let l = live_as x.birth (look view x.id) (and_both _ _ r.named).0 in
+    let l = live_as x.birth (look view x.id) (and_parts _ _ r.named).0 in
     ap (λ (b : ℕ). Obj (Some b)) (ap (λ o. (born_at o).birth) l.there ∙ l.birth_is)
 handed_if view new births k (New x) e r = absurd (cc e)
 handed_if view new births k (NewNamed name own x) e r = absurd (cc e)

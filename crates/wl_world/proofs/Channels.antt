@@ -108,7 +108,7 @@ split xs ys ms zs n e h l =
       sym (drop-append-le n xs ys l) ∙ ap (drop n) e ∙ drop-append-le n ms zs m ∙ ap (λ k. k ++ zs) (drop_all n ms (omega arith)),
     )
 
-front_nil : (xs ys : List ℕ) → xs ++ ys ≡ [] → xs ≡ []
+pub front_nil : (xs ys : List ℕ) → xs ++ ys ≡ [] → xs ≡ []
 front_nil [] ys h = refl
 front_nil (x ∷ xs) ys h = cc
 

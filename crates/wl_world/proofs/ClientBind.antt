@@ -37,7 +37,7 @@ use Rattle.wl_server.specs.Requests.{can_bind as bind_fits, name_fits}
 use Rattle.wl_world.specs.Meant.{Known, Message, Coming, renamed, born_of, plain}
 use Rattle.wl_world.specs.World.{World, Open, Each, request_written}
 use Rattle.wl_world.specs.Pair.{PairState, ClientBind, with_client, Writes, accepted, refused, no_memory}
-use Rattle.wl_world.specs.Answers.{NotEnded, WritesThat, birth_at, before}
+use Rattle.wl_world.specs.Answers.{NotEnded, birth_at, before}
 use Rattle.wl_world.specs.Answers as answers
 use Rattle.wl_world.specs.Flight.{client_rows, row, as_row}
 use Rattle.wl_world.specs.Stands.{StandsBy, WasGiven, IsGlobal}
@@ -170,7 +170,7 @@ bind_can p w asked told s target name iface version new b n can =
     let reg : b.entry.iface ≡ registry = same_is b.entry.iface registry b.registers in
     let x : Known = record { id = next_id v; born = record { birth = v.births; iface = n.global.iface; version = version } } in
     let fresh = next_fresh v x s.client_sound can refl refl in
-    let fits_name : name_fits iface (interface_at tables given.global.iface.0) ≡ true = ap (λ (i : Iface). name_fits iface (interface_at tables i.0)) given.iface_is ∙ ap (name_fits iface) n.place ∙ ap (λ (l : List ℕ). bytes_eq l iface) n.named ∙ self iface in
+    let fits_name : name_fits iface (interface_at tables given.global.iface.0) ≡ true = ap (λ (i : Iface). name_fits iface (interface_at tables i.0)) given.iface_is ∙ ap (name_fits iface) n.place ∙ ap (λ (l : List ℕ). bytes_eq l iface) n.named ∙ bytes_self iface in
     let low = row_low v target.id b.entry s.client_sound b.there in
     let bind_there : signature_at tables b.entry.iface.0 Request 0 ≡ Some (fixed.message (codes "bind") 1 (fixed.uint ∷ fixed.new None ∷ []) Nothing) =
     ap (λ (i : Iface). signature_at tables i.0 Request 0) reg ∙ registry_bind tables s.valid in
@@ -202,9 +202,6 @@ bind_can p w asked told s target name iface version new b n can =
       short = omega (arith, short, p.client.core.outbox.limit.in_range.0);
     }
   where
-    self : (xs : List ℕ) → bytes_eq xs xs ≡ true
-    self xs = bytes_self xs
-
     registry_bind : (tables : List Interface) → Valid tables → signature_at tables 1 Request 0 ≡ Some (fixed.message (codes "bind") 1 (fixed.uint ∷ fixed.new None ∷ []) Nothing)
     registry_bind tables v = rw v.fixed_four.registry refl
 

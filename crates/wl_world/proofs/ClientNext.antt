@@ -6,7 +6,6 @@ use Rattle.std.specs.declared.result.Result.{Result}
 use Rattle.std.specs.declared.result.Result.TheVariants.{Ok}
 use Rattle.std.proofs.lemmas.List.{take_at}
 use Rattle.wl_sigs.specs.declared.signature.Side.TheVariants.{Event as event_side}
-use Rattle.wl_sigs.specs.Tables.{Interface}
 use Rattle.wl_sigs.specs.Tables as sigs
 use Rattle.wl_message.specs.Arrived.{in_front}
 use Rattle.wl_message.specs.Cut.{Front, More, Bad, Whole, HasMessage}
@@ -16,10 +15,10 @@ use Rattle.wl_table.specs.declared.object.State.TheVariants as states
 use Rattle.wl_objects.specs.declared.error.NextError.{NextError}
 use Rattle.wl_objects.specs.Reading.{descriptors}
 use Rattle.wl_end.specs.Receiving.{Found, found, found_at, reported}
-use Rattle.wl_client.specs.Reports.{Report, report, needs_memory, plain_report, answer_found, next_answer, state_found, after_next, state_past}
+use Rattle.wl_client.specs.Reports.{Report, report, needs_memory, plain_report, next_answer, after_next, state_past}
 use Rattle.wl_client.specs.Reports as reports
-use Rattle.wl_world.specs.Meant.{Known, Born, Message, Coming, Event, Delete, renamed, recoming, rearg, born_of, birth_of, tokens, plain, live_entry}
-use Rattle.wl_world.specs.World.{World, Row, Open, Ending, event_read, delete_read, Steps, reads_event, reads_delete, ReadEvent}
+use Rattle.wl_world.specs.Meant.{Known, Born, Message, Coming, Event, Delete, renamed, recoming, rearg, born_of, birth_of, tokens, live_entry}
+use Rattle.wl_world.specs.World.{World, event_read, delete_read, reads_event, reads_delete}
 use Rattle.wl_world.specs.World as world
 use Rattle.wl_world.specs.Pair.{PairState, ClientNext, with_client, Nexts, answered, no_memory}
 use Rattle.wl_world.specs.Answers.{NotEnded, before, ReportsArgs, ReportsComing, NeedsMemory}
@@ -58,13 +57,13 @@ is_some_event w m (reports.Error id named code text) t h = absurd t
 
 -- ---- an event
 
-reports_as : (p : PairState) (w : World) (m : Message Known) (more : List ℕ) (entry : Entry) (signature : sigs.Message) (s : State) → w.client m.target.born.birth ≡ Some (as_row s (plain entry)) → entry.birth ≡ m.target.born.birth
+reports_as : (p : PairState) (w : World) (m : Message Known) (more : List ℕ) (entry : Entry) (signature : sigs.Message) (s : State) → w.client m.target.born.birth ≡ Some (as_row s m.target.born) → entry.birth ≡ m.target.born.birth
     → p.client.core.inbox.tokens ≡ tokens m.args ++ more → descriptors signature.kinds ≡ length (tokens m.args)
     → ReportsArgs w.client (map (rearg born_of) m.args) (reported p.client.core (the_message m entry signature))
     → ReportsComing w (Event (renamed born_of m)) (plain_report p.client.core m.opcode (the_message m entry signature) s)
-reports_as p w m more entry signature states.Live h b t c a = ((plain entry, h), b, refl, a)
+reports_as p w m more entry signature states.Live h b t c a = (h, b, refl, a)
 reports_as p w m more entry signature states.Zombie h b t c a = (
-  (plain entry, h),
+  h,
   b,
   refl,
   (λ i. take (c i) (t i)) ∙ take_at (tokens m.args) more (length (tokens m.args)) refl ∙ sym (tokens_map born_of m.args),
@@ -76,8 +75,9 @@ reports_it p w m cs asked s n i =
     let f = s.told_fit.0.fits in
     let a = event_answer p m n i.target.entry p.server.core.tables f s.valid s.told_fit.0.no_delete_id i.target.same in
     let count : descriptors f.signature.kinds ≡ length (tokens m.args) = tokens_taken p.server.core.tables m.target.born.version f.signature.kinds m.args f.args in
+    let shown = i.target.shown ∙ ap (λ (b : Born). Some (as_row i.target.entry.state b)) i.target.same in
     subst (ReportsComing w (Event (renamed born_of m))) (sym a.tells_it)
-    (reports_as p w m i.more i.target.entry f.signature i.target.entry.state i.target.shown (ap birth_of i.target.same) i.tokens_are count
+    (reports_as p w m i.more i.target.entry f.signature i.target.entry.state shown (ap birth_of i.target.same) i.tokens_are count
     (rw i.tokens_are (reports_right p.client.core.view w.client m.args i.more i.met)))
 
 keeps_event : (p : PairState) (w : World) (m : Message Known) (cs : List (Coming Known)) (asked : List (Message Known)) (s : StandsBy p w asked (Event m ∷ cs)) (n : ℕ) → NotEnded p w

@@ -4,11 +4,11 @@ use Rattle.std.specs.Prelude.{option_map, codes, is_some, nat_eq, not, ◌&&◌}
 use Rattle.std.specs.declared.option.Option.{Option}
 use Rattle.std.specs.declared.option.Option.TheVariants.{None, Some}
 use Rattle.std.specs.declared.result.Result.TheVariants.{Ok}
-use Rattle.std.proofs.lemmas.Bool.{ne_eqb}
+use Rattle.std.proofs.lemmas.Bool.{ne_eqb, and_parts}
 use Rattle.wl_wire.specs.Argument.{Uint}
 use Rattle.wl_sigs.specs.declared.signature.Side.TheVariants.{Event as event_side}
 use Rattle.wl_sigs.specs.declared.signature.Destroys.TheVariants.{Nothing}
-use Rattle.wl_sigs.specs.Tables.{Interface, signature_at, message_of}
+use Rattle.wl_sigs.specs.Tables.{Interface, signature_at}
 use Rattle.wl_sigs.specs.Valid.{Valid}
 use Rattle.wl_sigs.specs.Tables as sigs
 use Rattle.wl_sigs.specs.Fixed.{display, registry, wl_display}
@@ -29,7 +29,7 @@ use Rattle.wl_end.specs.Core.{Core}
 use Rattle.wl_end.specs.Receiving.{found, is_none}
 use Rattle.wl_client.specs.declared.globals.Global.{Global as Remembered}
 use Rattle.wl_client.specs.State as client
-use Rattle.wl_client.specs.Reports.{Report, state_past, core_after, view_after, globals_after, globals_told, report}
+use Rattle.wl_client.specs.Reports.{state_past, globals_told, report}
 use Rattle.wl_client.specs.Reports as reports
 use Rattle.wl_world.specs.Meant.{Born, Known, Message, Coming, Event, Delete, renamed, recoming, rearg, born_of, birth_of, wire, tokens, spelled, spelled_coming, objects, plain, live_entry, ended_by}
 use Rattle.wl_world.specs.World.{World, display_born, Row, Each, event_read, delete_read, ending, put, is_open, is_registry, learned, nameless, IfThere}
@@ -176,10 +176,6 @@ learned_is p w m asked told s t =
     (λ i. cond (is_registry m.target.born && live i) (globals_told p.client.core.tables (s.remembered i) m.opcode (map nameless (map (rearg born_of) m.args))) (s.remembered i))
     ∙ ap (λ (l : List Remembered). cond (teaches m t.entry) l p.client.globals) same
 
-both_true : (a b : Bool) → (a && b) ≡ true → a ≡ true
-both_true true b h = refl
-both_true false b h = h
-
 learns : (p : PairState) (w : World) (m : Message Known) (asked : List (Message Known)) (told : List (Coming Known)) (s : StandsBy p w asked told) (f : TellsFitly p.server.core.tables p.server.globals m)
     → (b : Bool) → (b ≡ true → is_registry m.target.born ≡ true) → Each (Gave p.server.globals) (cond b (globals_told p.client.core.tables p.client.globals m.opcode (map wire m.args)) p.client.globals)
 learns p w m asked told s f false h = s.remembers
@@ -229,7 +225,7 @@ event_stands p w m cs asked s n i y =
       remembered = learned_is p w m asked (Event m ∷ cs) s i.target;
       given = s.given;
       registries = s.registries;
-      remembers = learns p w m asked (Event m ∷ cs) s s.told_fit.0 (teaches m i.target.entry) (both_true (is_registry m.target.born) (is_live i.target.entry.state));
+      remembers = learns p w m asked (Event m ∷ cs) s s.told_fit.0 (teaches m i.target.entry) (λ h. (and_parts (is_registry m.target.born) (is_live i.target.entry.state) h).0);
       globals = s.globals;
       up_limit = s.up_limit;
       down_limit = s.down_limit;

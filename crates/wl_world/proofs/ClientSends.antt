@@ -13,6 +13,7 @@ use Rattle.wl_table.specs.Views.{look-opened_at, look-zombied}
 use Rattle.wl_table.specs.Sounds.{Sound-opened}
 use Rattle.wl_objects.specs.Messages.{Client as client_end, opens as opens_view}
 use Rattle.wl_end.specs.Core.{Core}
+use Rattle.wl_end.proofs.Messages.{whole_within}
 use Rattle.wl_world.specs.Meant.{Born, Known, Message, Coming, renamed, rearg, born_of, wire, spelled, made_in, objects, live_entry, ended_by}
 use Rattle.wl_world.specs.World.{World, display_born, Row, Open, Each, IfThere, request_written, born_into, ending, counted}
 use Rattle.wl_world.specs.Pair.{PairState, with_client_core}
@@ -22,7 +23,7 @@ use Rattle.wl_world.proofs.Wholes.{OpenRow, client_makes, client_ends, ask_meets
 use Rattle.wl_world.proofs.Sets.{client_made, client_ended}
 use Rattle.wl_world.proofs.Channels.{pushed}
 use Rattle.wl_world.proofs.Afters.{held_row, client_after, client_sound, client_aged, made_map}
-use Rattle.wl_world.proofs.Readings.{made_of, bytes_whole}
+use Rattle.wl_world.proofs.Readings.{made_of}
 use Rattle.wl_world.proofs.ServerReads.{test_of}
 use Rattle.wl_world.proofs.Ended.{Mortal, ended_view, ended_has, if_by}
 
@@ -107,7 +108,7 @@ ask_stands p w asked told s m c =
       requests = ap (λ (l : List (Message Born)). l ++ renamed born_of m ∷ []) s.requests ∙ sym (map-append (renamed born_of) asked (m ∷ []));
       events = s.events;
       to_server = subst (λ (l : List boxes.Message). InFlight (asked_core p.client.core m).outbox p.server.core.inbox l) (sym (map-append spelled asked (m ∷ [])))
-          (pushed p.client.core.outbox (asked_core p.client.core m).outbox p.server.core.inbox (map spelled asked) (spelled m ∷ []) s.to_server refl refl (bytes_whole p.server.core.inbox.limit m.target.id m.opcode (map wire m.args) f.opcode (subst (λ (l : ℕ). message_len (map wire m.args) ≤ l) s.up_limit c.short), tt));
+          (pushed p.client.core.outbox (asked_core p.client.core m).outbox p.server.core.inbox (map spelled asked) (spelled m ∷ []) s.to_server refl refl (whole_within p.server.core.inbox.limit m.target.id m.opcode (map wire m.args) f.opcode (subst (λ (l : ℕ). message_len (map wire m.args) ≤ l) s.up_limit c.short), tt));
       to_client = s.to_client;
       asked_fit = each_more (AsksFitly p.server.core.tables p.server.globals) asked (m ∷ []) s.asked_fit (c.fitly, tt);
       told_fit = s.told_fit;

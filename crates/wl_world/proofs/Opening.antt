@@ -1,5 +1,6 @@
 -- The pair as it begins, drained ends, and runs.
 use Rattle.std.proofs.Common.{◌≡◌, ℕ, ◌≤◌, Bool, true, false, cond, List, [], ◌∷◌, ◌++◌, map, refl, sym, ap, subst, ◌∙◌, arith, lit≤}
+use Rattle.std.proofs.lemmas.Bool.{and_parts}
 use Rattle.std.specs.Prelude.{option_map, nat_eq, ◌&&◌}
 use Rattle.std.specs.declared.option.Option.{Option}
 use Rattle.std.specs.declared.option.Option.TheVariants.{None, Some}
@@ -113,19 +114,15 @@ empty_is : (xs : List ℕ) → is_empty xs ≡ true → xs ≡ []
 empty_is [] h = refl
 empty_is (x ∷ xs) h = absurd (cc h)
 
-and_both : (a b : Bool) → (a && b) ≡ true → (a ≡ true) × (b ≡ true)
-and_both true b h = (refl, h)
-and_both false b h = absurd (cc h)
-
 pub record Empty (core : Core) : Type 0 where
   pub inbox : core.inbox.bytes ≡ []
   pub outbox : waiting_bytes core.outbox ≡ []
 
 empty_boxes : (core : Core) → is_drained core ≡ true → Empty core
 empty_boxes core h =
-    let a = and_both (is_empty core.inbox.bytes && is_empty core.inbox.tokens) (is_empty (waiting_bytes core.outbox) && is_empty (waiting_tokens core.outbox)) h in
-    let b = and_both (is_empty core.inbox.bytes) (is_empty core.inbox.tokens) a.0 in
-    let c = and_both (is_empty (waiting_bytes core.outbox)) (is_empty (waiting_tokens core.outbox)) a.1 in
+    let a = and_parts (is_empty core.inbox.bytes && is_empty core.inbox.tokens) (is_empty (waiting_bytes core.outbox) && is_empty (waiting_tokens core.outbox)) h in
+    let b = and_parts (is_empty core.inbox.bytes) (is_empty core.inbox.tokens) a.0 in
+    let c = and_parts (is_empty (waiting_bytes core.outbox)) (is_empty (waiting_tokens core.outbox)) a.1 in
     record { inbox = empty_is core.inbox.bytes b.0; outbox = empty_is (waiting_bytes core.outbox) c.0 }
 
 none_of : {A B : Type 0} (f : A → B) (l : List A) → map f l ≡ [] → l ≡ []

@@ -3,7 +3,7 @@ use Rattle.std.proofs.Common.{◌≡◌, ◌≢◌, ℕ, zero, suc, ◌+◌, ◌
 use Rattle.std.specs.Prelude.{option_map, not, slice_get, bytes_eq}
 use Rattle.std.specs.List.{position, position_or_len}
 use Rattle.std.specs.declared.option.Option.TheVariants.{Some}
-use Rattle.std.proofs.lemmas.Bool.{lt-ltb}
+use Rattle.std.proofs.lemmas.Bool.{lt-ltb, false_from_ne_true}
 use Rattle.std.proofs.lemmas.Slice.Eq.{bytes_eq-Decides}
 use Rattle.std.proofs.lemmas.Option.{slice_get_within}
 use Rattle.wl_wire.specs.declared.kind.Iface.{Iface}
@@ -16,15 +16,11 @@ module _ {X : Type 0} (p : X → Bool) where
   step true n k e h = absurd (cc e)
   step false n k e h = omega (arith, h)
 
-  not_true : (b : Bool) → (b ≡ true → ⊥) → b ≡ false
-  not_true true h = absurd (h refl)
-  not_true false h = refl
-
   first_at : (xs : List X) (k : ℕ) (x : X) → slice_get xs k ≡ Some x → p x ≡ true → ((j : ℕ) (y : X) → slice_get xs j ≡ Some y → p y ≡ true → j ≡ k) → position_or_len p xs ≡ k
   first_at [] k x h e f = absurd (cc h)
   first_at (a ∷ xs) zero x h e f = let q : a ≡ x = cc h in rw (ap p q ∙ e) refl
   first_at (a ∷ xs) (suc k) x h e f =
-      let no : p a ≡ false = not_true (p a) (λ t. absurd (let z = f 0 a refl t in omega (arith, z))) in
+      let no : p a ≡ false = false_from_ne_true (p a) (λ t. absurd (let z = f 0 a refl t in omega (arith, z))) in
       let r = first_at xs k x h e (λ j y g t. (let z = f (suc j) y g t in omega (arith, z))) in
       step (p a) (position_or_len p xs) k no r
 

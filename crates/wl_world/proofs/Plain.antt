@@ -6,7 +6,7 @@ use Rattle.wl_world.specs.Meant.{Born, Known}
 use Rattle.wl_world.specs.World.{Row, Open, Ending, Each}
 use Rattle.wl_world.specs.Flight.{Rows, at, Ask, Make, Destroy, Tell, Delete, at_client, Held, Reads, done, name, end, delete, Tied, drained, use_, make, destroy, Meets}
 use Rattle.wl_world.specs.Plain.{tell_id, ask_id, In}
-use Rattle.wl_world.proofs.Flight.{put_tells, put_same, held_at_client, held_other, held_some}
+use Rattle.wl_world.proofs.Flight.{put_tells, put_same, held_at_client, held_other, held_some, free_after}
 
 pub kept_end : (v : Rows Row) (x y : Known) → Held v y → Held (at v y.id (Some (Ending y.born))) x → Held v x
 kept_end v x y a h = elim (put_tells v.rows y.id (Some (Ending y.born)) x.id) [
@@ -40,12 +40,6 @@ module _ {test : Born → Bool} where
   free_tells i (end {v = v} {x = n} b a r) h = (held_some v n i a h, free_tells i r (grind (arith, put_tells)))
   free_tells i (delete {v = v} {x = n} z a b r) h = (held_some v n i a h, free_tells i r (grind (arith, put_tells)))
 
-  free_mid : {es : List Tell} {v w : Rows Row} (i : ℕ) → Reads test es v w → v.rows i ≡ None → w.rows i ≡ None
-  free_mid i done h = h
-  free_mid i (name a r) h = free_mid i r h
-  free_mid i (end b a r) h = free_mid i r (grind (arith, put_tells))
-  free_mid i (delete z a b r) h = free_mid i r (grind (arith, put_tells))
-
   -- nor in a request
   pub free_asks : {qs : List Ask} {s : Rows Born} {m : Rows Row} (i : ℕ) → Tied test qs s m → m.rows i ≡ None → Each (λ a. ask_id a ≢ i) qs
   free_asks i (drained r u b) h = tt
@@ -54,7 +48,7 @@ module _ {test : Born → Bool} where
   free_asks i (destroy {m = m} {x = n} z a b c t) h = (held_some m n i (inr c) h, free_asks i t (grind (arith, put_tells)))
 
   pub free_nowhere : {es : List Tell} {qs : List Ask} {v : Rows Row} {s : Rows Born} (i : ℕ) → Meets test es qs v s → v.rows i ≡ None → Each (λ t. tell_id t ≢ i) es × Each (λ a. ask_id a ≢ i) qs
-  free_nowhere i m h = (free_tells i m.reads h, free_asks i m.tied (free_mid i m.reads h))
+  free_nowhere i m h = (free_tells i m.reads h, free_asks i m.tied (free_after i m.reads h))
 
   -- what the client holds has its delete in an event in flight, or is held once the events are read
   deleted_or : {es : List Tell} {v w : Rows Row} (n : Known) → Reads test es v w → Held v n → In (Delete n) es ⊎ Held w n
@@ -117,7 +111,7 @@ module _ {test : Born → Bool} where
   deleted_held x (name a r) i = elim i [ inl p ↦ absurd (cc p) | inr p ↦ deleted_held x r p ]
   deleted_held x (end {v = v} {x = y} b a r) i = elim i [ inl p ↦ absurd (cc p) | inr p ↦ (let k = deleted_held x r p in (kept_end v x y a k.0, k.1)) ]
   deleted_held x (delete {v = v} {w = w} {x = y} z a b r) i = elim i [
-    | inl p ↦ (let e : y ≡ x = cc p in (subst (Held v) e a, subst (λ (k : Known). w.rows k.id ≡ None) e (free_mid y.id r (put_same v.rows y.id None))))
+    | inl p ↦ (let e : y ≡ x = cc p in (subst (Held v) e a, subst (λ (k : Known). w.rows k.id ≡ None) e (free_after y.id r (put_same v.rows y.id None))))
     | inr p ↦ (let k = deleted_held x r p in (kept_delete v x y.id k.0, k.1))
   ]
 
@@ -206,7 +200,7 @@ module _ {test : Born → Bool} where
     | inr p ↦ open_read n r (p.1 ∙ h) k
   ]
   open_read n (delete {v = v} {x = x} z a b r) h k = elim (put_tells v.rows x.id None n.id) [
-    | inl p ↦ absurd (cc (free_mid n.id r p.1, k))
+    | inl p ↦ absurd (cc (free_after n.id r p.1, k))
     | inr p ↦ open_read n r (p.1 ∙ h) k
   ]
 

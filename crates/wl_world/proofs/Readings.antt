@@ -1,5 +1,5 @@
 -- A message in its canonical spelling is read as it was meant.
-use Rattle.std.proofs.Common.{◌≡◌, ℕ, suc, ◌+◌, ◌%◌, ◌<◌, ◌≤◌, ◌^◌, true, false, cond, List, [], ◌∷◌, ◌++◌, length, length-append, drop, map, refl, sym, ap, ◌∙◌, arith}
+use Rattle.std.proofs.Common.{◌≡◌, ℕ, suc, ◌+◌, ◌<◌, ◌≤◌, ◌^◌, true, false, cond, List, [], ◌∷◌, ◌++◌, length, length-append, drop, map, refl, sym, ap, ◌∙◌, arith}
 use Rattle.std.specs.Prelude.{nat_eq, nat_lt, option_map, if◌then◌else◌}
 use Rattle.std.specs.declared.option.Option.{Option}
 use Rattle.std.specs.declared.option.Option.TheVariants.{None, Some}
@@ -18,8 +18,7 @@ use Rattle.wl_wire.specs.Reading.{reading}
 use Rattle.wl_wire.proofs.Canonicals.{reading-canonical, canonical-len, header_at-bytes}
 use Rattle.wl_sigs.specs.declared.signature.Side.{Side}
 use Rattle.wl_sigs.specs.Tables.{Interface, signature_at}
-use Rattle.wl_message.specs.declared.limit.Limit.{Limit}
-use Rattle.wl_message.specs.Cut.{IsMessage, greatest_limit}
+use Rattle.wl_message.specs.Cut.{greatest_limit}
 use Rattle.wl_table.specs.declared.object.Object.{Object}
 use Rattle.wl_table.specs.declared.object.Entry.{Entry}
 use Rattle.wl_table.specs.declared.object.State.{State}
@@ -253,42 +252,7 @@ made_read tables version [] (a ∷ args) f = absurd f
 made_read tables version (kind ∷ ks) (a ∷ args) f =
     rw (made_one tables version kind a f.0.0 f.0.1, made_read tables version ks args f.1) (or_made (new_in a) (made_in args))
 
--- ---- the bytes of a message
-
-len_mod : (v : Argument) → spelled_len v % 4 ≡ 0
-len_mod (Int z) = refl
-len_mod (Uint z) = refl
-len_mod (Fixed z) = refl
-len_mod (Str None) = refl
-len_mod (Str (Some text)) = omega arith
-len_mod (Obj z) = refl
-len_mod (New z) = refl
-len_mod (NewNamed name own z) = omega arith
-len_mod (Array z) = omega arith
-len_mod (Fd z) = refl
-
-pub record Sized (vs : List Argument) : Type 0 where
-  pub len : 8 + length (spelled_values vs) ≡ message_len vs
-  pub words : message_len vs % 4 ≡ 0
-
-pub sized : (vs : List Argument) → Sized vs
-sized [] = record { len = refl; words = refl }
-sized (v ∷ vs) = let s = sized vs in record {
-  len = omega (arith, s.len, canonical-len v, length-append (canonical v) (spelled_values vs));
-  words = omega (arith, s.words, len_mod v);
-}
-
-pub bytes_len : (id opcode : ℕ) (vs : List Argument) → length (message_bytes id opcode vs) ≡ message_len vs
-bytes_len id opcode vs = let s = sized vs in omega (arith, s.len)
-
-pub bytes_whole : (limit : Limit) (id opcode : ℕ) (vs : List Argument) → opcode < 65536 → message_len vs ≤ limit.bytes → IsMessage limit.bytes (message_bytes id opcode vs)
-bytes_whole limit id opcode vs o h =
-    let s = sized vs in
-    let l = bytes_len id opcode vs in
-    record {
-      told = omega (arith, l, o, h, limit.in_range.1);
-      size = record { header = omega (arith, l, s.len); words = ap (λ (n : ℕ). n % 4) l ∙ s.words; within = omega (arith, l, h) };
-    }
+-- ---- the header of a message
 
 -- a message's bytes begin with its header, and what stands behind it are its values
 pub record Parted (bytes : List ℕ) (id opcode : ℕ) (vs : List Argument) : Type 0 where

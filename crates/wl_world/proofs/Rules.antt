@@ -5,7 +5,7 @@ use Rattle.std.specs.Option.{option_and_then}
 use Rattle.std.specs.List.{All}
 use Rattle.std.specs.declared.option.Option.{Option}
 use Rattle.std.specs.declared.option.Option.TheVariants.{None, Some}
-use Rattle.std.proofs.lemmas.Bool.{eqb-true, eq-eqb}
+use Rattle.std.proofs.lemmas.Bool.{eqb-true, eq-eqb, and_parts}
 use Rattle.std.proofs.lemmas.Option.{slice_get_within, slice_get_past, get_or_from_slice_get}
 use Rattle.std.proofs.lemmas.List.Elements.{All-tail}
 use Rattle.std.proofs.lemmas.List.Folds.{list_any_at}
@@ -73,15 +73,11 @@ PlainKind tables k = (null : Bool) (iface : Iface) (i : Interface) → k ≡ kin
 abbrev NamedKind : Kind → Type 0
 NamedKind k = (null : Bool) → k ≢ kinds.Obj null None
 
-and_second : (a b : Bool) → (a && b) ≡ true → (a ≡ true) × (b ≡ true)
-and_second true b h = (refl, h)
-and_second false b h = absurd (cc h)
-
 named_plain : (tables : List Interface) (view : View) (k : Kind) (id birth : ℕ) (iface : Option Iface) (null : Bool) → k ≡ kinds.Obj null iface → NamedKind k → PlainKind tables k
     → (is_live_as birth (look view id) && row_is_of iface (look view id)) ≡ true → by_event tables (born_at (look view id)) ≡ false
 named_plain tables view k id birth None null e n p h = absurd (n null e)
 named_plain tables view k id birth (Some iface) null e n p h =
-    let b = and_second _ _ h in
+    let b = and_parts _ _ h in
     let l = live_as birth (look view id) b.0 in
     let of : nat_eq iface.0 l.entry.iface.0 ≡ true = ap (row_is_of (Some iface)) (sym l.there) ∙ b.1 in
     ap (λ o. by_event tables (born_at o)) l.there ∙ argument_plain tables iface l.entry.iface (interface_at tables l.entry.iface.0) refl of (λ i q. p null iface i e q)

@@ -3,7 +3,7 @@ use Rattle.std.proofs.Common.{List, [], ◌∷◌, refl}
 use Rattle.wl_sigs.specs.Tables.{Interface}
 use Rattle.wl_world.specs.Meant.{Delete}
 use Rattle.wl_world.specs.World.{put, nothing, writes_request, reads_request, writes_event, reads_event, reads_delete}
-use Rattle.wl_world.specs.Samples.{CallbackLives, sync, done, called, DeadArgument, enter, destroy, pointer, DeadRegistry, tell, destroy_registry, registered}
+use Rattle.wl_world.specs.Samples.{CallbackLives, sync, done, called, DeadArgument, enter, destroy, DeadRegistry, tell, destroy_registry, registered}
 
 pub callback_lives : (tables : List Interface) → CallbackLives tables
 unfolding put nothing
@@ -27,7 +27,7 @@ dead_argument tables = record {
   tells = writes_event enter refl (refl, tt);
   asks = writes_request destroy refl tt tt;
   sees = reads_event enter [] refl;
-  reports = ((pointer, refl), refl, refl, refl);
+  reports = (refl, refl, refl, refl);
   reads = reads_request destroy [] refl;
   deletes = refl;
 }
@@ -38,7 +38,7 @@ dead_registry tables = record {
   tells = writes_event tell refl tt;
   asks = writes_request destroy_registry refl (refl, tt) tt;
   sees = reads_event tell [] refl;
-  reports = ((registered, refl), refl, refl, refl);
+  reports = (refl, refl, refl, refl);
   teaches_nothing = refl;
   reads = reads_request destroy_registry [] refl;
   owes_nothing = refl;

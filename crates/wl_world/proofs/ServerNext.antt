@@ -5,7 +5,7 @@ use Rattle.std.specs.declared.option.Option.{Option}
 use Rattle.std.specs.declared.option.Option.TheVariants.{None, Some}
 use Rattle.std.specs.declared.result.Result.{Result}
 use Rattle.std.specs.declared.result.Result.TheVariants.{Ok, Err}
-use Rattle.std.proofs.lemmas.Bool.{ltb-true, ltb-false}
+use Rattle.std.proofs.lemmas.Bool.{ltb-true, ltb-false, and_parts}
 use Rattle.wl_sigs.specs.declared.signature.Side.TheVariants.{Request as request_side}
 use Rattle.wl_message.specs.Arrived.{in_front}
 use Rattle.wl_message.specs.Cut.{Front, More, Bad, Whole, HasMessage}
@@ -56,14 +56,11 @@ is_some_request w m r t h e = by_args r.args refl
 reports : (p : PairState) (w : World) (m : Message Known) (ms : List (Message Known)) (told : List (Coming Known)) (s : StandsBy p w (m ∷ ms) told) (n : ℕ) (i : InRequest p w m ms told s n)
     → ReportsRequest w (renamed born_of m) (report p.server.core (the_found n m i.entry s.asked_fit.0.fits.signature))
 reports p w m ms told s n i = record {
+  is_open = s.server_sets.shown m.target.id m.target.born i.asks_it.target;
   target = ap birth_of i.same_target;
   opcode = refl;
   args = rw i.tokens_are (reports_right p.server.core.view (rows_of_server w) m.args i.more i.met);
 }
-
-and_both : (a b : Bool) → (a && b) ≡ true → (a ≡ true) × (b ≡ true)
-and_both true b h = (refl, h)
-and_both false b h = absurd (cc h)
 
 and_not : (a b : Bool) → (a && b) ≡ false → a ≡ true → b ≡ false
 and_not true b h e = h
@@ -106,7 +103,7 @@ keeps_read p w m ms told s n z e i reply p' d room (no_memory {report = r} q h) 
     let needs = is_some_request w (renamed born_of m) _ (reports p w m ms told s n i) (ap needs_memory same ∙ h) in
     record {
       world = w;
-      answers = before z d (record { waits = subst HasMessage (sym e) tt; message = renamed born_of m; rest = map (renamed born_of) ms; first = s.requests; because = needs; same = refl });
+      answers = before z d (record { waits = subst HasMessage (sym e) tt; message = renamed born_of m; rest = map (renamed born_of) ms; first = s.requests; because = (needs, room); same = refl });
       outcome = goes_on (m ∷ ms) told z s stays;
     }
 
@@ -116,7 +113,7 @@ at_request : (p : PairState) (w : World) (m : Message Known) (ms : List (Message
     → (b : Bool) → is_out_full p.server.core (the_found n m i.entry s.asked_fit.0.fits.signature) ≡ b → Moves p w (m ∷ ms) told ServerNext (ServerNext reply) p'
 at_request p w m ms told s n z e i reply p' d true h =
     let a = answer_is p m (the_found n m i.entry s.asked_fit.0.fits.signature) true s.server_lives i.finds_it h in
-    let k = and_both _ _ h in
+    let k = and_parts _ _ h in
     let flag = some_map born_of m.ends ∙ sym (ends_as p.server.core.tables request_side m s.asked_fit.0.fits s.valid).flag in
     keeps_out_full p w m ms told s n z e i reply p' d (flag ∙ k.0, ltb-true _ _ k.1)
     (subst (λ st. Nexts needs_memory (Err errors.OutFull) p (with_server p st) reply p') a.leaves

@@ -14,7 +14,7 @@ use Rattle.wl_sigs.specs.Valid.{Valid}
 use Rattle.wl_message.specs.declared.limit.Limit.{Limit}
 use Rattle.wl_message.specs.Arrived.{without_first, in_front}
 use Rattle.wl_message.specs.Cut.{Whole, IsMessage}
-use Rattle.wl_message.specs.Outgoing.{Outgoing, room_of, message}
+use Rattle.wl_message.specs.Outgoing.{message}
 use Rattle.wl_message.specs.Outgoing as boxes
 use Rattle.wl_wire.specs.Argument.{Uint, Obj}
 use Rattle.wl_table.specs.declared.object.Entry.{Entry}
@@ -26,7 +26,6 @@ use Rattle.wl_end.specs.Core.{Core, past, with_view}
 use Rattle.wl_end.specs.Receiving.{Found, found}
 use Rattle.wl_end.specs.Sending.{with_following}
 use Rattle.wl_server.specs.State as server
-use Rattle.wl_server.specs.State.{global_of}
 use Rattle.wl_server.specs.Requests.{judged, request, is_good_bind, made_in as made_by_message, state_past, registries_after, object_in, ended_object, ended, report}
 use Rattle.wl_server.specs.Registries.{without_registry, registry_birth}
 use Rattle.wl_world.specs.Meant.{Event, Delete, Born, Known, Message, Coming, Arg, renamed, recoming, rearg, born_of, birth_of, wire, tokens, spelled, spelled_coming, made_in, objects, plain, live_entry, ended_by}
@@ -41,8 +40,9 @@ use Rattle.wl_world.proofs.Sets.{server_made, server_ended, there_kept}
 use Rattle.wl_world.proofs.Channels.{pops, pushed}
 use Rattle.wl_world.proofs.Afters.{there_row, server_after, server_sound, server_live, server_aged, made_map}
 use Rattle.wl_world.proofs.Registries.{marks_with, marks_left, left_are, registries_left, fresh_row, has_read}
-use Rattle.wl_world.proofs.Readings.{HeldAt, AllMet, made_of, made_read, tokens_taken, bytes_whole}
+use Rattle.wl_world.proofs.Readings.{HeldAt, AllMet, made_of, made_read, tokens_taken}
 use Rattle.wl_table.specs.declared.object.Object.{Object}
+use Rattle.wl_end.proofs.Messages.{whole_within}
 use Rattle.wl_world.proofs.Calls.{row_low}
 use Rattle.wl_world.proofs.Findings.{the_found, the_message, finds, all_met, news_free}
 use Rattle.wl_world.proofs.Ended.{Mortal, EndsAs, ended_view, after_is, argument_is, ended_has, if_by}
@@ -100,7 +100,7 @@ followed b id (Some x) c f h = λ i. with_following (f i) (sym h i) c
 
 pub delete_whole : (limit : Limit) (o : Option Known) → Each (λ (m : boxes.Message). IsMessage limit.bytes m.bytes) (map spelled_coming (delete o))
 delete_whole limit None = tt
-delete_whole limit (Some x) = (bytes_whole limit 1 1 (Uint x.id ∷ []) (omega arith) (omega (arith, limit.in_range.0)), tt)
+delete_whole limit (Some x) = (whole_within limit 1 1 (Uint x.id ∷ []) (omega arith) (omega (arith, limit.in_range.0)), tt)
 
 pub map_delete : (o : Option Known) → map (recoming born_of) (delete o) ≡ delete (option_map born_of o)
 map_delete None = refl

@@ -1,5 +1,6 @@
 -- Moves of the server's writing.
 use Rattle.std.proofs.Common.{◌≡◌, ℕ, Bool, true, false, cond, List, [], ◌∷◌, ◌++◌, map, length, ◌<◌, refl, sym, ap, subst, ◌∙◌}
+use Rattle.std.proofs.lemmas.Bool.{not-false}
 use Rattle.std.specs.Prelude.{option_map, not, ◌||◌}
 use Rattle.std.specs.declared.option.Option.{Option}
 use Rattle.std.specs.declared.option.Option.TheVariants.{None, Some}
@@ -171,14 +172,10 @@ record Droppable (core : Core) (object : Object) : Type 0 where
   birth : entry.birth ≡ object.birth
   by : is_ended_by_event (interface_at core.tables entry.iface.0) ≡ true
 
-not_false : (b : Bool) → not b ≡ false → b ≡ true
-not_false true h = refl
-not_false false h = absurd (cc h)
-
 by_row : (core : Core) (entry : Entry) (b : Bool) (why : SendError) (rest : Option SendError) → not (is_ended_by_event (interface_at core.tables entry.iface.0)) ≡ b → cond b (Some why) rest ≡ None
     → is_ended_by_event (interface_at core.tables entry.iface.0) ≡ true
 by_row core entry true why rest e h = absurd (cc h)
-by_row core entry false why rest e h = not_false _ e
+by_row core entry false why rest e h = not-false _ e
 
 live_found : (birth : ℕ) (o : Option Entry) (b : Bool) (e : Entry) → is_live_as birth o ≡ b → cond b o None ≡ Some e → (o ≡ Some e) × (e.birth ≡ birth)
 live_found birth o true e h k =

@@ -10,6 +10,7 @@ use Rattle.wl_table.specs.View.{look, closed}
 use Rattle.wl_table.specs.Views.{look-closed}
 use Rattle.wl_objects.specs.Messages.{Server as server_end}
 use Rattle.wl_end.specs.Core.{Core}
+use Rattle.wl_end.proofs.Messages.{whole_within}
 use Rattle.wl_server.proofs.Registries.{has_fewer}
 use Rattle.wl_world.specs.Meant.{Born, Known, Message, Coming, Event, Delete, renamed, recoming, born_of, birth_of, wire, spelled, spelled_coming, objects, plain, live_entry, ended_by}
 use Rattle.wl_world.specs.World.{World, display_born, Each, delete, event_written, dropped, gone, put, IfThere}
@@ -22,7 +23,6 @@ use Rattle.wl_world.proofs.Channels.{pushed}
 use Rattle.wl_world.proofs.Bridges.{server_closed}
 use Rattle.wl_world.proofs.Afters.{there_row, server_after, server_sound, server_live, server_aged, closed_live, closed_aged}
 use Rattle.wl_world.proofs.Registries.{no_registry, has_told_one}
-use Rattle.wl_world.proofs.Readings.{bytes_whole}
 use Rattle.wl_world.proofs.Rules.{display_plain}
 use Rattle.wl_world.proofs.ServerReads.{follow_more, follow_delete, begins_delete, test_of, delete_whole, map_delete, delete_fits, display_after, low_there}
 use Rattle.wl_world.proofs.Ended.{Mortal, ended_view, ended_has, if_by, both_if}
@@ -85,7 +85,7 @@ tell_stands p w asked told s m c =
       to_client = subst (λ (l : List boxes.Message). InFlight (told_core p.server.core m).outbox p.client.core.inbox l) (sym (map-append spelled_coming told news))
           (pushed p.server.core.outbox (told_core p.server.core m).outbox p.client.core.inbox (map spelled_coming told) (spelled m ∷ map spelled_coming (delete m.ends)) s.to_client refl
           (append_assoc p.server.core.outbox.messages (spelled m ∷ []) (map spelled_coming (delete m.ends)))
-          (bytes_whole p.client.core.inbox.limit m.target.id m.opcode (map wire m.args) f.opcode (subst (λ (l : ℕ). message_len (map wire m.args) ≤ l) s.down_limit c.short), delete_whole p.client.core.inbox.limit m.ends));
+          (whole_within p.client.core.inbox.limit m.target.id m.opcode (map wire m.args) f.opcode (subst (λ (l : ℕ). message_len (map wire m.args) ≤ l) s.down_limit c.short), delete_whole p.client.core.inbox.limit m.ends));
       asked_fit = s.asked_fit;
       told_fit = each_more (ComesFitly p.server.core.tables p.server.globals) told news s.told_fit (c.fitly, delete_fits p m.ends (if_by (low_there v s.server_sound) m.ends there));
       meet = rw (all_tells_more told news) (subst (λ (r : Rows Born). Meets (test_of p) (all_tells told ++ (tells (Event m) ++ all_tells (delete m.ends))) (all_asks asked) (client_rows p.client.core.view) r) (sym rows)

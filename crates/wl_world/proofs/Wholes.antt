@@ -75,7 +75,7 @@ module _ {test : Born → Bool} where
   uses_more {qs} {s} {m} (x ∷ xs) t h f =
       subst (λ (l : List Ask). Tied test l s m) (append_assoc qs (Use x ∷ []) (map Use xs)) (uses_more xs (use_more x t h.0 f.0) h.1 f.1)
 
-  all_live_after : {es : List Tell} {v m : Rows Row} (xs : List Known) → Reads test es v m → Each (OpenRow v) xs → Each (λ x. test x.born ≡ false) xs → Each (OpenRow m) xs
+  pub all_live_after : {es : List Tell} {v m : Rows Row} (xs : List Known) → Reads test es v m → Each (OpenRow v) xs → Each (λ x. test x.born ≡ false) xs → Each (OpenRow m) xs
   all_live_after [] r h f = tt
   all_live_after (x ∷ xs) r h f = (live_after x.id x.born r h.0 f.0, all_live_after xs r h.1 f.1)
 
@@ -178,7 +178,7 @@ module _ {test : Born → Bool} where
 
   -- ---- the client reads what comes
 
-  reads_all : {es : List Tell} {v w : Rows Row} (xs : List Known) → Reads test (map Name xs ++ es) v w → Each (Held v) xs × Reads test es v w
+  pub reads_all : {es : List Tell} {v w : Rows Row} (xs : List Known) → Reads test (map Name xs ++ es) v w → Each (Held v) xs × Reads test es v w
   reads_all [] r = (tt, r)
   reads_all (x ∷ xs) (name h r) = let k = reads_all xs r in ((h, k.0), k.1)
 

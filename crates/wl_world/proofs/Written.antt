@@ -1,6 +1,7 @@
 -- The message of a call that nothing stands against.
 use Rattle.std.proofs.Common.{◌≡◌, ℕ, ◌<◌, ◌≤◌, ◌^◌, Bool, true, false, cond, List, map, ◌⊎◌, inl, inr, refl, sym, ap, subst, ◌∙◌, arith}
-use Rattle.std.specs.Prelude.{option_map, slice_get, nat_eq, ◌&&◌, ◌||◌, if◌then◌else◌}
+use Rattle.std.proofs.lemmas.Bool.{and_left, or_parts}
+use Rattle.std.specs.Prelude.{option_map, slice_get, nat_eq, if◌then◌else◌}
 use Rattle.std.specs.declared.option.Option.{Option}
 use Rattle.std.specs.declared.option.Option.TheVariants.{None, Some}
 use Rattle.std.specs.declared.result.Result.{Result}
@@ -8,7 +9,6 @@ use Rattle.std.specs.declared.result.Result.TheVariants.{Ok, Err}
 use Rattle.wl_wire.specs.declared.kind.Iface.{Iface}
 use Rattle.wl_sigs.specs.declared.signature.Side.{Side}
 use Rattle.wl_sigs.specs.declared.signature.Side.TheVariants.{Request, Event}
-use Rattle.wl_sigs.specs.Tables.{Interface}
 use Rattle.wl_sigs.specs.declared.signature.Destroys.{Destroys}
 use Rattle.wl_sigs.specs.declared.signature.Destroys.TheVariants.{Nothing, Target, Arg as ends_arg}
 use Rattle.std.proofs.lemmas.Option.{slice_get-map}
@@ -25,6 +25,7 @@ use Rattle.wl_table.specs.View.{View, Sound, next_id, can_open}
 use Rattle.wl_table.specs.Views.{free_is, free_or_next-next_id}
 use Rattle.wl_objects.specs.Writing.{Given, wired, message_len}
 use Rattle.wl_objects.specs.Messages.{id_named, id_at, ended_id, NewObject, made, checked, is_hidden, is_error, is_delete_id, same_iface}
+use Rattle.wl_objects.proofs.Calls.{len-any}
 use Rattle.wl_end.specs.Core.{Core}
 use Rattle.wl_end.specs.Sending.{opening_answer, answer_of, send_answer, made_at}
 use Rattle.wl_world.specs.Meant.{Known, Message, Arg, wire, made_in, objects, plain, ended_by}
@@ -32,7 +33,7 @@ use Rattle.wl_world.specs.World.{Each, IfThere}
 use Rattle.wl_world.specs.Stands.{Fits}
 use Rattle.wl_world.specs.Runs.{IsGiven}
 use Rattle.wl_world.proofs.Readings.{made_of, made_read}
-use Rattle.wl_world.proofs.Calls.{Checked, AllRight, all_right, meant, new_known, wire_all, len_all, LiveAt, all_live, matches, fit_all, row_low, new_all, one_new, made_new, version_of}
+use Rattle.wl_world.proofs.Calls.{Checked, AllRight, all_right, meant, new_known, wire_all, LiveAt, all_live, matches, fit_all, row_low, new_all, one_new, made_new, version_of}
 use Rattle.wl_world.proofs.Rules.{opcode_low, few_new, unnamed_none}
 
 abbrev pub the_made : Core → Entry → List Given → sigs.Message → Option NewObject
@@ -62,19 +63,11 @@ new_birth view (Some m) = refl
 
 no_error : (side : Side) (iface : Iface) (opcode : ℕ) → is_hidden side iface opcode ≡ false → is_error side iface opcode ≡ false
 no_error Request iface opcode h = refl
-no_error Event iface opcode h = first (same_iface iface display) (same_iface iface registry) (nat_eq opcode 0) h
-  where
-    first : (a b c : Bool) → (a || b) ≡ false → (a && c) ≡ false
-    first true b c h = absurd (cc h)
-    first false b c h = refl
+no_error Event iface opcode h = and_left (same_iface iface display) (nat_eq opcode 0) (or_parts (same_iface iface display) (same_iface iface registry) h).0
 
 pub no_delete : (side : Side) (iface : Iface) (opcode : ℕ) → is_hidden side iface opcode ≡ false → is_delete_id side iface opcode ≡ false
 no_delete Request iface opcode h = refl
-no_delete Event iface opcode h = first (same_iface iface display) (same_iface iface registry) (nat_eq opcode 1) h
-  where
-    first : (a b c : Bool) → (a || b) ≡ false → (a && c) ≡ false
-    first true b c h = absurd (cc h)
-    first false b c h = refl
+no_delete Event iface opcode h = and_left (same_iface iface display) (nat_eq opcode 1) (or_parts (same_iface iface display) (same_iface iface registry) h).0
 
 pub record CallIs (core : Core) (side : Side) (target : Object) (opcode : ℕ) (given : List Given) (signature : sigs.Message) (entry : Entry) : Type 0 where
   pub right : AllRight core.view signature.kinds given
@@ -103,7 +96,7 @@ call_is core side target opcode given signature v s g c =
     let a = fit_all core.tables core.view new c.entry.version signature.kinds given s low r m g (omega (arith, c.len, core.outbox.limit.in_range.1)) in
     let w : map wire args ≡ map (wired (next_id core.view)) given = wire_all core.view new given ∙ ap (λ (n : ℕ). map (wired n) given) id in
     let n = new_all core.view new given in
-    let short : message_len (map wire args) ≤ core.outbox.limit.bytes = let e = ap message_len (wire_all core.view new given) in omega (arith, e, len_all new.id given, c.len) in
+    let short : message_len (map wire args) ≤ core.outbox.limit.bytes = let e = ap message_len (wire_all core.view new given) in omega (arith, e, len-any new.id given, c.len) in
     let since = v.sinces_in_range.from_one side c.entry.iface.0 opcode signature c.signed in
     record {
       right = r;

@@ -1,4 +1,4 @@
--- What each move is answered in the world, and what it does there.
+-- The reply that each move gets in the world, and what it does there.
 use Rattle.std.specs.Prelude.{◌≡◌, ◌≢◌, ℕ, ◌+◌, ◌<◌, true, false, List, [], ◌∷◌, ◌++◌, length, map}
 use Rattle.std.specs.Prelude.{take, Option, Some, None, is_some, option_map}
 use Rattle.std.specs.declared.result.Result.{Result}
@@ -29,7 +29,7 @@ use Rattle.wl_recording.specs.Piece.{Piece}
 use Rattle.wl_world.specs.Meant.{Born, Message, Coming, Event, Delete, Arg, rearg, birth_of}
 use Rattle.wl_world.specs.Meant.{made_in, ended_by, tokens}
 use Rattle.wl_world.specs.World.{World, Row, Open, Ending, Marks, Action, WriteRequest, ReadRequest}
-use Rattle.wl_world.specs.World.{WriteEvent, Drop, ReadEvent, Steps}
+use Rattle.wl_world.specs.World.{WriteEvent, Drop, ReadEvent, Steps, IsOpen, IsEnding, IsThere}
 use Rattle.wl_world.specs.Pair.{PairState, Move, Reply, ClientSend, ClientBind, ServerSend}
 use Rattle.wl_world.specs.Pair.{ServerDrop, PostError, AddGlobal, Withdraw, Announce, CarryToServer}
 use Rattle.wl_world.specs.Pair.{CarryToClient, ClientNext, ServerNext, Does}
@@ -54,7 +54,7 @@ writing request_side m = WriteRequest m
 writing event_side m = WriteEvent m
 
 -- The message is written whose objects have the births of those handed to the call; where it makes
--- an object, that is what was answered.
+-- an object, that is the one that the call returned.
 pub record WritesThat (tables : List Interface) (side : Side) (w : World) (target opcode : ℕ)
     (args : List (Arg ℕ)) (new : Option Object) (w' : World) : Type 0 where
   pub message : Message Born
@@ -121,11 +121,13 @@ pub data AnnouncesThose (tables : List Interface) : World → List Owed → Worl
 
 -- ---- reads
 
--- an object in a report, by its birth: none, live or dead
+-- an object as a reader sees it, by its birth: none, live or dead; one that the reader does not
+-- hold is in no report
 pub data Seen : Type 0 where
   Null : Seen
   Live : ℕ → Seen
   Dead : ℕ → Seen
+  Unheld : Seen
 
 abbrev pub seen : Named → Seen
 seen named_as.Null = Null
@@ -133,8 +135,9 @@ seen (named_as.Live object) = Live object.birth
 seen (named_as.Dead object) = Dead object.birth
 
 abbrev pub by_row : ℕ → Option Row → Seen
+by_row birth None = Unheld
+by_row birth (Some (Open x)) = Live birth
 by_row birth (Some (Ending x)) = Dead birth
-by_row birth _ = Live birth
 
 -- how a birth is seen by an end with these objects
 abbrev pub seen_by : (ℕ → Option Row) → Option Born → Seen
@@ -151,8 +154,9 @@ ReportsArgs rows args reported =
 abbrev pub rows_of_server : World → ℕ → Option Row
 rows_of_server w birth = option_map Open (w.server birth)
 
--- the report of a request
+-- the report of a request, whose target is open at the server
 pub record ReportsRequest (w : World) (m : Message Born) (report : requests.Report) : Type 0 where
+  pub is_open : IsThere w.server m.target
   pub target : report.target.birth ≡ m.target.birth
   pub opcode : report.opcode ≡ m.opcode
   pub args : ReportsArgs (rows_of_server w) m.args report.args
@@ -161,11 +165,11 @@ pub record ReportsRequest (w : World) (m : Message Born) (report : requests.Repo
 -- meant; of one for an ending object, its tokens; of a delete, the object.
 abbrev pub ReportsComing : World → Coming Born → events.Report → Type 0
 ReportsComing w (Event m) (events.Event target opcode args) =
-    ((x : Born) × (w.client m.target.birth ≡ Some (Open x))) × (target.birth ≡ m.target.birth)
-    × (opcode ≡ m.opcode) × ReportsArgs w.client m.args args
+    IsOpen w.client m.target × (target.birth ≡ m.target.birth) × (opcode ≡ m.opcode)
+    × ReportsArgs w.client m.args args
 ReportsComing w (Event m) (events.Discarded target opcode own) =
-    ((x : Born) × (w.client m.target.birth ≡ Some (Ending x))) × (target.birth ≡ m.target.birth)
-    × (opcode ≡ m.opcode) × (own ≡ tokens m.args)
+    IsEnding w.client m.target × (target.birth ≡ m.target.birth) × (opcode ≡ m.opcode)
+    × (own ≡ tokens m.args)
 ReportsComing w (Delete x) (events.Deleted object) = object.birth ≡ x.birth
 ReportsComing w _ report = ⊥
 
@@ -179,6 +183,10 @@ HasOne inbox = HasMessage (in_front inbox)
 -- a destroying request whose delete has no room
 abbrev pub IsOutFull : PairState → Message Born → Type 0
 IsOutFull p m = (is_some m.ends ≡ true) × (room_of p.server.core.outbox < delete_id_len)
+
+-- a request whose report needs memory, which is asked for only where its delete has room
+abbrev pub AsksMemory : PairState → Message Born → Type 0
+AsksMemory p m = (m.args ≢ []) × (IsOutFull p m → ⊥)
 
 pub record ReadsRequest (tables : List Interface) (p : PairState) (w : World)
     (report : requests.Report) (w' : World) : Type 0 where
@@ -207,7 +215,7 @@ pub record ReadsEvent (tables : List Interface) (p : PairState) (w : World) (rep
 
 -- what comes needs memory to be reported: an event with arguments for an open object
 abbrev pub NeedsMemory : World → Coming Born → Type 0
-NeedsMemory w (Event m) = ((x : Born) × (w.client m.target.birth ≡ Some (Open x))) × (m.args ≢ [])
+NeedsMemory w (Event m) = IsOpen w.client m.target × (m.args ≢ [])
 NeedsMemory w (Delete x) = ⊥
 
 -- what comes first stays: there was no memory for its report, which needs some
@@ -220,14 +228,14 @@ pub record KeepsEvent (p : PairState) (w : World) (w' : World) : Type 0 where
   pub same : w' ≡ w
 
 -- The server's read takes the first request and reports it, where a whole message waits. The
--- request stays where its delete has no room, or where there is no memory for a report with
--- arguments; no fault is answered, and no failure.
+-- request stays where its delete has no room, or else where there is no memory for a report with
+-- arguments; it reports no fault and no failure.
 abbrev pub ReadsAtServer : List Interface → PairState → World
     → Result (Option requests.Report) NextError → World → Type 0
 ReadsAtServer tables p w (Ok None) w' = HasNone p.server.core.inbox × (w' ≡ w)
 ReadsAtServer tables p w (Ok (Some report)) w' = ReadsRequest tables p w report w'
 ReadsAtServer tables p w (Err errors.OutFull) w' = KeepsRequest p w (IsOutFull p) w'
-ReadsAtServer tables p w (Err errors.Memory) w' = KeepsRequest p w (λ m. m.args ≢ []) w'
+ReadsAtServer tables p w (Err errors.Memory) w' = KeepsRequest p w (AsksMemory p) w'
 ReadsAtServer tables p w (Err other) w' = ⊥
 
 -- The client's read takes the first of what comes and reports it, where a whole message waits.
@@ -290,7 +298,7 @@ pub record KeepsRecord (p p' : PairState) : Type 0 where
   pub pieces : p'.recording ≡ p.recording ++ more
   pub mark : (count : ℕ) → p.ended_at ≡ Some count → p'.ended_at ≡ Some count
 
--- What a move may be answered, and what it leaves of the pair and the world. After an error was
+-- The reply that a move may get, and what it leaves of the pair and the world. After an error was
 -- posted all is allowed, but what was recorded stays.
 pub data Answers (p : PairState) (w : World) (move : Move) (reply : Reply) (p' : PairState)
     (w' : World) : Type 0 where

@@ -1,5 +1,5 @@
 -- A client and a server with nothing between them, what can be done with them, and what each call
--- answers and leaves.
+-- returns and leaves.
 use Rattle.std.specs.Prelude.{◌≡◌, ℕ, ◌<◌, Bool, true, false, min, List, [], ◌++◌, length, take}
 use Rattle.std.specs.Prelude.{Option, Some, None}
 use Rattle.std.specs.declared.result.Result.{Result}
@@ -66,12 +66,12 @@ pub data Move : Type 0 where
   ClientNext : Move
   ServerNext : Move
 
--- what a carry is answered: how much it moved, or that there is no memory to record it
+-- the reply to a carry: how much it moved, or that there is no memory to record it
 pub data Carried : Type 0 where
   Moved : Fed → Carried
   Memory : Carried
 
--- what a move is answered
+-- the reply to a move
 pub data Reply : Type 0 where
   ClientSend : Result (Option Object) SendError → Reply
   ClientBind : Result (Option Object) SendError → Reply
@@ -102,8 +102,8 @@ with_server_core p c = with_server p (server.with_core p.server c)
 
 -- ---- a carry
 
--- What goes from one end to the other: at most so many bytes, and at most what the other's inbox
--- has room for.
+-- What goes from one end to the other: at most this number of bytes, and at most what the other's
+-- inbox has room for.
 abbrev pub carries : Core → Core → ℕ → Taken
 carries from to most = goes from.outbox (min most (in_room to).bytes) (in_room to).tokens
 
@@ -148,10 +148,10 @@ after_post p object code text =
       ended_at = marked p.ended_at (length p.recording);
     }
 
--- ---- what a call answers and leaves
+-- ---- what a call returns and leaves
 
--- A write is accepted or refused as its answer says; where it opens an object, memory may be wanted
--- in place of an acceptance. Only an accepted one changes the pair.
+-- A write is accepted or refused as its answer says; where it opens an object, it may be out of
+-- memory in place of being accepted. Only an accepted one changes the pair.
 pub data Writes (answer : Result (Option Object) SendError) (opens : Bool)
     (before after : PairState)
     : Result (Option Object) SendError → PairState → Type 0 where
@@ -161,7 +161,7 @@ pub data Writes (answer : Result (Option Object) SendError) (opens : Bool)
   no_memory : {new : Option Object} → answer ≡ Ok new → opens ≡ true
       → Writes answer opens before after (Err refusals.Memory) before
 
--- A call that answers no value is done, or refused as this says.
+-- A call that returns no value is done, or refused as this says.
 pub data Calls {E : Type 0} (refusal : Option E) (before after : PairState)
     : Result (Unit {0}) E → PairState → Type 0 where
   done : refusal ≡ None → Calls refusal before after (Ok tt) after
@@ -181,7 +181,7 @@ pub data Announces (p : PairState) : Result ℕ SendError → PairState → Type
       → Announces p (Ok count) (with_server p (after_announce p.server count))
   refused : p.server.core.failed ≡ true → Announces p (Err refusals.Failed) p
 
--- A read answers and leaves as it says; or there is no memory for a report that needs some, and
+-- A read returns and leaves what it says; or there is no memory for a report that needs some, and
 -- nothing changes.
 pub data Nexts {R : Type 0} (needs : R → Bool) (answer : Result (Option R) NextError)
     (before after : PairState)
@@ -196,7 +196,7 @@ pub data Carries (taken : Taken) (before after : PairState) : Carried → PairSt
   moved : Carries taken before after (Moved (all_of taken)) after
   no_memory : 0 < taken.bytes → Carries taken before after Memory before
 
--- What both ends answer to a move, and leave.
+-- What both ends return and leave at a move.
 abbrev pub Does : PairState → Move → Reply → PairState → Type 0
 Does p (ClientSend target opcode given) (ClientSend reply) p' =
     Writes (send_answer p.client.core Request target opcode given)

@@ -3,7 +3,7 @@ use Rattle.std.specs.Prelude.{◌≡◌, ◌≢◌, ◌⊎◌, ◌↔◌, ℕ, �
 use Rattle.std.specs.Prelude.{map, Option, Some, None}
 use Rattle.wl_world.specs.Meant.{Born, Known, Message, Coming, Event, Delete as delete_of, id_of}
 use Rattle.wl_world.specs.Meant.{birth_of, objects, made_in}
-use Rattle.wl_world.specs.World.{World, Open, Ending, IsThere, Each, marks_birth}
+use Rattle.wl_world.specs.World.{World, IsOpen, IsEnding, IsThere, Each, marks_birth}
 use Rattle.wl_world.specs.Flight.{Ask, Use, Make, Destroy, Tell, Name, End, Delete, all_asks}
 use Rattle.wl_world.specs.Flight.{all_tells}
 use Rattle.wl_world.specs.Pair.{PairState}
@@ -29,7 +29,7 @@ In x (y ∷ ys) = (x ≡ y) ⊎ In x ys
 
 -- the client holds it, open or ending
 abbrev pub IsHeld : World → Born → Type 0
-IsHeld w x = (w.client x.birth ≡ Some (Open x)) ⊎ (w.client x.birth ≡ Some (Ending x))
+IsHeld w x = IsOpen w.client x ⊎ IsEnding w.client x
 
 -- its delete is on the way to the client
 abbrev pub DeleteComes : World → Born → Type 0

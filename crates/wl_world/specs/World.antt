@@ -51,6 +51,9 @@ nothing b = None
 abbrev pub IsOpen : (ℕ → Option Row) → Born → Type 0
 IsOpen client x = client x.birth ≡ Some (Open x)
 
+abbrev pub IsEnding : (ℕ → Option Row) → Born → Type 0
+IsEnding client x = client x.birth ≡ Some (Ending x)
+
 abbrev pub IsThere : (ℕ → Option Born) → Born → Type 0
 IsThere server x = server x.birth ≡ Some x
 

@@ -1,5 +1,5 @@
 //! What the two ends keep, whatever is done with them.
-ghost use Rattle.std.specs.Prelude.{◌≡◌, ◌⊎◌, ◌<◌, ℕ, List, ◌++◌, ◌∷◌, [], true, false, None, Some, Err};
+ghost use Rattle.std.specs.Prelude.{◌≡◌, ◌⊎◌, ◌<◌, ℕ, List, ◌++◌, ◌∷◌, [], true, false, None, Err};
 ghost use Rattle.wl_sigs.specs.Tables.{Interface};
 ghost use Rattle.wl_sigs.specs.Fixed.{registry};
 ghost use Rattle.wl_sigs.specs.Valid.{Valid};
@@ -11,7 +11,7 @@ ghost use Rattle.wl_client.specs.Reports as client_reads;
 ghost use Rattle.wl_server.specs.Requests as server_reads;
 ghost use Rattle.wl_end.specs.Core.{Core, feeds};
 ghost use Rattle.wl_world.specs.Meant.{Known, Coming, Delete};
-ghost use Rattle.wl_world.specs.World.{World, opening, Each, Ending, IsOpen, IsThere};
+ghost use Rattle.wl_world.specs.World.{World, opening, Each, IsOpen, IsEnding, IsThere};
 ghost use Rattle.wl_world.specs.Pair.{PairState, Move, Reply, Does, new_pair, drained, carries, carried_bytes, carried_tokens, all_of};
 ghost use Rattle.wl_world.specs.Stands.{Stands, by_event};
 ghost use Rattle.wl_world.specs.Runs.{Runs, DoesAll, IsMove, Agree, Keeps};
@@ -110,7 +110,7 @@ pub fn only_one()
 /// What is open there has no destroying request on the way, and its delete only where its interface
 /// has a destroying event.
 pub fn ending_where()
-    ensures ending { OfEach (λ pair world object. world.client object.birth ≡ Some (Ending object)
+    ensures ending { OfEach (λ pair world object. IsEnding world.client object
         → DeleteComes world object ⊎ DestroyComes world object) }
     ensures one { OfEach (λ pair world object.
         DeleteComes world object → DestroyComes world object → ⊥) }
