@@ -1,7 +1,8 @@
 -- A session judged message by message.
 use Rattle.std.proofs.Common.{◌≡◌, ℕ, zero, suc, ◌+◌, ◌*◌, ◌^◌, ◌-◌, ◌<◌, ◌≤◌, true, false, Some, None, List, [], ◌∷◌, ◌++◌, slice_get, length, take, drop, map, refl, sym, ap, ◌∙◌, arith, subst}
 use Rattle.std.specs.declared.result.Result.TheVariants.{Ok, Err}
-use Rattle.std.proofs.lemmas.List.{length-drop, drop-drop, take_all}
+use Rattle.std.proofs.lemmas.List.{length-drop, length-take, drop-drop, take_all}
+use Rattle.std.proofs.lemmas.List.Sums.{count_by-le-length}
 use Rattle.std.proofs.lemmas.Option.{slice_get_within}
 use Rattle.wl_sigs.specs.Tables.{Interface}
 use Rattle.wl_message.specs.Cut.{is_size, front, Front, More, Bad, Whole}
@@ -16,7 +17,9 @@ use Rattle.wl_check.specs.declared.course.Stage.TheVariants.{Open, Ended, Broken
 use Rattle.wl_check.specs.declared.effect.Effect.{Effect}
 use Rattle.wl_check.specs.declared.frames.Frame.{Frame}
 use Rattle.wl_check.specs.declared.progress.Progress.{Progress}
-use Rattle.wl_check.specs.Course.{ArePassed, IsAt, is_open, IsEnd, StageIs, end_in, IsJudged, Comes, WentOn, Follows, AllJudged}
+use Rattle.wl_check.specs.declared.progress.Tally.{Tally}
+use Rattle.wl_check.specs.Course.{IsAt, is_open, IsEnd, IsTallied, StageIs, end_in, IsJudged, Comes, WentOn, Follows, AllJudged}
+use Rattle.wl_check.specs.Session.{ArePassed}
 use Rattle.wl_check.specs.Effects.{Call, effect}
 use Rattle.wl_check.specs.Merged.{Mark, mark, Cutting, cutting, cut_at, bad_at, stopped, then_cut, framed, same_direction}
 use Rattle.wl_check.specs.Places.{IsNext}
@@ -38,9 +41,16 @@ pub end_within : {A : Type 0} (tables : List Interface) (s : Session) (k : ℕ) 
 end_within tables s k p ToServer at = at.to_server.within
 end_within tables s k p ToClient at = at.to_client.within
 
+few_counted : (s : Session) (k : ℕ) (d : Direction) (t : Tally) → IsTallied s k d t → t.count ≤ k
+few_counted s k d t i =
+    let c = i.count_is in
+    let n = count_by-le-length (λ (f : Frame). same_direction f.direction d) (take k s.frames) in
+    let l = length-take k s.frames in
+    omega (arith, c, n, l)
+
 pub count_few : {A : Type 0} (tables : List Interface) (s : Session) (k : ℕ) (p : Progress A) (d : Direction) → IsAt tables s k p → (tally_in p d).count ≤ k
-count_few tables s k p ToServer at = at.to_server.few
-count_few tables s k p ToClient at = at.to_client.few
+count_few tables s k p ToServer at = few_counted s k ToServer p.to_server at.to_server
+count_few tables s k p ToClient at = few_counted s k ToClient p.to_client at.to_client
 
 -- ---- the next message
 
@@ -64,11 +74,11 @@ next_is limit tables s o c f rest x h is =
     found_is tables s c.count f c.progress rest x h.stands h.judged.at h.rest_is (is ∙ ap (λ (n : ℕ). judged_front n tables (known_in c.progress.known) rest f) (sym h.limit_is))
 
 pub judged_broken : {A : Type 0} (limit : ℕ) (tables : List Interface) (s : Session) (o : Output) (c n : Course A) (f : Frame) (rest : List ℕ) (fault : Fault) → Comes limit tables s o c f rest
-    → Err fault ≡ judged_front limit tables (known_in c.progress.known) rest f → n ≡ record c { stage = Broken f fault } → IsJudged tables s o n
-judged_broken {A} limit tables s o c n f rest fault h is n_is = subst (λ (x : Course A). IsJudged tables s o x) (sym n_is) (record {
+    → Err fault ≡ judged_front limit tables (known_in c.progress.known) rest f → n.text.items ≡ c.text.items → n ≡ record c { stage = Broken f fault; text = n.text } → IsJudged tables s o n
+judged_broken {A} limit tables s o c n f rest fault h is text_is n_is = subst (λ (x : Course A). IsJudged tables s o x) (sym n_is) (record {
   at = h.judged.at;
   stage = record { stands = h.stands; is = next_is limit tables s o c f rest (Err fault) h is; passed = open_passed tables s c.count c.stage h.going h.judged.stage };
-  text_is = h.judged.text_is;
+  text_is = text_is ∙ h.judged.text_is;
   within = h.judged.within;
   few = h.judged.few;
   small_to_server = h.judged.small_to_server;

@@ -31,7 +31,8 @@ use Rattle.wl_wire.specs.Word.{header_at}
 use Rattle.wl_objects.specs.declared.error.Fault.TheVariants.{BadSize}
 use Rattle.wl_check.specs.Session.{Session, Judged, effects, messages, ends_session, examined, fault_of, breaks, IsLawful, count_in, end_after, Answers, SaysLawful}
 use Rattle.wl_check.specs.Seen.{known_in, tally_after, tally_in, no_tally}
-use Rattle.wl_check.specs.Course.{Passed, ArePassed, IsTallied, IsAt}
+use Rattle.wl_check.specs.Course.{IsTallied, IsAt}
+use Rattle.wl_check.specs.Session.{Passed, ArePassed}
 use Rattle.wl_check.specs.Text.{IsExamined}
 use Rattle.wl_check.proofs.Stepping.{known_next, named_next}
 use Rattle.wl_check.proofs.Reading.{reading, length_messages}
@@ -47,7 +48,7 @@ first_call x xs p = let e = p.is in cc
 first_on : (x : Judged) (xs : List Judged) (k : ℕ) → ArePassed (x ∷ xs) (suc k) → ends_session x ≡ false
 first_on x xs k a = let p = a 0 (omega arith) in let is : x ≡ Ok p.call = (let e = p.is in cc) in ap ends_session is ∙ p.goes_on
 
-first_some : (b : Bool) (n : ℕ) → 0 < cond b 1 (suc n)
+pub first_some : (b : Bool) (n : ℕ) → 0 < cond b 1 (suc n)
 first_some true n = omega arith
 first_some false n = omega arith
 
@@ -116,13 +117,11 @@ tallied_step : (s : Session) (k : ℕ) (d : Direction) (t : Tally) (f : Frame) (
 tallied_step s k d t f true e same h i = record {
   count_is = ap (λ (n : ℕ). n + 1) i.count_is ∙ sym (count_more d s.frames k f e ∙ rw same refl);
   end_is = sym (rw add-one (end_more d 0 s.frames k f e ∙ rw same refl));
-  few = (let c = i.few in omega (arith, c));
   within = h refl;
 }
 tallied_step s k d t f false e same h i = record {
   count_is = (let m = count_more d s.frames k f e in i.count_is ∙ sym (m ∙ rw same (omega arith)));
   end_is = i.end_is ∙ sym (rw add-one (end_more d 0 s.frames k f e ∙ rw same refl));
-  few = (let c = i.few in omega (arith, c));
   within = i.within;
 }
 
@@ -173,8 +172,8 @@ known_first tables s k h =
 pub at_first : {A : Type 0} (tables : List Interface) (s : Session) (p : Progress A) → IsFirst (known_in p.known) → p.to_server ≡ no_tally → p.to_client ≡ no_tally → p.known.taken_to_server ≡ 0 → p.known.taken_to_client ≡ 0 → IsAt tables s 0 p
 at_first tables s p k a b c d = record {
   known_is = known_first tables s (known_in p.known) k;
-  to_server = rw a (record { count_is = refl; end_is = refl; few = omega arith; within = omega arith });
-  to_client = rw b (record { count_is = refl; end_is = refl; few = omega arith; within = omega arith });
+  to_server = rw a (record { count_is = refl; end_is = refl; within = omega arith });
+  to_client = rw b (record { count_is = refl; end_is = refl; within = omega arith });
   taken_to_server = omega (arith, c);
   taken_to_client = omega (arith, d);
 }

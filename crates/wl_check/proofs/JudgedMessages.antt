@@ -81,3 +81,7 @@ parts_are limit tables k bytes frame header body x good h b x_is = x_is ∙ (λ 
 
 pub size_bad : (limit : ℕ) (tables : List Interface) (k : Known) (bytes : List ℕ) (frame : Frame) → is_size limit frame.size ≡ false → Err BadSize ≡ judged_front limit tables k bytes frame
 size_bad limit tables k bytes frame bad = rw bad refl
+
+pub size_good : (limit : ℕ) (tables : List Interface) (k : Known) (bytes : List ℕ) (frame : Frame) (call : Call) (b : Bool) → is_size limit frame.size ≡ b → Ok call ≡ judged_front limit tables k bytes frame → is_size limit frame.size ≡ true
+size_good limit tables k bytes frame call true e h = e
+size_good limit tables k bytes frame call false e h = let bad = size_bad limit tables k bytes frame e in absurd (cc (h, bad))

@@ -16,3 +16,5 @@ pub mod Passing
 pub mod Coursing
 pub mod Piecing
 pub mod Telling
+pub mod Verdicts
+pub mod Outcomes

@@ -1,11 +1,9 @@
 -- The lines of a trace.
-use Rattle.std.proofs.Common.{◌≡◌, ℕ, zero, suc, ◌+◌, ◌^◌, ◌<◌, true, cond, Some, List, [], ◌∷◌, ◌++◌, slice_get, length, refl, sym, ap, ◌∙◌, arith, subst, add-one}
+use Rattle.std.proofs.Common.{◌≡◌, ◌↔◌, ℕ, zero, suc, ◌+◌, ◌<◌, Bool, true, false, cond, Some, List, [], ◌∷◌, ◌++◌, slice_get, length, refl, sym, ap, ◌∙◌, arith, subst, add-one}
 use Rattle.std.specs.Prelude.{Option}
 use Rattle.std.specs.declared.result.Result.TheVariants.{Ok, Err}
 use Rattle.wl_sigs.specs.Tables.{Interface}
 use Rattle.wl_objects.specs.declared.error.Fault.{Fault}
-use Rattle.wl_recording.specs.declared.piece.Direction.{Direction}
-use Rattle.wl_recording.specs.declared.piece.Direction.TheVariants.{ToServer, ToClient}
 use Rattle.wl_check.specs.declared.progress.Progress.{Progress}
 use Rattle.wl_check.specs.declared.course.Output.{Output}
 use Rattle.wl_check.specs.declared.course.Output.TheVariants.{Nothing, Lines}
@@ -13,9 +11,11 @@ use Rattle.wl_check.specs.Effects.{Call}
 use Rattle.wl_check.specs.Places.{Known, known}
 use Rattle.wl_check.specs.Session.{Session, Judged, messages, effects, ends_session}
 use Rattle.wl_check.specs.Trace.{call_line, judged_line, lines_within, lasting, trace_of, wanted}
-use Rattle.wl_check.specs.Seen.{known_in, taken_in}
-use Rattle.wl_check.specs.Course.{ArePassed, IsAt}
-use Rattle.wl_check.proofs.Examined.{behind, first_call}
+use Rattle.wl_check.specs.Seen.{known_in}
+use Rattle.wl_check.specs.Course.{IsAt}
+use Rattle.wl_check.specs.Session.{ArePassed}
+use Rattle.wl_check.specs.Text.{IsPrinted}
+use Rattle.wl_check.proofs.Examined.{behind, first_call, first_some}
 use Rattle.wl_check.proofs.Reading.{length_messages}
 
 -- ---- how many messages last
@@ -39,6 +39,42 @@ lasting_broken : (ms : List Judged) (k : ℕ) (fault : Fault) → slice_get ms k
 lasting_broken [] k fault e a = absurd (cc)
 lasting_broken (x ∷ xs) zero fault e a = let is : x ≡ Err fault = cc in ap (λ (y : Judged). lasting (y ∷ xs)) is
 lasting_broken (x ∷ xs) (suc k) fault e a = on x xs k a ∙ ap suc (lasting_broken xs k fault e (behind x xs k a))
+
+-- ---- of which messages there is a line
+
+passed_more : (x : Judged) (xs : List Judged) (k : ℕ) (call : Call) → x ≡ Ok call → ends_session (Ok call) ≡ false → ArePassed xs k → ArePassed (x ∷ xs) (suc k)
+passed_more x xs k call is goes a zero h = record { call = call; is = ap (λ (y : Judged). Some y) is; goes_on = goes }
+passed_more x xs k call is goes a (suc j) h = let p = a j (omega arith) in record { call = p.call; is = p.is; goes_on = p.goes_on }
+
+none_passed : (ms : List Judged) → ArePassed ms 0
+none_passed ms j h = absurd (omega arith)
+
+printed_step : (call : Call) (xs : List Judged) (k : ℕ) (b : Bool) → ends_session (Ok call) ≡ b → k < cond b 1 (suc (lasting xs)) → ((j : ℕ) → j < lasting xs → IsPrinted xs j) → IsPrinted (Ok call ∷ xs) k
+printed_step call xs zero b e h ih = record { call = call; is = refl; passed = none_passed (Ok call ∷ xs) }
+printed_step call xs (suc k) true e h ih = absurd (omega (arith, h))
+printed_step call xs (suc k) false e h ih =
+    let i = ih k (omega (arith, h)) in
+    record { call = i.call; is = i.is; passed = passed_more (Ok call) xs k call refl e i.passed }
+
+printed_from : (ms : List Judged) (k : ℕ) → k < lasting ms → IsPrinted ms k
+printed_from [] k h = absurd (omega (arith, h))
+printed_from (Err fault ∷ xs) k h = absurd (omega (arith, h))
+printed_from (Ok call ∷ xs) k h = printed_step call xs k (ends_session (Ok call)) refl h (printed_from xs)
+
+printed_at : (ms : List Judged) (k : ℕ) → IsPrinted ms k → k < lasting ms
+printed_at [] k p = let is = p.is in absurd (cc)
+printed_at (x ∷ xs) zero p =
+    let is : x ≡ Ok p.call = (let e = p.is in cc) in
+    let last = first_last x p.call xs is in
+    let some = first_some (ends_session (Ok p.call)) (lasting xs) in
+    omega (arith, last, some)
+printed_at (x ∷ xs) (suc k) p =
+    let e = on x xs k p.passed in
+    let i = printed_at xs k (record { call = p.call; is = p.is; passed = behind x xs k p.passed }) in
+    omega (arith, e, i)
+
+pub printed_is : (ms : List Judged) (k : ℕ) → (k < lasting ms) ↔ IsPrinted ms k
+printed_is ms k = (printed_from ms k, printed_at ms k)
 
 -- ---- the lines
 
@@ -84,8 +120,3 @@ trace_end tables s k o call text e ends a t =
 pub trace_broken : (tables : List Interface) (s : Session) (k : ℕ) (o : Output) (fault : Fault) (text : List ℕ) → slice_get (messages tables s) k ≡ Some (Err fault) → ArePassed (messages tables s) k
     → text ≡ wanted o (lines_within tables s k) → text ≡ wanted o (trace_of tables s)
 trace_broken tables s k o fault text e a t = t ∙ ap (λ (n : ℕ). wanted o (lines_within tables s n)) (sym (lasting_broken (messages tables s) k fault e a))
-
--- the count of tokens is small
-pub few_taken : {A : Type 0} (tables : List Interface) (s : Session) (k : ℕ) (p : Progress A) (d : Direction) → k < 2 ^ 63 → IsAt tables s k p → taken_in p.known d < 2 ^ 127
-few_taken tables s k p ToServer h at = let t = at.taken_to_server in omega (arith, t, h)
-few_taken tables s k p ToClient h at = let t = at.taken_to_client in omega (arith, t, h)

@@ -20,7 +20,8 @@ use Rattle.wl_check.specs.declared.progress.Tally.{Tally}
 use Rattle.wl_check.specs.declared.scanning.Scanner.{Scanner}
 use Rattle.wl_check.specs.declared.verdict.Verdict.{Verdict}
 use Rattle.wl_check.specs.declared.verdict.Verdict.TheVariants.{Lawful, Broken as BrokenAt}
-use Rattle.wl_check.specs.Course.{ArePassed, IsTallied, IsAt, is_open, IsEnd, IsFault, StageIs, end_in, IsJudged, IsFresh, Follows, IsLeft, AllJudged, IsStream, Along, IsAfter}
+use Rattle.wl_check.specs.Course.{IsTallied, IsAt, is_open, IsEnd, IsFault, StageIs, end_in, IsJudged, IsFresh, Follows, IsLeft, AllJudged, IsStream, Along, IsAfter}
+use Rattle.wl_check.specs.Session.{ArePassed}
 use Rattle.wl_check.specs.Merged.{Cutting, cut, cutting, framed, same_direction, stream_of, tokens_of, completed, merged, merged_within}
 use Rattle.wl_check.specs.Places.{known}
 use Rattle.wl_check.specs.Seen.{tally_in}
@@ -70,7 +71,6 @@ tallied_more tables s t k d x b h i =
     record {
       count_is = i.count_is ∙ ap (count_in d) (sym front);
       end_is = i.end_is ∙ ap (end_after d 0) (sym front);
-      few = i.few;
       within = (let w = i.within in let l = b.streams d in omega (arith, w, l));
     }
 

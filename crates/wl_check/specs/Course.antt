@@ -1,5 +1,6 @@
 -- How far a session was judged, message by message and piece by piece.
-use Rattle.std.specs.Prelude.{◌≡◌, ℕ, ◌+◌, ◌*◌, ◌^◌, ◌<◌, ◌≤◌, Bool, true, false, suc, List, [], map, length, drop, take, slice_get, Some}
+use Rattle.std.specs.Prelude.{◌≡◌, ℕ, ◌+◌, ◌*◌, ◌^◌, ◌<◌, ◌≤◌, Bool, true, false, suc, List, []}
+use Rattle.std.specs.Prelude.{map, length, drop, take, slice_get, Some}
 use Rattle.std.specs.declared.result.Result.TheVariants.{Ok, Err}
 use Rattle.wl_sigs.specs.Tables.{Interface}
 use Rattle.wl_message.specs.Cut.{is_size}
@@ -17,32 +18,25 @@ use Rattle.wl_check.specs.declared.progress.Progress.{Progress}
 use Rattle.wl_check.specs.declared.progress.Tally.{Tally}
 use Rattle.wl_check.specs.declared.scanning.Scanner.{Scanner}
 use Rattle.wl_check.specs.Effects.{Call}
-use Rattle.wl_check.specs.Merged.{Cutting, cutting, cut, framed, merged, stream_of, tokens_of}
+use Rattle.wl_check.specs.Merged.{Cutting, cutting, cut, framed, merged, same_direction}
+use Rattle.wl_check.specs.Merged.{stream_of, tokens_of}
 use Rattle.wl_check.specs.Places.{known, IsFirst}
 use Rattle.wl_check.specs.Seen.{known_in, no_tally, tally_in}
-use Rattle.wl_check.specs.Session.{Session, Judged, count_in, effects, end_after, ends_session, messages, session_of}
+use Rattle.wl_check.specs.Session.{Session, ArePassed, Judged, count_in, effects, end_after}
+use Rattle.wl_check.specs.Session.{ends_session, messages, session_of}
 use Rattle.wl_check.specs.Trace.{lines_within, wanted}
 
 -- ---- the messages before a place
-
--- a message that was read, and the session goes on
-pub record Passed (ms : List Judged) (j : ℕ) : Type 0 where
-  pub call : Call
-  pub is : slice_get ms j ≡ Some (Ok call)
-  pub goes_on : ends_session (Ok call) ≡ false
-
-abbrev pub ArePassed : List Judged → ℕ → Type 0
-ArePassed ms k = (j : ℕ) → j < k → Passed ms j
 
 -- what was counted of a direction before a message
 pub record IsTallied (s : Session) (k : ℕ) (d : Direction) (t : Tally) : Type 0 where
   pub count_is : t.count ≡ count_in d (take k s.frames)
   pub end_is : t.end ≡ end_after d 0 (take k s.frames)
-  pub few : t.count ≤ k
   pub within : t.end ≤ length (s.streams d)
 
 -- a place of the session: what is known there, and what was counted before it
-pub record IsAt {A : Type 0} (tables : List Interface) (s : Session) (k : ℕ) (p : Progress A) : Type 0 where
+pub record IsAt {A : Type 0} (tables : List Interface) (s : Session) (k : ℕ) (p : Progress A)
+    : Type 0 where
   pub known_is : known_in p.known ≡ known (effects tables (messages tables s)) (suc k)
   pub to_server : IsTallied s k ToServer p.to_server
   pub to_client : IsTallied s k ToClient p.to_client
@@ -66,7 +60,8 @@ pub record IsEnd (ms : List Judged) (k : ℕ) : Type 0 where
   pub passed : ArePassed ms before
 
 -- the message behind so many is this one, and the first that breaks a rule
-pub record IsFault (tables : List Interface) (s : Session) (k : ℕ) (frame : Frame) (fault : Fault) : Type 0 where
+pub record IsFault (tables : List Interface) (s : Session) (k : ℕ) (frame : Frame) (fault : Fault)
+    : Type 0 where
   pub stands : slice_get s.frames k ≡ Some frame
   pub is : slice_get (messages tables s) k ≡ Some (Err fault)
   pub passed : ArePassed (messages tables s) k
@@ -80,8 +75,14 @@ StageIs tables s k (Broken frame fault) = IsFault tables s k frame fault
 abbrev pub end_in : {A : Type 0} → Course A → Direction → ℕ
 end_in c d = (tally_in c.progress d).end
 
+-- nothing was counted of the other direction
+abbrev pub OthersStay : {A : Type 0} → Direction → Course A → Course A → Type 0
+OthersStay d before after =
+    (other : Direction) → same_direction d other ≡ false → end_in after other ≡ end_in before other
+
 -- The first messages of the session were judged, and this is what they come to.
-pub record IsJudged {A : Type 0} (tables : List Interface) (s : Session) (o : Output) (c : Course A) : Type 0 where
+pub record IsJudged {A : Type 0} (tables : List Interface) (s : Session) (o : Output) (c : Course A)
+    : Type 0 where
   pub at : IsAt tables s c.count c.progress
   pub stage : StageIs tables s c.count c.stage
   pub text_is : c.text.items ≡ wanted o (lines_within tables s c.count)
@@ -102,7 +103,8 @@ pub record IsFresh {A : Type 0} (c : Course A) : Type 0 where
   pub stage : c.stage ≡ Open
 
 -- This frame is the next of the session, and these are the bytes of its direction from there on.
-pub record Comes {A : Type 0} (limit : ℕ) (tables : List Interface) (s : Session) (o : Output) (c : Course A) (frame : Frame) (rest : List ℕ) : Type 0 where
+pub record Comes {A : Type 0} (limit : ℕ) (tables : List Interface) (s : Session) (o : Output)
+    (c : Course A) (frame : Frame) (rest : List ℕ) : Type 0 where
   pub limit_is : s.limit ≡ limit
   pub going : is_open c.stage ≡ true
   pub judged : IsJudged tables s o c
@@ -124,7 +126,8 @@ abbrev pub cut_from : {A : Type 0} → (limit : ℕ) → Session → Course A �
 cut_from limit s c d = cutting limit (length (s.streams d)) (s.streams d) (end_in c d)
 
 -- Behind the judged messages the session has just those that are cut off these bytes.
-pub record Follows {A : Type 0} (limit : ℕ) (tables : List Interface) (s : Session) (o : Output) (c : Course A) (d : Direction) (tokens : ℕ) (rest : List ℕ) : Type 0 where
+pub record Follows {A : Type 0} (limit : ℕ) (tables : List Interface) (s : Session) (o : Output)
+    (c : Course A) (d : Direction) (tokens : ℕ) (rest : List ℕ) : Type 0 where
   pub limit_is : s.limit ≡ limit
   pub going : is_open c.stage ≡ true
   pub judged : IsJudged tables s o c
@@ -141,7 +144,8 @@ pub record IsLeft (limit : ℕ) (stream : List ℕ) (end : ℕ) (rest : List ℕ
   pub is_bad : (cut limit stream).is_bad ≡ false
 
 -- All messages of the session were judged, unless one ended it or broke a rule.
-pub record AllJudged {A : Type 0} (limit : ℕ) (tables : List Interface) (s : Session) (o : Output) (c : Course A) (d : Direction) (rest : List ℕ) : Type 0 where
+pub record AllJudged {A : Type 0} (limit : ℕ) (tables : List Interface) (s : Session) (o : Output)
+    (c : Course A) (d : Direction) (rest : List ℕ) : Type 0 where
   pub judged : IsJudged tables s o c
   pub all : is_open c.stage ≡ true → length s.frames ≡ c.count
   pub left : is_open c.stage ≡ true → IsLeft limit (s.streams d) (end_in c d) rest
@@ -149,19 +153,22 @@ pub record AllJudged {A : Type 0} (limit : ℕ) (tables : List Interface) (s : S
 -- ---- pieces
 
 -- What these pieces brought in a direction.
-pub record IsStream {A : Type 0} (limit : ℕ) (d : Direction) (ps : List Piece) (c : Course A) (stream : Stream A) : Type 0 where
+pub record IsStream {A : Type 0} (limit : ℕ) (d : Direction) (ps : List Piece) (c : Course A)
+    (stream : Stream A) : Type 0 where
   pub len : stream.len ≡ length (stream_of d ps)
   pub tokens : stream.tokens ≡ tokens_of d ps
   pub left : is_open c.stage ≡ true → IsLeft limit (stream_of d ps) (end_in c d) stream.bytes.items
 
 -- The messages of these pieces were judged, and this is what they brought in one direction.
-pub record Along {A : Type 0} (limit : ℕ) (tables : List Interface) (o : Output) (d : Direction) (ps : List Piece) (c : Course A) (brought : Stream A) : Type 0 where
+pub record Along {A : Type 0} (limit : ℕ) (tables : List Interface) (o : Output) (d : Direction)
+    (ps : List Piece) (c : Course A) (brought : Stream A) : Type 0 where
   pub judged : IsJudged tables (session_of limit ps) o c
   pub all : is_open c.stage ≡ true → length (merged limit ps) ≡ c.count
   pub stream : IsStream limit d ps c brought
 
 -- and this in both
-pub record IsAfter {A : Type 0} (limit : ℕ) (tables : List Interface) (o : Output) (ps : List Piece) (s : Scanner A) : Type 0 where
+pub record IsAfter {A : Type 0} (limit : ℕ) (tables : List Interface) (o : Output) (ps : List Piece)
+    (s : Scanner A) : Type 0 where
   pub judged : IsJudged tables (session_of limit ps) o s.course
   pub all : is_open s.course.stage ≡ true → length (merged limit ps) ≡ s.course.count
   pub to_server : IsStream limit ToServer ps s.course s.to_server

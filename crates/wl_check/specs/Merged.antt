@@ -1,5 +1,6 @@
 -- The messages of both directions, in the order in which a recording's pieces complete them.
-use Rattle.std.specs.Prelude.{ℕ, zero, suc, ◌+◌, Bool, true, false, List, [], ◌∷◌, ◌++◌, map, length, drop, take, slice_get, if◌then◌else◌, Option, Some, None}
+use Rattle.std.specs.Prelude.{ℕ, zero, suc, ◌+◌, Bool, true, false, List, [], ◌∷◌, ◌++◌, map}
+use Rattle.std.specs.Prelude.{length, drop, take, slice_get, if◌then◌else◌, Option, Some, None}
 use Rattle.wl_recording.specs.declared.piece.Direction.{Direction}
 use Rattle.wl_recording.specs.declared.piece.Direction.TheVariants.{ToServer, ToClient}
 use Rattle.wl_recording.specs.Piece.{Piece}
@@ -14,7 +15,8 @@ pub record Mark : Type 0 where
 abbrev pub mark : ℕ → ℕ → Mark
 mark start size = record { start = start; size = size }
 
--- the messages of a stream from a place on, the place where the cutting stops, and whether a bad size stands there
+-- the messages of a stream from a place on, the place where the cutting stops, and whether a bad
+-- size stands there
 pub record Cutting : Type 0 where
   pub marks : List Mark
   pub place : ℕ
@@ -27,7 +29,8 @@ abbrev pub bad_at : ℕ → ℕ → Cutting
 bad_at place size = record { marks = mark place size ∷ []; place = place; is_bad = true }
 
 abbrev pub then_cut : Mark → Cutting → Cutting
-then_cut m others = record { marks = m ∷ others.marks; place = others.place; is_bad = others.is_bad }
+then_cut m others =
+    record { marks = m ∷ others.marks; place = others.place; is_bad = others.is_bad }
 
 -- what stands at a place, and then the others
 abbrev pub cut_at : ℕ → Front → (ℕ → Cutting) → Cutting
@@ -38,10 +41,11 @@ cut_at place (Whole size) others = then_cut (mark place size) (others (place + s
 -- at most so many messages of a stream, from a place on
 unfoldable pub cutting : ℕ → ℕ → List ℕ → ℕ → Cutting
 cutting limit zero stream place = stopped place
-cutting limit (suc count) stream place = cut_at place (front limit (drop place stream)) (cutting limit count stream)
+cutting limit (suc count) stream place =
+    cut_at place (front limit (drop place stream)) (cutting limit count stream)
 
--- The messages of a stream: they are cut off by the sizes in their headers, each as soon as it is whole. A message of a bad
--- size stands there as soon as its header does, and is the last.
+-- The messages of a stream: they are cut off by the sizes in their headers, each as soon as it is
+-- whole. A message of a bad size stands there as soon as its header does, and is the last.
 abbrev pub cut : ℕ → List ℕ → Cutting
 cut limit stream = cutting limit (length stream) stream 0
 
@@ -53,32 +57,41 @@ same_direction _ _ = false
 -- the bytes that pieces bring in one direction
 abbrev pub stream_of : Direction → List Piece → List ℕ
 stream_of direction [] = []
-stream_of direction (piece ∷ pieces) = (if same_direction piece.direction direction then piece.bytes else []) ++ stream_of direction pieces
+stream_of direction (piece ∷ pieces) =
+    (if same_direction piece.direction direction then piece.bytes else [])
+    ++ stream_of direction pieces
 
 -- how many tokens they bring in that direction
 abbrev pub tokens_of : Direction → List Piece → ℕ
 tokens_of direction [] = 0
-tokens_of direction (piece ∷ pieces) = (if same_direction piece.direction direction then piece.tokens else 0) + tokens_of direction pieces
+tokens_of direction (piece ∷ pieces) =
+    (if same_direction piece.direction direction then piece.tokens else 0)
+    + tokens_of direction pieces
 
--- a message in the merged list: the tokens are those that its direction brought with the pieces up to its own
+-- a message in the merged list: the tokens are those that its direction brought with the pieces up
+-- to its own
 abbrev pub framed : Direction → ℕ → Mark → Frame
-framed direction tokens m = record { direction = direction; start = m.start; size = m.size; tokens = tokens }
+framed direction tokens m =
+    record { direction = direction; start = m.start; size = m.size; tokens = tokens }
 
--- The messages that a piece completes, where these pieces came before it: those of its direction's bytes with it that were
--- not there without it.
+-- The messages that a piece completes, where these pieces came before it: those of its direction's
+-- bytes with it that were not there without it.
 abbrev pub completed : ℕ → List Piece → Piece → List Frame
 completed limit before piece =
     map (framed piece.direction (tokens_of piece.direction before + piece.tokens))
-    (drop (length (cut limit (stream_of piece.direction before)).marks) (cut limit (stream_of piece.direction before ++ piece.bytes)).marks)
+    (drop (length (cut limit (stream_of piece.direction before)).marks)
+    (cut limit (stream_of piece.direction before ++ piece.bytes)).marks)
 
 abbrev pub completed_at : ℕ → List Piece → ℕ → Option Piece → List Frame
 completed_at limit pieces k None = []
 completed_at limit pieces k (Some piece) = completed limit (take k pieces) piece
 
--- the messages that the first pieces complete, in the order of the pieces, and those of one piece in the order of the stream
+-- the messages that the first pieces complete, in the order of the pieces, and those of one piece
+-- in the order of the stream
 unfoldable pub merged_within : ℕ → List Piece → ℕ → List Frame
 merged_within limit pieces zero = []
-merged_within limit pieces (suc k) = merged_within limit pieces k ++ completed_at limit pieces k (slice_get pieces k)
+merged_within limit pieces (suc k) =
+    merged_within limit pieces k ++ completed_at limit pieces k (slice_get pieces k)
 
 -- the merged list
 abbrev pub merged : ℕ → List Piece → List Frame

@@ -1,6 +1,8 @@
--- What is known at a place of a session, by what stands at the places before it. wl_display stands at place 0, and the
--- messages of the merged list at 1, 2, ..; an object is named by the place of the request that made it, which is its birth.
-use Rattle.std.specs.Prelude.{◌≡◌, ℕ, zero, suc, ◌+◌, max, Bool, true, false, not, ◌&&◌, ◌||◌, nat_lt, nat_eq, if◌then◌else◌, Option, Some, None, option_map}
+-- What is known at a place of a session, by what stands at the places before it. wl_display stands
+-- at place 0, and the messages of the merged list at 1, 2, ..; an object is named by the place of
+-- the request that made it, which is its birth.
+use Rattle.std.specs.Prelude.{◌≡◌, ℕ, zero, suc, ◌+◌, max, Bool, true, false, not, ◌&&◌, ◌||◌}
+use Rattle.std.specs.Prelude.{nat_lt, nat_eq, if◌then◌else◌, Option, Some, None, option_map}
 use Rattle.wl_table.specs.declared.object.Entry.{Entry}
 use Rattle.wl_table.specs.declared.object.State.{State}
 use Rattle.wl_table.specs.declared.object.State.TheVariants.{Live, Zombie}
@@ -35,22 +37,28 @@ deletes effect id = frees effect.deleted id
 abbrev pub destroys : Effect → ℕ → Bool
 destroys effect id = is_id effect.destroyed id
 
--- The object that is held at a place with this id: the last that was made, unless a delete_id stands between.
+-- The object that is held at a place with this id: the last that was made, unless a delete_id
+-- stands between.
 unfoldable pub holder : (ℕ → Effect) → ℕ → ℕ → Option ℕ
 holder session zero id = None
-holder session (suc place) id = if makes (session place) id then Some place else (if deletes (session place) id then None else holder session place id)
+holder session (suc place) id =
+    if makes (session place) id then Some place
+    else (if deletes (session place) id then None else holder session place id)
 
--- whether a message that destroys the object with this id stands between the place of its making and another
+-- whether a message that destroys the object with this id stands between the place of its making
+-- and another
 unfoldable pub is_ending : (ℕ → Effect) → ℕ → ℕ → ℕ → Bool
 is_ending session birth zero id = false
-is_ending session birth (suc place) id = (nat_lt birth place && destroys (session place) id) || is_ending session birth place id
+is_ending session birth (suc place) id =
+    (nat_lt birth place && destroys (session place) id) || is_ending session birth place id
 
 abbrev pub state_of : Bool → State
 state_of true = Zombie
 state_of false = Live
 
 abbrev pub entry_of : ℕ → State → NewObject → Entry
-entry_of birth state new = record { birth = birth; iface = new.iface; version = new.version; state = state }
+entry_of birth state new =
+    record { birth = birth; iface = new.iface; version = new.version; state = state }
 
 abbrev pub new_of : Option NewObject → NewObject
 new_of None = record { id = 0; iface = display; version = 0 }
@@ -62,7 +70,9 @@ object_of session birth state = entry_of birth state (new_of (session birth).mad
 
 -- the object that an id names at a place: one that is held, open or ending
 abbrev pub named : (ℕ → Effect) → ℕ → ℕ → Option Entry
-named session place id = option_map (λ birth. object_of session birth (state_of (is_ending session birth place id))) (holder session place id)
+named session place id =
+    option_map (λ birth. object_of session birth (state_of (is_ending session birth place id)))
+    (holder session place id)
 
 -- the counts behind a message
 abbrev pub used_by : Option NewObject → ℕ → ℕ
@@ -76,7 +86,8 @@ abbrev pub advertises : ℕ → ℕ → Advertised → Bool
 advertises name iface global = nat_eq global.name name && nat_eq global.iface.0 iface
 
 abbrev pub advertised_once : Advertised → ℕ → ℕ → ℕ → ℕ
-advertised_once global name iface version = if advertises name iface global then max global.version version else version
+advertised_once global name iface version =
+    if advertises name iface global then max global.version version else version
 
 abbrev pub advertised_by : Option Advertised → ℕ → ℕ → ℕ → ℕ
 advertised_by None name iface version = version
@@ -86,22 +97,26 @@ abbrev pub advertised_after : Effect → ℕ → ℕ → ℕ → ℕ
 advertised_after effect name iface version = advertised_by effect.advertised name iface version
 
 abbrev pub taken_after : Effect → Direction → ℕ → ℕ
-taken_after effect direction count = count + (if same_direction effect.direction direction then effect.tokens else 0)
+taken_after effect direction count =
+    count + (if same_direction effect.direction direction then effect.tokens else 0)
 
 -- the greatest id used before a place
 unfoldable pub used : (ℕ → Effect) → ℕ → ℕ
 used session zero = 0
 used session (suc place) = used_after (session place) (used session place)
 
--- the greatest version that an event before a place advertised for this name and this interface; 0 where none did
+-- the greatest version that an event before a place advertised for this name and this interface; 0
+-- where none did
 unfoldable pub advertised_version : (ℕ → Effect) → ℕ → ℕ → ℕ → ℕ
 advertised_version session zero name iface = 0
-advertised_version session (suc place) name iface = advertised_after (session place) name iface (advertised_version session place name iface)
+advertised_version session (suc place) name iface =
+    advertised_after (session place) name iface (advertised_version session place name iface)
 
 -- how many tokens the messages of a direction took before a place
 unfoldable pub taken : (ℕ → Effect) → ℕ → Direction → ℕ
 taken session zero direction = 0
-taken session (suc place) direction = taken_after (session place) direction (taken session place direction)
+taken session (suc place) direction =
+    taken_after (session place) direction (taken session place direction)
 
 -- what is known at a place
 pub record Known : Type 0 where
@@ -124,7 +139,8 @@ abbrev pub ending : Entry → Entry
 ending entry = record entry { state = Zombie }
 
 abbrev pub unless_deleted : Bool → Bool → Option Entry → Option Entry
-unless_deleted deleted destroyed entry = if deleted then None else (if destroyed then option_map ending entry else entry)
+unless_deleted deleted destroyed entry =
+    if deleted then None else (if destroyed then option_map ending entry else entry)
 
 -- what an id names behind a message that stands at a place
 abbrev pub object_after : ℕ → Effect → ℕ → Option Entry → Option Entry
@@ -136,12 +152,15 @@ object_after place effect id entry =
 pub record IsNext (p : ℕ) (effect : Effect) (before after : Known) : Type 0 where
   pub objects : (id : ℕ) → after.object id ≡ object_after p effect id (before.object id)
   pub used_is : after.used ≡ used_after effect before.used
-  pub advertised_is : (name iface : ℕ) → after.advertised_version name iface ≡ advertised_after effect name iface (before.advertised_version name iface)
-  pub taken_is : (direction : Direction) → after.taken direction ≡ taken_after effect direction (before.taken direction)
+  pub advertised_is : (name iface : ℕ) → after.advertised_version name iface
+      ≡ advertised_after effect name iface (before.advertised_version name iface)
+  pub taken_is : (direction : Direction) → after.taken direction
+      ≡ taken_after effect direction (before.taken direction)
 
 -- all that is known before the first message
 pub record IsFirst (k : Known) : Type 0 where
-  pub objects : (id : ℕ) → k.object id ≡ (if nat_eq id 1 then Some (record { birth = 0; iface = display; version = 1; state = Live }) else None)
+  pub objects : (id : ℕ) → k.object id ≡ (if nat_eq id 1
+      then Some (record { birth = 0; iface = display; version = 1; state = Live }) else None)
   pub used_is : k.used ≡ 1
   pub advertised_is : (name iface : ℕ) → k.advertised_version name iface ≡ 0
   pub taken_is : (direction : Direction) → k.taken direction ≡ 0

@@ -1,5 +1,6 @@
 -- The rules that a message of a session keeps, by what is known at its place.
-use Rattle.std.specs.Prelude.{ℕ, ◌+◌, ◌-◌, Bool, false, not, ◌&&◌, nat_le, nat_eq, is_none, List, drop, take, if◌then◌else◌, Option, Some, None}
+use Rattle.std.specs.Prelude.{ℕ, ◌+◌, ◌-◌, Bool, false, not, ◌&&◌, nat_le, nat_eq, is_none, List}
+use Rattle.std.specs.Prelude.{drop, take, if◌then◌else◌, Option, Some, None}
 use Rattle.std.specs.Option.{option_map_or}
 use Rattle.std.specs.declared.result.Result.{Result}
 use Rattle.std.specs.declared.result.Result.TheVariants.{Ok, Err}
@@ -46,37 +47,51 @@ reader k direction = record {
 
 -- the version of an interface in the tables
 abbrev pub version_of : List Interface → Iface → ℕ
-version_of tables iface = option_map_or (λ (i : Interface). i.version) (interface_at tables iface.0) 0
+version_of tables iface =
+    option_map_or (λ (i : Interface). i.version) (interface_at tables iface.0) 0
 
--- A bind of this name may make this object: its interface is in the tables, its version is at least 1, at most that of the
--- tables, and at most one that an event advertised for this name and interface.
+-- A bind of this name may make this object: its interface is in the tables, its version is at least
+-- 1, at most that of the tables, and at most one that an event advertised for this name and
+-- interface.
 abbrev pub can_bind : List Interface → Known → Option ℕ → Option NewObject → Bool
-can_bind tables k (Some name) (Some new) = nat_le 1 new.version && nat_le new.version (version_of tables new.iface) && nat_le new.version (k.advertised_version name new.iface.0)
+can_bind tables k (Some name) (Some new) =
+    nat_le 1 new.version && nat_le new.version (version_of tables new.iface)
+    && nat_le new.version (k.advertised_version name new.iface.0)
 can_bind tables k _ _ = false
 
 abbrev pub is_bad_bind : List Interface → Known → Side → ℕ → Received → Bool
 is_bad_bind tables k side opcode r =
-    is_bind side r.entry.iface opcode && not (can_bind tables k (first_number r.values) (made tables r.entry.version r.signature.kinds r.values))
+    is_bind side r.entry.iface opcode
+    && not (can_bind tables k (first_number r.values)
+    (made tables r.entry.version r.signature.kinds r.values))
 
 -- F9 comes last
-abbrev pub called : List Interface → Known → Direction → ℕ → Result Received Fault → Result Call Fault
+abbrev pub called : List Interface → Known → Direction → ℕ → Result Received Fault
+    → Result Call Fault
 called tables k direction opcode (Err fault) = Err fault
 called tables k direction opcode (Ok r) =
-    if is_bad_bind tables k (side_of direction) opcode r then Err BadBind else Ok (record { direction = direction; opcode = opcode; received = r })
+    if is_bad_bind tables k (side_of direction) opcode r then Err BadBind
+    else Ok (record { direction = direction; opcode = opcode; received = r })
 
 -- the message with this header, and what stands behind it
 abbrev pub judged_as : List Interface → Known → Frame → Header → List ℕ → Result Call Fault
 judged_as tables k frame header body =
-    called tables k frame.direction header.opcode (received tables (side_of frame.direction) (reader k frame.direction) header body (frame.tokens - k.taken frame.direction))
+    called tables k frame.direction header.opcode
+    (received tables (side_of frame.direction) (reader k frame.direction) header body
+    (frame.tokens - k.taken frame.direction))
 
--- A message of a direction's stream, judged by what is known at its place: what it is, or the first rule that it breaks.
+-- A message of a direction's stream, judged by what is known at its place: what it is, or the first
+-- rule that it breaks.
 abbrev pub judged : ℕ → List Interface → Known → List ℕ → Frame → Result Call Fault
 judged limit tables k stream frame =
     if is_size limit frame.size
-    then judged_as tables k frame (header_at (drop frame.start stream)) (take (frame.size - 8) (drop (frame.start + 8) stream))
+    then judged_as tables k frame (header_at (drop frame.start stream))
+    (take (frame.size - 8) (drop (frame.start + 8) stream))
     else Err BadSize
 
 -- the same, where these are the bytes of the stream from the message on
 abbrev pub judged_front : ℕ → List Interface → Known → List ℕ → Frame → Result Call Fault
 judged_front limit tables k bytes frame =
-    if is_size limit frame.size then judged_as tables k frame (header_at bytes) (take (frame.size - 8) (drop 8 bytes)) else Err BadSize
+    if is_size limit frame.size
+    then judged_as tables k frame (header_at bytes) (take (frame.size - 8) (drop 8 bytes))
+    else Err BadSize

@@ -1,5 +1,5 @@
 -- What the code's own types stand for.
-use Rattle.std.specs.Prelude.{ℕ, ◌+◌, if◌then◌else◌, Option, Some, None}
+use Rattle.std.specs.Prelude.{ℕ, ◌+◌, if◌then◌else◌, Option, Some, None, List}
 use Rattle.std.specs.declared.cmp.Ordering.{Ordering}
 use Rattle.std.specs.Ordering.{nat_cmp, ordering_then}
 use Rattle.std.specs.BTreeMap.{get}
@@ -11,9 +11,11 @@ use Rattle.wl_objects.specs.declared.error.Fault.{Fault}
 use Rattle.wl_recording.specs.declared.piece.Direction.{Direction}
 use Rattle.wl_recording.specs.declared.piece.Direction.TheVariants.{ToServer, ToClient}
 use Rattle.wl_check.specs.declared.known.Knowledge.{Knowledge}
-use Rattle.wl_check.specs.declared.judging.Message.{Message}
+use Rattle.wl_check.specs.declared.effect.Effect.{Effect}
+use Rattle.wl_objects.specs.declared.reading.Received.{Received}
 use Rattle.wl_objects.specs.Seen.{message_of}
-use Rattle.wl_check.specs.Effects.{Call}
+use Rattle.wl_sigs.specs.Tables.{Interface}
+use Rattle.wl_check.specs.Effects.{Call, effect}
 use Rattle.wl_check.specs.Places.{Known}
 use Rattle.wl_check.specs.declared.frames.Frame.{Frame}
 use Rattle.wl_check.specs.declared.progress.Progress.{Progress}
@@ -42,17 +44,21 @@ known_in k = record {
   taken = taken_in k;
 }
 
-abbrev pub call_of : Message → Call
-call_of message = record { direction = message.direction; opcode = message.opcode; received = message_of message.received }
+-- a message that was read
+abbrev pub call_of : Direction → ℕ → Received → Call
+call_of direction opcode received =
+    record { direction = direction; opcode = opcode; received = message_of received }
 
-abbrev pub judged_in : Result Message Fault → Result Call Fault
-judged_in (Err fault) = Err fault
-judged_in (Ok message) = Ok (call_of message)
+-- what a judged message does, or the first rule that it breaks
+abbrev pub effect_in : List Interface → Result Call Fault → Result Effect Fault
+effect_in tables (Err fault) = Err fault
+effect_in tables (Ok call) = Ok (effect tables call)
 
 -- what is counted of a direction behind a message
 abbrev pub tally_after : Direction → Frame → Tally → Tally
 tally_after direction frame tally =
-    if same_direction frame.direction direction then record { count = tally.count + 1; end = frame.start + frame.size } else tally
+    if same_direction frame.direction direction
+    then record { count = tally.count + 1; end = frame.start + frame.size } else tally
 
 abbrev pub tally_in : {A : Type 0} → Progress A → Direction → Tally
 tally_in p ToServer = p.to_server

@@ -1,5 +1,7 @@
 -- Lawful sessions, and what a checker answers.
-use Rattle.std.specs.Prelude.{◌≡◌, ℕ, zero, suc, ◌+◌, ◌-◌, ◌<◌, ◌≤◌, Bool, true, false, nat_lt, List, [], ◌∷◌, ◌++◌, length, take, slice_get, if◌then◌else◌, Option, Some, None, count_by}
+use Rattle.std.specs.Prelude.{◌≡◌, ℕ, zero, suc, ◌+◌, ◌-◌, ◌<◌, ◌≤◌, Bool, true, false, nat_lt}
+use Rattle.std.specs.Prelude.{List, [], ◌∷◌, ◌++◌, length, take, slice_get, if◌then◌else◌, Option}
+use Rattle.std.specs.Prelude.{Some, None, count_by}
 use Rattle.std.specs.declared.result.Result.{Result}
 use Rattle.std.specs.declared.result.Result.TheVariants.{Ok, Err}
 use Rattle.wl_sigs.specs.Tables.{Interface}
@@ -18,14 +20,19 @@ use Rattle.wl_check.specs.Effects.{Call, effect, nothing, beginning, side_of}
 use Rattle.wl_check.specs.Places.{known}
 use Rattle.wl_check.specs.Rules.{judged}
 
--- the merged list of a recording, the bytes of each direction, and how many bytes a message may have
+-- the merged list of a recording, the bytes of each direction, and how many bytes a message may
+-- have
 pub record Session : Type 0 where
   pub limit : ℕ
   pub frames : List Frame
   pub streams : Direction → List ℕ
 
 abbrev pub session_of : ℕ → List Piece → Session
-session_of limit pieces = record { limit = limit; frames = merged limit pieces; streams = λ direction. stream_of direction pieces }
+session_of limit pieces = record {
+  limit = limit;
+  frames = merged limit pieces;
+  streams = λ direction. stream_of direction pieces;
+}
 
 -- a message judged at its place: what it is, or the first rule that it breaks
 abbrev pub Judged : Type 0
@@ -40,11 +47,15 @@ abbrev pub effects : List Interface → List Judged → ℕ → Effect
 effects tables messages zero = beginning
 effects tables messages (suc k) = effect_of tables (slice_get messages k)
 
--- these messages, and behind them those of the frames, each judged by what stands at the places before it
-unfoldable pub judged_after : ℕ → List Interface → (Direction → List ℕ) → List Judged → List Frame → List Judged
+-- these messages, and behind them those of the frames, each judged by what stands at the places
+-- before it
+unfoldable pub judged_after : ℕ → List Interface → (Direction → List ℕ) → List Judged → List Frame
+    → List Judged
 judged_after limit tables streams earlier [] = earlier
 judged_after limit tables streams earlier (frame ∷ frames) =
-    judged_after limit tables streams (earlier ++ judged limit tables (known (effects tables earlier) (suc (length earlier))) (streams frame.direction) frame ∷ []) frames
+    judged_after limit tables streams
+    (earlier ++ judged limit tables (known (effects tables earlier) (suc (length earlier)))
+    (streams frame.direction) frame ∷ []) frames
 
 -- the messages of a session
 abbrev pub messages : List Interface → Session → List Judged
@@ -55,6 +66,16 @@ abbrev pub ends_session : Judged → Bool
 ends_session (Err fault) = false
 ends_session (Ok call) = is_error (side_of call.direction) call.received.entry.iface call.opcode
 
+-- a message that was read, and the session goes on
+pub record Passed (ms : List Judged) (j : ℕ) : Type 0 where
+  pub call : Call
+  pub is : slice_get ms j ≡ Some (Ok call)
+  pub goes_on : ends_session (Ok call) ≡ false
+
+-- so do all of the first messages
+abbrev pub ArePassed : List Judged → ℕ → Type 0
+ArePassed ms k = (j : ℕ) → j < k → Passed ms j
+
 -- How many messages are examined: those up to the first wl_display.error, itself among them.
 abbrev pub examined : List Judged → ℕ
 examined [] = 0
@@ -64,9 +85,12 @@ abbrev pub fault_of : Option Judged → Option Fault
 fault_of (Some (Err fault)) = Some fault
 fault_of _ = None
 
--- the first rule that a message breaks, if it is examined and breaks one; the messages are counted from 0
+-- the first rule that a message breaks, if it is examined and breaks one; the messages are counted
+-- from 0
 abbrev pub breaks : List Interface → Session → ℕ → Option Fault
-breaks tables session k = if nat_lt k (examined (messages tables session)) then fault_of (slice_get (messages tables session) k) else None
+breaks tables session k =
+    if nat_lt k (examined (messages tables session))
+    then fault_of (slice_get (messages tables session) k) else None
 
 -- the message at a place of the merged list breaks a rule, and this is the first that it breaks
 abbrev pub Breaks : List Interface → Session → ℕ → Fault → Type 0
@@ -82,27 +106,33 @@ counted tables session = take (examined (messages tables session)) session.frame
 
 -- how many messages go in one direction
 abbrev pub count_in : Direction → List Frame → ℕ
-count_in direction frames = count_by (λ (frame : Frame). same_direction frame.direction direction) frames
+count_in direction frames =
+    count_by (λ (frame : Frame). same_direction frame.direction direction) frames
 
 -- where the last message of a direction ends; without one, at this place
 abbrev pub end_after : Direction → ℕ → List Frame → ℕ
 end_after direction place [] = place
-end_after direction place (frame ∷ frames) = end_after direction (if same_direction frame.direction direction then frame.start + frame.size else place) frames
+end_after direction place (frame ∷ frames) =
+    end_after direction
+    (if same_direction frame.direction direction then frame.start + frame.size else place) frames
 
 -- how many bytes of a direction belong to no counted message
 abbrev pub left_in : List Interface → Session → Direction → ℕ
-left_in tables session direction = length (session.streams direction) - end_after direction 0 (counted tables session)
+left_in tables session direction =
+    length (session.streams direction) - end_after direction 0 (counted tables session)
 
 -- The numbers of a lawful session.
-pub record IsCounted (tables : List Interface) (session : Session) (requests events left_to_server left_to_client : ℕ) : Type 0 where
+pub record IsCounted (tables : List Interface) (session : Session)
+    (requests events left_to_server left_to_client : ℕ) : Type 0 where
   pub requests_are : requests ≡ count_in ToServer (counted tables session)
   pub events_are : events ≡ count_in ToClient (counted tables session)
   pub to_server : left_to_server ≡ left_in tables session ToServer
   pub to_client : left_to_client ≡ left_in tables session ToClient
 
--- This is the least message that breaks a rule: its direction, its number and its place within the direction, and the first
--- rule that it breaks.
-pub record IsFirstBroken (tables : List Interface) (session : Session) (direction : Direction) (index offset : ℕ) (fault : Fault) : Type 0 where
+-- This is the least message that breaks a rule: its direction, its number and its place within the
+-- direction, and the first rule that it breaks.
+pub record IsFirstBroken (tables : List Interface) (session : Session) (direction : Direction)
+    (index offset : ℕ) (fault : Fault) : Type 0 where
   pub place : ℕ
   pub frame : Frame
   pub stands : slice_get session.frames place ≡ Some frame
@@ -118,7 +148,8 @@ pub record IsFirstBroken (tables : List Interface) (session : Session) (directio
 abbrev pub Answers : List Interface → Session → Verdict → Type 0
 Answers tables session (Lawful requests events left_to_server left_to_client) =
     IsLawful tables session × IsCounted tables session requests events left_to_server left_to_client
-Answers tables session (Broken direction index offset fault) = IsFirstBroken tables session direction index offset fault
+Answers tables session (Broken direction index offset fault) =
+    IsFirstBroken tables session direction index offset fault
 
 abbrev pub SaysLawful : Verdict → Type 0
 SaysLawful (Lawful requests events left_to_server left_to_client) = Unit {0}
@@ -130,4 +161,5 @@ pub record IsWithin (limit len : ℕ) (frame : Frame) : Type 0 where
   pub whole : is_size limit frame.size ≡ true → frame.start + frame.size ≤ len
 
 abbrev pub AreWithin : Session → Type 0
-AreWithin session = (k : ℕ) (frame : Frame) → slice_get session.frames k ≡ Some frame → IsWithin session.limit (length (session.streams frame.direction)) frame
+AreWithin session = (k : ℕ) (frame : Frame) → slice_get session.frames k ≡ Some frame
+    → IsWithin session.limit (length (session.streams frame.direction)) frame

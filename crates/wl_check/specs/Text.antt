@@ -1,5 +1,8 @@
--- What is held, open, used and advertised at a place of a session, in words: by the messages that stand before it.
-use Rattle.std.specs.Prelude.{◌≡◌, ◌≢◌, ℕ, suc, ◌<◌, ◌≤◌, true, false, List, [], ◌∷◌, ◌++◌, if◌then◌else◌, length, slice_get, drop, take, Some}
+-- What is held, open, used and advertised at a place of a session, in words: by the messages that
+-- stand before it.
+use Rattle.std.specs.Prelude.{◌≡◌, ◌≢◌, ℕ, suc, ◌<◌, ◌≤◌, true, false, List, [], ◌∷◌, ◌++◌}
+use Rattle.std.specs.Prelude.{if◌then◌else◌, length, slice_get, drop, take, Some}
+use Rattle.std.specs.declared.result.Result.TheVariants.{Ok}
 use Rattle.std.specs.List.{filter, AllByRecursion}
 use Rattle.wl_message.specs.Cut.{is_size, front, Bad}
 use Rattle.wl_check.specs.declared.effect.Advertised.{Advertised}
@@ -9,17 +12,21 @@ use Rattle.wl_check.specs.declared.effect.Effect.{Effect}
 use Rattle.wl_recording.specs.Piece.{Piece}
 use Rattle.wl_check.specs.Merged.{Mark, mark, finish, same_direction, stream_of, tokens_of}
 use Rattle.wl_check.specs.Places.{makes, deletes, destroys}
-use Rattle.wl_check.specs.Session.{Judged, ends_session}
+use Rattle.wl_check.specs.Effects.{Call}
+use Rattle.wl_check.specs.Session.{ArePassed, Judged, ends_session}
 
--- The object that was made at a place, its birth, is held at a later one: no delete_id of its id stands between.
+-- The object that was made at a place, its birth, is held at a later one: no delete_id of its id
+-- stands between.
 pub record Held (session : ℕ → Effect) (place birth id : ℕ) : Type 0 where
   pub before : birth < place
   pub made : makes (session birth) id ≡ true
-  pub kept : (between : ℕ) → birth < between → between < place → deletes (session between) id ≡ false
+  pub kept : (between : ℕ) → birth < between → between < place
+      → deletes (session between) id ≡ false
 
 -- It is open where no message that destroys it stands between.
 abbrev pub IsOpen : (ℕ → Effect) → ℕ → ℕ → ℕ → Type 0
-IsOpen session place birth id = (between : ℕ) → birth < between → between < place → destroys (session between) id ≡ false
+IsOpen session place birth id =
+    (between : ℕ) → birth < between → between < place → destroys (session between) id ≡ false
 
 -- an id was used before a place
 pub record WasUsed (session : ℕ → Effect) (place id : ℕ) : Type 0 where
@@ -48,37 +55,56 @@ sound limit marks = filter (λ (m : Mark). is_size limit m.size) marks
 abbrev pub AreSound : ℕ → List Mark → Type 0
 AreSound limit marks = AllByRecursion (λ (m : Mark). is_size limit m.size ≡ true) marks
 
--- A stream whose messages leave this rest has these marks: those of the messages, and a bad size last, where the rest begins with one.
+-- A stream whose messages leave this rest has these marks: those of the messages, and a bad size
+-- last, where the rest begins with one.
 pub data EndsWith (limit : ℕ) (stream rest : List ℕ) (marks : List Mark) : Type 0 where
-  messages : AreSound limit marks → ((size : ℕ) → front limit rest ≢ Bad size) → EndsWith limit stream rest marks
-  bad_size : (before : List Mark) (place size : ℕ) → marks ≡ before ++ mark place size ∷ [] → AreSound limit before → drop place stream ≡ rest
-      → front limit rest ≡ Bad size → EndsWith limit stream rest marks
+  messages : AreSound limit marks → ((size : ℕ) → front limit rest ≢ Bad size)
+      → EndsWith limit stream rest marks
+  bad_size : (before : List Mark) (place size : ℕ) → marks ≡ before ++ mark place size ∷ []
+      → AreSound limit before → drop place stream ≡ rest → front limit rest ≡ Bad size
+      → EndsWith limit stream rest marks
 
--- each of these messages ends behind the first `before` bytes of its direction, and within the first `after`
+-- each of these messages ends behind the first `before` bytes of its direction, and within the
+-- first `after`
 abbrev pub Brings : ℕ → ℕ → ℕ → List Mark → Type 0
-Brings limit before after marks = AllByRecursion (λ (m : Mark). (before < finish limit m) × (finish limit m ≤ after)) marks
+Brings limit before after marks =
+    AllByRecursion (λ (m : Mark). (before < finish limit m) × (finish limit m ≤ after)) marks
 
 -- a message of the session, before which none is wl_display.error
 pub record IsExamined (messages : List Judged) (k : ℕ) : Type 0 where
   pub within : k < length messages
-  pub goes_on : (earlier : ℕ) (message : Judged) → earlier < k → slice_get messages earlier ≡ Some message → ends_session message ≡ false
+  pub goes_on : (earlier : ℕ) (message : Judged) → earlier < k
+      → slice_get messages earlier ≡ Some message → ends_session message ≡ false
+
+-- A message of which a trace has a line: it keeps the rules, and so does each before it, none of
+-- which is wl_display.error.
+pub record IsPrinted (messages : List Judged) (k : ℕ) : Type 0 where
+  pub call : Call
+  pub is : slice_get messages k ≡ Some (Ok call)
+  pub passed : ArePassed messages k
 
 -- the messages of one direction in a merged list, in its order
 abbrev pub marks_in : Direction → List Frame → List Mark
 marks_in direction [] = []
-marks_in direction (frame ∷ frames) = (if same_direction frame.direction direction then mark frame.start frame.size ∷ [] else []) ++ marks_in direction frames
+marks_in direction (frame ∷ frames) =
+    (if same_direction frame.direction direction then mark frame.start frame.size ∷ [] else [])
+    ++ marks_in direction frames
 
--- A message comes with the piece of its direction that brings its last byte, and counts the tokens that its direction brought with
--- the pieces up to that one.
+-- A message comes with the piece of its direction that brings its last byte, and counts the tokens
+-- that its direction brought with the pieces up to that one.
 pub record ComesWith (limit : ℕ) (pieces : List Piece) (k : ℕ) (frame : Frame) : Type 0 where
   pub piece : Piece
   pub there : slice_get pieces k ≡ Some piece
   pub direction : piece.direction ≡ frame.direction
-  pub behind : length (stream_of frame.direction (take k pieces)) < finish limit (mark frame.start frame.size)
-  pub within : finish limit (mark frame.start frame.size) ≤ length (stream_of frame.direction (take (suc k) pieces))
+  pub behind : length (stream_of frame.direction (take k pieces))
+      < finish limit (mark frame.start frame.size)
+  pub within : finish limit (mark frame.start frame.size)
+      ≤ length (stream_of frame.direction (take (suc k) pieces))
   pub tokens : frame.tokens ≡ tokens_of frame.direction (take (suc k) pieces)
 
 -- These messages come with the pieces in their order, from one piece on and before another.
 abbrev pub ComeInOrder : ℕ → List Piece → ℕ → ℕ → List Frame → Type 0
 ComeInOrder limit pieces from to [] = Unit {0}
-ComeInOrder limit pieces from to (frame ∷ frames) = (k : ℕ) × (from ≤ k) × (k < to) × ComesWith limit pieces k frame × ComeInOrder limit pieces k to frames
+ComeInOrder limit pieces from to (frame ∷ frames) =
+    (k : ℕ) × (from ≤ k) × (k < to) × ComesWith limit pieces k frame
+    × ComeInOrder limit pieces k to frames

@@ -1,5 +1,6 @@
 -- The trace of a session.
-use Rattle.std.specs.Prelude.{ℕ, zero, suc, List, [], ◌∷◌, ◌++◌, slice_get, if◌then◌else◌, Option, Some}
+use Rattle.std.specs.Prelude.{ℕ, zero, suc, List, [], ◌∷◌, ◌++◌, slice_get, if◌then◌else◌, Option}
+use Rattle.std.specs.Prelude.{Some}
 use Rattle.std.specs.declared.result.Result.TheVariants.{Ok, Err}
 use Rattle.wl_sigs.specs.Tables.{Interface}
 use Rattle.wl_lines.specs.Line.{line}
@@ -12,7 +13,9 @@ use Rattle.wl_check.specs.Session.{Session, Judged, messages, effects, ends_sess
 
 -- the line of a message, by what is known at its place
 abbrev pub call_line : List Interface → Known → Call → List ℕ
-call_line tables k call = line tables (side_of call.direction) (reader k call.direction).object call.received (k.taken call.direction)
+call_line tables k call =
+    line tables (side_of call.direction) (reader k call.direction).object call.received
+    (k.taken call.direction)
 
 abbrev pub judged_line : List Interface → Known → Option Judged → List ℕ
 judged_line tables k (Some (Ok call)) = call_line tables k call
@@ -27,10 +30,12 @@ wanted Lines lines = lines
 unfoldable pub lines_within : List Interface → Session → ℕ → List ℕ
 lines_within tables session zero = []
 lines_within tables session (suc k) =
-    lines_within tables session k ++ judged_line tables (known (effects tables (messages tables session)) (suc k)) (slice_get (messages tables session) k)
+    lines_within tables session k
+    ++ judged_line tables (known (effects tables (messages tables session)) (suc k))
+    (slice_get (messages tables session) k)
 
--- How many messages stand before the verdict's end: all before the first that breaks a rule, or up to the first
--- wl_display.error, itself among them.
+-- How many messages stand before the verdict's end: all before the first that breaks a rule, or up
+-- to the first wl_display.error, itself among them.
 abbrev pub lasting : List Judged → ℕ
 lasting [] = 0
 lasting (Err fault ∷ others) = 0

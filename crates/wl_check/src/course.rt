@@ -1,16 +1,13 @@
 //! A session's messages, judged one after another.
-ghost use Rattle.std.specs.Prelude.{◌≡◌, ◌≤◌, ◌++◌, ◌^◌, ◌<◌, ℕ, true, false, drop, length, OnOk, IfOk};
-ghost use Rattle.wl_recording.specs.declared.piece.Direction.{Direction as Way};
+ghost use Rattle.std.specs.Prelude.{◌≡◌, ◌≤◌, ◌++◌, ◌^◌, ◌<◌, ℕ, true, false, drop, length, OnOk};
+ghost use Rattle.std.specs.Prelude.{IfOk};
 ghost use Rattle.wl_sigs.specs.Valid.{Valid};
-ghost use Rattle.wl_check.specs.Course.{end_in, is_open, AllJudged, Comes, Follows, IsFresh, IsJudged, WentOn};
-ghost use Rattle.wl_check.specs.Merged.{same_direction};
+ghost use Rattle.wl_check.specs.Course.{is_open, AllJudged, Comes, Follows, IsFresh, IsJudged};
+ghost use Rattle.wl_check.specs.Course.{OthersStay, WentOn};
 ghost use Rattle.wl_check.specs.Session.{Session};
-ghost use Rattle.wl_check.specs.Seen.{call_of, known_in, taken_in};
-ghost use Rattle.wl_check.specs.Trace.{call_line, wanted};
 
 use crate::frames::{Frame, size_in_front};
-use crate::judging::{Message, judge};
-use crate::known::Knowledge;
+use crate::judging::judge;
 use crate::progress::Progress;
 use std::alloc::{AllocError, Allocator, Global};
 use wl_message::Limit;
@@ -81,8 +78,7 @@ impl<A: Allocator + Clone> Course<A> {
         ensures judged { IfOk result (λ place. (s : Session)
             → Follows limit.bytes tables.now s output self.old direction tokens bytes.now
             → AllJudged limit.bytes tables.now s output self.new direction (drop place bytes.now)) }
-        ensures other { OnOk result ((other : Way) → same_direction direction other ≡ false
-            → end_in self.new other ≡ end_in self.old other) }
+        ensures other { OnOk result (OthersStay direction self.old self.new) }
     {
         let mut place = 0;
         'messages: loop {
@@ -121,24 +117,16 @@ impl<A: Allocator + Clone> Course<A> {
             → IsJudged tables.now s output self.new) }
         ensures on { OnOk result (is_open self.new.stage ≡ true
             → WentOn limit.bytes frame.now self.old self.new) }
-        ensures other { OnOk result ((other : Way) → same_direction frame.now.direction other ≡ false
-            → end_in self.new other ≡ end_in self.old other) }
+        ensures other { OnOk result (OthersStay frame.now.direction self.old self.new) }
     {
-        let message = match judge(tables, &self.progress.known, bytes, frame, limit) {
-            Ok(message) => message,
+        let known = &self.progress.known;
+        let effect = match judge(tables, known, bytes, frame, limit, &mut self.text, output)? {
+            Ok(effect) => effect,
             Err(fault) => {
                 self.stage = Stage::Broken(*frame, fault);
                 return Ok(());
             }
         };
-        write(
-            &message,
-            &mut self.text,
-            tables,
-            &self.progress.known,
-            output,
-        )?;
-        let effect = message.effect(tables);
         let place = self.count + 1;
         self.progress.advance(place, frame, &effect)?;
         self.count = place;
@@ -158,23 +146,5 @@ impl<A: Allocator> Course<A> {
             Stage::Open => true,
             Stage::Ended | Stage::Broken(..) => false,
         }
-    }
-}
-
-/// Appends what is wanted of a message, before the message changes what is known.
-fn write<A: Allocator>(
-    message: &Message<'_, '_>,
-    text: &mut Vec<u8, A>,
-    tables: &Tables,
-    known: &Knowledge<A>,
-    output: Output,
-) -> Result<(), AllocError>
-    requires { taken_in known.now message.now.direction < 2 ^ 127 }
-    ensures { OnOk result (text.new.items ≡ text.old.items
-        ++ wanted output (call_line tables.now (known_in known.now) (call_of message.now))) }
-{
-    match output {
-        Output::Nothing => Ok(()),
-        Output::Lines => message.write(text, tables, known),
     }
 }

@@ -1,13 +1,17 @@
 //! One message judged by what is known at its place.
-ghost use Rattle.std.specs.Prelude.{◌≡◌, ◌≤◌, ◌^◌, ◌<◌, ◌++◌, min, true, length, OnOk};
+ghost use Rattle.std.specs.Prelude.{◌≡◌, ◌≤◌, ◌^◌, ◌<◌, ◌++◌, min, true, length, Some, OnOk, IfOk};
 ghost use Rattle.wl_sigs.specs.Valid.{Valid};
 ghost use Rattle.wl_message.specs.Cut.{is_size};
-ghost use Rattle.wl_check.specs.Effects.{advertised, effect, first_number, is_global, side_of};
-ghost use Rattle.wl_check.specs.Rules.{is_bad_bind, judged_as, judged_front, can_bind, version_of};
+ghost use Rattle.wl_objects.specs.Messages.{is_error};
+ghost use Rattle.wl_objects.specs.Reading.{descriptors};
 ghost use Rattle.wl_objects.specs.Seen.{message_of};
-ghost use Rattle.wl_check.specs.Seen.{call_of, judged_in, known_in, taken_in};
-ghost use Rattle.wl_check.specs.Trace.{call_line};
+ghost use Rattle.wl_check.specs.Effects.{advertised, effect, first_number, is_global, side_of};
+ghost use Rattle.wl_lines.specs.Line.{line};
+ghost use Rattle.wl_check.specs.Rules.{can_bind, is_bad_bind, judged_as, judged_front, reader};
+ghost use Rattle.wl_check.specs.Seen.{call_of, effect_in, known_in, taken_in};
+ghost use Rattle.wl_check.specs.Trace.{judged_line, wanted};
 
+use crate::course::Output;
 use crate::effect::{Advertised, Effect};
 use crate::frames::{Frame, header_of};
 use crate::known::{Knowledge, ReaderLookup};
@@ -15,21 +19,12 @@ use std::alloc::{AllocError, Allocator};
 use wl_lines::write_line;
 use wl_message::Limit;
 use wl_objects::{
-    Fault, NewObject, REGISTRY, Received, Values, descriptors, is_bind, is_delete_id, is_error,
-    made_by_message, receive,
+    Fault, NewObject, REGISTRY, Received, Values, is_bind, is_delete_id, made_by_message, receive,
 };
 use wl_recording::Direction;
 use wl_sigs::event::wl_registry::GLOBAL;
 use wl_sigs::{Destroys, Side, Tables};
 use wl_wire::{Header, Iface, ValueRef};
-
-/// A message that was read.
-#[derive(Debug, Drop)]
-pub(crate) struct Message<'t, 'a> {
-    pub direction: Direction,
-    pub opcode: u16,
-    pub received: Received<'t, 'a>,
-}
 
 /// Requests go to the server, events to the client.
 pub(crate) fn side_of(direction: Direction) -> Side
@@ -41,58 +36,93 @@ pub(crate) fn side_of(direction: Direction) -> Side
     }
 }
 
-/// Judges the message of a frame, which begins these bytes: what it is, or the first rule that it
-/// breaks.
-pub(crate) fn judge<'t: 'a, 'a, A: Allocator>(
-    tables: &'t Tables,
+/// Judges the message of a frame, which begins these bytes: what it does, or the first rule that it
+/// breaks. What is wanted of a message that keeps the rules is appended to the text.
+pub(crate) fn judge<A: Allocator>(
+    tables: &Tables,
     known: &Knowledge<A>,
-    bytes: &'a [u8],
+    bytes: &[u8],
     frame: &Frame,
     limit: Limit,
-) -> Result<Message<'t, 'a>, Fault>
+    text: &mut Vec<u8, A>,
+    output: Output,
+) -> Result<Result<Effect, Fault>, AllocError>
     requires valid { Valid tables.now }
     requires header { 8 ≤ length bytes.now }
     requires whole { is_size limit.bytes frame.now.size ≡ true
         → frame.now.size ≤ length bytes.now }
-    ensures judged { judged_in result
-        ≡ judged_front limit.bytes tables.now (known_in known.now) bytes.now frame.now }
-    ensures size { OnOk result (is_size limit.bytes frame.now.size ≡ true) }
+    requires taken { taken_in known.now frame.now.direction < 2 ^ 127 }
+    ensures effect { IfOk result (λ r. r ≡ effect_in tables.now
+        (judged_front limit.bytes tables.now (known_in known.now) bytes.now frame.now)) }
+    ensures text { OnOk result (text.new.items ≡ text.old.items
+        ++ wanted output (judged_line tables.now (known_in known.now)
+        (Some (judged_front limit.bytes tables.now (known_in known.now) bytes.now frame.now)))) }
 {
     if !limit.allows(frame.size) {
-        return Err(Fault::BadSize);
+        return Ok(Err(Fault::BadSize));
     }
     let body = &bytes[8..frame.size as usize];
-    judge_as(tables, known, frame, header_of(bytes), body)
+    judge_as(tables, known, frame, header_of(bytes), body, text, output)
 }
 
 /// Judges a whole message, its header and what stands behind that.
-fn judge_as<'t: 'a, 'a, A: Allocator>(
-    tables: &'t Tables,
+fn judge_as<A: Allocator>(
+    tables: &Tables,
     known: &Knowledge<A>,
     frame: &Frame,
     header: Header,
-    body: &'a [u8],
-) -> Result<Message<'t, 'a>, Fault>
-    requires { Valid tables.now }
-    ensures { judged_in result
-        ≡ judged_as tables.now (known_in known.now) frame.now header body.now }
+    body: &[u8],
+    text: &mut Vec<u8, A>,
+    output: Output,
+) -> Result<Result<Effect, Fault>, AllocError>
+    requires valid { Valid tables.now }
+    requires taken { taken_in known.now frame.now.direction < 2 ^ 127 }
+    ensures effect { IfOk result (λ r. r ≡ effect_in tables.now
+        (judged_as tables.now (known_in known.now) frame.now header body.now)) }
+    ensures text { OnOk result (text.new.items ≡ text.old.items
+        ++ wanted output (judged_line tables.now (known_in known.now)
+        (Some (judged_as tables.now (known_in known.now) frame.now header body.now)))) }
 {
     let direction = frame.direction;
     let side = side_of(direction);
     let lookup = ReaderLookup { known, direction };
     let waiting = frame.tokens.saturating_sub(known.taken(direction));
-    let received = match receive(tables, side, &lookup, header, body, count(waiting)) {
-        Ok(received) => received,
-        Err(fault) => return Err(fault),
+    // It is large, so it is lent and not moved.
+    let received = receive(tables, side, &lookup, header, body, count(waiting));
+    let message = match &received {
+        Ok(message) => message,
+        Err(fault) => return Ok(Err(*fault)),
     };
-    if is_bad_bind(tables, known, side, header.opcode, &received) {
-        return Err(Fault::BadBind);
+    if is_bad_bind(tables, known, side, header.opcode, message) {
+        return Ok(Err(Fault::BadBind));
     }
-    Ok(Message {
-        direction,
-        opcode: header.opcode,
-        received,
-    })
+    write(text, tables, known, direction, message, output)?;
+    Ok(Ok(effect_of(tables, direction, header.opcode, message)))
+}
+
+/// Appends what is wanted of a message, before the message changes what is known.
+fn write<A: Allocator>(
+    text: &mut Vec<u8, A>,
+    tables: &Tables,
+    known: &Knowledge<A>,
+    direction: Direction,
+    message: &Received<'_, '_>,
+    output: Output,
+) -> Result<(), AllocError>
+    requires { taken_in known.now direction < 2 ^ 127 }
+    ensures { OnOk result (text.new.items ≡ text.old.items
+        ++ wanted output (line tables.now (side_of direction)
+        (reader (known_in known.now) direction).object (message_of message.now)
+        (taken_in known.now direction))) }
+{
+    match output {
+        Output::Nothing => Ok(()),
+        Output::Lines => {
+            let lookup = ReaderLookup { known, direction };
+            let taken = known.taken(direction);
+            write_line(text, tables, side_of(direction), &lookup, message, taken)
+        }
+    }
 }
 
 /// The number of tokens, or the greatest `usize` where there are more.
@@ -181,59 +211,50 @@ fn advertised(tables: &Tables, values: &Values<'_>) -> Option<Advertised>
     }
 }
 
-impl<'t, 'a> Message<'t, 'a> {
-    /// What the message does.
-    pub(crate) fn effect(&self, tables: &Tables) -> Effect
-        ensures { result ≡ effect tables.now (call_of self.now) }
-    {
-        let side = side_of(self.direction);
-        let iface = self.received.entry.iface;
-        let kinds = self.received.signature.kinds();
-        let values = &self.received.values();
-        Effect {
-            direction: self.direction,
-            made: match self.direction {
-                Direction::ToServer => {
-                    made_by_message(tables, self.received.entry.version, kinds, values)
-                }
-                Direction::ToClient => None,
-            },
-            deleted: if is_delete_id(side, iface, self.opcode) {
-                first_number(values)
-            } else {
-                None
-            },
-            destroyed: match self.received.signature.destroys() {
-                Destroys::Target => Some(self.received.target.id),
-                Destroys::Arg(place) => Some(values.id_at(place)),
-                Destroys::Nothing => None,
-            },
-            advertised: if is_global(side, iface, self.opcode) {
-                advertised(tables, values)
-            } else {
-                None
-            },
-            tokens: descriptors(kinds),
-            is_error: is_error(side, iface, self.opcode),
-        }
-    }
-
-    /// Appends the message's line to a trace, before the message changes what is known.
-    pub(crate) fn write<A: Allocator>(
-        &self,
-        text: &mut Vec<u8, A>,
-        tables: &Tables,
-        known: &Knowledge<A>,
-    ) -> Result<(), AllocError>
-        requires { taken_in known.now self.now.direction < 2 ^ 127 }
-        ensures { OnOk result
-            (text.new.items ≡ text.old.items
-            ++ call_line tables.now (known_in known.now) (call_of self.now)) }
-    {
-        let direction = self.direction;
-        let lookup = ReaderLookup { known, direction };
-        let taken = known.taken(direction);
-        let side = side_of(direction);
-        write_line(text, tables, side, &lookup, &self.received, taken)
+/// What a message that was read does.
+fn effect_of(
+    tables: &Tables,
+    direction: Direction,
+    opcode: u16,
+    message: &Received<'_, '_>,
+) -> Effect
+    requires tokens { message.now.tokens ≡ descriptors message.now.signature.now.kinds }
+    requires error { message.now.is_error
+        ≡ is_error (side_of direction) message.now.entry.iface opcode }
+    ensures { result ≡ effect tables.now (call_of direction opcode message.now) }
+{
+    let side = side_of(direction);
+    let iface = message.entry.iface;
+    let values = &message.values();
+    Effect {
+        direction,
+        made: match direction {
+            Direction::ToServer => {
+                made_by_message(
+                    tables,
+                    message.entry.version,
+                    message.signature.kinds(),
+                    values,
+                )
+            }
+            Direction::ToClient => None,
+        },
+        deleted: if is_delete_id(side, iface, opcode) {
+            first_number(values)
+        } else {
+            None
+        },
+        destroyed: match message.signature.destroys() {
+            Destroys::Target => Some(message.target.id),
+            Destroys::Arg(place) => Some(values.id_at(place)),
+            Destroys::Nothing => None,
+        },
+        advertised: if is_global(side, iface, opcode) {
+            advertised(tables, values)
+        } else {
+            None
+        },
+        tokens: message.tokens,
+        is_error: message.is_error,
     }
 }

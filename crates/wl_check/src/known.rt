@@ -1,12 +1,14 @@
 //! What is known at a place of a session.
-ghost use Rattle.std.specs.Prelude.{◌≡◌, ℕ, ◌+◌, ◌^◌, ◌<◌, OnOk, IfOk, cond, nat_eq, Some, None, option_map};
+ghost use Rattle.std.specs.Prelude.{◌≡◌, ℕ, ◌+◌, ◌^◌, ◌<◌, OnOk, IfOk, cond, nat_eq, Some, None};
+ghost use Rattle.std.specs.Prelude.{option_map};
 ghost use Rattle.std.specs.Ordering.{nat_cmp};
 ghost use Rattle.std.specs.BTreeMap.{get};
 ghost use Rattle.std.specs.Option.{unwrap_or};
 ghost use Rattle.wl_table.specs.declared.object.State.TheVariants.{Live};
 ghost use Rattle.wl_sigs.specs.Fixed.{display};
 ghost use Rattle.wl_sigs.specs.Valid.{Valid};
-ghost use Rattle.wl_check.specs.Places.{ending, entry_of, frees, is_id, is_made, new_of, used_after, advertised_once, IsFirst, IsNext};
+ghost use Rattle.wl_check.specs.Places.{ending, entry_of, frees, is_id, is_made, new_of};
+ghost use Rattle.wl_check.specs.Places.{used_after, advertised_once, IsFirst, IsNext};
 ghost use Rattle.wl_check.specs.Rules.{is_free, reader};
 ghost use Rattle.wl_check.specs.Seen.{known_in, pair_cmp, taken_in};
 

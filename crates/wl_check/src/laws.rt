@@ -1,17 +1,23 @@
 //! Laws of sessions. Each is the contract of a function that does nothing: it says in words over
 //! places what the definitions compute.
-ghost use Rattle.std.specs.Prelude.{◌≡◌, ◌↔◌, ◌<◌, ◌≤◌, ◌++◌, ℕ, List, Some, false, length, drop, map};
+ghost use Rattle.std.specs.Prelude.{◌≡◌, ◌↔◌, ◌<◌, ◌≤◌, ◌++◌, ℕ, List, Some, false, length, drop};
+ghost use Rattle.std.specs.Prelude.{map};
 ghost use Rattle.wl_sigs.specs.Tables.{Interface};
 ghost use Rattle.wl_message.specs.Cut.{messages_of, rest_of};
 ghost use Rattle.wl_check.specs.Merged.{cut, stream_of};
 ghost use Rattle.wl_check.specs.Places.{holder, is_ending, used, advertised_version};
-ghost use Rattle.wl_check.specs.Session.{Session, effects, examined, messages, session_of};
+ghost use Rattle.wl_check.specs.Session.{Answers, AreWithin, Session, effects, examined, messages};
+ghost use Rattle.wl_check.specs.Session.{session_of};
+ghost use Rattle.wl_check.specs.Trace.{lasting};
+ghost use Rattle.wl_check.specs.declared.verdict.Verdict.{Verdict as Verdicts};
 ghost use Rattle.wl_recording.specs.declared.piece.Direction.{Direction as Way};
 ghost use Rattle.wl_recording.specs.Piece.{Piece};
-ghost use Rattle.wl_check.specs.Text.{marks_in, part_of, sound, Brings, ComeInOrder, EndsWith, Held, IsExamined, IsOpen, WasAdvertised, WasUsed};
+ghost use Rattle.wl_check.specs.Text.{marks_in, part_of, sound, Brings, ComeInOrder, EndsWith};
+ghost use Rattle.wl_check.specs.Text.{Held, IsExamined, IsOpen, IsPrinted, WasAdvertised};
+ghost use Rattle.wl_check.specs.Text.{WasUsed};
 
-/// The messages of a stream are those that its sizes cut off. A bad size, if one follows them, stands
-/// behind them and is the last.
+/// The messages of a stream are those that its sizes cut off. A bad size, if one follows them,
+/// stands behind them and is the last.
 pub fn a_stream_has_its_messages()
     ensures messages { (limit : ℕ) (stream : List ℕ)
         → map (part_of stream) (sound limit (cut limit stream).marks)
@@ -27,8 +33,8 @@ pub fn each_message_stands_once()
         ≡ (cut limit (stream_of direction pieces)).marks }
 {}
 
-/// The messages of both directions follow the pieces that bring their last bytes, a bad size the one
-/// that brings the last byte of its header; and tokens count up to a message's own piece.
+/// The messages of both directions follow the pieces that bring their last bytes, a bad size the
+/// one that brings the last byte of its header; and tokens count up to a message's own piece.
 pub fn messages_follow_their_pieces()
     ensures { (limit : ℕ) (pieces : List Piece)
         → ComeInOrder limit pieces 0 (length pieces) (session_of limit pieces).frames }
@@ -72,8 +78,25 @@ pub fn one_event_advertises_a_version()
         ↔ WasAdvertised (effects tables (messages tables session)) place name iface version }
 {}
 
+/// A message lies within the bytes of its direction; where its size is bad, its header does.
+pub fn messages_lie_within_their_streams()
+    ensures { (limit : ℕ) (pieces : List Piece) → AreWithin (session_of limit pieces) }
+{}
+
 /// A message is examined where no wl_display.error stands before it.
 pub fn an_error_ends_a_session()
     ensures { (tables : List Interface) (session : Session) (k : ℕ)
         → (k < examined (messages tables session)) ↔ IsExamined (messages tables session) k }
+{}
+
+/// A trace has a line of each message up to the verdict's end, and of no other.
+pub fn a_trace_ends_with_the_verdict()
+    ensures { (tables : List Interface) (session : Session) (k : ℕ)
+        → (k < lasting (messages tables session)) ↔ IsPrinted (messages tables session) k }
+{}
+
+/// A session has one verdict, so `check` and `trace` return the same.
+pub fn a_session_has_one_verdict()
+    ensures { (tables : List Interface) (session : Session) (one other : Verdicts)
+        → Answers tables session one → Answers tables session other → one ≡ other }
 {}

@@ -1,7 +1,7 @@
 //! Whether recorded sessions are lawful.
 //!
-//! A recording holds what passed between a client and a server, piece by piece. Its messages are put
-//! into one list and each is judged by what stands before it. The verdict names the first that
+//! A recording holds what passed between a client and a server, piece by piece. Its messages are
+//! put into one list and each is judged by what stands before it. The verdict names the first that
 //! breaks a rule.
 #![tactic(auto)]
 

@@ -1,14 +1,13 @@
 //! A recorded session, gone through piece by piece.
-ghost use Rattle.std.specs.Prelude.{◌≡◌, ◌⊎◌, ◌∷◌, ◌++◌, ℕ, List, [], map, true, false, OnOk, IfOk, IfErr};
-ghost use Rattle.wl_recording.specs.declared.piece.Direction.{Direction as Way};
+ghost use Rattle.std.specs.Prelude.{◌≡◌, ◌⊎◌, ◌∷◌, ◌++◌, ℕ, List, [], map, true, false, OnOk, IfOk};
+ghost use Rattle.std.specs.Prelude.{IfErr};
 ghost use Rattle.wl_recording.specs.declared.recording.RecordingError.TheVariants.{BadLine, Memory};
 ghost use Rattle.wl_recording.specs.Piece.{Piece, plain};
 ghost use Rattle.wl_recording.specs.Text.{IsFirstBad, Recorded};
 ghost use Rattle.wl_sigs.specs.Tables.{Interface};
 ghost use Rattle.wl_sigs.specs.Valid.{Valid};
 ghost use Rattle.wl_check.specs.declared.course.Output.{Output as Wish};
-ghost use Rattle.wl_check.specs.Course.{end_in, is_open, Along, IsAfter, IsFresh};
-ghost use Rattle.wl_check.specs.Merged.{same_direction};
+ghost use Rattle.wl_check.specs.Course.{is_open, Along, IsAfter, IsFresh, OthersStay};
 ghost use Rattle.wl_check.specs.Session.{session_of, Answers};
 ghost use Rattle.wl_check.specs.Trace.{trace_of, wanted};
 
@@ -45,9 +44,9 @@ fn take_piece<A: Allocator + Clone>(
         → Along limit.bytes tables.now output piece.now.direction ps course.old stream.old
         → Along limit.bytes tables.now output piece.now.direction (ps ++ plain piece.now ∷ [])
         course.new stream.new) }
-    ensures going { OnOk result (is_open course.new.stage ≡ true → is_open course.old.stage ≡ true) }
-    ensures other { OnOk result ((other : Way) → same_direction piece.now.direction other ≡ false
-        → end_in course.new other ≡ end_in course.old other) }
+    ensures going { OnOk result (is_open course.new.stage ≡ true
+        → is_open course.old.stage ≡ true) }
+    ensures other { OnOk result (OthersStay piece.now.direction course.old course.new) }
 {
     let bytes = piece.bytes.as_slice();
     // More than these numbers count does not fit into any memory.

@@ -3,7 +3,8 @@ ghost use Rattle.std.specs.Prelude.{◌≡◌, ◌<◌, ◌^◌, ◌+◌, [], �
 ghost use Rattle.wl_wire.specs.Argument.{lent};
 ghost use Rattle.std.specs.Fmt.{decimal};
 ghost use Rattle.wl_lines.specs.Text.{listed, new_text, string_text};
-ghost use Rattle.wl_lines.specs.Line.{parts_of, all_parts, taken_after, argument_object, argument_string, made_name};
+ghost use Rattle.wl_lines.specs.Line.{parts_of, all_parts, taken_after, argument_object};
+ghost use Rattle.wl_lines.specs.Line.{argument_string, made_name};
 
 use crate::text::{name_of, write_new, write_object, write_string};
 use std::alloc::{AllocError, Allocator};

@@ -1,6 +1,7 @@
 //! The texts of which a line is made.
 ghost use Rattle.std.specs.Prelude.{◌≡◌, ◌++◌, IsTrue, ◌↔◌, OnOk};
-ghost use Rattle.wl_lines.specs.Text.{arrow, object_text, new_text, name_of, is_plain, byte_text, string_text};
+ghost use Rattle.wl_lines.specs.Text.{arrow, object_text, new_text, name_of, is_plain, byte_text};
+ghost use Rattle.wl_lines.specs.Text.{string_text};
 
 use std::alloc::{AllocError, Allocator};
 use std::io::Write;
