@@ -11,7 +11,9 @@ use Rattle.wl_written.specs.declared.fault.TableFault.TheVariants as texts
 use Rattle.wl_socket.specs.declared.error.SocketError.{SocketError}
 use Rattle.wl_socket.specs.declared.error.SocketError.TheVariants as sockets
 use Rattle.wl_jobs.specs.declared.failure.Failure.{Failure}
-use Rattle.wl_jobs.specs.declared.failure.Failure.TheVariants.{CannotRead, TooLong, BadLine, BadTablesLine, BreaksRule, CannotWrite, SocketFailed, Memory}
+use Rattle.wl_jobs.specs.declared.failure.Failure.TheVariants.{CannotRead, TooLong, BadLine}
+use Rattle.wl_jobs.specs.declared.failure.Failure.TheVariants.{BadTablesLine, BreaksRule}
+use Rattle.wl_jobs.specs.declared.failure.Failure.TheVariants.{CannotWrite, SocketFailed, Memory}
 
 -- what the faults of a recording are to the program
 abbrev pub recording_failure : RecordingError → Failure
@@ -57,7 +59,8 @@ failure_text (CannotRead name) = codes "cannot read " ++ name.now
 failure_text TooLong = codes "file too long"
 failure_text (BadLine line) = codes "line " ++ decimal line ++ codes ": bad line"
 failure_text (BadTablesLine line) = codes "tables line " ++ decimal line ++ codes ": bad line"
-failure_text (BreaksRule line rule) = codes "tables line " ++ decimal line ++ codes ": breaks V" ++ decimal rule
+failure_text (BreaksRule line rule) =
+    codes "tables line " ++ decimal line ++ codes ": breaks V" ++ decimal rule
 failure_text CannotWrite = codes "cannot write"
 failure_text SocketFailed = codes "socket failed"
 failure_text Memory = codes "out of memory"

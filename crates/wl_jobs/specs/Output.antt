@@ -1,5 +1,6 @@
 -- What the program prints of a recording.
-use Rattle.std.specs.Prelude.{◌≡◌, ℕ, ◌<◌, ◌≤◌, List, ◌++◌, length, Option, Some, None, IfSome, IsSome, IsSomeAnd, Result, Ok, Err, String, ◌⊎◌, string_bytes}
+use Rattle.std.specs.Prelude.{◌≡◌, ℕ, ◌<◌, ◌≤◌, ◌⊎◌, List, ◌++◌, length, Option, Some, None, IfSome}
+use Rattle.std.specs.Prelude.{IsSome, IsSomeAnd, Result, Ok, Err, String, string_bytes}
 use Rattle.std.specs.Io.KnownBytes.{Appends}
 use Rattle.wl_sigs.specs.Tables.{Interface}
 use Rattle.wl_sigs.specs.Core.{core_tables}
@@ -16,13 +17,17 @@ use Rattle.wl_command.specs.declared.job.Job.TheVariants.{Trace, Check, Demo, So
 use Rattle.wl_demo.specs.Demo.{IsShown}
 use Rattle.wl_socket.specs.Socket.{Shows}
 use Rattle.wl_jobs.specs.declared.failure.Failure.{Failure}
-use Rattle.wl_jobs.specs.declared.failure.Failure.TheVariants.{CannotRead, TooLong, BadLine, BadTablesLine, BreaksRule, CannotWrite, SocketFailed, Memory}
+use Rattle.wl_jobs.specs.declared.failure.Failure.TheVariants.{CannotRead, TooLong, BadLine}
+use Rattle.wl_jobs.specs.declared.failure.Failure.TheVariants.{BadTablesLine, BreaksRule}
+use Rattle.wl_jobs.specs.declared.failure.Failure.TheVariants.{CannotWrite, SocketFailed, Memory}
 use Rattle.wl_jobs.specs.Failing.{failure_line, status_of}
 use Rattle.wl_jobs.specs.Writing.{AppendsFront}
 use Rattle.wl_jobs.specs.Verdict.{verdict_line, last_line, verdict_status}
 
--- The text is a recording, and the output is the line of the verdict on it by this limit and these tables.
-pub record IsChecked (limit : ℕ) (tables : List Interface) (text output : List ℕ) (status : ℕ) : Type 0 where
+-- The text is a recording, and the output is the line of the verdict on it by this limit and these
+-- tables.
+pub record IsChecked (limit : ℕ) (tables : List Interface) (text output : List ℕ) (status : ℕ)
+    : Type 0 where
   pub pieces : List Piece
   pub recorded : Recorded text pieces
   pub verdict : Verdict
@@ -30,9 +35,10 @@ pub record IsChecked (limit : ℕ) (tables : List Interface) (text output : List
   pub whole : output ≡ verdict_line verdict
   pub status_is : status ≡ verdict_status verdict
 
--- The text is a recording, and the output is the lines of its messages before the verdict's end, and where a rule is broken the
--- verdict's line behind them.
-pub record IsTraced (limit : ℕ) (tables : List Interface) (text output : List ℕ) (status : ℕ) : Type 0 where
+-- The text is a recording, and the output is the lines of its messages before the verdict's end,
+-- and where a rule is broken the verdict's line behind them.
+pub record IsTraced (limit : ℕ) (tables : List Interface) (text output : List ℕ) (status : ℕ)
+    : Type 0 where
   pub pieces : List Piece
   pub recorded : Recorded text pieces
   pub verdict : Verdict
@@ -49,19 +55,26 @@ pub record IsRead (known : Option (List ℕ)) (text : List ℕ) : Type 0 where
   pub within : length text ≤ most_bytes
   pub all : IfSome known (λ all. text ≡ all)
 
--- The tables of a job: the core ones, and behind them those of a text that was read, where a file of tables is named.
+-- The tables of a job: the core ones, and behind them those of a text that was read, where a file
+-- of tables is named.
 abbrev pub Gathers : {A : Type 0} → Option (String A) → Option (List ℕ) → List Interface → Type 0
 Gathers None known tables = tables ≡ core_tables
-Gathers (Some name) known tables = (text : List ℕ) × IsRead known text × (outcome core_tables text ≡ Ok tables)
+Gathers (Some name) known tables =
+    (text : List ℕ) × IsRead known text × (outcome core_tables text ≡ Ok tables)
 
--- What a job prints, and the status that goes with it. A job that has a file prints what it says of a text that was read, by its tables.
+-- What a job prints, and the status that goes with it. A job that has a file prints what it says of
+-- a text that was read, by its tables.
 abbrev pub IsDone : Job → Option (List ℕ) → Option (List ℕ) → List ℕ → ℕ → Type 0
 IsDone (Trace tables limit file) known_tables known output status =
-    (all : List Interface) × Gathers tables known_tables all × ((text : List ℕ) × IsRead known text × IsTraced limit.bytes all text output status)
+    (all : List Interface) × Gathers tables known_tables all
+    × ((text : List ℕ) × IsRead known text × IsTraced limit.bytes all text output status)
 IsDone (Check tables limit file) known_tables known output status =
-    (all : List Interface) × Gathers tables known_tables all × ((text : List ℕ) × IsRead known text × IsChecked limit.bytes all text output status)
-IsDone (Demo piece) known_tables known output status = IsShown core_tables piece output × (status ≡ 0)
-IsDone (Socket path) known_tables known output status = Shows core_tables output × (status ≡ 0)
+    (all : List Interface) × Gathers tables known_tables all
+    × ((text : List ℕ) × IsRead known text × IsChecked limit.bytes all text output status)
+IsDone (Demo piece) known_tables known output status =
+    IsShown core_tables piece output × (status ≡ 0)
+IsDone (Socket path) known_tables known output status =
+    Shows core_tables output × (status ≡ 0)
 
 -- the job reads a recording
 abbrev pub ReadsFile : Job → Type 0
@@ -117,15 +130,20 @@ GivesNone known fault = (text : List ℕ) × IsRead known text × (outcome core_
 abbrev pub IsTooLong : Option (List ℕ) → Type 0
 IsTooLong known = IfSome known (λ all. most_bytes < length all)
 
--- Why a job prints nothing. A file is too long exactly where it has more bytes than may be read. The recording is at fault only where the tables
--- are not.
+-- Why a job prints nothing. A file is too long exactly where it has more bytes than may be read.
+-- The recording is at fault only where the tables are not.
 abbrev pub IsRefused : Job → Option (List ℕ) → Option (List ℕ) → Failure → Type 0
-IsRefused job known_tables known (CannotRead name) = NamesFile job name.now ⊎ NamesTables job name.now
-IsRefused job known_tables known TooLong = (ReadsFile job × IsTooLong known) ⊎ (ReadsTables job × IsTooLong known_tables)
+IsRefused job known_tables known (CannotRead name) =
+    NamesFile job name.now ⊎ NamesTables job name.now
+IsRefused job known_tables known TooLong =
+    (ReadsFile job × IsTooLong known) ⊎ (ReadsTables job × IsTooLong known_tables)
 IsRefused job known_tables known (BadLine n) =
-    ((all : List Interface) × HasTables job known_tables all) × ((text : List ℕ) × IsRead known text × IsFirstBad text n)
-IsRefused job known_tables known (BadTablesLine n) = ReadsTables job × GivesNone known_tables (texts.BadLine n)
-IsRefused job known_tables known (BreaksRule n rule) = ReadsTables job × GivesNone known_tables (texts.BadTable n rule)
+    ((all : List Interface) × HasTables job known_tables all)
+    × ((text : List ℕ) × IsRead known text × IsFirstBad text n)
+IsRefused job known_tables known (BadTablesLine n) =
+    ReadsTables job × GivesNone known_tables (texts.BadLine n)
+IsRefused job known_tables known (BreaksRule n rule) =
+    ReadsTables job × GivesNone known_tables (texts.BadTable n rule)
 IsRefused job known_tables known CannotWrite = ⊥
 IsRefused job known_tables known SocketFailed = BindsSocket job
 IsRefused job known_tables known Memory = Unit {0}
@@ -135,7 +153,8 @@ abbrev pub IsTablesRefusal : {A : Type 0} → Option (String A) → Option (List
 IsTablesRefusal named known (CannotRead name) = IsSomeAnd named (λ it. string_bytes it ≡ name.now)
 IsTablesRefusal named known TooLong = IsSome named × IsTooLong known
 IsTablesRefusal named known (BadTablesLine n) = IsSome named × GivesNone known (texts.BadLine n)
-IsTablesRefusal named known (BreaksRule n rule) = IsSome named × GivesNone known (texts.BadTable n rule)
+IsTablesRefusal named known (BreaksRule n rule) =
+    IsSome named × GivesNone known (texts.BadTable n rule)
 IsTablesRefusal named known Memory = Unit {0}
 IsTablesRefusal named known (BadLine n) = ⊥
 IsTablesRefusal named known CannotWrite = ⊥
@@ -152,14 +171,21 @@ IsSocketRefusal (BadTablesLine n) = ⊥
 IsSocketRefusal (BreaksRule n rule) = ⊥
 IsSocketRefusal CannotWrite = ⊥
 
--- What a job over two readers, those of its tables and its recording, and two writers does: it prints all and says nothing; or it prints nothing, for
--- the failure of its status; or its output was made, and was not taken, or not all of it. A failure's line goes to standard error, as far as that
--- takes it.
-pub data Acted {O E : Type 0} (contents : O → Option (List ℕ)) (said : E → Option (List ℕ)) (job : Job)
-    (known_tables known : Option (List ℕ)) (out out' : O) (err err' : E) (status : ℕ) : Type 0 where
-  printed : (output : List ℕ) → IsDone job known_tables known output status → Appends (contents out) (contents out') output → err' ≡ err
+-- What a job over two readers, those of its tables and its recording, and two writers does: it
+-- prints all and says nothing; or it prints nothing, for the failure of its status; or its output
+-- was made, and was not taken, or not all of it. A failure's line goes to standard error, as far as
+-- that takes it.
+pub data Acted {O E : Type 0} (contents : O → Option (List ℕ)) (said : E → Option (List ℕ))
+    (job : Job) (known_tables known : Option (List ℕ)) (out out' : O) (err err' : E) (status : ℕ)
+    : Type 0 where
+  printed : (output : List ℕ) → IsDone job known_tables known output status
+      → Appends (contents out) (contents out') output → err' ≡ err
       → Acted contents said job known_tables known out out' err err' status
-  refused : (why : Failure) → status ≡ status_of why → IsRefused job known_tables known why → out' ≡ out → AppendsFront (said err) (said err') (failure_line why)
+  refused : (why : Failure) → status ≡ status_of why → IsRefused job known_tables known why
+      → out' ≡ out → AppendsFront (said err) (said err') (failure_line why)
       → Acted contents said job known_tables known out out' err err' status
-  not_taken : (output : List ℕ) (other : ℕ) → status ≡ 3 → IsDone job known_tables known output other → AppendsFront (contents out) (contents out') output
-      → AppendsFront (said err) (said err') (failure_line CannotWrite) → Acted contents said job known_tables known out out' err err' status
+  not_taken : (output : List ℕ) (other : ℕ) → status ≡ 3
+      → IsDone job known_tables known output other
+      → AppendsFront (contents out) (contents out') output
+      → AppendsFront (said err) (said err') (failure_line CannotWrite)
+      → Acted contents said job known_tables known out out' err err' status

@@ -2,7 +2,8 @@
 ghost use Rattle.std.specs.Prelude.{◌≡◌, ◌≤◌, ◌⊎◌, ℕ, IfOk, IfErr, IsErr, Option, Some, List, ◌≢◌};
 ghost use Rattle.wl_command.specs.declared.job.Job.{Job};
 ghost use Rattle.wl_jobs.specs.Failing.{IsReadFailure, IsRefusal};
-ghost use Rattle.wl_jobs.specs.Output.{Acted, Gathers, IsChecked, IsDone, IsRead, IsRefused, IsTablesRefusal, IsTraced, ReadsFile};
+ghost use Rattle.wl_jobs.specs.Output.{Acted, Gathers, IsChecked, IsDone, IsRead, IsRefused};
+ghost use Rattle.wl_jobs.specs.Output.{IsTablesRefusal, IsTraced, ReadsFile};
 ghost use Rattle.wl_recording.specs.Text.{IsFirstBad};
 
 use crate::failure::Failure;
@@ -74,7 +75,8 @@ fn checked<'a, A: Allocator>(
     limit: Limit,
     text: &[u8],
 ) -> Result<Printed<&'a A>, Failure<'static>>
-    ensures line { IfOk result (λ o. IsChecked limit.bytes tables.now text.now o.text.items o.status) }
+    ensures line { IfOk result (λ o. IsChecked limit.bytes tables.now text.now o.text.items
+        o.status) }
     ensures refused { IfErr result (IsRefusal text.now) }
     ensures bad { (n : ℕ) → IsFirstBad text.now n → IsErr result }
 {
@@ -94,7 +96,8 @@ fn traced<'a, A: Allocator>(
     limit: Limit,
     text: &[u8],
 ) -> Result<Printed<&'a A>, Failure<'static>>
-    ensures lines { IfOk result (λ o. IsTraced limit.bytes tables.now text.now o.text.items o.status) }
+    ensures lines { IfOk result (λ o. IsTraced limit.bytes tables.now text.now o.text.items
+        o.status) }
     ensures refused { IfErr result (IsRefusal text.now) }
     ensures bad { (n : ℕ) → IsFirstBad text.now n → IsErr result }
 {
@@ -158,7 +161,8 @@ pub(crate) fn finish<A: Allocator, O: Write, E: Write>(
     ensures acted { (job : Job) (known_tables known : Option (List ℕ))
         → IfOk output.entry (λ o. IsDone job known_tables known o.text.items o.status)
         → IfErr output.entry (IsRefused job known_tables known)
-        → Acted O.contents E.contents job known_tables known out.old out.new err.old err.new result }
+        → Acted O.contents E.contents job known_tables known out.old out.new err.old err.new
+        result }
     ensures refused { IsErr output.entry
         → ((result ≡ 3) ⊎ (result ≡ 4)) × (O.contents out.new ≡ O.contents out.old) }
     ensures unwritten { result ≡ 4 → O.contents out.new ≡ O.contents out.old }

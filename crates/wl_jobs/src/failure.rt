@@ -3,7 +3,8 @@ ghost use Rattle.std.specs.Prelude.{◌≡◌, ◌++◌, OnOk};
 ghost use Rattle.std.specs.Io.KnownBytes.{Appends};
 ghost use Rattle.wl_jobs.specs.declared.failure.Failure.TheVariants as failures;
 ghost use Rattle.std.specs.IoError.{error_kind};
-ghost use Rattle.wl_jobs.specs.Failing.{IsSocketFailure, failure_line, failure_text, recording_failure, socket_failure, status_of, tables_failure};
+ghost use Rattle.wl_jobs.specs.Failing.{IsSocketFailure, failure_line, failure_text, status_of};
+ghost use Rattle.wl_jobs.specs.Failing.{recording_failure, socket_failure, tables_failure};
 ghost use Rattle.wl_jobs.specs.Writing.{AppendsFront};
 
 use crate::writing::write_whole;
@@ -108,7 +109,8 @@ impl Failure<'_> {
     pub fn say<E: Write>(&self, err: &mut E) -> io::Result<()>
         ensures whole { OnOk result
             (Appends (E.contents err.old) (E.contents err.new) (failure_line self.now)) }
-        ensures front { AppendsFront (E.contents err.old) (E.contents err.new) (failure_line self.now) }
+        ensures front { AppendsFront (E.contents err.old) (E.contents err.new)
+            (failure_line self.now) }
     {
         let mut line = Buffer::new();
         let mut rule = Buffer::new();
@@ -124,7 +126,8 @@ impl Failure<'_> {
     /// Says so on `err`, and returns the exit status. Where `err` fails, nothing more is said.
     pub fn report<E: Write>(&self, err: &mut E) -> u8
         ensures status { result ≡ status_of self.now }
-        ensures said { AppendsFront (E.contents err.old) (E.contents err.new) (failure_line self.now) }
+        ensures said { AppendsFront (E.contents err.old) (E.contents err.new)
+            (failure_line self.now) }
     {
         let _ = self.say(err);
         self.status()

@@ -33,9 +33,9 @@ impl Termination for Ending {
 
 /// Does what the words of a command line ask for, of which the first is the program's name.
 ///
-/// `opener` opens the files that a job reads, all of them before one is read, and `binder` binds the
-/// socket of one that needs it. The output, help and the version go to `out`, and what is said of a
-/// failure or of a fault of usage to `err`.
+/// `opener` opens the files that a job reads, all of them before one is read, and `binder` binds
+/// the socket of one that needs it. The output, help and the version go to `out`, and what is said
+/// of a failure or of a fault of usage to `err`.
 pub fn run<R, F, S, B, O, E>(
     alloc: Global,
     words: io::Result<Vec<String>>,
@@ -77,8 +77,8 @@ fn not_read<E: Write>(error: &io::Error, err: &mut E) -> u8
     2
 }
 
-/// Prints help or the version to `out`, and anything else to `err`, and returns the exit status: that
-/// of the stop, or 3 where `out` does not take the text.
+/// Prints help or the version to `out`, and anything else to `err`, and returns the exit status:
+/// that of the stop, or 3 where `out` does not take the text.
 fn report_stop<O: Write, E: Write>(stop: &Stop, out: &mut O, err: &mut E) -> u8
     ensures { Told O.contents E.contents stop.now out.old out.new err.old err.new result }
 {

@@ -1,6 +1,7 @@
 //! A verdict, printed.
 ghost use Rattle.std.specs.Prelude.{◌≡◌, ◌≤◌, ◌++◌, OnOk};
-ghost use Rattle.wl_jobs.specs.Verdict.{broken_text, counts_text, last_line, left_text, message_text, sign_text, verdict_line, verdict_status};
+ghost use Rattle.wl_jobs.specs.Verdict.{broken_text, counts_text, last_line, left_text};
+ghost use Rattle.wl_jobs.specs.Verdict.{message_text, sign_text, verdict_line, verdict_status};
 
 use std::alloc::{AllocError, Allocator};
 use std::io::Write;

@@ -78,14 +78,25 @@ const LAWFUL: [(&[u8], &[u8], &[u8]); 9] = [
     ),
     // A callback, its event, and its id used again.
     (
-        b"> 0100000000000c0002000000\n< 0200000000000c00070000000100000001000c0002000000\n> 0100000000000c0002000000\n",
-        b"-> wl_display@1.sync(new id wl_callback@2)\n<- wl_callback@2.done(7)\n<- wl_display@1.delete_id(2)\n-> wl_display@1.sync(new id wl_callback@2)\n",
+        b"> 0100000000000c0002000000\n\
+          < 0200000000000c00070000000100000001000c0002000000\n\
+          > 0100000000000c0002000000\n",
+        b"-> wl_display@1.sync(new id wl_callback@2)\n\
+          <- wl_callback@2.done(7)\n\
+          <- wl_display@1.delete_id(2)\n\
+          -> wl_display@1.sync(new id wl_callback@2)\n",
         b"lawful: 2 requests, 2 events, 0 and 0 bytes left\n",
     ),
     // A token that comes before its message.
     (
-        b"> 0100000001000c0002000000\n< 0200000000001c000100000007000000776c5f73686d000001000000\n> 02000000000020000100000007000000776c5f73686d00000100000003000000 +1\n> 03000000000010000400000000100000\n",
-        b"-> wl_display@1.get_registry(new id wl_registry@2)\n<- wl_registry@2.global(1, \"wl_shm\", 1)\n-> wl_registry@2.bind(1, \"wl_shm\", 1, new id wl_shm@3)\n-> wl_shm@3.create_pool(new id wl_shm_pool@4, fd 1, 4096)\n",
+        b"> 0100000001000c0002000000\n\
+          < 0200000000001c000100000007000000776c5f73686d000001000000\n\
+          > 02000000000020000100000007000000776c5f73686d00000100000003000000 +1\n\
+          > 03000000000010000400000000100000\n",
+        b"-> wl_display@1.get_registry(new id wl_registry@2)\n\
+          <- wl_registry@2.global(1, \"wl_shm\", 1)\n\
+          -> wl_registry@2.bind(1, \"wl_shm\", 1, new id wl_shm@3)\n\
+          -> wl_shm@3.create_pool(new id wl_shm_pool@4, fd 1, 4096)\n",
         b"lawful: 3 requests, 1 events, 0 and 0 bytes left\n",
     ),
     // An error ends the session: what follows in either direction is left.
@@ -136,8 +147,10 @@ const BROKEN: [(&[u8], &[u8], &[u8]); 12] = [
     ),
     // A name whose length is one too small.
     (
-        b"> 0100000001000c00020000000100000000000c0003000000\n> 0200000000002800010000000d000000776c5f636f6d706f7369746f720000000600000004000000\n",
-        b"-> wl_display@1.get_registry(new id wl_registry@2)\n-> wl_display@1.sync(new id wl_callback@3)\n",
+        b"> 0100000001000c00020000000100000000000c0003000000\n\
+          > 0200000000002800010000000d000000776c5f636f6d706f7369746f720000000600000004000000\n",
+        b"-> wl_display@1.get_registry(new id wl_registry@2)\n\
+          -> wl_display@1.sync(new id wl_callback@3)\n",
         b"broken: > message 3 at byte 24: F4 malformed argument 1 (A3)\n",
     ),
     (
@@ -147,8 +160,15 @@ const BROKEN: [(&[u8], &[u8], &[u8]); 12] = [
     ),
     // A compositor in place of a buffer.
     (
-        b"> 0100000001000c0002000000\n< 0200000000002400010000000e000000776c5f636f6d706f7369746f7200000006000000\n> 0200000000002800010000000e000000776c5f636f6d706f7369746f7200000006000000030000000300000000000c00040000000400000001001400030000000000000000000000\n",
-        b"-> wl_display@1.get_registry(new id wl_registry@2)\n<- wl_registry@2.global(1, \"wl_compositor\", 6)\n-> wl_registry@2.bind(1, \"wl_compositor\", 6, new id wl_compositor@3)\n-> wl_compositor@3.create_surface(new id wl_surface@4)\n",
+        b"> 0100000001000c0002000000\n\
+          < 0200000000002400010000000e000000776c5f636f6d706f7369746f7200000006000000\n\
+          > 0200000000002800010000000e000000776c5f636f6d706f7369746f720000000600000003000000\
+          0300000000000c0004000000\
+          0400000001001400030000000000000000000000\n",
+        b"-> wl_display@1.get_registry(new id wl_registry@2)\n\
+          <- wl_registry@2.global(1, \"wl_compositor\", 6)\n\
+          -> wl_registry@2.bind(1, \"wl_compositor\", 6, new id wl_compositor@3)\n\
+          -> wl_compositor@3.create_surface(new id wl_surface@4)\n",
         b"broken: > message 4 at byte 64: F5 bad object, argument 0\n",
     ),
     (
@@ -158,13 +178,19 @@ const BROKEN: [(&[u8], &[u8], &[u8]); 12] = [
     ),
     // A pool without its descriptor.
     (
-        b"> 0100000001000c0002000000\n< 0200000000001c000100000007000000776c5f73686d000001000000\n> 02000000000020000100000007000000776c5f73686d00000100000003000000\n> 03000000000010000400000000100000\n",
-        b"-> wl_display@1.get_registry(new id wl_registry@2)\n<- wl_registry@2.global(1, \"wl_shm\", 1)\n-> wl_registry@2.bind(1, \"wl_shm\", 1, new id wl_shm@3)\n",
+        b"> 0100000001000c0002000000\n\
+          < 0200000000001c000100000007000000776c5f73686d000001000000\n\
+          > 02000000000020000100000007000000776c5f73686d00000100000003000000\n\
+          > 03000000000010000400000000100000\n",
+        b"-> wl_display@1.get_registry(new id wl_registry@2)\n\
+          <- wl_registry@2.global(1, \"wl_shm\", 1)\n\
+          -> wl_registry@2.bind(1, \"wl_shm\", 1, new id wl_shm@3)\n",
         b"broken: > message 3 at byte 44: F8 missing descriptor\n",
     ),
     // A global of which no event told.
     (
-        b"> 0100000001000c0002000000\n> 02000000000020000100000007000000776c5f73686d00000100000003000000\n",
+        b"> 0100000001000c0002000000\n\
+          > 02000000000020000100000007000000776c5f73686d00000100000003000000\n",
         b"-> wl_display@1.get_registry(new id wl_registry@2)\n",
         b"broken: > message 2 at byte 12: F9 bad bind\n",
     ),

@@ -153,7 +153,8 @@ fn reads_the_file_of_a_check(rt: HostRuntime) -> Result<(), Fail> {
     Ok(())
 }
 
-/// The option of the tables stands before or behind the recording, and its word may be joined to it.
+/// The option of the tables stands before or behind the recording, and its word may be joined to
+/// it.
 #[test]
 fn reads_the_file_of_tables(rt: HostRuntime) -> Result<(), Fail> {
     let wanted = Wanted::Trace(Some("t"), "f");

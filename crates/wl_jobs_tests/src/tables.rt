@@ -102,8 +102,8 @@ fn check_by(alloc: Global, tables: Option<String>) -> Result<Job, AllocError> {
     })
 }
 
-/// Whether a job over this text of tables and this recording ends with this status, and writes these
-/// bytes to standard output and to standard error.
+/// Whether a job over this text of tables and this recording ends with this status, and writes
+/// these bytes to standard output and to standard error.
 fn answers(
     alloc: Global,
     job: &Job,
