@@ -1,7 +1,12 @@
 //! What the words of a command line ask for.
 ghost use Rattle.std.specs.Prelude.{◌≡◌, List, [], IfOk, IfErr, false, option_map, string_bytes};
-ghost use Rattle.clap.specs.Words.{HasKind, app_of, fault_of, first_of, found_of, kind_of, rows_of, rule_of, subcommand_of, subcommand_rows_of};
-ghost use Rattle.wl_command.specs.Asking.{Asks, IsJobFor, IsLimitOf, IsNumber, IsStop, Names, Stops, StopsFor, check_command, command_line, demo_command, file_argument, limit_argument, path_argument, piece_argument, socket_command, tables_argument, texts_of, trace_command};
+ghost use Rattle.clap.specs.Words.{HasKind, app_of, fault_of, first_of, found_of, kind_of};
+ghost use Rattle.clap.specs.Words.{rows_of, rule_of, subcommand_of, subcommand_rows_of};
+ghost use Rattle.wl_command.specs.Asking.{Asks, IsJobFor, IsLimitOf, IsNumber, IsStop, Names};
+ghost use Rattle.wl_command.specs.Asking.{Stops, StopsFor, check_command, command_line};
+ghost use Rattle.wl_command.specs.Asking.{demo_command, file_argument, limit_argument};
+ghost use Rattle.wl_command.specs.Asking.{path_argument, piece_argument, socket_command};
+ghost use Rattle.wl_command.specs.Asking.{tables_argument, texts_of, trace_command};
 
 use clap::error::ErrorKind;
 use clap::{Arg, ArgMatches, Command, Error};
@@ -19,8 +24,8 @@ const VERSION: &str = "0.1.0";
 
 /// What is said of a command line where the parser has no words for it: it takes each number in
 /// range for a limit.
-const USAGE: &str =
-    "error: no command of this program, or a limit that is no multiple of 4\n\nUsage: waywire <COMMAND>\n";
+const USAGE: &str = "error: no command of this program, or a limit that is no multiple of 4\n\n\
+     Usage: waywire <COMMAND>\n";
 
 /// One run of the program.
 #[derive(Debug, Drop)]
@@ -33,13 +38,15 @@ pub enum Job {
         limit: Limit,
         file: String,
     },
-    /// Print whether the recording in the file of this name is lawful, by the same tables and limit.
+    /// Print whether the recording in the file of this name is lawful, by the same tables and
+    /// limit.
     Check {
         tables: Option<String>,
         limit: Limit,
         file: String,
     },
-    /// Print a session of both ends, in which at most so many bytes are carried at once: 1 to 4096.
+    /// Print a session of both ends, in which at most this many bytes are carried at once: 1 to
+    /// 4096.
     Demo {
         piece: u32,
     },

@@ -80,7 +80,7 @@ one_first_bad text n m x y =
       ]
     ]
 
--- why a text is refused, if not for want of memory
+-- why a text is refused, or out of memory
 abbrev pub IsRefused : List ℕ → RecordingError → Type 0
 IsRefused text e = (e ≡ Memory) ⊎ ((n : ℕ) × (e ≡ BadLine n) × IsFirstBad text n)
 

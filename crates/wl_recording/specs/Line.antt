@@ -18,8 +18,8 @@ pub data SpellsBytes (digits bytes : List ℕ) : Type 0 where
   no_bytes : digits ≡ codes "-" → bytes ≡ [] → SpellsBytes digits bytes
   some_bytes : 0 < length digits → decode_of digits ≡ Ok bytes → SpellsBytes digits bytes
 
--- The rest of a line stands for this number of tokens: nothing for none, and otherwise " +" and 1 to
--- 5 decimal digits, of value 1 to 65,535.
+-- The rest of a line stands for this number of tokens: nothing for none, and otherwise " +" and 1
+-- to 5 decimal digits, of value 1 to 65,535.
 pub data SpellsTokens (count : List ℕ) (tokens : ℕ) : Type 0 where
   no_tokens : count ≡ [] → tokens ≡ 0 → SpellsTokens count tokens
   some_tokens : (digits : List ℕ) → count ≡ codes " +" ++ digits

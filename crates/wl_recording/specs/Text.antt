@@ -34,7 +34,8 @@ pub record IsFirstBad (text : List ℕ) (n : ℕ) : Type 0 where
   pub good : All IsGood before
   pub bad : ¬ IsGood line
 
--- A text was read up to this rest: this number of lines stand before it, and they tell these pieces.
+-- A text was read up to this rest: this number of lines stand before it, and they tell these
+-- pieces.
 pub record IsRead (text rest : List ℕ) (number : ℕ) (pieces : List Piece) : Type 0 where
   pub done : List (List ℕ)
   pub whole : lines text ≡ done ++ lines rest

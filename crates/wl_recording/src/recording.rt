@@ -101,10 +101,10 @@ impl<A: Allocator + Clone> Recording<A> {
     ///
     /// The text is lines, each ended by a line feed, which the last may lack; one carriage return
     /// before a line feed is dropped. An empty line and a line that begins with `#` are skipped.
-    /// Each other line is one piece, as `> 0100000001000c0002000000 +1`: `>` to the server or `<` to
-    /// the client; a space; `-` for no bytes, or two hexadecimal digits, of either case, for each
-    /// byte; and where tokens came, a space, a plus sign and their number, 1 to 65,535, in 1 to 5
-    /// decimal digits.
+    /// Each other line is one piece, as `> 0100000001000c0002000000 +1`: `>` to the server or `<`
+    /// to the client; a space; `-` for no bytes, or two hexadecimal digits, of either case, for
+    /// each byte; and where tokens came, a space, a plus sign and their number, 1 to 65,535, in 1
+    /// to 5 decimal digits.
     ///
     /// `BadLine` (RP1) comes exactly where some line is none of these, with the number of the first
     /// such line. `Memory` (RP2) may come in place of any result.

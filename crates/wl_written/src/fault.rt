@@ -12,8 +12,8 @@ pub enum TableFault {
     /// TB1: this line is the first that has none of the forms, or that is a message before any
     /// interface.
     BadLine { line: usize },
-    /// TB2: each line has a form, this line is the first that breaks a rule of valid tables, and the
-    /// rule, 1 to 9, is the least that it breaks.
+    /// TB2: each line has a form, this line is the first that breaks a rule of valid tables, and
+    /// the rule, 1 to 9, is the least that it breaks.
     BadTable { line: usize, rule: u8 },
     /// TB3: out of memory.
     Memory,

@@ -1,7 +1,9 @@
 //! The forms of the lines.
 ghost use Rattle.std.specs.Prelude.{◌≡◌, ◌==◌, ◌∷◌, IfOk, option_map, option_copied, position};
 ghost use Rattle.std.specs.List.{list_all};
-ghost use Rattle.wl_written.specs.Text.{is_text_byte, is_text_name, kind_of, takes_interface, bracketed, argument_of, at_number, since_of, ending_of, tail_of, message_of, interface_of};
+ghost use Rattle.wl_written.specs.Text.{is_text_byte, is_text_name, kind_of, takes_interface};
+ghost use Rattle.wl_written.specs.Text.{bracketed, argument_of, at_number, since_of, ending_of};
+ghost use Rattle.wl_written.specs.Text.{tail_of, message_of, interface_of};
 ghost use Rattle.wl_written.specs.Reading.{words_behind, ended};
 
 use crate::written::{WrittenInterface, WrittenKind, WrittenMessage};
@@ -143,7 +145,8 @@ fn since_of(word: &[u8], behind: Option<&[u8]>) -> Option<u32>
 // What a message destroys, and its since number, from a word that spells no argument and the words
 // behind it.
 fn ending_of(word: &[u8], behind: Option<&[u8]>) -> Option<(bool, u32)>
-    ensures { option_map ended result ≡ ending_of word.now (words_behind (option_copied behind.entry)) }
+    ensures { option_map ended result
+        ≡ ending_of word.now (words_behind (option_copied behind.entry)) }
 {
     if word != b"D".as_slice() {
         return Some((false, since_of(word, behind)?));

@@ -1,7 +1,7 @@
 //! Tables as a text: what each line declares, before any name is looked up.
 //!
-//! The forms of the lines stand in docs/FORMATS.md. The crate above looks the names up and tests the
-//! declared interfaces by the rules of valid tables.
+//! The forms of the lines stand in docs/FORMATS.md. The crate above looks the names up and tests
+//! the declared interfaces by the rules of valid tables.
 #![tactic(auto)]
 
 mod fault;

@@ -1,5 +1,6 @@
 //! Reading tables as text: their lines one after another.
-ghost use Rattle.std.specs.Prelude.{◌≡◌, ℕ, ◌⊎◌, ◌≤◌, [], Some, None, Ok, Err, IfOk, IfErr, if◌then◌else◌};
+ghost use Rattle.std.specs.Prelude.{◌≡◌, ℕ, ◌⊎◌, ◌≤◌, [], Some, None, Ok, Err, IfOk, IfErr};
+ghost use Rattle.std.specs.Prelude.{if◌then◌else◌};
 ghost use Rattle.std.specs.Str.Lines.{lines};
 ghost use Rattle.wl_text.specs.Lines.{words};
 ghost use Rattle.wl_written.specs.declared.fault.TableFault.TheVariants.{BadLine, Memory};

@@ -45,7 +45,13 @@ impl<'t, A: Allocator> Model for WrittenMessage<'t, A> {
 
     ghost Value = { text.WrittenMessage };
 
-    ghost view = { λ m. record { line = m.line; name = m.name.now; since = m.since; kinds = m.kinds.items; destroys = m.destroys } };
+    ghost view = { λ m. record {
+      line = m.line;
+      name = m.name.now;
+      since = m.since;
+      kinds = m.kinds.items;
+      destroys = m.destroys;
+    } };
 }
 
 /// An interface as a text writes it, with the messages of the lines below it.
@@ -68,7 +74,13 @@ impl<'t, A: Allocator> Model for WrittenInterface<'t, A> {
 
     ghost Value = { text.WrittenInterface };
 
-    ghost view = { λ i. record { line = i.line; name = i.name.now; version = i.version; requests = i.requests.items; events = i.events.items } };
+    ghost view = { λ i. record {
+      line = i.line;
+      name = i.name.now;
+      version = i.version;
+      requests = i.requests.items;
+      events = i.events.items;
+    } };
 }
 
 impl<'t, A: Allocator> WrittenInterface<'t, A> {
