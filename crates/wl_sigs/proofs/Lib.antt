@@ -13,3 +13,4 @@ mod Distinct
 mod ByPlace
 mod RulesDecide
 mod CoreValid
+mod TextOutcome

@@ -1,15 +1,18 @@
 //! Laws of valid tables. They do nothing: their contracts state facts about the definitions.
-ghost use Rattle.std.specs.Prelude.{◌≡◌, ◌↔◌, ℕ, List, Some, None, true};
+ghost use Rattle.std.specs.Prelude.{◌≡◌, ◌↔◌, ℕ, List, Ok, Err, Some, None, true};
 ghost use Rattle.wl_sigs.specs.declared.signature.Side.{Side};
 ghost use Rattle.wl_sigs.specs.Broken.{Broken, first_broken};
 ghost use Rattle.wl_sigs.specs.Core.{core_tables};
 ghost use Rattle.wl_sigs.specs.FirstBroken.{IsFirstBroken};
 ghost use Rattle.wl_sigs.specs.Joined.{joined};
 ghost use Rattle.wl_sigs.specs.Opcodes.{opcodes, opcodes_in};
+ghost use Rattle.wl_sigs.specs.Outcome.{outcome};
 ghost use Rattle.wl_sigs.specs.Rules.{keep_rules};
 ghost use Rattle.wl_sigs.specs.Tables.{Interface, interface_at, place_of};
 ghost use Rattle.wl_sigs.specs.Valid.{Valid, HasFixedFour};
+ghost use Rattle.wl_written.specs.TableText.{IsFirstBadLine, TableText};
 ghost use Rattle.wl_written.specs.Text.{WrittenInterface};
+ghost use Rattle.wl_written.specs.declared.fault.TableFault.TheVariants.{BadLine, BadTable};
 
 /// Tables are valid exactly where wl_display, wl_registry and wl_callback stand in front, wl_fixes
 /// behind the other core interfaces, and the tests of the other rules pass.
@@ -44,4 +47,20 @@ pub fn unbroken_where_valid()
 pub fn first_broken_is_first()
     ensures { (tables : List Interface) (written : List WrittenInterface) (it : Broken)
         → first_broken tables written ≡ Some it → IsFirstBroken tables written it }
+{}
+
+/// A text is read behind valid tables, as the tables joined with those that it lists, exactly where
+/// it lists interfaces and the joined tables are valid. It has a bad line exactly where some line
+/// may not stand in it: the first such line. A line that breaks a rule is returned only where every
+/// line may stand: the first line that breaks one, and the least rule that it breaks.
+pub fn texts_are_told()
+    ensures told { (tables all : List Interface) (text : List ℕ) → Valid tables
+        → (outcome tables text ≡ Ok all) ↔ ((written : List WrittenInterface)
+        × TableText text written × (joined tables written ≡ all) × Valid all) }
+    ensures bad { (tables : List Interface) (text : List ℕ) (n : ℕ)
+        → (outcome tables text ≡ Err (BadLine n)) ↔ IsFirstBadLine text n }
+    ensures broken { (tables : List Interface) (text : List ℕ) (line rule : ℕ)
+        → outcome tables text ≡ Err (BadTable line rule)
+        → (written : List WrittenInterface) × TableText text written
+        × IsFirstBroken tables written (record { line = line; rule = rule }) }
 {}

@@ -16,8 +16,8 @@ mod signature;
 mod tables;
 
 pub use laws::{
-    first_broken_is_first, found_by_its_name, opcodes_are_of_their_names, unbroken_where_valid,
-    valid_where_tests_pass,
+    first_broken_is_first, found_by_its_name, opcodes_are_of_their_names, texts_are_told,
+    unbroken_where_valid, valid_where_tests_pass,
 };
 pub use signature::{Destroys, Side, Signature};
 pub use tables::Tables;
