@@ -57,9 +57,6 @@ fn ended_by(destroys: Destroys, target: Object, args: &ParsedArgs) -> Option<Obj
 }
 
 /// The request in front, once it is whole and if it can be taken. Nothing changes.
-///
-/// It stands apart in the compiled code: inside its callers it would copy the arguments more often.
-#[inline(never)]
 pub(crate) fn find_request<T: Table>(
     core: &mut Core<'_, T>,
     globals: &[Advertised],
@@ -118,6 +115,8 @@ fn lacks_room(room: usize, ended: Option<Object>) -> bool
 }
 
 /// What a message is and does, where it destroys this object and the next one gets this birth.
+/// Compiled into its caller, it copies the arguments once less.
+#[inline(always)]
 fn pending_of(
     tables: &Tables,
     birth: u64,
