@@ -359,7 +359,8 @@ waywire_status waywire_client_take(waywire_client *client, void *bytes, size_t l
 /* Reads the next message once it is whole; `report` says WAYWIRE_NOTHING before. Its report is lent
  * until the next call that changes the client. It allocates nothing.
  * With a status of WAYWIRE_FAULT_.. the report is written too (kind WAYWIRE_FAULT) and the client has
- * failed for good, as it has after a report WAYWIRE_ERROR. WAYWIRE_FAILED where it had failed before. */
+ * failed for good, as it has after a report WAYWIRE_ERROR. WAYWIRE_FAILED where it had failed before;
+ * the report then says WAYWIRE_NOTHING. */
 waywire_status waywire_client_next(waywire_client *client, waywire_report *report);
 
 /* ---- a server */
@@ -421,7 +422,8 @@ waywire_status waywire_server_post_error(waywire_server *server, waywire_object 
  * WAYWIRE_OUT_FULL where there is no room for that, and WAYWIRE_NO_MEMORY where there is none for the
  * object that the request opens: the request stays, and can be read again. With a status of
  * WAYWIRE_FAULT_.. the report is written too (kind WAYWIRE_FAULT), wl_display.error is the last that
- * waits to be taken, and the server has failed for good. WAYWIRE_FAILED where it had failed before. */
+ * waits to be taken, and the server has failed for good. WAYWIRE_FAILED where it had failed before.
+ * With any other status than WAYWIRE_OK and WAYWIRE_FAULT_.. the report says WAYWIRE_NOTHING. */
 waywire_status waywire_server_next(waywire_server *server, waywire_report *report);
 
 #ifdef __cplusplus
