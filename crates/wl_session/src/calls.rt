@@ -1,6 +1,7 @@
 //! The calls of the two ends, as the pair does them: what each does to both ends and to the
 //! recording.
 ghost use Rattle.wl_objects.specs.Writing.{given};
+ghost use Rattle.wl_end.specs.Outcomes.{new_in};
 ghost use Rattle.wl_client.specs.Seen as client_seen;
 ghost use Rattle.wl_server.specs.Seen as server_seen;
 ghost use Rattle.wl_world.specs.Pair.{Does, ClientSend, ClientBind, ServerSend, ServerDrop, PostError, AddGlobal, Withdraw, Announce, ClientNext, ServerNext};
@@ -32,7 +33,7 @@ impl<'t, T: Table> Pair<'t, T> {
         version: u32,
     ) -> Result<Object, SendError>
         ensures { Does self.old (ClientBind registry name iface.now version)
-            (ClientBind (client_seen.new_in result)) self.new }
+            (ClientBind (new_in result)) self.new }
     {
         self.client.bind(registry, name, iface, version)
     }
