@@ -14,8 +14,8 @@ returns-in-Ok-write_through-clause-acted g c = λ job known_tables known done re
 pub returns-in-Ok-clause-acted : goal.returns-in-Ok-clause-acted
 returns-in-Ok-clause-acted g c = λ job known_tables known done refuses.
     let front = subst (λ (bytes : List ℕ). AppendsFront (g.O.Write.contents c.args.out.now) (g.O.Write.contents c.write_through.new.out) bytes) c.deref.ensures.value c.write_through.ensures.front in
-    not_taken c.in-Ok.output.text.items c.in-Ok.output.status (search rules) (rw c.in-Ok.is at done) front c.tell.ensures.said
+    not_taken c.in-Ok.output.text.items c.in-Ok.output.status (search rules) (rw c.in-Ok.is at done) front c.report.ensures.said
 
 -- there is none
 pub returns-clause-acted : goal.returns-clause-acted
-returns-clause-acted g c = λ job known_tables known done refuses. refused c.in-Err.failure (search rules) (rw c.in-Err.is at refuses) refl c.tell-in-Err.ensures.said
+returns-clause-acted g c = λ job known_tables known done refuses. refused c.in-Err.failure (search rules) (rw c.in-Err.is at refuses) refl c.report-in-Err.ensures.said

@@ -47,7 +47,7 @@ returns-in-Some g c =
       | inl e ↦ subst (λ (job : Job). NamesTables job c.as_str-in-Some.result.now) (sym e.1) named
       | inr e ↦ subst (λ (job : Job). NamesTables job c.as_str-in-Some.result.now) (sym e.1) named
     ] in
-    no_tables c.as_str-in-Some.result.now c.in-Err-opener.error c.open_failure.result tables (search rules) (search rules) c.tell-in-Err-opener.ensures.status refl c.tell-in-Err-opener.ensures.said
+    no_tables c.as_str-in-Some.result.now c.in-Err-opener.error c.open_failure.result tables (search rules) (search rules) c.report-in-Err-opener.ensures.status refl c.report-in-Err-opener.ensures.said
 
 -- no tables are named
 pub returns-in-Trace : goal.returns-in-Trace
@@ -76,4 +76,4 @@ returns-in-Ok g c =
 pub returns : goal.returns
 returns g c =
     let names : NamesPath c.args.job.now c.as_str.result.now = subst (λ (job : Job). NamesPath job c.as_str.result.now) (sym c.in-Socket.is) (sym c.as_str.ensures.value) in
-    not_bound c.as_str.result.now c.in-Err.error c.of_socket.result names (search rules) (search rules) c.tell.ensures.status refl c.tell.ensures.said
+    not_bound c.as_str.result.now c.in-Err.error c.of_socket.result names (search rules) (search rules) c.report.ensures.status refl c.report.ensures.said

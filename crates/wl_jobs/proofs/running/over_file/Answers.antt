@@ -12,5 +12,5 @@ returns-in-Ok g c =
 pub returns-in-Err : goal.returns-in-Err
 returns-in-Err g c =
     subst (λ (name : List ℕ). OpensFile g.R.Read.remaining g.O.Write.contents g.E.Write.contents (FnReturnsAt g.F.Fn c.args.opener.now) c.args.job.now
-    (g.T.Read.remaining c.args.tables.now) name c.args.out.now c.args.out.now c.args.err.now c.tell.new.err c.tell.result)
-    c.as_str.ensures.value (fails c.in-Err.error c.open_failure.result (search rules) (search rules) c.tell.ensures.status refl c.tell.ensures.said)
+    (g.T.Read.remaining c.args.tables.now) name c.args.out.now c.args.out.now c.args.err.now c.report.new.err c.report.result)
+    c.as_str.ensures.value (fails c.in-Err.error c.open_failure.result (search rules) (search rules) c.report.ensures.status refl c.report.ensures.said)
