@@ -1,58 +1,115 @@
-# The library for C. `make` proves and builds it where it is not built yet, `make install` installs it,
-# and the program `waywire` with its manual page where that is built (./waywire --build).
+# The library for C. `make` proves and builds it where it is not built yet; `make install` installs it,
+# and the program `waywire` with its manual page where that is built (./waywire --build); `make dist`
+# packs all of that for machines that have no toolchain.
 #
-#     make install PREFIX=/usr/local [DESTDIR=...]
+#     make install PREFIX=/usr/local LIBDIR=/usr/local/lib DESTDIR=
 PREFIX ?= /usr/local
+LIBDIR ?= $(PREFIX)/lib
+INCLUDEDIR ?= $(PREFIX)/include
+BINDIR ?= $(PREFIX)/bin
+DATADIR ?= $(PREFIX)/share
 DESTDIR ?=
 CC ?= cc
 CFLAGS ?= -O2
+OBJCOPY ?= objcopy
 # The folder of the toolchain: its C part gives the exports their memory.
 KIT ?= $(patsubst %/,%,$(dir $(shell rt doc)))
 # The one place of the version's number is the program's.
 numbered = crates/wl_command/src/job.rt
 VERSION := $(shell sed -n 's/^const VERSION: &str = "\(.*\)";/\1/p' $(numbered))
+numbers := $(subst ., ,$(VERSION))
+MAJOR := $(word 1,$(numbers))
 
 proved = crates/waywire_c/out/libwaywire_c.a
 crates := waywire_c $(shell sed -n 's/^waywire_c staticlib: //p' crates.txt)
 sources := $(wildcard $(crates:%=crates/%/src/*.rt))
 archive = out/c/libwaywire.a
+# Versions of one major number are compatible; below 1, those of one minor number.
+abi = $(if $(filter 0,$(MAJOR)),0.$(word 2,$(numbers)),$(MAJOR))
+soname = libwaywire.so.$(abi)
+shared = out/c/libwaywire.so.$(VERSION)
 program ?= crates/waywire/out/waywire
+headers = include/waywire.h include/waywire-core.h include/waywire-version.h
+package = waywire-$(VERSION)-x86_64-linux
+# A file that a build tool reads finds the other folders from its own, so that an installed tree can move.
+from = $(shell realpath -ms --relative-to=$(1)/ $(2)/)
+fill = sed 's|@UP@|$(call from,$(1),$(PREFIX))|; s|@LIBDIR@|$(call from,$(PREFIX),$(LIBDIR))|; \
+	s|@INCLUDEDIR@|$(call from,$(PREFIX),$(INCLUDEDIR))|; s|@VERSION@|$(VERSION)|; \
+	s|@SONAME@|$(soname)|; s|@ABI@|$(abi)|'
 
-all: $(archive) out/c/waywire.pc
+all: $(archive) $(shared)
 
 $(proved): $(sources)
 	cd crates/waywire_c && rt lib
 	@touch $@
 
 include/waywire-version.h: $(numbered) Makefile
-	@printf '/* Made by make. */\n#define WAYWIRE_VERSION "%s"\n' '$(VERSION)' > $@
+	@printf '%s\n' '/* Made by make. */' '#define WAYWIRE_VERSION "$(VERSION)"' \
+		'#define WAYWIRE_VERSION_MAJOR $(MAJOR)' \
+		'#define WAYWIRE_VERSION_MINOR $(word 2,$(numbers))' \
+		'#define WAYWIRE_VERSION_PATCH $(word 3,$(numbers))' > $@
 
-out/c/waywire.o: c/waywire.c include/waywire.h include/waywire-version.h
+out/c/calls.o: c/waywire.c include/waywire.h include/waywire-version.h
 	@mkdir -p out/c
 	$(CC) $(CFLAGS) -std=c99 -Wall -Wextra -Wpedantic -fPIC -Iinclude -c $< -o $@
 
-$(archive): $(proved) out/c/waywire.o
-	@rm -f $@
-	printf 'create $@\naddlib $(proved)\naddlib $(KIT)/c/liblibc_c.a\naddmod out/c/waywire.o\nsave\nend\n' | ar -M
+# One object of the calls, the exports and the toolchain's memory, in which only the calls are global.
+out/c/waywire.o: $(proved) out/c/calls.o
+	$(LD) -r --whole-archive $(proved) --no-whole-archive out/c/calls.o $(KIT)/c/liblibc_c.a -o out/c/whole.o
+	nm -g --defined-only out/c/calls.o | sed -n 's/.* T //p' > out/c/calls.txt
+	$(OBJCOPY) --keep-global-symbols=out/c/calls.txt out/c/whole.o $@
+	@rm -f out/c/whole.o
 
-out/c/waywire.pc: c/waywire.pc.in Makefile $(numbered)
-	@mkdir -p out/c
-	sed 's|@PREFIX@|$(PREFIX)|; s|@VERSION@|$(VERSION)|' c/waywire.pc.in > $@
+$(archive): out/c/waywire.o
+	@rm -f $@
+	$(AR) rcsD $@ $<
+
+$(shared): out/c/waywire.o
+	$(CC) -shared -Wl,-soname,$(soname) -Wl,-z,defs -Wl,--build-id=sha1 $< -o $@
+	@ln -sf $(notdir $@) out/c/$(soname)
+	@ln -sf $(soname) out/c/libwaywire.so
 
 install: all
-	install -d $(DESTDIR)$(PREFIX)/include $(DESTDIR)$(PREFIX)/lib/pkgconfig
-	install -m 644 include/waywire.h include/waywire-core.h include/waywire-version.h \
-		$(DESTDIR)$(PREFIX)/include
-	install -m 644 $(archive) $(DESTDIR)$(PREFIX)/lib
-	sed 's|@PREFIX@|$(PREFIX)|; s|@VERSION@|$(VERSION)|' c/waywire.pc.in \
-		> $(DESTDIR)$(PREFIX)/lib/pkgconfig/waywire.pc
+	install -d $(DESTDIR)$(INCLUDEDIR) $(DESTDIR)$(LIBDIR)/pkgconfig $(DESTDIR)$(LIBDIR)/cmake/waywire \
+		$(DESTDIR)$(BINDIR) $(DESTDIR)$(DATADIR)/waywire/tables $(DESTDIR)$(DATADIR)/waywire/tools \
+		$(DESTDIR)$(DATADIR)/doc/waywire
+	install -m 644 $(headers) $(DESTDIR)$(INCLUDEDIR)
+	install -m 644 $(archive) $(DESTDIR)$(LIBDIR)
+	install -m 755 $(shared) $(DESTDIR)$(LIBDIR)
+	ln -sf $(notdir $(shared)) $(DESTDIR)$(LIBDIR)/$(soname)
+	ln -sf $(soname) $(DESTDIR)$(LIBDIR)/libwaywire.so
+	$(call fill,$(LIBDIR)/pkgconfig) c/waywire.pc.in > $(DESTDIR)$(LIBDIR)/pkgconfig/waywire.pc
+	for file in waywire-config.cmake waywire-config-version.cmake; do \
+		$(call fill,$(LIBDIR)/cmake/waywire) c/$$file.in > $(DESTDIR)$(LIBDIR)/cmake/waywire/$$file; \
+	done
+	install -m 644 examples/tables/*.tables $(DESTDIR)$(DATADIR)/waywire/tables
+	install -m 644 docs/FORMATS.md $(DESTDIR)$(DATADIR)/doc/waywire
+	install -m 644 tools/protocol.py tools/reference.py tools/valid_tables.py tools/core.tables tools/core.xml \
+		$(DESTDIR)$(DATADIR)/waywire/tools
+	for tool in tables-from-xml stubs-from-xml; do \
+		install -m 755 tools/$$tool $(DESTDIR)$(DATADIR)/waywire/tools && \
+		ln -sf $(call from,$(BINDIR),$(DATADIR)/waywire/tools)/$$tool $(DESTDIR)$(BINDIR)/waywire-$$tool; \
+	done
 	if [ -x $(program) ]; then \
-		install -d $(DESTDIR)$(PREFIX)/bin $(DESTDIR)$(PREFIX)/share/man/man1 && \
-		install -m 755 $(program) $(DESTDIR)$(PREFIX)/bin && \
-		tools/man-page $(program) > $(DESTDIR)$(PREFIX)/share/man/man1/waywire.1; \
+		install -d $(DESTDIR)$(DATADIR)/man/man1 && \
+		install -m 755 $(program) $(DESTDIR)$(BINDIR) && \
+		tools/man-page $(program) > $(DESTDIR)$(DATADIR)/man/man1/waywire.1; \
 	fi
 
-clean:
-	rm -rf out/c include/waywire-version.h
+# Made twice, the package has the same bytes.
+dist: all
+	@[ -x $(program) ] || { echo "make dist: the program is not built (./waywire --build)" >&2; exit 1; }
+	rm -rf out/dist
+	$(MAKE) -s install DESTDIR=$(CURDIR)/out/dist/$(package) PREFIX= LIBDIR=/lib INCLUDEDIR=/include \
+		BINDIR=/bin DATADIR=/share program=$(program)
+	install -d out/dist/$(package)/share/doc/waywire/examples
+	install -m 644 examples/c/* out/dist/$(package)/share/doc/waywire/examples
+	cd out/dist && find . -type d -exec chmod 755 {} + && tar --sort=name --mtime=@0 --owner=0 --group=0 \
+		--numeric-owner -cf - $(package) | gzip -9n > ../$(package).tar.gz
+	rm -rf out/dist
+	@echo out/$(package).tar.gz
 
-.PHONY: all install clean
+clean:
+	rm -rf out/c out/dist out/*.tar.gz include/waywire-version.h
+
+.PHONY: all install dist clean

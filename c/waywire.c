@@ -51,6 +51,21 @@ uint32_t waywire_c_server_add_global(struct handle *, uint16_t interface, uint32
 uint32_t waywire_c_server_withdraw(struct handle *, uint32_t name);
 uint32_t waywire_c_server_announce(struct handle *, size_t *count);
 
+/* ---- layouts, which the exports have too */
+
+#define SAME(name, it) typedef char same_##name[(it) ? 1 : -1]
+
+SAME(object, sizeof(waywire_object) == 16 && offsetof(waywire_object, id) == 8);
+SAME(amounts, sizeof(waywire_amounts) == 16 && offsetof(waywire_amounts, tokens) == 8);
+SAME(sizes, sizeof(waywire_sizes) == 32 && offsetof(waywire_sizes, in_tokens) == 24);
+SAME(arg, sizeof(waywire_arg) == 48 && offsetof(waywire_arg, i) == 4 && offsetof(waywire_arg, u) == 8);
+SAME(arg_parts, offsetof(waywire_arg, object) == 16 && offsetof(waywire_arg, bytes) == 32
+	&& offsetof(waywire_arg, length) == 40);
+SAME(report, offsetof(waywire_report, target) == 8 && offsetof(waywire_report, arg_count) == 24
+	&& offsetof(waywire_report, tokens) == 32 && offsetof(waywire_report, id) == 48);
+SAME(report_parts, offsetof(waywire_report, text) == 64 && offsetof(waywire_report, place) == 80
+	&& offsetof(waywire_report, args) == 96 && sizeof(waywire_report) == 96 + 20 * 48);
+
 /* ---- what C may pass wrongly */
 
 /* One more than a message can have, so that the export refuses a call with too many. */
@@ -318,13 +333,25 @@ waywire_status waywire_server_drop_object(waywire_server *server, waywire_object
 	return server ? waywire_c_server_drop_object(&handle, object) : WAYWIRE_NULL;
 }
 
+/* How many bytes of a text an error has room for, no character of UTF-8 cut. */
+static size_t error_length(const char *text)
+{
+	size_t length = strlen(text);
+	if (length <= WAYWIRE_MAX_ERROR_TEXT)
+		return length;
+	for (length = WAYWIRE_MAX_ERROR_TEXT; length > WAYWIRE_MAX_ERROR_TEXT - 4; length--)
+		if (((unsigned char)text[length] & 0xc0) != 0x80)
+			return length;
+	return WAYWIRE_MAX_ERROR_TEXT; /* it is no UTF-8 */
+}
+
 waywire_status waywire_server_post_error(waywire_server *server, waywire_object object, uint32_t code,
 	const char *text)
 {
 	struct handle handle = { server };
 	if (!server || !text)
 		return WAYWIRE_NULL;
-	return waywire_c_server_post_error(&handle, object, code, text, strlen(text));
+	return waywire_c_server_post_error(&handle, object, code, text, error_length(text));
 }
 
 waywire_status waywire_server_add_global(waywire_server *server, uint16_t interface, uint32_t version,

@@ -16,6 +16,9 @@
  * message, and the caller passes the descriptor along with these bytes; for each descriptor that came
  * with some bytes the caller feeds a token with them. No descriptor is ever closed here.
  *
+ * Objects.  Births count from 0 at each end. So an object of one connection may equal one of another, which no
+ * call can tell: keep an object with its end.
+ *
  * Memory.  A client or a server belongs to the caller, who frees it; tables are never freed. The
  * library calls `malloc`, `realloc` and `free`, and nothing else of the system. After `new` an end
  * allocates only where an object opens (`send`, `bind`, `next` of a server) and in `add_global`.
@@ -28,6 +31,9 @@
  * passed. A null pointer where one is needed is WAYWIRE_NULL, and a length above PTRDIFF_MAX is
  * WAYWIRE_TOO_LARGE. To pass a pointer to memory that is not there, or an end that was freed, is
  * undefined behaviour.
+ *
+ * Processors.  The library is for x86-64, little-endian, with the instructions of x86-64-v2 (SSE4.2, from
+ * 2009 on).
  */
 #ifndef WAYWIRE_H
 #define WAYWIRE_H
@@ -41,7 +47,9 @@
 extern "C" {
 #endif
 
-/* WAYWIRE_VERSION, the version of this header as a string. `make` writes the file. */
+/* The version of this header: WAYWIRE_VERSION as a string, WAYWIRE_VERSION_MAJOR, _MINOR and _PATCH as
+ * numbers. Versions of one major number are compatible; below 1, those of one minor number. `make` writes
+ * the file. */
 #include "waywire-version.h"
 
 /* ---- what a call returns */
@@ -49,7 +57,8 @@ extern "C" {
 typedef enum waywire_status {
 	WAYWIRE_OK = 0,
 
-	/* Why a message is not written. docs/FORMATS.md has the order in which they are tested. */
+	/* Why a message is not written, in the order in which they are tested, but for the last: it is
+	 * tested before WAYWIRE_FULL. */
 	WAYWIRE_FAILED = 1,          /* the end has failed, and reads and writes nothing more */
 	WAYWIRE_STALE = 2,           /* the target, or the object, is not live */
 	WAYWIRE_NO_SUCH_MESSAGE = 3, /* its interface has no such message, or another call writes it */
@@ -96,6 +105,12 @@ typedef enum waywire_status {
 	WAYWIRE_BAD_TABLE = 72       /* a line breaks a rule of tables */
 } waywire_status;
 
+/* Whether a status says that a message that came was at fault. */
+static inline bool waywire_is_fault(waywire_status status)
+{
+	return status >= WAYWIRE_FAULT_BAD_SIZE && status <= WAYWIRE_FAULT_TOO_MANY_OBJECTS;
+}
+
 /* What a status means, in English: a static string, also for a number that is no status. */
 const char *waywire_strerror(waywire_status status);
 
@@ -120,10 +135,10 @@ static inline bool waywire_object_equal(waywire_object one, waywire_object other
 }
 
 /* The kinds of arguments, and the fields that each uses. A call accepts those up to WAYWIRE_FD. */
-enum {
+typedef enum waywire_arg_kind {
 	WAYWIRE_INT = 1,         /* i */
 	WAYWIRE_UINT = 2,        /* u */
-	WAYWIRE_FIXED = 3,       /* i, in 256ths */
+	WAYWIRE_FIXED = 3,       /* i, in 256ths: see waywire_fixed_to_double */
 	WAYWIRE_STRING = 4,      /* bytes, length: a text without a NUL */
 	WAYWIRE_NULL_STRING = 5,
 	WAYWIRE_OBJECT = 6,      /* object */
@@ -134,12 +149,12 @@ enum {
 	WAYWIRE_DEAD_OBJECT = 11, /* in reports: object, which this end has destroyed already */
 	WAYWIRE_BOUND = 12       /* in reports of wl_registry.bind: object, bytes and length (its interface),
 	                          * u (its version) */
-};
+} waywire_arg_kind;
 
 /* One argument, of a call or of a report. Fields that its kind does not use are ignored in a call, and
- * 0 in a report. */
+ * 0 in a report. The bytes of an array without any may be null in a report; those of a string never are. */
 typedef struct waywire_arg {
-	uint32_t kind;
+	uint32_t kind; /* a waywire_arg_kind */
 	int32_t i;
 	uint32_t u;
 	waywire_object object;
@@ -165,6 +180,26 @@ static inline waywire_arg waywire_fixed(int32_t parts)
 {
 	waywire_arg arg = { WAYWIRE_FIXED, parts, 0, { 0, 0 }, NULL, 0 };
 	return arg;
+}
+
+/* The 256ths of a number, to the nearest; of one that they cannot hold, the end that is nearer. 0 for a
+ * number that is none. */
+static inline int32_t waywire_fixed_from_double(double number)
+{
+	double parts = number * 256.0;
+	if (parts >= 2147483647.0)
+		return INT32_MAX;
+	if (parts <= -2147483648.0)
+		return INT32_MIN;
+	if (parts != parts)
+		return 0;
+	return (int32_t)(parts < 0 ? parts - 0.5 : parts + 0.5);
+}
+
+/* The number that so many 256ths are, exactly. */
+static inline double waywire_fixed_to_double(int32_t parts)
+{
+	return parts / 256.0;
 }
 
 /* A string that ends with a NUL; NULL is the null string. */
@@ -219,7 +254,9 @@ typedef struct waywire_amounts {
 } waywire_amounts;
 
 /* How large the outbox and the inbox of an end are, which never grow. An outbox has at most 16,777,216
- * bytes and 65,536 tokens; an inbox has 4096 to 16,777,216 bytes and 20 to 65,536 tokens. */
+ * bytes and 65,536 tokens; an inbox has 4096 to 16,777,216 bytes and 20 to 65,536 tokens. libwayland sends
+ * up to 28 descriptors at once, and those of a message may come before its bytes are whole: an inbox of 64
+ * tokens has room for both. */
 typedef struct waywire_sizes {
 	size_t out_bytes;
 	size_t out_tokens;
@@ -232,25 +269,29 @@ typedef struct waywire_sizes {
 /* The most arguments that a message has, and so the most tokens. */
 #define WAYWIRE_MAX_ARGS 20
 
-/* The kinds of reports, and the fields that each uses. */
-enum {
+/* The most bytes of a text that waywire_server_post_error writes, the ending NUL not counted. */
+#define WAYWIRE_MAX_ERROR_TEXT 40
+
+/* The kinds of reports, and the fields that each uses; the others are 0. */
+typedef enum waywire_report_kind {
 	WAYWIRE_NOTHING = 0,   /* no whole message waits */
 	WAYWIRE_MESSAGE = 1,   /* a request or an event: target, opcode, args */
 	WAYWIRE_DISCARDED = 2, /* an event for an object that the client has destroyed: target, opcode,
 	                        * and its tokens, so that the caller can close what they stand for */
 	WAYWIRE_DELETED = 3,   /* wl_display.delete_id of an object: target. Its id is free again */
 	WAYWIRE_STRAY = 4,     /* wl_display.delete_id of an id that names no object: id. Nothing changed */
-	WAYWIRE_ERROR = 5,     /* wl_display.error: id, the object that it names (`named` is its kind of
-	                        * argument; target where it is known), code, text. The client has failed */
+	WAYWIRE_ERROR = 5,     /* wl_display.error: id, code, text, and `named`: WAYWIRE_OBJECT or
+	                        * WAYWIRE_DEAD_OBJECT where the id is that of target, and
+	                        * WAYWIRE_NULL_OBJECT where it is 0 or unknown. The client has failed */
 	WAYWIRE_FAULT = 6      /* the status says which: place, spelling, and `offset`, the byte of the
 	                        * stream at which the message begins. The end has failed */
-};
+} waywire_report_kind;
 
-/* What `next` read. It points into the end, and is lent until the next call that changes the end
- * (`send`, `bind`, `feed`, `take`, `next` and the like). Strings end with a NUL that their length does
- * not count. */
+/* What `next` read. It points into the end, and is lent until the end's next call of any kind; that call may
+ * be given what was lent, as the interface of a `global` to `bind`. Strings end with a NUL that their length
+ * does not count. */
 typedef struct waywire_report {
-	uint32_t kind;
+	uint32_t kind; /* a waywire_report_kind */
 	uint32_t opcode;
 	waywire_object target;
 	size_t arg_count;
@@ -276,8 +317,9 @@ typedef struct waywire_tables waywire_tables;
  * (some 10 KB): make them once, for all ends of a thread. WAYWIRE_NO_MEMORY. */
 waywire_status waywire_tables_core(waywire_tables **tables);
 
-/* Makes new tables: these, and the interfaces that a text declares (docs/FORMATS.md; tools/tables-from-xml
- * writes such texts). The new ones are never freed either, and the first stay as they are.
+/* Makes new tables: these, and the interfaces that a text declares. FORMATS.md, installed in
+ * share/doc/waywire, has its grammar; waywire-tables-from-xml writes such texts, and some stand in
+ * share/waywire/tables. The new ones are never freed either, and the first stay as they are.
  * WAYWIRE_BAD_LINE where a line has no form; else WAYWIRE_BAD_TABLE where a line breaks a rule. Both write
  * the first such line to `line`, counted from 1; the second writes the least rule that it breaks to `rule`,
  * 1 to 9. WAYWIRE_NO_MEMORY. `line` and `rule` may be null. */
@@ -357,7 +399,7 @@ waywire_status waywire_client_take(waywire_client *client, void *bytes, size_t l
 	uint32_t *tokens, size_t token_count, waywire_amounts *taken);
 
 /* Reads the next message once it is whole; `report` says WAYWIRE_NOTHING before. Its report is lent
- * until the next call that changes the client. It allocates nothing.
+ * until the client's next call of any kind. It allocates nothing.
  * With a status of WAYWIRE_FAULT_.. the report is written too (kind WAYWIRE_FAULT) and the client has
  * failed for good, as it has after a report WAYWIRE_ERROR. WAYWIRE_FAILED where it had failed before;
  * the report then says WAYWIRE_NOTHING. */
@@ -410,14 +452,15 @@ waywire_status waywire_server_send(waywire_server *server, waywire_object target
  * WAYWIRE_FAILED, WAYWIRE_STALE, WAYWIRE_NOT_DROPPABLE, WAYWIRE_FULL. */
 waywire_status waywire_server_drop_object(waywire_server *server, waywire_object object);
 
-/* Ends the connection with wl_display.error about an object. The text ends with a NUL and has at most
- * 40 bytes before it. The outbox always has room for it. The server has failed afterwards: take what waits,
- * write it and close the socket. WAYWIRE_FAILED, WAYWIRE_STALE, WAYWIRE_WRONG_ARGS for the text. */
+/* Ends the connection with wl_display.error about an object. The text ends with a NUL. Its first
+ * WAYWIRE_MAX_ERROR_TEXT bytes are written, or up to 3 fewer where a character of UTF-8 would be cut. The
+ * outbox always has room for it. The server has failed afterwards: take what waits, write it and close the
+ * socket. WAYWIRE_FAILED, WAYWIRE_STALE. */
 waywire_status waywire_server_post_error(waywire_server *server, waywire_object object, uint32_t code,
 	const char *text);
 
 /* Reads the next request once it is whole; `report` says WAYWIRE_NOTHING before. Its report is lent
- * until the next call that changes the server. A request that destroys an object closes it and writes
+ * until the server's next call of any kind. A request that destroys an object closes it and writes
  * its delete_id at once.
  * WAYWIRE_OUT_FULL where there is no room for that, and WAYWIRE_NO_MEMORY where there is none for the
  * object that the request opens: the request stays, and can be read again. With a status of

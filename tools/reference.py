@@ -285,7 +285,7 @@ def fixed(word):
 
 
 class Session:
-    """A recorded session, judged message by message (docs/FORMATS.md, Lawful sessions)."""
+    """A recorded session, judged message by message (docs/FORMATS.md, Verdicts)."""
 
     def __init__(self, tables, limit=LIMIT):
         self.tables, self.limit = {}, limit

@@ -1,7 +1,8 @@
-/* A client: opens a surface with a shared-memory buffer of one colour, and waits until the compositor
- * has taken all of it in. */
+/* A client: opens a window of one colour over xdg-shell, and closes it once the compositor has taken the
+ * picture in. Its libwayland twin reads the same, call by call. */
 #define _GNU_SOURCE
 #include "transport.h"
+#include "xdg-shell.h"
 
 #include <stdio.h>
 #include <stdlib.h>
@@ -11,12 +12,12 @@
 
 #define SIDE 64
 #define COLOUR 0xff336699u
-#define FORMAT_XRGB8888 1
 
-static waywire_tables *tables; /* never freed */
 static struct link link_to;
-static waywire_object display, registry, compositor, shm, callback;
-static bool done;
+static waywire_tables *core, *tables; /* never freed */
+static waywire_client *client;
+static waywire_object registry, compositor, shm, wm_base, surface, xdg_surface, callback;
+static bool done, configured;
 
 static void fail(const char *what, const char *why)
 {
@@ -24,74 +25,96 @@ static void fail(const char *what, const char *why)
 	exit(1);
 }
 
-/* Sends a request, and returns the object that it makes. */
-static waywire_object request(waywire_object target, uint16_t opcode, const waywire_arg *args,
-	size_t count)
+static void must(waywire_status status)
 {
-	waywire_object made;
-	waywire_status status = waywire_client_send(link_to.client, target, opcode, args, count, &made,
-		NULL);
 	if (status)
 		fail("a request", waywire_strerror(status));
-	return made;
 }
 
-static waywire_object make(waywire_object target, uint16_t opcode)
+/* ---- what the compositor says */
+
+static void on_global(void *data, waywire_object from, uint32_t name, const char *interface,
+	uint32_t version)
 {
-	waywire_arg args[] = { waywire_new() };
-	return request(target, opcode, args, 1);
+	struct {
+		const char *interface;
+		waywire_object *object;
+	} wanted[] = { { WAYWIRE_WL_COMPOSITOR_NAME, &compositor }, { WAYWIRE_WL_SHM_NAME, &shm },
+		{ WW_XDG_WM_BASE_NAME, &wm_base } };
+	(void)data, (void)version;
+	for (size_t each = 0; each < 3; each++)
+		if (!strcmp(interface, wanted[each].interface)) {
+			waywire_status status;
+			*wanted[each].object = waywire_wl_registry_bind(client, from, name,
+				wanted[each].interface, 1, &status);
+			must(status);
+			return; /* the bind ended the loan of `interface` */
+		}
 }
 
-/* Binds a global that was just announced, if it is one of those that are used here. */
-static void announced(const waywire_report *report)
+static void on_done(void *data, waywire_object from, uint32_t serial)
 {
-	const char *interface = report->args[1].bytes;
-	waywire_object *object = NULL;
-	if (!strcmp(interface, "wl_compositor"))
-		object = &compositor;
-	else if (!strcmp(interface, "wl_shm"))
-		object = &shm;
-	if (object)
-		waywire_client_bind(link_to.client, registry, report->args[0].u, interface, 1, object);
+	(void)data, (void)serial;
+	done |= waywire_object_equal(from, callback);
 }
+
+static void on_ping(void *data, waywire_object from, uint32_t serial)
+{
+	(void)data;
+	must(ww_xdg_wm_base_pong(client, from, serial));
+}
+
+static void on_configure(void *data, waywire_object from, uint32_t serial)
+{
+	(void)data;
+	must(ww_xdg_surface_ack_configure(client, from, serial));
+	configured = true;
+}
+
+static const struct waywire_wl_registry_events registry_events = { .global = on_global };
+static const struct waywire_wl_callback_events callback_events = { .done = on_done };
+static const struct ww_xdg_wm_base_events wm_base_events = { .ping = on_ping };
+static const struct ww_xdg_surface_events xdg_surface_events = { .configure = on_configure };
 
 static void heard(const waywire_report *report)
 {
 	if (report->kind == WAYWIRE_ERROR)
 		fail("the compositor", report->text);
-	if (report->kind != WAYWIRE_MESSAGE)
-		return;
-	if (waywire_object_equal(report->target, registry)) {
-		if (report->opcode == WAYWIRE_WL_REGISTRY_EVENT_GLOBAL) {
-			waywire_report copy = *report; /* bind changes the end that lends */
-			char name[256];
-			snprintf(name, sizeof name, "%s", (const char *)report->args[1].bytes);
-			copy.args[1].bytes = name;
-			announced(&copy);
-		}
-	} else if (waywire_object_equal(report->target, callback)) {
-		done = true;
+	if (waywire_object_equal(report->target, registry))
+		waywire_wl_registry_dispatch_event(&registry_events, NULL, report);
+	else if (waywire_object_equal(report->target, callback))
+		waywire_wl_callback_dispatch_event(&callback_events, NULL, report);
+	else if (waywire_object_equal(report->target, wm_base))
+		ww_xdg_wm_base_dispatch_event(&wm_base_events, NULL, report);
+	else if (waywire_object_equal(report->target, xdg_surface))
+		ww_xdg_surface_dispatch_event(&xdg_surface_events, NULL, report);
+}
+
+/* Sends what waits, and reads until a flag is set. */
+static void wait_for(const bool *flag)
+{
+	while (!*flag) {
+		waywire_report report;
+		if (link_wait(&link_to, 5000) <= 0)
+			fail("the connection", "it ended, or nothing came");
+		do {
+			must(waywire_client_next(client, &report));
+			heard(&report);
+		} while (report.kind != WAYWIRE_NOTHING);
 	}
 }
 
 /* Goes round until the compositor has read all that was written. */
 static void round_trip(void)
 {
-	callback = make(display, WAYWIRE_WL_DISPLAY_REQUEST_SYNC);
-	for (done = false; !done;) {
-		if (link_wait(&link_to, 5000) <= 0)
-			fail("the connection", "it ended, or nothing came");
-		for (;;) {
-			waywire_report report;
-			waywire_status status = waywire_client_next(link_to.client, &report);
-			if (status)
-				fail("an event", waywire_strerror(status));
-			if (report.kind == WAYWIRE_NOTHING)
-				break;
-			heard(&report);
-		}
-	}
+	waywire_object display;
+	must(waywire_client_display(client, &display));
+	callback = waywire_wl_display_sync(client, display, NULL);
+	done = false;
+	wait_for(&done);
 }
+
+/* ---- the window */
 
 /* A descriptor of shared memory that is filled with the colour. */
 static int picture(void)
@@ -109,45 +132,50 @@ static int picture(void)
 	return fd;
 }
 
-static void open_surface(void)
+static void show_window(void)
 {
-	waywire_object surface = make(compositor, WAYWIRE_WL_COMPOSITOR_REQUEST_CREATE_SURFACE);
-	waywire_arg pool_args[] = { waywire_new(), waywire_fd((uint32_t)picture()),
-		waywire_int(SIDE * SIDE * 4) };
-	waywire_object pool = request(shm, WAYWIRE_WL_SHM_REQUEST_CREATE_POOL, pool_args, 3);
-	waywire_arg buffer_args[] = { waywire_new(), waywire_int(0), waywire_int(SIDE),
-		waywire_int(SIDE), waywire_int(SIDE * 4), waywire_uint(FORMAT_XRGB8888) };
-	waywire_object buffer = request(pool, WAYWIRE_WL_SHM_POOL_REQUEST_CREATE_BUFFER, buffer_args, 6);
-	waywire_arg attach_args[] = { waywire_of(buffer), waywire_int(0), waywire_int(0) };
-	request(surface, WAYWIRE_WL_SURFACE_REQUEST_ATTACH, attach_args, 3);
-	waywire_arg damage_args[] = { waywire_int(0), waywire_int(0), waywire_int(SIDE),
-		waywire_int(SIDE) };
-	request(surface, WAYWIRE_WL_SURFACE_REQUEST_DAMAGE, damage_args, 4);
-	request(surface, WAYWIRE_WL_SURFACE_REQUEST_COMMIT, NULL, 0);
+	surface = waywire_wl_compositor_create_surface(client, compositor, NULL);
+	xdg_surface = ww_xdg_wm_base_get_xdg_surface(client, wm_base, surface, NULL);
+	waywire_object toplevel = ww_xdg_surface_get_toplevel(client, xdg_surface, NULL);
+	must(ww_xdg_toplevel_set_title(client, toplevel, "waywire"));
+	must(waywire_wl_surface_commit(client, surface));
+	wait_for(&configured);
+
+	waywire_object pool = waywire_wl_shm_create_pool(client, shm, picture(), SIDE * SIDE * 4, NULL);
+	waywire_object buffer = waywire_wl_shm_pool_create_buffer(client, pool, 0, SIDE, SIDE, SIDE * 4,
+		WAYWIRE_WL_SHM_FORMAT_XRGB8888, NULL);
+	must(waywire_wl_surface_attach(client, surface, buffer, 0, 0));
+	must(waywire_wl_surface_damage(client, surface, 0, 0, SIDE, SIDE));
+	must(waywire_wl_surface_commit(client, surface));
 	round_trip();
-	request(surface, WAYWIRE_WL_SURFACE_REQUEST_DESTROY, NULL, 0);
-	request(buffer, WAYWIRE_WL_BUFFER_REQUEST_DESTROY, NULL, 0);
-	request(pool, WAYWIRE_WL_SHM_POOL_REQUEST_DESTROY, NULL, 0);
+	must(ww_xdg_toplevel_destroy(client, toplevel));
+	must(ww_xdg_surface_destroy(client, xdg_surface));
+	must(waywire_wl_surface_destroy(client, surface));
+	must(waywire_wl_buffer_destroy(client, buffer));
+	must(waywire_wl_shm_pool_destroy(client, pool));
 	round_trip();
 }
 
 int main(void)
 {
 	waywire_sizes sizes = { 65536, 64, 65536, 64 };
-	if (waywire_tables_core(&tables) || waywire_client_new(tables, &sizes, &link_to.client))
-		fail("the library", "out of memory");
+	waywire_object display;
+	must(waywire_tables_core(&core));
+	must(waywire_tables_read(core, WW_XDG_SHELL_TABLES, strlen(WW_XDG_SHELL_TABLES), &tables, NULL,
+		NULL));
+	must(waywire_client_new(tables, &sizes, &client));
+	link_to.client = client;
 	link_to.socket = link_connect();
 	if (link_to.socket < 0)
 		fail("the compositor", "cannot connect");
-	waywire_client_display(link_to.client, &display);
-	registry = make(display, WAYWIRE_WL_DISPLAY_REQUEST_GET_REGISTRY);
+	must(waywire_client_display(client, &display));
+	registry = waywire_wl_display_get_registry(client, display, NULL);
 	round_trip();
-	if (!compositor.id || !shm.id)
-		fail("the compositor", "it has no wl_compositor or no wl_shm");
-	round_trip(); /* the binds are read */
-	open_surface();
+	if (!compositor.id || !shm.id || !wm_base.id)
+		fail("the compositor", "it has no wl_compositor, no wl_shm or no xdg_wm_base");
+	show_window();
 	printf("client: the compositor took a picture of %d by %d\n", SIDE, SIDE);
-	waywire_client_free(link_to.client);
+	waywire_client_free(client);
 	link_close(&link_to);
 	return 0;
 }

@@ -1,9 +1,10 @@
-/* A small server: takes one client at a socket's path, gives it wl_compositor and wl_shm, and says
- * what colour each buffer has that is committed to a surface.
+/* A small server: takes one client at a socket's path, lets it open windows over xdg-shell, and says what
+ * colour each buffer has that is committed to a surface.
  *
  *     server PATH */
 #define _GNU_SOURCE
 #include "transport.h"
+#include "xdg-shell.h"
 
 #include <stdio.h>
 #include <stdlib.h>
@@ -17,20 +18,23 @@
 struct pool {
 	waywire_object object;
 	int descriptor;
-	size_t size;
+	int32_t size;
 };
 
 struct buffer {
 	waywire_object object, pool;
-	int32_t offset, width, height, stride;
+	int32_t offset, width, height;
 };
 
-static waywire_tables *tables; /* never freed */
 static struct link link_to;
+static waywire_server *server;
+static waywire_tables *core, *tables; /* never freed */
 static struct pool pools[MOST];
 static struct buffer buffers[MOST];
 static size_t pool_count, buffer_count;
-static waywire_object attached;
+static waywire_object attached, frames[MOST];
+static size_t frame_count;
+static uint32_t serial;
 
 static void fail(const char *what, const char *why)
 {
@@ -38,118 +42,153 @@ static void fail(const char *what, const char *why)
 	exit(1);
 }
 
-static void event(waywire_object target, uint16_t opcode, const waywire_arg *args, size_t count)
+static void must(waywire_status status)
 {
-	waywire_status status = waywire_server_send(link_to.server, target, opcode, args, count, NULL,
-		NULL);
 	if (status)
 		fail("an event", waywire_strerror(status));
 }
 
-/* The first pixel of a buffer, read through the descriptor that its pool came with. */
+/* ---- what the client asks for */
+
+static void on_sync(void *data, waywire_object display, waywire_object callback)
+{
+	(void)data, (void)display;
+	must(waywire_wl_callback_send_done(server, callback, 0));
+}
+
+static void on_bind(void *data, waywire_object registry, uint32_t name, const char *interface,
+	uint32_t version, waywire_object made)
+{
+	(void)data, (void)registry, (void)name, (void)version;
+	if (!strcmp(interface, WAYWIRE_WL_SHM_NAME)) {
+		must(waywire_wl_shm_send_format(server, made, WAYWIRE_WL_SHM_FORMAT_XRGB8888));
+		must(waywire_wl_shm_send_format(server, made, WAYWIRE_WL_SHM_FORMAT_ARGB8888));
+	}
+}
+
+static void on_create_pool(void *data, waywire_object shm, waywire_object made, int fd, int32_t size)
+{
+	(void)data, (void)shm;
+	if (pool_count == MOST)
+		fail("the client", "it makes too many pools");
+	pools[pool_count++] = (struct pool){ made, fd, size };
+}
+
+static void on_create_buffer(void *data, waywire_object pool, waywire_object made, int32_t offset,
+	int32_t width, int32_t height, int32_t stride, uint32_t format)
+{
+	(void)data, (void)stride, (void)format;
+	if (buffer_count == MOST)
+		fail("the client", "it makes too many buffers");
+	buffers[buffer_count++] = (struct buffer){ made, pool, offset, width, height };
+}
+
+static void on_attach(void *data, waywire_object surface, waywire_object buffer, int32_t x, int32_t y)
+{
+	(void)data, (void)surface, (void)x, (void)y;
+	attached = buffer;
+}
+
+static void on_frame(void *data, waywire_object surface, waywire_object callback)
+{
+	(void)data, (void)surface;
+	if (frame_count == MOST)
+		fail("the client", "it waits for too many frames");
+	frames[frame_count++] = callback;
+}
+
+/* Says the first pixel of a buffer, read through the descriptor that its pool came with. */
 static void look_at(const struct buffer *buffer)
 {
 	for (size_t each = 0; each < pool_count; each++) {
 		const struct pool *pool = &pools[each];
 		if (!waywire_object_equal(pool->object, buffer->pool) || buffer->offset < 0)
 			continue;
-		uint32_t *pixels = mmap(NULL, pool->size, PROT_READ, MAP_SHARED, pool->descriptor, 0);
-		if (pixels == MAP_FAILED || (size_t)buffer->offset + 4 > pool->size)
+		if (buffer->offset > pool->size - 4)
+			fail("a pool", "the buffer is not in it");
+		uint32_t *pixels = mmap(NULL, (size_t)pool->size, PROT_READ, MAP_SHARED, pool->descriptor, 0);
+		if (pixels == MAP_FAILED)
 			fail("a pool", "cannot read it");
 		printf("server: a picture of %d by %d, its first pixel %08x\n", buffer->width,
 			buffer->height, pixels[buffer->offset / 4]);
-		munmap(pixels, pool->size);
+		munmap(pixels, (size_t)pool->size);
 	}
 }
 
-static void on_shm(const waywire_report *report)
+static void on_commit(void *data, waywire_object surface)
 {
-	if (report->opcode != WAYWIRE_WL_SHM_REQUEST_CREATE_POOL)
-		return;
-	if (pool_count == MOST)
-		fail("the client", "it makes too many pools");
-	pools[pool_count++] = (struct pool){ report->args[0].object, (int)report->args[1].u,
-		(size_t)report->args[2].i };
-}
-
-static void on_pool(const waywire_report *report)
-{
-	const waywire_arg *args = report->args;
-	if (report->opcode != WAYWIRE_WL_SHM_POOL_REQUEST_CREATE_BUFFER)
-		return;
-	if (buffer_count == MOST)
-		fail("the client", "it makes too many buffers");
-	buffers[buffer_count++] = (struct buffer){ args[0].object, report->target, args[1].i, args[2].i,
-		args[3].i, args[4].i };
-}
-
-static void on_surface(const waywire_report *report)
-{
-	if (report->opcode == WAYWIRE_WL_SURFACE_REQUEST_ATTACH)
-		attached = report->args[0].object;
-	if (report->opcode != WAYWIRE_WL_SURFACE_REQUEST_COMMIT)
-		return;
+	(void)data, (void)surface;
 	for (size_t each = 0; each < buffer_count; each++)
 		if (waywire_object_equal(buffers[each].object, attached)) {
 			look_at(&buffers[each]);
-			event(attached, WAYWIRE_WL_BUFFER_EVENT_RELEASE, NULL, 0);
+			must(waywire_wl_buffer_send_release(server, attached));
 		}
+	attached.id = 0;
+	while (frame_count)
+		must(waywire_wl_callback_send_done(server, frames[--frame_count], serial++));
 }
 
-/* Whether a name, which does not end with a NUL, is this one. */
-static bool is(const char *name, size_t length, const char *wanted)
+static void on_get_toplevel(void *data, waywire_object xdg_surface, waywire_object toplevel)
 {
-	return length == strlen(wanted) && !memcmp(name, wanted, length);
+	(void)data;
+	must(ww_xdg_toplevel_send_configure(server, toplevel, 0, 0, NULL, 0));
+	must(ww_xdg_surface_send_configure(server, xdg_surface, serial++));
 }
 
-/* Does what a request asks. Which interface its target has, the end knows. */
-static void read_request(const waywire_report *report)
+static const struct waywire_wl_display_requests display_requests = { .sync = on_sync };
+static const struct waywire_wl_registry_requests registry_requests = { .bind = on_bind };
+static const struct waywire_wl_shm_requests shm_requests = { .create_pool = on_create_pool };
+static const struct waywire_wl_shm_pool_requests pool_requests = { .create_buffer = on_create_buffer };
+static const struct waywire_wl_surface_requests surface_requests = {
+	.attach = on_attach, .frame = on_frame, .commit = on_commit };
+static const struct ww_xdg_surface_requests xdg_surface_requests = { .get_toplevel = on_get_toplevel };
+
+/* Whether an object is live, and of this interface. */
+static bool is(waywire_object object, const char *name)
 {
-	waywire_arg number = waywire_uint(0);
-	uint16_t interface;
-	const char *name = "";
-	size_t length = 0;
-	if (waywire_server_live(link_to.server, report->target, &interface, NULL))
-		return; /* it was a destructor */
-	waywire_tables_name(tables, interface, &name, &length);
-	if (is(name, length, "wl_display")) {
-		if (report->opcode == WAYWIRE_WL_DISPLAY_REQUEST_SYNC)
-			event(report->args[0].object, WAYWIRE_WL_CALLBACK_EVENT_DONE, &number, 1);
-	} else if (is(name, length, "wl_registry")) {
-		if (!strcmp(report->args[1].bytes, "wl_shm"))
-			event(report->args[1].object, WAYWIRE_WL_SHM_EVENT_FORMAT, &number, 1);
-	} else if (is(name, length, "wl_shm")) {
-		on_shm(report);
-	} else if (is(name, length, "wl_shm_pool")) {
-		on_pool(report);
-	} else if (is(name, length, "wl_surface")) {
-		on_surface(report);
-	}
+	uint16_t interface, wanted;
+	return !waywire_server_live(server, object, &interface, NULL)
+		&& !waywire_tables_interface(tables, name, &wanted) && interface == wanted;
 }
+
+static void asked(const waywire_report *report)
+{
+	if (is(report->target, WAYWIRE_WL_DISPLAY_NAME))
+		waywire_wl_display_dispatch_request(&display_requests, NULL, report);
+	else if (is(report->target, WAYWIRE_WL_REGISTRY_NAME))
+		waywire_wl_registry_dispatch_request(&registry_requests, NULL, report);
+	else if (is(report->target, WAYWIRE_WL_SHM_NAME))
+		waywire_wl_shm_dispatch_request(&shm_requests, NULL, report);
+	else if (is(report->target, WAYWIRE_WL_SHM_POOL_NAME))
+		waywire_wl_shm_pool_dispatch_request(&pool_requests, NULL, report);
+	else if (is(report->target, WAYWIRE_WL_SURFACE_NAME))
+		waywire_wl_surface_dispatch_request(&surface_requests, NULL, report);
+	else if (is(report->target, WW_XDG_SURFACE_NAME))
+		ww_xdg_surface_dispatch_request(&xdg_surface_requests, NULL, report);
+}
+
+/* ---- the connection */
 
 static void add(const char *name)
 {
 	uint16_t interface;
-	if (waywire_tables_interface(tables, name, &interface)
-			|| waywire_server_add_global(link_to.server, interface, 1, NULL))
-		fail("a global", name);
+	must(waywire_tables_interface(tables, name, &interface));
+	must(waywire_server_add_global(server, interface, 1, NULL));
 }
 
 /* Reads all requests that came. False where the client broke a rule. */
 static bool serve(void)
 {
-	for (;;) {
-		waywire_report report;
-		waywire_status status = waywire_server_next(link_to.server, &report);
+	waywire_report report;
+	do {
+		waywire_status status = waywire_server_next(server, &report);
 		if (status) {
 			fprintf(stderr, "server: a request: %s\n", waywire_strerror(status));
 			return false;
 		}
-		if (report.kind == WAYWIRE_NOTHING)
-			break;
-		read_request(&report);
-	}
-	waywire_server_announce(link_to.server, NULL);
+		asked(&report);
+	} while (report.kind != WAYWIRE_NOTHING);
+	must(waywire_server_announce(server, NULL));
 	return true;
 }
 
@@ -159,19 +198,23 @@ int main(int argc, char **argv)
 	int listening = argc == 2 ? link_listen(argv[1]) : -1;
 	if (listening < 0)
 		fail("the socket", argc == 2 ? "cannot listen there" : "its path is wanted");
-	if (waywire_tables_core(&tables) || waywire_server_new(tables, &sizes, &link_to.server))
-		fail("the library", "out of memory");
+	must(waywire_tables_core(&core));
+	must(waywire_tables_read(core, WW_XDG_SHELL_TABLES, strlen(WW_XDG_SHELL_TABLES), &tables, NULL,
+		NULL));
+	must(waywire_server_new(tables, &sizes, &server));
+	link_to.server = server;
 	link_to.socket = accept(listening, NULL, NULL);
 	if (link_to.socket < 0)
 		fail("the client", "cannot accept it");
-	add("wl_compositor");
-	add("wl_shm");
+	add(WAYWIRE_WL_COMPOSITOR_NAME);
+	add(WAYWIRE_WL_SHM_NAME);
+	add(WW_XDG_WM_BASE_NAME);
 	while (link_wait(&link_to, -1) > 0 && serve())
 		;
 	link_flush(&link_to);
 	for (size_t each = 0; each < pool_count; each++)
 		close(pools[each].descriptor);
-	waywire_server_free(link_to.server);
+	waywire_server_free(server);
 	link_close(&link_to);
 	close(listening);
 	unlink(argv[1]);

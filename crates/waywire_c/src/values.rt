@@ -123,22 +123,18 @@ impl CSizes {
     pub fn sizes(&self) -> Option<Sizes>
         ensures { IfSome result (λ sizes. AreSizes sizes) }
     {
-        let in_range = self.out_bytes <= 16_777_216
-            && self.out_tokens <= 65_536
-            && 4096 <= self.in_bytes
-            && self.in_bytes <= 16_777_216
-            && 20 <= self.in_tokens
-            && self.in_tokens <= 65_536;
-        if !in_range {
-            return None;
-        }
-        Some(Sizes {
+        let sizes = Sizes {
             out_bytes: self.out_bytes,
             out_tokens: self.out_tokens,
             in_bytes: self.in_bytes,
             in_tokens: self.in_tokens,
             limit: Limit::USUAL,
-        })
+        };
+        if sizes.is_allowed() {
+            Some(sizes)
+        } else {
+            None
+        }
     }
 }
 

@@ -38,8 +38,8 @@
 //! for one, say its number. [`Arg::Fd`] sends a token, `take` returns it together with the
 //! first byte of its message, and the caller passes the descriptor along with these bytes. On the
 //! other side the caller feeds a token for each descriptor that came, with the bytes that they came
-//! with, and the report has it as [`GotRef::Fd`]. No token is lost or given to another message, and no
-//! descriptor is ever closed here.
+//! with, and the report has it as [`GotRef::Fd`]. No token is given to another message, and none is
+//! lost while the end has not failed. No descriptor is ever closed here.
 //!
 //! # Who owns what
 //!
@@ -54,7 +54,7 @@
 //!   ever had that id. A call that names an object of the past is refused, and never reaches its
 //!   successor.
 //! - A report of `next` ([`Incoming`], [`Request`]) lends its strings, its arrays and its tokens from
-//!   the end, until the next call that changes the end: to keep one beyond that is an error of the
+//!   the end, until the end's next call of any kind: to keep one beyond that is an error of the
 //!   compiler. [`Args`] goes through the arguments. A report of `next_owned` ([`OwnedIncoming`],
 //!   [`OwnedRequest`]) owns them. After an event for an object that the client has destroyed
 //!   ([`Incoming::Discarded`]) the caller closes the descriptors that its tokens stand for.
@@ -260,7 +260,7 @@
 
 pub use wl_client::{Client, Incoming, OwnedIncoming, Tokens};
 pub use wl_end::ReadAll;
-pub use wl_message::{BadSize, Fed, FillError, FlushError, Full, Limit, Piece, Sizes, Taken};
+pub use wl_message::{Fed, FillError, FlushError, Limit, Piece, Sizes, Taken};
 pub use wl_objects::{
     Arg, Args, Entry, Fault, Got, GotRef, MapTable, Named, NextError, Object, OwnedArgs, SendError,
     SlotTable, State, Table, TableError,
@@ -271,4 +271,4 @@ pub use wl_session::{
     Verdict, check, same_rows, trace,
 };
 pub use wl_sigs::{Destroys, Side, Signature, TableFault, Tables, event, request};
-pub use wl_wire::{ArgFault, Bytes, Fixed, Iface, Kind, ReadError};
+pub use wl_wire::{ArgFault, Bytes, Fixed, Iface, Kind};

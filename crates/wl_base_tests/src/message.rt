@@ -1,6 +1,5 @@
 // What owns a box drops it at each way out, so a test does all else behind a `&mut`.
-ghost use Rattle.std.specs.Prelude.{◌≡◌, IsTrue, false};
-ghost use Rattle.wl_message.specs.Cut.{IsMessage};
+ghost use Rattle.std.specs.Prelude.{◌≡◌, false};
 
 use refusing::RefusingAllocator;
 use std::alloc::{AllocError, Global};
@@ -219,25 +218,14 @@ fn tokens_that_do_not_fit_hold_back_the_bytes(rt: HostRuntime) -> Result<(), Fai
     Ok(())
 }
 
-/// Whether the bytes are a whole message within this limit.
-fn is_message(bytes: &[u8], limit: Limit) -> bool
-    ensures { IsTrue result → IsMessage limit.bytes bytes.now }
-{
-    if bytes.len() < 8 {
-        return false;
-    }
-    let size = bytes[6] as usize + 256 * bytes[7] as usize;
-    size == bytes.len() && size % 4 == 0 && size <= limit.bytes as usize
-}
-
 /// Pushes a message. Whether it is whole and fits.
 fn pushes(outbox: &mut Outbox<Global>, message: &[u8], tokens: &[u32]) -> bool {
-    is_message(message, outbox.limit()) && outbox.push(message, tokens).is_ok()
+    outbox.limit().is_message(message) && outbox.push(message, tokens).is_ok()
 }
 
 /// Whether a message is whole and does not fit.
 fn is_full(outbox: &mut Outbox<Global>, message: &[u8], tokens: &[u32]) -> bool {
-    is_message(message, outbox.limit()) && outbox.push(message, tokens) == Err(Full)
+    outbox.limit().is_message(message) && outbox.push(message, tokens) == Err(Full)
 }
 
 /// Whether just these bytes and tokens are taken, where there are as many places for them.
@@ -327,7 +315,7 @@ fn fits_a_full_outbox(outbox: &mut Outbox<Global>) -> bool
 {
     let event = long_event();
     let limit = outbox.limit();
-    if !is_message(&SYNC, limit) || !is_message(&event, limit) || outbox.push(&SYNC, &[]).is_err() {
+    if !limit.is_message(&SYNC) || !limit.is_message(&event) || outbox.push(&SYNC, &[]).is_err() {
         return false;
     }
     outbox.push_error(&event);

@@ -1,7 +1,5 @@
 // What goes through the rings of the boxes, with their seam at each place of a message. What owns a
 // box drops it at each way out, so a test does all else behind a `&mut`.
-ghost use Rattle.std.specs.Prelude.{IsTrue};
-ghost use Rattle.wl_message.specs.Cut.{IsMessage};
 
 use std::alloc::Global;
 use std::test::Fail;
@@ -141,17 +139,6 @@ fn messages_pass_an_inbox_with_its_seam_at_each_place(rt: HostRuntime) -> Result
     Ok(())
 }
 
-/// Whether the bytes are a whole message within this limit.
-fn is_message(bytes: &[u8], limit: Limit) -> bool
-    ensures { IsTrue result → IsMessage limit.bytes bytes.now }
-{
-    if bytes.len() < 8 {
-        return false;
-    }
-    let size = bytes[6] as usize + 256 * bytes[7] as usize;
-    size == bytes.len() && size % 4 == 0 && size <= limit.bytes as usize
-}
-
 /// Pushes the message of this number. Whether it fits.
 fn pushes(
     outbox: &mut Outbox<Global>,
@@ -161,7 +148,7 @@ fn pushes(
 ) -> bool {
     write_message(message, number);
     write_tokens(tokens, number);
-    is_message(message, outbox.limit()) && outbox.push(message, tokens).is_ok()
+    outbox.limit().is_message(message) && outbox.push(message, tokens).is_ok()
 }
 
 /// Takes a message out, where there are as many places as it has bytes and tokens. Whether it and
@@ -265,7 +252,7 @@ fn repeat_in_an_outbox(outbox: &mut Outbox<Global>, message: &[u8], tokens: &[u3
         tokens: tokens.len(),
     };
     for _ in 0..LONG_ROUNDS {
-        let has_passed = is_message(message, outbox.limit())
+        let has_passed = outbox.limit().is_message(message)
             && outbox.push(message, tokens).is_ok()
             && outbox.take(&mut bytes_taken, &mut tokens_taken) == all
             && bytes_taken.as_slice() == message

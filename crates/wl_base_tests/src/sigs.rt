@@ -175,12 +175,19 @@ fn finds_by_name(tables: &Tables) -> bool {
         && tables.interface(b"wl_data_device").is_none()
 }
 
+fn finds_opcodes(tables: &Tables) -> bool {
+    tables.opcode(Iface(7), Side::Request, b"commit") == Some(6)
+        && tables.opcode(Iface(0), Side::Event, b"delete_id") == Some(1)
+        && tables.opcode(Iface(0), Side::Request, b"delete_id").is_none()
+        && tables.opcode(Iface(19), Side::Request, b"destroy").is_none()
+}
+
 // Every signature stands at its place, side and opcode, and nothing else does.
 #[test]
 fn the_core_tables_are_those_of_the_documentation(rt: HostRuntime) -> Result<(), Fail> {
     let tables = Tables::core(rt.alloc())?;
     assert!(rt; has_all_rows(rt.alloc(), &tables));
-    assert!(rt; has_no_more(&tables) && finds_by_name(&tables));
+    assert!(rt; has_no_more(&tables) && finds_by_name(&tables) && finds_opcodes(&tables));
     Ok(())
 }
 

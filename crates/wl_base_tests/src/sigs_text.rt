@@ -5,7 +5,7 @@ use refusing::RefusingAllocator;
 use std::alloc::{AllocError, Allocator, Global};
 use std::fmt::Write;
 use std::test::Fail;
-use wl_sigs::{TableFault, Tables};
+use wl_sigs::{Side, TableFault, Tables};
 use wl_wire::Iface;
 
 const VIEWPORTER: &str =
@@ -123,6 +123,7 @@ fn texts_are_read_one_behind_the_other(rt: HostRuntime) -> Result<(), Fail> {
     assert!(rt; matches!(named, Err(TableFault::BadTable { line: 2, rule: 7 })));
     let most = more.read_more(b"").expect(&rt, "the text is read");
     assert!(rt; most.interface(b"a") == Some(Iface(19)) && most.version(Iface(20)).is_none());
+    assert!(rt; most.opcode(Iface(19), Side::Event, b"gone") == Some(0));
     Ok(())
 }
 

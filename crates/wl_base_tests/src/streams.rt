@@ -1,7 +1,5 @@
 // What becomes of the boxes where a stream fails. What owns a box drops it at each way out, so a
 // test does all else behind a `&mut`.
-ghost use Rattle.std.specs.Prelude.{IsTrue};
-ghost use Rattle.wl_message.specs.Cut.{IsMessage};
 
 use std::alloc::Global;
 use std::io::ErrorKind;
@@ -33,20 +31,9 @@ const COMMIT: [u8; 8] = [4, 0, 0, 0, 6, 0, 8, 0];
 /// wl_shm.create_pool with new id 5 and size 4096, for object 4. It takes a token.
 const CREATE_POOL: [u8; 16] = [4, 0, 0, 0, 0, 0, 16, 0, 5, 0, 0, 0, 0, 16, 0, 0];
 
-/// Whether the bytes are a whole message within this limit.
-fn is_message(bytes: &[u8], limit: Limit) -> bool
-    ensures { IsTrue result → IsMessage limit.bytes bytes.now }
-{
-    if bytes.len() < 8 {
-        return false;
-    }
-    let size = bytes[6] as usize + 256 * bytes[7] as usize;
-    size == bytes.len() && size % 4 == 0 && size <= limit.bytes as usize
-}
-
 /// Pushes a message. Whether it is whole and fits.
 fn pushes(outbox: &mut Outbox<Global>, message: &[u8], tokens: &[u32]) -> bool {
-    is_message(message, outbox.limit()) && outbox.push(message, tokens).is_ok()
+    outbox.limit().is_message(message) && outbox.push(message, tokens).is_ok()
 }
 
 /// Whether a flush to a writer of this script returns this, and the writer takes these bytes.
@@ -200,21 +187,24 @@ fn a_fill_goes_on_after_a_failure(rt: HostRuntime) -> Result<(), Fail> {
     Ok(())
 }
 
-/// Whether a fill reads at most 4096 bytes and at most as many as are free, and with none free does
-/// not read.
+/// Whether a fill reads at most 4096 bytes and at most as many as are free, down to a single one,
+/// and with none free does not read.
 fn reads_what_is_free(inbox: &mut Inbox<Global>) -> bool {
     let bytes = [0; 6000];
     let fails = [
         Step::Pass(9000),
         Step::Fail(ErrorKind::Other),
         Step::Fail(ErrorKind::Other),
+        Step::Pass(903),
     ];
     let mut reader = ScriptReader::new(&bytes, &fails);
     fill(inbox, &mut reader) == Ok(4096)
         && fill(inbox, &mut reader) == Err(FillError::Io)
         && inbox.room() == 904
         && fill(inbox, &mut reader) == Err(FillError::Io)
-        && fill(inbox, &mut reader) == Ok(904)
+        && fill(inbox, &mut reader) == Ok(903)
+        && inbox.room() == 1
+        && fill(inbox, &mut reader) == Ok(1)
         && fill(inbox, &mut reader) == Err(FillError::NoRoom)
         && inbox.room() == 0
 }

@@ -1,10 +1,14 @@
 -- Any cut: the messages of s ++ t are those of s, and then those from where the cutting of s stops.
-use Rattle.std.proofs.Common.{◌≡◌, ℕ, zero, suc, ◌+◌, ◌<◌, ◌≤◌, Bool, true, false, cond, Some, None, List, [], ◌∷◌, ◌++◌, length, drop, refl, sym, ap, ◌∙◌, arith, ltb, length-append, subst}
+use Rattle.std.proofs.Common.{◌≡◌, ℕ, zero, suc, ◌+◌, ◌<◌, ◌≤◌, Bool, true, false, cond, Some, None, List, [], ◌∷◌, ◌++◌, length, drop, refl, sym, ap, ◌∙◌, arith, ltb, length-append, subst, get_or, Fits, w8}
 use Rattle.std.proofs.lemmas.Bool.{lt-ltb, le-ltb}
 use Rattle.std.proofs.lemmas.List.{length-drop, drop_all, drop-append-le}
 use Rattle.wl_message.specs.Cut.{is_size, told_size, front, Front, More, Bad, Whole}
 use Rattle.wl_message.proofs.Fronts.{front_stands}
 use Rattle.wl_message.proofs.Cuts.{front_none, whole_stays, bad_stays}
+use Rattle.wl_wire.specs.declared.header.Header.{Header}
+use Rattle.wl_wire.specs.Word.{header_at}
+use Rattle.wl_wire.proofs.Numbers.{bytewise_from}
+use Rattle.wl_wire.proofs.Headers.{header-size}
 use Rattle.wl_check.specs.Seen.{size_of}
 use Rattle.wl_check.specs.Merged.{Mark, mark, Cutting, cutting, then_cut, cut_at, cut}
 
@@ -14,6 +18,10 @@ front_tests : (limit : ℕ) (bytes : List ℕ) (a b c : Bool) → ltb (length by
     → front limit bytes ≡ cond a More (cond b (cond c More (Whole (told_size bytes))) (Bad (told_size bytes)))
 unfolding front
 front_tests limit bytes a b c p q r = rw (p, q, r) refl
+
+-- the size of the header that was read in front
+pub told : (bytes : List ℕ) (h : Header) → ((i : ℕ) → Fits w8 (get_or bytes i 0)) → 8 ≤ length bytes → h ≡ header_at bytes → h.size ≡ told_size bytes
+told bytes h w l e = header-size bytes h.size (bytewise_from bytes w) l (ap (λ (x : Header). x.size) e)
 
 pub front_short : (limit : ℕ) (bytes : List ℕ) → length bytes < 8 → None ≡ size_of (front limit bytes)
 front_short limit bytes h = ap size_of (sym (front_tests limit bytes true _ _ (lt-ltb (length bytes) 8 h) refl refl))

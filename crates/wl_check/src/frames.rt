@@ -1,7 +1,6 @@
 //! A recording's messages, cut off the bytes of their directions.
 ghost use Rattle.std.specs.Prelude.{◌≡◌, ◌≤◌, [], drop, length};
-ghost use Rattle.wl_message.specs.Cut.{front, told_size};
-ghost use Rattle.wl_wire.specs.Word.{header_at};
+ghost use Rattle.wl_message.specs.Cut.{front};
 ghost use Rattle.wl_check.specs.Seen.{size_of};
 
 use std::alloc::{Allocator, Global};
@@ -31,17 +30,6 @@ pub(crate) struct Stream<A: Allocator = Global> {
     pub tokens: u128,
 }
 
-/// The header that the first 8 bytes are.
-pub(crate) fn header_of(bytes: &[u8]) -> Header
-    requires { 8 ≤ length bytes.now }
-    ensures size { result.size ≡ told_size bytes.now }
-    ensures header { result ≡ header_at bytes.now }
-{
-    let mut first = [0; 8];
-    first.copy_from_slice(&bytes[..8]);
-    Header::from_bytes(first)
-}
-
 /// The size of the message in front of these bytes. None where its header, or the rest of a message
 /// whose size is good, is still to come.
 pub(crate) fn size_in_front(bytes: &[u8], limit: Limit) -> Option<u16>
@@ -50,7 +38,7 @@ pub(crate) fn size_in_front(bytes: &[u8], limit: Limit) -> Option<u16>
     if bytes.len() < 8 {
         return None;
     }
-    let size = header_of(bytes).size;
+    let size = Header::at_front_of(bytes).size;
     if !limit.allows(size) {
         return Some(size);
     }

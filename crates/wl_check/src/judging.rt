@@ -13,7 +13,7 @@ ghost use Rattle.wl_check.specs.Trace.{judged_line, wanted};
 
 use crate::course::Output;
 use crate::effect::{Advertised, Effect};
-use crate::frames::{Frame, header_of};
+use crate::frames::Frame;
 use crate::known::{Knowledge, ReaderLookup};
 use std::alloc::{AllocError, Allocator};
 use wl_lines::write_line;
@@ -62,7 +62,15 @@ pub(crate) fn judge<A: Allocator>(
         return Ok(Err(Fault::BadSize));
     }
     let body = &bytes[8..frame.size as usize];
-    judge_as(tables, known, frame, header_of(bytes), body, text, output)
+    judge_as(
+        tables,
+        known,
+        frame,
+        Header::at_front_of(bytes),
+        body,
+        text,
+        output,
+    )
 }
 
 /// Judges a whole message, its header and what stands behind that.
@@ -175,7 +183,7 @@ fn can_bind<A: Allocator>(
 fn first_number(values: &Values<'_>) -> Option<u32>
     ensures { result ≡ first_number values.now }
 {
-    match values.again().next() {
+    match values.clone().next() {
         Some(ValueRef::Uint(number)) => Some(number),
         _ => None,
     }
@@ -192,7 +200,7 @@ fn is_global(side: Side, iface: Iface, opcode: u16) -> bool
 fn advertised(tables: &Tables, values: &Values<'_>) -> Option<Advertised>
     ensures { result ≡ advertised tables.now values.now }
 {
-    let mut left = values.again();
+    let mut left = values.clone();
     match (left.next(), left.next(), left.next(), left.next()) {
         (
             Some(ValueRef::Uint(name)),

@@ -19,7 +19,6 @@ mod tokens;
 mod transport;
 
 pub use client::Client;
-pub use globals::Global;
 pub use laws::{any_cut_reads, binds_are_spelled, one_reading, whole_messages_are_read};
 pub use report::{Incoming, OwnedIncoming};
 pub use tokens::Tokens;

@@ -56,7 +56,7 @@ impl Outline {
             } => Incoming::Event {
                 target: *target,
                 opcode: *opcode,
-                args: Args::of(args, body, tokens, *birth),
+                args: Args::new(args, body, tokens, *birth),
             },
             Outline::Discarded {
                 target,
@@ -106,7 +106,7 @@ impl Outline {
             } => Ok(OwnedIncoming::Event {
                 target: *target,
                 opcode: *opcode,
-                args: Args::of(args, body, tokens, *birth).to_owned(alloc)?,
+                args: Args::new(args, body, tokens, *birth).to_owned(alloc)?,
             }),
             Outline::Discarded {
                 target,

@@ -19,7 +19,7 @@ use crate::client::Client;
 use crate::outline::Outline;
 use crate::pending::{OwnedPendingEvent, PendingEvent, Stop, find_event, find_owned_event};
 use crate::report::{Incoming, OwnedIncoming};
-use wl_end::{Core, MAX_TOKENS};
+use wl_end::Core;
 use wl_objects::{Fault, NextError, Table};
 
 impl<'t, T: Table> Client<'t, T> {
@@ -147,14 +147,12 @@ fn take<T: Table>(
     last: bool,
 )
     requires message { in_front core.old.inbox ≡ Whole bytes }
-    requires few { tokens ≤ MAX_TOKENS }
     requires waiting { tokens ≤ length core.old.inbox.tokens }
     requires change { CanChange core.old.view change }
     requires lives { core.old.failed ≡ false }
     ensures { core.new ≡ stepped core.old change bytes tokens last }
 {
-    let mut taken = [0; MAX_TOKENS];
-    core.pass(bytes, &mut taken[..tokens]);
+    core.pass(bytes, tokens);
     apply_object_change(core, change);
     core.failed = last;
 }

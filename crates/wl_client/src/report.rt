@@ -4,8 +4,8 @@ use std::alloc::{Allocator, Global};
 use wl_objects::{Args, Named, Object, OwnedArgs};
 use wl_wire::Bytes;
 
-/// A message that the client read. What it lends is lent from the client, until it reads the next
-/// message.
+/// A message that the client read. What it lends is lent from the client, until the client's next
+/// call of any kind.
 #[derive(Clone, Copy)]
 pub enum Incoming<'a> {
     /// An event for a live object.

@@ -6,6 +6,7 @@ pub mod Displays
 pub mod Messages
 pub mod Appended
 pub mod Sends
+pub mod Openings
 pub mod Receivings
 pub mod Spelled
 pub mod Ends

@@ -1,5 +1,5 @@
 -- What an end writes.
-use Rattle.std.specs.Prelude.{ℕ, ◌+◌, Bool, true, false, ◌||◌, nat_lt, if◌then◌else◌, List, [], ◌∷◌}
+use Rattle.std.specs.Prelude.{◌≡◌, ◌≢◌, ℕ, ◌+◌, Bool, true, false, ◌||◌, nat_lt, if◌then◌else◌, List, [], ◌∷◌}
 use Rattle.std.specs.Prelude.{length, map, Option, Some, None, is_some, option_map}
 use Rattle.std.specs.declared.result.Result.{Result}
 use Rattle.std.specs.declared.result.Result.TheVariants.{Ok, Err}
@@ -137,6 +137,12 @@ after_send core side target opcode given =
 abbrev pub opens_object : Result Message SendError → Bool
 opens_object (Err refusal) = false
 opens_object (Ok signature) = is_some (makes signature)
+
+-- What a call that opens no object returns: none where it is accepted, and neither of the refusals
+-- of an opening, S10 and S11.
+abbrev pub OpensNothing : Result (Option Object) SendError → Type 0
+OpensNothing (Ok new) = new ≡ None
+OpensNothing (Err why) = (why ≢ refusals.NoIds) × (why ≢ refusals.Memory)
 
 -- What `send` returns where memory can be refused: out of memory stands only in place of the
 -- acceptance of a message that opens an object.

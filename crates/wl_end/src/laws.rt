@@ -1,17 +1,25 @@
 //! What holds of what an end reads. These functions do nothing: each is called for what it ensures.
-ghost use Rattle.std.specs.Prelude.{◌≡◌, ◌<◌, ℕ, List, [], ◌∷◌, ◌++◌, length};
+ghost use Rattle.std.specs.Prelude.{◌≡◌, ◌<◌, ℕ, false, List, [], ◌∷◌, ◌++◌, length};
+ghost use Rattle.std.specs.declared.option.Option.{Option};
 ghost use Rattle.std.specs.declared.option.Option.TheVariants.{None, Some};
+ghost use Rattle.std.specs.declared.result.Result.{Result};
 ghost use Rattle.std.specs.declared.result.Result.TheVariants.{Ok, Err};
 ghost use Rattle.wl_sigs.specs.declared.signature.Side.{Side};
+ghost use Rattle.wl_sigs.specs.declared.signature.Side.TheVariants.{Event as event_side};
 ghost use Rattle.wl_message.specs.declared.amounts.Fed.{Fed};
 ghost use Rattle.wl_message.specs.InStep.{Part, Need, part_bytes, part_tokens, InStep};
-ghost use Rattle.wl_sigs.specs.Tables.{Message};
+ghost use Rattle.wl_sigs.specs.Tables.{Interface, Message};
+ghost use Rattle.wl_sigs.specs.Valid.{Valid};
 ghost use Rattle.wl_table.specs.declared.object.Object.{Object};
+ghost use Rattle.wl_table.specs.View.{View};
 ghost use Rattle.wl_objects.specs.declared.error.Fault.{Fault};
 ghost use Rattle.wl_objects.specs.declared.error.Fault.TheVariants as faults;
+ghost use Rattle.wl_objects.specs.declared.error.SendError.{SendError};
+ghost use Rattle.wl_objects.specs.Messages.{checked};
 ghost use Rattle.wl_objects.specs.Writing.{Given};
 ghost use Rattle.wl_end.specs.Core.{Core, with_arrived};
 ghost use Rattle.wl_end.specs.Receiving.{Found, found, reported, past_found};
+ghost use Rattle.wl_end.specs.Sending.{IsSendAnswer, OpensNothing, opens_object};
 ghost use Rattle.wl_end.specs.Spelled.{CallsSpell, FoundSpells};
 ghost use Rattle.wl_end.specs.Streams.{IsTaken, taken_bytes, taken_tokens, untaken, longer};
 
@@ -58,4 +66,19 @@ pub fn messages_are_spelled()
         (given : List Given) (signature : Message)
         → CallsSpell core side target opcode given signature }
     ensures read { (core : Core) (side : Side) (f : Found) → FoundSpells core side f }
+{}
+
+/// A call that opens no object returns none where it is accepted, and neither S10 nor S11. No event
+/// opens one.
+pub fn openings_alone_need_memory()
+    ensures nothing { (core : Core) (side : Side) (target : Object) (opcode : ℕ)
+        (given : List Given) (result : Result (Option Object) SendError)
+        → IsSendAnswer core side target opcode given result
+        → opens_object
+        (checked core.outbox.limit.bytes core.tables side core.view target opcode given)
+        ≡ false → OpensNothing result }
+    ensures event { (limit : ℕ) (tables : List Interface) (view : View) (target : Object)
+        (opcode : ℕ) (given : List Given)
+        → Valid tables
+        → opens_object (checked limit tables event_side view target opcode given) ≡ false }
 {}

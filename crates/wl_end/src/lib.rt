@@ -15,7 +15,9 @@ mod streams;
 mod transport;
 
 pub use end::End;
-pub use laws::{found_stays, messages_are_spelled, taking_keeps_pieces};
+pub use laws::{
+    found_stays, messages_are_spelled, openings_alone_need_memory, taking_keeps_pieces,
+};
 pub use receive::MAX_TOKENS;
 pub use receiver::Receiver;
 pub use send::DELETE_ID_LEN;

@@ -26,15 +26,13 @@ impl<'t, T: Table> Core<'t, T> {
         tokens
     }
 
-    /// Takes out the message in front, of `size` bytes, and as many of the first tokens as the
-    /// slice has places, in order.
-    pub fn pass(&mut self, size: u16, tokens: &mut [u32])
+    /// Takes out the message in front, of `size` bytes, and this many of the first tokens.
+    pub fn pass(&mut self, size: u16, tokens: usize)
         requires message { in_front self.old.inbox ≡ Whole size }
-        requires tokens { length tokens.old ≤ length self.old.inbox.tokens }
-        ensures tokens { tokens.new ≡ take (length tokens.old) self.old.inbox.tokens }
-        ensures state { self.new ≡ past self.old size (length tokens.old) }
+        requires tokens { tokens ≤ length self.old.inbox.tokens }
+        ensures { self.new ≡ past self.old size tokens }
     {
-        self.inbox.pop(tokens);
+        self.inbox.pass(tokens);
         self.read = self.read.saturating_add(u64::from(size));
     }
 

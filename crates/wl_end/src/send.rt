@@ -1,6 +1,7 @@
 //! What an end writes.
 ghost use Rattle.std.specs.Prelude.{[], ◌≡◌, ◌≢◌, ◌≤◌, ◌+◌, ℕ, false, true, Some, Ok, IfOk, IfSome};
 ghost use Rattle.std.specs.Prelude.{IsTrue, OnErr, OnOk, is_some, length};
+ghost use Rattle.wl_sigs.specs.declared.signature.Side.TheVariants.{Event as event_side};
 ghost use Rattle.wl_sigs.specs.Tables.{destroys_one, makes};
 ghost use Rattle.wl_sigs.specs.Valid.{Valid};
 ghost use Rattle.wl_objects.specs.Messages.{checked, destroys, ended_id, id_named, opens};
@@ -9,7 +10,7 @@ ghost use Rattle.wl_objects.specs.Writing.{EachFits, bind_values, given, given_o
 ghost use Rattle.wl_objects.specs.Writing.{has_no_nul, id_of, message_len, on_wire, tokens_of};
 ghost use Rattle.wl_end.specs.Core.{HasDisplay, with_view};
 ghost use Rattle.wl_end.specs.Outcomes.{AnswersOrMemory, new_in};
-ghost use Rattle.wl_end.specs.Sending.{IsSendAnswer, after_send, answer_of, delete_id_len, fits};
+ghost use Rattle.wl_end.specs.Sending.{IsSendAnswer, OpensNothing, after_send, answer_of, delete_id_len, fits};
 ghost use Rattle.wl_end.specs.Sending.{following, following_len, next_object, opening_answer};
 ghost use Rattle.wl_end.specs.Sending.{sent, with_delete_id, with_error_event};
 ghost use Rattle.wl_end.specs.Sending.{with_following, with_sent, writer};
@@ -257,6 +258,8 @@ impl<'t, T: Table> Core<'t, T> {
         args: &[Arg<'_>],
     ) -> Result<Option<Object>, SendError>
         ensures answer { IsSendAnswer self.old side target opcode (given args.now) result }
+        // No event makes an object.
+        ensures event { side ≡ event_side → OpensNothing result }
         ensures ok { OnOk result
             (self.new ≡ after_send self.old side target opcode (given args.now)) }
         ensures err { OnErr result (self.new ≡ self.old) }

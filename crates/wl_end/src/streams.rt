@@ -24,7 +24,7 @@ pub struct ReadAll {
 
 impl ReadAll {
     /// A reading that ended between two pieces.
-    pub fn ended(pieces: usize, stop: Option<NextError>) -> ReadAll
+    fn ended(pieces: usize, stop: Option<NextError>) -> ReadAll
         ensures { result ≡ record { pieces = pieces; part = no_room; stop = stop } }
     {
         ReadAll {

@@ -26,7 +26,7 @@ pub(crate) fn write_arguments<A: Allocator, L: Lookup>(
     ensures { OnOk result (out.new.items ≡ out.old.items
         ++ listed (all_parts tables.now (L.reader lookup.now).object taken kinds.now values.now)) }
 {
-    let mut left = values.again();
+    let mut left = values.clone();
     let mut taken = taken;
     'kinds: for (place, kind) in kinds.iter().enumerate() {
         let value = match left.next() {

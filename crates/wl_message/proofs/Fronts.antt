@@ -80,11 +80,11 @@ pub copy_there : (bytes copy : List ℕ) → IsCopy bytes copy → length copy �
 copy_there bytes copy c = let e : length copy ≡ min (length copy) (length bytes) = ap length c.same ∙ length-take (length copy) bytes in grind (arith, nat_tests, e)
 
 -- the front of two lists, one after the other, ends in the first
-pub front_in_first : (a b c : List ℕ) (n : ℕ) → a ++ b ≡ c → n ≤ length a → take n a ≡ take n c
-front_in_first a b c n e h = sym (take-append-le n a b h) ∙ ap (λ (l : List ℕ). take n l) e
+pub front_in_first : {X : Type 0} (a b c : List X) (n : ℕ) → a ++ b ≡ c → n ≤ length a → take n a ≡ take n c
+front_in_first a b c n e h = sym (take-append-le n a b h) ∙ ap (take n) e
 
 -- or goes past it
-pub front_past_first : (a b c : List ℕ) (n : ℕ) → a ++ b ≡ c → length a ≤ n → a ++ take (n - length a) b ≡ take n c
+pub front_past_first : {X : Type 0} (a b c : List X) (n : ℕ) → a ++ b ≡ c → length a ≤ n → a ++ take (n - length a) b ≡ take n c
 front_past_first a b c n e h =
     let k : length a + (n - length a) ≡ n = omega (arith, h) in
-    sym (take-append-add a b (n - length a)) ∙ ap (λ (m : ℕ). take m (a ++ b)) k ∙ ap (λ (l : List ℕ). take n l) e
+    sym (take-append-add a b (n - length a)) ∙ ap (λ (m : ℕ). take m (a ++ b)) k ∙ ap (take n) e

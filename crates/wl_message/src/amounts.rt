@@ -1,13 +1,25 @@
 //! Numbers of bytes and tokens, and what comes at one time.
 
+ghost use Rattle.std.specs.Prelude.{◌↔◌, IsTrue};
+ghost use Rattle.wl_message.specs.Arrived.{AreSizes};
+
 use crate::limit::Limit;
 use std::error::Error;
 use std::fmt::{self, Display, Formatter};
 
+/// The most bytes that an inbox or an outbox can hold.
+pub const MAX_BOX_BYTES: usize = 16_777_216;
+
+/// The most tokens that an inbox or an outbox can hold.
+pub const MAX_BOX_TOKENS: usize = 65_536;
+
+/// The fewest tokens that an inbox can hold: as many as one message can have.
+const MIN_INBOX_TOKENS: usize = 20;
+
 /// How large the boxes of an end are, in bytes and in tokens, and how long its messages may be.
 ///
 /// An outbox has at most 16,777,216 bytes and 65,536 tokens, an inbox as many bytes as the limit to
-/// 16,777,216 and 20 to 65,536 tokens.
+/// 16,777,216 and 20 to 65,536 tokens; `is_allowed` is the test.
 #[derive(Clone, Copy, Debug, PartialEq, Eq)]
 pub struct Sizes {
     pub out_bytes: usize,
@@ -15,6 +27,20 @@ pub struct Sizes {
     pub in_bytes: usize,
     pub in_tokens: usize,
     pub limit: Limit,
+}
+
+impl Sizes {
+    /// Whether an end can have these sizes.
+    pub fn is_allowed(&self) -> bool
+        ensures { IsTrue result ↔ AreSizes self.now }
+    {
+        self.out_bytes <= MAX_BOX_BYTES
+            && self.out_tokens <= MAX_BOX_TOKENS
+            && usize::from(self.limit.bytes) <= self.in_bytes
+            && self.in_bytes <= MAX_BOX_BYTES
+            && MIN_INBOX_TOKENS <= self.in_tokens
+            && self.in_tokens <= MAX_BOX_TOKENS
+    }
 }
 
 /// How many bytes and tokens were taken in.

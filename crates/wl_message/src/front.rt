@@ -43,33 +43,28 @@ pub(crate) fn move_first<T: Copy + Drop, A: Allocator>(
     }
 }
 
-/// Moves as many of the first items as a slice has places into that slice, and keeps a copy of
-/// them in a store, in place of what is there.
-pub(crate) fn take_first<T: Copy + Drop, A: Allocator>(
+/// Moves the first n items into a store, in place of what is there.
+pub(crate) fn move_to_store<T: Copy + Drop, A: Allocator>(
     ring: &mut HeapCircularBuffer<T, A>,
-    to: &mut [T],
-    copy: &mut Vec<T, A>,
+    to: &mut Vec<T, A>,
+    n: usize,
 )
-    requires ring { length to.old ≤ length ring.old.items }
-    requires copy { ring.old.capacity ≤ vec_capacity copy.old }
-    ensures ring { ring.new ≡ buffer (drop (length to.old) ring.old.items) ring.old.capacity }
-    ensures to { to.new ≡ take (length to.old) ring.old.items }
-    ensures copy { copy.new.items ≡ take (length to.old) ring.old.items }
-    ensures room { vec_capacity copy.old ≤ vec_capacity copy.new }
+    requires waiting { n ≤ length ring.old.items }
+    requires room { ring.old.capacity ≤ vec_capacity to.old }
+    ensures ring { ring.new ≡ buffer (drop n ring.old.items) ring.old.capacity }
+    ensures items { to.new.items ≡ take n ring.old.items }
+    ensures capacity { vec_capacity to.old ≤ vec_capacity to.new }
 {
-    let _waiting = ring.len();
-    copy.clear();
-    if !to.is_empty() {
-        ring.read_into(to);
-        let _ = copy.extend_from_slice(to);
-    }
+    let left = ring.len() - n;
+    copy_front(ring, to, n);
+    ring.truncate_front(left);
 }
 
-/// Copies the first n bytes into a store, in place of what is there. They stay in the ring.
+/// Copies the first n items into a store, in place of what is there. They stay in the ring.
 #[tactic(auto, using(crate::proofs::Fronts::front_in_first, crate::proofs::Fronts::front_past_first))]
-pub(crate) fn copy_front<A: Allocator>(
-    ring: &HeapCircularBuffer<u8, A>,
-    to: &mut Vec<u8, A>,
+pub(crate) fn copy_front<T: Copy + Drop, A: Allocator>(
+    ring: &HeapCircularBuffer<T, A>,
+    to: &mut Vec<T, A>,
     n: usize,
 )
     requires waiting { n ≤ length ring.now.items }
@@ -101,12 +96,12 @@ pub(crate) fn first_part<T: Copy + Drop, A: Allocator>(
     &part[..part.len().min(most)]
 }
 
-/// Appends bytes to a store that has room for them.
-fn store<A: Allocator>(to: &mut Vec<u8, A>, bytes: &[u8])
-    requires { vec_len to.old + length bytes.now ≤ vec_capacity to.old }
-    ensures items { to.new.items ≡ to.old.items ++ bytes.now }
-    ensures len { vec_len to.new ≡ vec_len to.old + length bytes.now }
+/// Appends items to a store that has room for them.
+fn store<T: Copy, A: Allocator>(to: &mut Vec<T, A>, items: &[T])
+    requires { vec_len to.old + length items.now ≤ vec_capacity to.old }
+    ensures items { to.new.items ≡ to.old.items ++ items.now }
+    ensures len { vec_len to.new ≡ vec_len to.old + length items.now }
     ensures capacity { vec_capacity to.old ≤ vec_capacity to.new }
 {
-    let _ = to.extend_from_slice(bytes);
+    let _ = to.extend_from_slice(items);
 }

@@ -1,6 +1,6 @@
 //! The header in front of bytes.
 ghost use Rattle.std.specs.Prelude.{◌≡◌, ◌≤◌, true, IfOk, IfSome, length, take, vec_capacity};
-ghost use Rattle.wl_wire.specs.Word.{header_bytes};
+ghost use Rattle.wl_wire.specs.Word.{header_at, header_bytes};
 ghost use Rattle.wl_message.specs.Cut.{told_size};
 ghost use Rattle.wl_message.specs.Arrived.{TellsHeader, HasParts, IsCopy};
 
@@ -11,10 +11,24 @@ use circular_buffer::HeapCircularBuffer;
 use std::alloc::Allocator;
 use wl_wire::Header;
 
-/// The header that the first 8 bytes are. Where they stand in two parts they are copied into the
-/// store.
+/// The number of bytes of a header, the fewest that a message has.
+pub(crate) const HEADER_LEN: usize = 8;
+
+/// The header that the first 8 bytes are.
+pub(crate) fn header_of(bytes: &[u8]) -> Header
+    requires { 8 ≤ length bytes.now }
+    ensures header { result ≡ header_at bytes.now }
+    ensures bytes { take 8 bytes.now ≡ header_bytes result }
+    ensures size { result.size ≡ told_size bytes.now }
+{
+    let mut first = [0; HEADER_LEN];
+    first.copy_from_slice(&bytes[..HEADER_LEN]);
+    Header::from_bytes(first)
+}
+
+/// The header in front of a ring. Where it stands in two parts it is copied into the store.
 #[tactic(auto, using(crate::proofs::Fronts::front_in_first))]
-pub(crate) fn header_of<A: Allocator>(
+pub(crate) fn header_in<A: Allocator>(
     bytes: &HeapCircularBuffer<u8, A>,
     store: &mut Vec<u8, A>,
 ) -> Header
@@ -25,14 +39,11 @@ pub(crate) fn header_of<A: Allocator>(
     ensures size { result.size ≡ told_size bytes.now.items }
 {
     let (first, _) = bytes.as_slices();
-    let mut header = [0; 8];
-    if first.len() >= 8 {
-        header.copy_from_slice(&first[..8]);
-    } else {
-        copy_front(bytes, store, 8);
-        header.copy_from_slice(&store[..8]);
+    if first.len() >= HEADER_LEN {
+        return header_of(first);
     }
-    Header::from_bytes(header)
+    copy_front(bytes, store, HEADER_LEN);
+    header_of(store)
 }
 
 /// The header of the whole message in front, if one is there.
@@ -49,10 +60,10 @@ pub(crate) fn header_in_front<A: Allocator>(
     ensures told { IfOk result (λ o. IfSome o (λ h. h.size ≡ told_size bytes.now.items)) }
     ensures fits { IfOk result (λ o. IfSome o (λ h. h.size ≤ limit.bytes)) }
 {
-    if bytes.len() < 8 {
+    if bytes.len() < HEADER_LEN {
         return Ok(None);
     }
-    let header = header_of(bytes, store);
+    let header = header_in(bytes, store);
     if !limit.allows(header.size) {
         return Err(BadSize { size: header.size });
     }
@@ -78,7 +89,7 @@ pub(crate) fn copy_message<A: Allocator>(
     ensures copy { IsCopy bytes.now.items store.new.items }
 {
     if !is_copied {
-        let size = header_of(bytes, store).size as usize;
+        let size = header_in(bytes, store).size as usize;
         copy_front(bytes, store, size);
     }
 }

@@ -11,7 +11,7 @@ ghost use Rattle.wl_message.specs.Streams.{TakesIn};
 ghost use Rattle.wl_message.specs.contracts.inbox.Inbox.{the_row};
 
 use crate::amounts::Fed;
-use crate::front::{append, copy_front, remove_first, take_first};
+use crate::front::{append, copy_front, move_to_store, remove_first};
 use crate::header::{copy_message, header_in_front};
 use crate::limit::Limit;
 use circular_buffer::HeapCircularBuffer;
@@ -209,8 +209,7 @@ impl<A: Allocator> Inbox<A> {
     }
 
     /// Takes the first message out, and as many of the first tokens as the slice has places, in
-    /// order. `last` and `last_tokens` lend them until the next call of `pop`.
-    #[tactic(auto, using(crate::proofs::Fronts::has_message, crate::proofs::Fronts::copied_size, crate::proofs::Fronts::copy_there))]
+    /// order. `last` and `last_tokens` lend them until the next message is taken out.
     pub fn pop(&mut self, tokens: &mut [u32])
         requires message { HasMessage (in_front self.old) }
         requires tokens { length tokens.old ≤ length self.old.tokens }
@@ -219,9 +218,22 @@ impl<A: Allocator> Inbox<A> {
             ≡ without_first self.old (message_size (in_front self.old))
             (length tokens.old) }
     {
+        self.pass(tokens.len());
+        tokens.copy_from_slice(&self.last_tokens);
+    }
+
+    /// Takes the first message out, and this many of the first tokens, as `pop` does, for `last`
+    /// and `last_tokens` to lend.
+    #[tactic(auto, using(crate::proofs::Fronts::has_message, crate::proofs::Fronts::copied_size, crate::proofs::Fronts::copy_there))]
+    pub fn pass(&mut self, tokens: usize)
+        requires message { HasMessage (in_front self.old) }
+        requires tokens { tokens ≤ length self.old.tokens }
+        ensures { self.new
+            ≡ without_first self.old (message_size (in_front self.old)) tokens }
+    {
         copy_message(&self.bytes, &mut self.message, self.is_copied);
         self.is_copied = false;
-        take_first(&mut self.tokens, tokens, &mut self.last_tokens);
+        move_to_store(&mut self.tokens, &mut self.last_tokens, tokens);
         remove_first(&mut self.bytes, self.message.len());
         mem::swap(&mut self.message, &mut self.last);
     }

@@ -17,7 +17,7 @@ mod outbox;
 mod script;
 mod streams;
 
-pub use amounts::{Fed, Full, Piece, Sizes, Taken};
+pub use amounts::{Fed, Full, MAX_BOX_BYTES, MAX_BOX_TOKENS, Piece, Sizes, Taken};
 pub use inbox::{BadSize, Frame, Inbox};
 pub use laws::{
     any_cut, front_stays, headed_message, joined_messages, next_message, one_amount, one_cut,

@@ -1,7 +1,8 @@
 //! How long a message may be.
-ghost use Rattle.std.specs.Prelude.{◌≡◌, ◌↔◌, IsSome, IfSome};
-ghost use Rattle.wl_message.specs.Cut.{IsLimit, is_size};
+ghost use Rattle.std.specs.Prelude.{◌≡◌, ◌↔◌, IsSome, IfSome, IsTrue};
+ghost use Rattle.wl_message.specs.Cut.{IsLimit, IsMessage, is_size};
 
+use crate::header::{HEADER_LEN, header_of};
 use wl_wire::MAX_MESSAGE_LEN;
 
 /// The most bytes that a message has, its header counted: a multiple of 4 from 4096 to 65,532.
@@ -37,5 +38,17 @@ impl Limit {
         ensures { result ≡ is_size self.bytes size }
     {
         size >= 8 && size % 4 == 0 && size <= self.bytes
+    }
+
+    /// Whether these bytes are a whole message, which an outbox of this limit takes: as many as
+    /// their header says, and a message may have that many.
+    pub fn is_message(self, bytes: &[u8]) -> bool
+        ensures { IsTrue result ↔ IsMessage self.bytes bytes.now }
+    {
+        if bytes.len() < HEADER_LEN {
+            return false;
+        }
+        let size = header_of(bytes).size;
+        self.allows(size) && usize::from(size) == bytes.len()
     }
 }

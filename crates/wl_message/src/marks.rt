@@ -1,5 +1,5 @@
 //! Marks that part bytes and tokens into messages.
-ghost use Rattle.std.specs.Prelude.{◌≡◌, ◌<◌, [], ◌∷◌, ◌++◌, length};
+ghost use Rattle.std.specs.Prelude.{◌≡◌, ◌<◌, ◌^◌, [], ◌∷◌, ◌++◌, length};
 ghost use Rattle.circular_buffer.specs.Buffer.{buffer};
 ghost use Rattle.wl_message.specs.Marks.{reach};
 
@@ -40,9 +40,9 @@ pub(crate) fn reach_into<A: Allocator>(
     bytes: usize,
     tokens: usize,
 ) -> Reach
+    requires { length marks.now.items < 2 ^ 63 }
     ensures { result ≡ reach bytes tokens 0 marks.now.items }
 {
-    let _waiting = marks.len();
     let mut reach = Reach {
         bytes,
         tokens,

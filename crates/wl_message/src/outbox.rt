@@ -10,6 +10,7 @@ ghost use Rattle.wl_message.specs.Streams.{NextHasTokens};
 
 use crate::amounts::{Full, Taken};
 use crate::front::{append, first_part, move_first, remove_first};
+use crate::header::HEADER_LEN;
 use crate::limit::Limit;
 use crate::marks::{Mark, Reach, push_mark, reach_into};
 use circular_buffer::HeapCircularBuffer;
@@ -18,9 +19,6 @@ use std::marker::Model;
 
 /// How many bytes are kept for the error event.
 const ERROR_LEN: usize = 64;
-
-/// The fewest bytes of a message: its header.
-const HEADER_LEN: usize = 8;
 
 /// Messages that wait to go out, with their tokens.
 ///
@@ -166,7 +164,6 @@ impl<A: Allocator> Outbox<A> {
         requires tokens { length tokens.now ≤ token_room_of self.old }
         ensures { self.new ≡ with_message self.old message.now tokens.now }
     {
-        let _waiting = self.tokens.len();
         let mark = Mark {
             len: message.len(),
             tokens: tokens.len(),

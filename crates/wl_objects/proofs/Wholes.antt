@@ -114,11 +114,11 @@ checked-signature limit view list entry (Some signature) found e = by_version (n
         let Want : Message → Type 0 = λ m. (Some signature ≡ Some m) × (m.since ≤ entry.version) × (wrong_place 0 m.kinds list ≡ None) × (lost_place (look view) 0 m.kinds list ≡ None) × (message_len (map (wired 0) list) ≤ limit) in
         subst Want (sym p.2) (refl, ltb-false entry.version signature.since t, p.0, p.1, p.3)
 
-shown-signature : (b : Bool) (at : Option Message) (found : Message) → unless_hidden b at ≡ Some found → (b ≡ false) × (at ≡ Some found)
+pub shown-signature : (b : Bool) (at : Option Message) (found : Message) → unless_hidden b at ≡ Some found → (b ≡ false) × (at ≡ Some found)
 shown-signature true at found e = absurd (cc)
 shown-signature false at found e = (refl, e)
 
-live-target : (view : View) (target : Object) (entry : Entry) → live_row view target ≡ Some entry → (look view target.id ≡ Some entry) × (entry.birth ≡ target.birth) × (is_live entry.state ≡ true)
+pub live-target : (view : View) (target : Object) (entry : Entry) → live_row view target ≡ Some entry → (look view target.id ≡ Some entry) × (entry.birth ≡ target.birth) × (is_live entry.state ≡ true)
 live-target view target entry e = by_row (look view target.id) refl e
   where
     by_row : (row : Option Entry) → look view target.id ≡ row → (if is_live_as target.birth row then row else None) ≡ Some entry
@@ -149,7 +149,7 @@ pub passes : (limit : ℕ) (tables : List Interface) (side : Side) (view : View)
     → checked limit tables side view target opcode list ≡ Ok found → Passes limit tables side view target opcode list found
 passes limit tables side view target opcode list found e = checked-found limit tables side view target opcode list found (live_row view target) refl e
 
-live-row : (view : View) (target : Object) (entry : Entry) → look view target.id ≡ Some entry → entry.birth ≡ target.birth → is_live entry.state ≡ true → live_row view target ≡ Some entry
+pub live-row : (view : View) (target : Object) (entry : Entry) → look view target.id ≡ Some entry → entry.birth ≡ target.birth → is_live entry.state ≡ true → live_row view target ≡ Some entry
 live-row view target entry row birth live = let same : nat_eq entry.birth target.birth ≡ true = eq-eqb entry.birth target.birth birth in rw (row, same, live) refl
 
 pub passed : (limit : ℕ) (tables : List Interface) (side : Side) (view : View) (target : Object) (opcode : ℕ) (list : List Given) (found : Message)

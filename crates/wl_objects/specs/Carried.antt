@@ -21,15 +21,6 @@ use Rattle.wl_objects.specs.Writing.{Given, wired, spelled, message_len, tokens_
 use Rattle.wl_objects.specs.Writing.{lost_place, is_live}
 use Rattle.wl_objects.specs.Messages.{Received, is_hidden}
 
--- The numbers of an argument are those of the code's types, whatever its lengths.
-abbrev pub IsTyped : Given → Type 0
-IsTyped (Int z) = FitsSigned w32 z
-IsTyped (Uint n) = n < 2 ^ 32
-IsTyped (Fixed z) = FitsSigned w32 z
-IsTyped (Obj (Some object)) = object.id < 2 ^ 32
-IsTyped (NewNamed iface version x) = version < 2 ^ 32
-IsTyped _ = Unit {0}
-
 -- The numbers of an argument, and its lengths, are in the range of a word.
 abbrev pub InRange : Given → Type 0
 InRange (Int z) = FitsSigned w32 z

@@ -14,26 +14,24 @@ use wl_wire::Bytes;
 
 /// The arguments of a message that are left to go through, in order. Strings and arrays are lent
 /// from the end that read the message, until it reads the next one.
-///
-/// The fields are for contracts, which speak of the arguments that are left.
 #[derive(Clone, Copy)]
 pub struct Args<'a> {
     /// The message's body.
-    pub body: &'a [u8],
+    body: &'a [u8],
     /// The message's tokens.
-    pub tokens: &'a [u32],
+    tokens: &'a [u32],
     /// The birth of an object that the message made.
-    pub birth: u64,
-    pub items: [ParsedArg; MAX_ARGS],
+    birth: u64,
+    items: [ParsedArg; MAX_ARGS],
     /// Where those that are left begin among the items, and how many they are.
-    pub from: usize,
-    pub left: usize,
+    from: usize,
+    left: usize,
 }
 
 impl<'a> Args<'a> {
     /// The arguments of a message with this body and these tokens, where an object that it makes
     /// has this birth.
-    pub fn of(args: &ParsedArgs, body: &'a [u8], tokens: &'a [u32], birth: u64) -> Args<'a>
+    pub fn new(args: &ParsedArgs, body: &'a [u8], tokens: &'a [u32], birth: u64) -> Args<'a>
         ensures { seen_args result ≡ reported_in body.now birth tokens.now args.now }
     {
         Args {

@@ -5,7 +5,7 @@ ghost use Rattle.wl_sigs.specs.Valid.{Valid};
 ghost use Rattle.wl_table.specs.View.{look, Sound};
 ghost use Rattle.wl_objects.specs.Reading.{is_of, iface_of};
 ghost use Rattle.wl_objects.specs.Messages.{checked, live_row};
-ghost use Rattle.wl_objects.specs.Carried.{InRange, IsTyped};
+ghost use Rattle.wl_objects.specs.Carried.{InRange};
 ghost use Rattle.wl_objects.specs.Seen.{signature_in};
 ghost use Rattle.wl_objects.specs.Writing.{EachFits, can_name, given, given_of, lost_place};
 ghost use Rattle.wl_objects.specs.Writing.{message_len, names_one, on_wire, suits, wrong_place};
@@ -81,7 +81,6 @@ pub fn check_call<'t, T: Table>(
         Some(len) => len,
         None => return Err(SendError::TooLong),
     };
-    each_typed(args);
     Ok(CheckedCall {
         entry,
         signature,
@@ -141,12 +140,8 @@ fn wrong_place(kinds: &[Kind], args: &[Arg<'_>]) -> Option<usize>
 fn names_one<T: Table>(table: &T, iface: Option<Iface>, object: Object) -> bool
     ensures { result ≡ names_one iface object (look (T.view table.now) object.id) }
 {
-    match table.look(object.id) {
-        Some(entry) => {
-            entry.birth == object.birth
-                && entry.state == State::Live
-                && iface.is_none_or(|iface| iface == entry.iface)
-        }
+    match live_row(table, object) {
+        Some(entry) => iface.is_none_or(|iface| iface == entry.iface),
         None => false,
     }
 }
@@ -174,41 +169,4 @@ fn lost_place<T: Table>(table: &T, kinds: &[Kind], args: &[Arg<'_>]) -> Option<u
         }
     }
     None
-}
-
-/// The numbers of arguments are those of their types. Nothing is done: that they can be read
-/// shows it.
-fn each_typed(args: &[Arg<'_>])
-    ensures { All IsTyped (given args.now) }
-{
-    'arguments: for arg in args {
-        typed(arg);
-    }
-}
-
-/// The numbers of an argument are those of its type. Nothing is done: that they are read shows it.
-fn typed(arg: &Arg<'_>)
-    ensures { IsTyped (given_of arg.now) }
-{
-    match arg {
-        Arg::Int(number) => {
-            let _number = *number;
-        }
-        Arg::Uint(number) => {
-            let _number = *number;
-        }
-        Arg::Fixed(number) => {
-            let _number = number.raw();
-        }
-        Arg::Obj(Some(object)) => {
-            let _id = id_of(object);
-        }
-        _ => {}
-    }
-}
-
-fn id_of(object: &Object) -> u32
-    ensures { result ≡ object.now.id }
-{
-    object.id
 }

@@ -8,16 +8,19 @@ ghost use Rattle.wl_sigs.specs.declared.signature.Side.{Side as SpecSide};
 ghost use Rattle.wl_sigs.specs.Tables.{Interface, Message};
 ghost use Rattle.wl_objects.specs.declared.argument.Arg.{Arg as SpecArg};
 ghost use Rattle.wl_objects.specs.declared.error.Fault.{Fault as SpecFault};
+ghost use Rattle.wl_objects.specs.declared.error.SendError.TheVariants.{BadObject, WrongArgs};
 ghost use Rattle.wl_table.specs.declared.object.Entry.{Entry as SpecEntry};
 ghost use Rattle.wl_table.specs.declared.object.Object.{Object as SpecObject};
 ghost use Rattle.wl_table.specs.View.{View, look};
 ghost use Rattle.wl_objects.specs.Reading.{Reader, arguments_at, kind_at};
 ghost use Rattle.wl_objects.specs.Spelling.{Meets, FirstFault, SpellsAll};
 ghost use Rattle.wl_objects.specs.Writing.{Given, call_makes, given, message_bytes, message_len};
-ghost use Rattle.wl_objects.specs.Writing.{on_wire, spelled, tokens_of, wired, wrong_place};
+ghost use Rattle.wl_objects.specs.Writing.{lost_place, on_wire, spelled, tokens_of, wired};
+ghost use Rattle.wl_objects.specs.Writing.{wrong_place};
 ghost use Rattle.wl_objects.specs.Messages.{checked, made, received};
 ghost use Rattle.wl_objects.specs.Carried.{AreWritten, Arrive, InRange, IsExpected, IsTarget};
 ghost use Rattle.wl_objects.specs.Carried.{Passes, received_by};
+ghost use Rattle.wl_objects.specs.Places.{IsFirstLost, IsFirstWrong, Reaches, SuitsAt};
 
 /// What one end writes arrives at the other: arguments that suit the message and name live objects
 /// of the writer, spelled with the new id n, are read by any reader that holds each named object
@@ -64,6 +67,42 @@ pub fn a_call_passes()
         (target : SpecObject) (opcode : ℕ) (list : List Given) (signature : Message)
         → (checked limit tables side view target opcode list ≡ Ok signature)
         ↔ Passes limit tables side view target opcode list signature }
+{}
+
+/// Of arguments that do not suit, a call names the first: all before it suit, and it does not, or
+/// is missing, or is one too many; so where the numbers differ and all before suit, the place is the
+/// smaller number. It names none exactly where there is an argument for each kind and all suit.
+pub fn first_wrong_argument()
+    ensures place { (kinds : List SpecKind) (list : List Given) (place : ℕ)
+        → (wrong_place 0 kinds list ≡ Some place) ↔ IsFirstWrong kinds list place }
+    ensures none { (kinds : List SpecKind) (list : List Given)
+        → (wrong_place 0 kinds list ≡ None) ↔ ((length list ≡ length kinds)
+        × ((k : ℕ) → k < length kinds → SuitsAt kinds list k)) }
+{}
+
+/// Of objects that cannot be named, a call names the first: all before it can, and it is not live
+/// with its birth, or of another interface.
+pub fn first_lost_object()
+    ensures { (rows : ℕ → Option SpecEntry) (kinds : List SpecKind) (list : List Given) (place : ℕ)
+        → (lost_place rows 0 kinds list ≡ Some place) ↔ IsFirstLost rows kinds list place }
+{}
+
+/// A call is refused for an argument exactly where it comes to its arguments and one is wrong: S5
+/// for the first that does not suit, and S6 for the first object that cannot be named, which is
+/// looked for only where all arguments suit.
+pub fn a_call_is_refused_for_an_argument()
+    ensures wrong { (limit : ℕ) (tables : List Interface) (side : SpecSide) (view : View)
+        (target : SpecObject) (opcode : ℕ) (list : List Given) (place : ℕ)
+        → (checked limit tables side view target opcode list ≡ Err (WrongArgs place))
+        ↔ ((signature : Message) × Reaches tables side view target opcode signature
+        × IsFirstWrong signature.kinds list place) }
+    ensures lost { (limit : ℕ) (tables : List Interface) (side : SpecSide) (view : View)
+        (target : SpecObject) (opcode : ℕ) (list : List Given) (place : ℕ)
+        → (checked limit tables side view target opcode list ≡ Err (BadObject place))
+        ↔ ((signature : Message) × Reaches tables side view target opcode signature
+        × (length list ≡ length signature.kinds)
+        × ((k : ℕ) → k < length signature.kinds → SuitsAt signature.kinds list k)
+        × IsFirstLost (look view) signature.kinds list place) }
 {}
 
 /// A whole message arrives: what passed its checks at one end is received at the other, where the

@@ -26,7 +26,7 @@ pub fn made_by_message(
 ) -> Option<NewObject>
     ensures { result ≡ made tables.now version kinds.now values.now }
 {
-    let mut left = values.again();
+    let mut left = values.clone();
     'kinds: for kind in kinds {
         let value = match left.next() {
             Some(value) => value,

@@ -40,7 +40,7 @@ impl<'t, 'a> Received<'t, 'a> {
     pub fn values(&self) -> Values<'_>
         ensures { result ≡ (message_of self.now).values }
     {
-        Values::of(self.args.as_slice(), self.body)
+        Values::new(self.args.as_slice(), self.body)
     }
 }
 

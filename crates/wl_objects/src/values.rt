@@ -28,7 +28,7 @@ impl<'a> Model for Values<'a> {
 
 impl<'a> Values<'a> {
     /// The values of what was parsed in this body.
-    pub(crate) fn of(parsed: &'a [ParsedArg], body: &'a [u8]) -> Values<'a>
+    pub(crate) fn new(parsed: &'a [ParsedArg], body: &'a [u8]) -> Values<'a>
         ensures { result ≡ spelled_in body.now parsed.now }
     {
         Values { left: parsed, body }
@@ -55,8 +55,8 @@ impl<'a> Values<'a> {
         }
     }
 
-    /// The same values once more.
-    pub fn again(&self) -> Values<'a>
+    /// The same values, to go through once more.
+    pub fn clone(&self) -> Values<'a>
         ensures { result ≡ self.now }
     {
         Values {

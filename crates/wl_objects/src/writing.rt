@@ -1,9 +1,11 @@
 //! Messages made of a call's arguments.
 ghost use Rattle.std.specs.Prelude.{◌≡◌, ◌<◌, ◌≤◌, ◌+◌, ◌++◌, ◌∷◌, [], ℕ, MatchOption, length};
-ghost use Rattle.std.specs.Prelude.{take, vec_len, vec_capacity};
+ghost use Rattle.std.specs.Prelude.{IfSome, take, vec_len, vec_capacity};
+ghost use Rattle.std.specs.List.{All};
 ghost use Rattle.wl_wire.specs.Argument.{lent, Uint};
 ghost use Rattle.wl_wire.specs.Spelling.{canonical, spelled_len, padded, Fits, IsText};
 ghost use Rattle.wl_wire.specs.Word.{header_bytes};
+ghost use Rattle.wl_objects.specs.Carried.{InRange};
 ghost use Rattle.wl_objects.specs.Writing.{given, given_of, wired, on_wire, message_len};
 ghost use Rattle.wl_objects.specs.Writing.{len_in_limit, tokens_of, message_bytes, bind_values};
 ghost use Rattle.wl_objects.specs.Writing.{error_values, global_values, EachFits};
@@ -14,7 +16,7 @@ use wl_sigs::event::wl_display::ERROR;
 use wl_sigs::event::wl_registry::GLOBAL;
 use wl_sigs::request::wl_registry::BIND;
 use wl_table::DISPLAY_ID;
-use wl_wire::{ValueRef, encode_value};
+use wl_wire::{Header, ValueRef, encode_value};
 
 /// The argument as it stands on the wire, where the new object gets this id.
 pub(crate) fn wired<'a>(arg: &Arg<'a>, new_id: u32) -> ValueRef<'a>
@@ -34,9 +36,10 @@ pub(crate) fn wired<'a>(arg: &Arg<'a>, new_id: u32) -> ValueRef<'a>
 }
 
 /// How many bytes spell the argument; none where these are more than the limit.
-fn len_of(arg: &Arg<'_>, limit: u16) -> Option<usize>
-    ensures { MatchOption result (limit < spelled_len (wired 0 (given_of arg.now)))
-        (λ n. (n ≡ spelled_len (wired 0 (given_of arg.now))) × (n ≤ 131072)) }
+fn len_of(arg: Arg<'_>, limit: u16) -> Option<usize>
+    ensures len { MatchOption result (limit < spelled_len (wired 0 (given_of arg.entry)))
+        (λ n. (n ≡ spelled_len (wired 0 (given_of arg.entry))) × (n ≤ 131072)) }
+    ensures in_range { IfSome result (λ _. InRange (given_of arg.entry)) }
 {
     match arg {
         Arg::Str(Some(text)) => counted_len(text.len(), 1, limit),
@@ -63,11 +66,12 @@ fn counted_len(len: usize, more: usize, limit: u16) -> Option<usize>
 /// which leaves room for a header.
 pub fn message_len(args: &[Arg<'_>], limit: u16) -> Option<usize>
     requires { 8 ≤ limit }
-    ensures { result ≡ len_in_limit limit (on_wire 0 args.now) }
+    ensures len { result ≡ len_in_limit limit (on_wire 0 args.now) }
+    ensures in_range { IfSome result (λ _. All InRange (given args.now)) }
 {
     let mut len = 8;
     'arguments: for arg in args {
-        match len_of(arg, limit) {
+        match len_of(*arg, limit) {
             Some(more) if len + more <= limit as usize => len += more,
             _ => return None,
         }
@@ -194,12 +198,13 @@ fn start<A: Allocator>(store: &mut Vec<u8, A>, object: u32, size: usize, opcode:
     ensures len { vec_len store.new ≡ 8 }
     ensures capacity { vec_capacity store.old ≤ vec_capacity store.new }
 {
+    let header = Header {
+        object,
+        size: size as u16,
+        opcode,
+    };
     store.clear();
-    append(store, ValueRef::Uint(object));
-    append(
-        store,
-        ValueRef::Uint(size as u32 * 65536 + u32::from(opcode)),
-    );
+    let _ = store.extend_from_slice(header.to_bytes().as_slice());
 }
 
 /// Appends a value's spelling, for which there is room.

@@ -39,13 +39,7 @@ fn usual() -> Boxes {
 
 /// Boxes of these sizes; none where no boxes have them.
 fn boxes_of(sizes: Sizes) -> Result<Boxes, Trouble> {
-    if sizes.out_bytes <= 16_777_216
-        && sizes.out_tokens <= 65_536
-        && sizes.limit.bytes as usize <= sizes.in_bytes
-        && sizes.in_bytes <= 16_777_216
-        && 20 <= sizes.in_tokens
-        && sizes.in_tokens <= 65_536
-    {
+    if sizes.is_allowed() {
         Ok(Boxes { sizes })
     } else {
         Err(Trouble::Unreadable)

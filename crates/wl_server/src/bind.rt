@@ -29,7 +29,7 @@ pub(crate) fn is_bad_bind(
 fn is_good_bind(tables: &Tables, globals: &[Advertised], values: &Values<'_>) -> bool
     ensures { result ≡ is_good_bind_of tables.now globals.now values.now }
 {
-    let mut left = values.again();
+    let mut left = values.clone();
     let name = match left.next() {
         Some(ValueRef::Uint(name)) => name,
         _ => return false,

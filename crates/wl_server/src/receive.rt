@@ -17,7 +17,6 @@ use crate::pending::{PendingRequest, find_request};
 use crate::report::{OwnedRequest, Request};
 use crate::server::Server;
 use std::alloc::{AllocError, Allocator};
-use wl_end::MAX_TOKENS;
 use wl_objects::{Args, NextError, Table};
 
 impl<'t, T: Table> Server<'t, T> {
@@ -117,8 +116,7 @@ impl<'t, T: Table> Server<'t, T> {
             request.birth,
         )?;
         // Nothing is allocated from here on.
-        let mut tokens = [0; MAX_TOKENS];
-        self.core.pass(request.size, &mut tokens[..request.tokens]);
+        self.core.pass(request.size, request.tokens);
         if let Some(object) = request.ended {
             close_object(&mut self.core, &mut self.registries, object);
         }
@@ -150,7 +148,7 @@ impl<'t, T: Table> Server<'t, T> {
         Request {
             target: request.target,
             opcode: request.opcode,
-            args: Args::of(
+            args: Args::new(
                 &request.args,
                 self.core.inbox.last(),
                 self.core.inbox.last_tokens(),
@@ -171,7 +169,7 @@ fn copy_of<A: Allocator + Clone + Drop>(
         (λ report. report_of report ≡ report_over body.now tokens.now request.now) }
     ensures err { OnErr result (request.now.args ≢ []) }
 {
-    match Args::of(&request.args, body, tokens, request.birth).to_owned(alloc) {
+    match Args::new(&request.args, body, tokens, request.birth).to_owned(alloc) {
         Ok(args) => Ok(OwnedRequest {
             target: request.target,
             opcode: request.opcode,

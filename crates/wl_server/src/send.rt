@@ -4,7 +4,7 @@ ghost use Rattle.wl_sigs.specs.declared.signature.Side.TheVariants.{Event as eve
 ghost use Rattle.wl_sigs.specs.Valid.{Valid};
 ghost use Rattle.wl_objects.specs.Writing.{given};
 ghost use Rattle.wl_end.specs.Outcomes.{refusal_in};
-ghost use Rattle.wl_end.specs.Sending.{IsSendAnswer, after_send};
+ghost use Rattle.wl_end.specs.Sending.{IsSendAnswer, OpensNothing, after_send};
 ghost use Rattle.wl_server.specs.State.{with_core};
 ghost use Rattle.wl_server.specs.Calls.{after_drop, after_error, drop_refusal, error_refusal};
 ghost use Rattle.wl_server.specs.Calls.{is_error_text};
@@ -32,6 +32,8 @@ impl<'t, T: Table> Server<'t, T> {
     ) -> Result<Option<Object>, SendError>
         ensures answer { IsSendAnswer self.old.core event_side target opcode (given args.now)
             result }
+        // No event makes an object: Ok has none, and neither S10 nor S11 is returned.
+        ensures nothing { OpensNothing result }
         ensures ok { OnOk result
             (self.new ≡ with_core self.old
             (after_send self.old.core event_side target opcode (given args.now))) }

@@ -1,13 +1,68 @@
 -- The broken line that is found is the first, and its rule the least that it breaks.
-use Rattle.std.proofs.Common.{◌≡◌, ℕ, zero, suc, ◌+◌, ◌≤◌, ◌⊎◌, inl, inr, true, false, cond, List, [], ◌∷◌, length, map, refl, sym, ap, ◌∙◌, subst, Some, None, Option, Bool, slice_get, not, nat_lt, arith}
+use Rattle.std.proofs.Common.{◌≡◌, ℕ, zero, suc, ◌+◌, ◌≤◌, ◌⊎◌, inl, inr, true, false, cond, List, [], ◌∷◌, length, map, refl, sym, ap, ◌∙◌, subst, Some, None, Option, Bool, slice_get, not, nat_le, nat_lt, ◌&&◌, arith}
 use Rattle.std.proofs.lemmas.Bool.{ltb-true, ltb-false}
 use Rattle.wl_sigs.specs.declared.signature.Side.{Side}
 use Rattle.wl_sigs.specs.declared.signature.Side.TheVariants.{Request, Event}
+use Rattle.std.specs.List.{list_all, count_by}
+use Rattle.wl_sigs.specs.Rules.{is_name}
 use Rattle.wl_sigs.specs.Tables.{Interface}
 use Rattle.wl_written.specs.Text.{WrittenMessage, WrittenInterface}
 use Rattle.wl_sigs.specs.Joined.{all_names, first_place}
-use Rattle.wl_sigs.specs.Broken.{Broken, earlier, broken_at, interface_rule, message_rule, messages_broken, interface_broken, interfaces_broken, ended_of, first_broken}
-use Rattle.wl_sigs.specs.FirstBroken.{Tested, tested, interface_tests, message_tests, written_of, Declares, an_interface, a_message, Breaks, IsFirstBroken}
+use Rattle.wl_sigs.specs.Broken.{Broken, is_first, makes_object, makes_unnamed, names_missing, names_objects, is_race_free, most_new, earlier, broken_at, interface_rule, message_rule, messages_broken, interface_broken, interfaces_broken, ended_of, first_broken}
+use Rattle.wl_sigs.specs.FirstBroken.{written_of}
+
+-- a rule, and whether it is kept
+pub record Tested : Type 0 where
+  pub rule : ℕ
+  pub kept : Bool
+
+abbrev pub tested : ℕ → Bool → Tested
+tested rule kept = record { rule = rule; kept = kept }
+
+-- the tests of an interface at a place
+abbrev pub interface_tests : (List ℕ → Option ℕ) → ℕ → WrittenInterface → List Tested
+interface_tests place here i =
+    tested 1 (is_name i.name && is_first place i.name here)
+    ∷ tested 3 (nat_lt here 1024)
+    ∷ tested 8 (nat_le 1 i.version)
+    ∷ []
+
+-- the tests of a message of the interface
+abbrev pub message_tests : (List ℕ → Option ℕ) → List Bool → WrittenInterface → Side → (List ℕ → Option ℕ) → ℕ → WrittenMessage → List Tested
+message_tests place ended i side first opcode m =
+    tested 1 (is_name m.name && is_first first m.name opcode)
+    ∷ tested 3 (nat_lt opcode 256 && nat_le (length m.kinds) 20)
+    ∷ tested 4 (nat_le (count_by makes_object m.kinds) (most_new side))
+    ∷ tested 5 (list_all (λ k. not (makes_unnamed k)) m.kinds)
+    ∷ tested 6 (names_objects side m)
+    ∷ tested 7 (is_race_free place ended i side m)
+    ∷ tested 8 (nat_le 1 m.since && nat_le m.since i.version)
+    ∷ tested 9 (list_all (λ k. not (names_missing place k)) m.kinds)
+    ∷ []
+
+-- what a text declares at a line, with the tests of it
+pub data Declares (tables : List Interface) (written : List WrittenInterface) (line : ℕ) (tests : List Tested) : Type 0 where
+  an_interface : (k : ℕ) (i : WrittenInterface)
+      → slice_get written k ≡ Some i → line ≡ i.line
+      → tests ≡ interface_tests (first_place (all_names tables written)) (length tables + k) i
+      → Declares tables written line tests
+  a_message : (k : ℕ) (i : WrittenInterface) (side : Side) (o : ℕ) (m : WrittenMessage)
+      → slice_get written k ≡ Some i → slice_get (written_of side i) o ≡ Some m → line ≡ m.line
+      → tests ≡ message_tests (first_place (all_names tables written)) (ended_of tables written) i side (first_place (map (λ n. n.name) (written_of side i))) o m
+      → Declares tables written line tests
+
+-- the rule is among these and is not kept
+pub record Breaks (tests : List Tested) (rule : ℕ) : Type 0 where
+  pub place : ℕ
+  pub at : slice_get tests place ≡ Some (tested rule false)
+
+-- the tests that fail at a line, the first of which has this rule
+pub record IsFirstTested (tables : List Interface) (written : List WrittenInterface) (it : Broken) : Type 0 where
+  pub tests : List Tested
+  pub declares : Declares tables written it.line tests
+  pub breaks : Breaks tests it.rule
+  pub least : (rule : ℕ) → Breaks tests rule → it.rule ≤ rule
+  pub first : (line : ℕ) (others : List Tested) (rule : ℕ) → Declares tables written line others → Breaks others rule → it.line ≤ line
 
 -- the rule of the first test that fails
 abbrev failing : List Tested → Option ℕ
@@ -269,8 +324,8 @@ among tables written line rule tests (a_message k i Event o m at of line_is test
     let on : o ≡ 0 + o = omega arith in
     (some.0, record { index = k; interface = i; at = at; breaks = inr (inr (record { place = o; message = m; at = of; line_is = line_is; breaks = rw (← on) (sym (ap failing tests_are) ∙ some.1) })) })
 
-pub first_line : (tables : List Interface) (written : List WrittenInterface) (it : Broken) → first_broken tables written ≡ Some it → IsFirstBroken tables written it
-first_line tables written it found =
+pub first_tested : (tables : List Interface) (written : List WrittenInterface) (it : Broken) → first_broken tables written ≡ Some it → IsFirstTested tables written it
+first_tested tables written it found =
     let least = interfaces_least (first_place (all_names tables written)) (ended_of tables written) (length tables) written in
     let here = least.found it found in
     let names = names_of tables written it.line it.rule here.index here.interface here.at here.breaks in
@@ -281,3 +336,11 @@ first_line tables written it found =
       least = names.fails.least;
       first = λ line others rule declares breaks. let some = among tables written line rule others declares breaks in least.below it found line some.0 some.1;
     }
+
+-- where no line is found, all tests pass
+pub none_tested : (tables : List Interface) (written : List WrittenInterface) → first_broken tables written ≡ None
+    → (line rule : ℕ) (tests : List Tested) → Declares tables written line tests → Breaks tests rule → ⊥
+none_tested tables written none line rule tests declares breaks =
+    let least = interfaces_least (first_place (all_names tables written)) (ended_of tables written) (length tables) written in
+    let some = among tables written line rule tests declares breaks in
+    least.none none line some.0 some.1

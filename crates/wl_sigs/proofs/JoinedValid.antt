@@ -280,7 +280,7 @@ pub ended_joined : (tables : List Interface) (written : List WrittenInterface) �
 ended_joined tables written =
     map-append has_destroying_event tables (map (placing tables written) written) ∙ ap (λ (b : List Bool). map has_destroying_event tables ++ b) (ended_behind tables written written)
 
-ended_at : (tables : List Interface) (written : List WrittenInterface) (p : ℕ) (i : Interface) → interface_at (joined tables written) p ≡ Some i
+pub ended_at : (tables : List Interface) (written : List WrittenInterface) (p : ℕ) (i : Interface) → interface_at (joined tables written) p ≡ Some i
     → slice_get (ended_of tables written) p ≡ Some (has_destroying_event i)
 ended_at tables written p i at =
     rw (← ended_joined tables written) (slice_get-map has_destroying_event (joined tables written) p ∙ ap (option_map has_destroying_event) at)

@@ -1,13 +1,19 @@
 pub mod Lookups
 pub mod FirstPlaces
 pub mod Earlier
+mod MessagesNamed
+mod Got
 mod Kept
 mod JoinedLookup
 mod PlacedKinds
 pub mod JoinedValid
 mod KindsKept
 pub mod ValidKeeps
-pub mod FirstLine
+mod LineRules
+mod FirstLine
+mod LinesApart
+mod TestedRules
+pub mod FirstWords
 mod Deciding
 mod Distinct
 mod ByPlace

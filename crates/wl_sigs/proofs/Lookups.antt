@@ -11,7 +11,7 @@ use Rattle.wl_sigs.specs.declared.signature.Side.{Side}
 use Rattle.wl_sigs.specs.Tables.{Message, Interface, interface_at, message_of, signature_at, place_of}
 use Rattle.wl_sigs.specs.Valid.{Valid}
 
-then_some : {X Y : Type 0} (f : X → Option Y) (o : Option X) (y : Y) → option_and_then f o ≡ Some y → (x : X) × (o ≡ Some x) × (f x ≡ Some y)
+pub then_some : {X Y : Type 0} (f : X → Option Y) (o : Option X) (y : Y) → option_and_then f o ≡ Some y → (x : X) × (o ≡ Some x) × (f x ≡ Some y)
 then_some f None y h = cc
 then_some f (Some x) y h = (x, refl, h)
 
@@ -54,14 +54,14 @@ stops_within : (b : Bool) (m n : ℕ) → (b ≡ false → m < n) → cond (not 
 stops_within true m n h = omega arith
 stops_within false m n h = omega (arith, h refl)
 
-passes_within : {X : Type 0} (p : X → Bool) (xs : List X) (k : ℕ) (x : X) → slice_get xs k ≡ Some x → p x ≡ true → position_or_len p xs < length xs
+pub passes_within : {X : Type 0} (p : X → Bool) (xs : List X) (k : ℕ) (x : X) → slice_get xs k ≡ Some x → p x ≡ true → position_or_len p xs < length xs
 passes_within p [] k x at passes = cc
 passes_within p (y ∷ ys) zero x at passes =
     let same : y ≡ x = cc in
     stops_within (p y) (position_or_len p ys) (length ys) (λ fails. let e = ap p same in cc)
 passes_within p (y ∷ ys) (suc k) x at passes = stops_within (p y) (position_or_len p ys) (length ys) (λ _. passes_within p ys k x at passes)
 
-position_within : {X : Type 0} (p : X → Bool) (xs : List X) → position_or_len p xs < length xs → position p xs ≡ Some (position_or_len p xs)
+pub position_within : {X : Type 0} (p : X → Bool) (xs : List X) → position_or_len p xs < length xs → position p xs ≡ Some (position_or_len p xs)
 position_within p xs within = ap (λ b. cond b (Some (position_or_len p xs)) None) ((Decides-ltb (position_or_len p xs) (length xs)).1 within)
 
 as_iface : ℕ → Iface

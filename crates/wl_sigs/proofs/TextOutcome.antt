@@ -12,7 +12,7 @@ use Rattle.wl_sigs.specs.Joined.{joined}
 use Rattle.wl_sigs.specs.Outcome.{joined_unless, outcome_of, outcome}
 use Rattle.wl_sigs.specs.Tables.{Interface}
 use Rattle.wl_sigs.specs.Valid.{Valid}
-use Rattle.wl_sigs.proofs.FirstLine.{first_line}
+use Rattle.wl_sigs.proofs.FirstWords.{first_line}
 use Rattle.wl_sigs.proofs.JoinedValid.{joined_valid}
 use Rattle.wl_sigs.proofs.ValidKeeps.{valid_unbroken}
 
@@ -65,11 +65,17 @@ broken_stands tables text line rule written told (Some it) broken is =
     let at : it.line ≡ line = cc is in
     let breaks : it.rule ≡ rule = cc is in
     let same : it ≡ broken_of line rule = ap (λ (l : ℕ). broken_of l it.rule) at ∙ ap (λ (r : ℕ). broken_of line r) breaks in
-    (written, told, first_line tables written (broken_of line rule) (broken ∙ ap (λ (b : Broken). Some b) same))
+    (written, told, (first_line tables text written (broken_of line rule) told).0 (broken ∙ ap (λ (b : Broken). Some b) same))
 
 read_broken : (tables : List Interface) (text : List ℕ) (line rule : ℕ) → (r : Result (List WrittenInterface) ℕ) → listed 1 (lines text) [] ≡ r → outcome_of tables r ≡ Err (BadTable line rule) → IsBroken tables text line rule
 read_broken tables text line rule (Ok written) read is = broken_stands tables text line rule written ((text_lists text written).0 read) (first_broken tables written) refl is
 read_broken tables text line rule (Err m) read is = cc is
 
-pub texts_broken : (tables : List Interface) (text : List ℕ) (line rule : ℕ) → outcome tables text ≡ Err (BadTable line rule) → IsBroken tables text line rule
-texts_broken tables text line rule is = read_broken tables text line rule (listed 1 (lines text) []) refl is
+broken_read : (tables : List Interface) (text : List ℕ) (line rule : ℕ) → IsBroken tables text line rule → outcome tables text ≡ Err (BadTable line rule)
+broken_read tables text line rule is =
+    let read : listed 1 (lines text) [] ≡ Ok is.0 = (text_lists text is.0).1 is.1 in
+    let broken : first_broken tables is.0 ≡ Some (broken_of line rule) = (first_line tables text is.0 (broken_of line rule) is.1).1 is.2 in
+    ap (outcome_of tables) read ∙ ap (joined_unless tables is.0) broken
+
+pub texts_broken : (tables : List Interface) (text : List ℕ) (line rule : ℕ) → (outcome tables text ≡ Err (BadTable line rule)) ↔ IsBroken tables text line rule
+texts_broken tables text line rule = (read_broken tables text line rule (listed 1 (lines text) []) refl, broken_read tables text line rule)

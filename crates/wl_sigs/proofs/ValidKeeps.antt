@@ -32,13 +32,13 @@ behind (x ∷ xs) ys k zero y e at = absurd (omega arith)
 behind (x ∷ xs) ys k (suc j) y e at = behind xs ys k j y (omega arith) at
 
 -- the interface that one of the text becomes
-placed_at : (tables : List Interface) (written : List WrittenInterface) (k : ℕ) (w : WrittenInterface) → slice_get written k ≡ Some w
+pub placed_at : (tables : List Interface) (written : List WrittenInterface) (k : ℕ) (w : WrittenInterface) → slice_get written k ≡ Some w
     → interface_at (joined tables written) (length tables + k) ≡ Some (placing tables written w)
 placed_at tables written k w at =
     behind tables (map (placing tables written) written) k (length tables + k) (placing tables written w) refl (slice_get-map (placing tables written) written k ∙ ap (option_map (placing tables written)) at)
 
 -- the message that one of the text becomes
-message_at : (tables : List Interface) (written : List WrittenInterface) (side : Side) (k : ℕ) (w : WrittenInterface) (o : ℕ) (m : WrittenMessage)
+pub message_at : (tables : List Interface) (written : List WrittenInterface) (side : Side) (k : ℕ) (w : WrittenInterface) (o : ℕ) (m : WrittenMessage)
     → slice_get written k ≡ Some w → slice_get (written_of side w) o ≡ Some m
     → signature_at (joined tables written) (length tables + k) side o ≡ Some (placing_message tables written m)
 message_at tables written side k w o m at of =
@@ -75,7 +75,7 @@ interface_keeps tables written valid k w at =
         valid.names_distinct.interfaces_distinct p (length tables + k) it.0 _ it.1 (placed_at tables written k w at) it.2
 
 -- what `ended_of` says of a place
-ended_is : (tables : List Interface) (written : List WrittenInterface) (p : ℕ) (b : Bool) → slice_get (ended_of tables written) p ≡ Some b
+pub ended_is : (tables : List Interface) (written : List WrittenInterface) (p : ℕ) (b : Bool) → slice_get (ended_of tables written) p ≡ Some b
     → (i : Interface) × (interface_at (joined tables written) p ≡ Some i) × (has_destroying_event i ≡ b)
 ended_is tables written p b at = mapped_at has_destroying_event (joined tables written) p b (rw (ended_joined tables written) at)
 

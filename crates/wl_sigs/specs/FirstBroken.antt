@@ -1,77 +1,112 @@
--- What it means that a line is the first that breaks a rule, and that the rule is the least there.
-use Rattle.std.specs.Prelude.{◌≡◌, ℕ, ◌+◌, ◌≤◌, ◌&&◌, not, nat_le, nat_lt, List, [], ◌∷◌, length}
-use Rattle.std.specs.Prelude.{map, Bool, false, slice_get, Option, Some}
-use Rattle.std.specs.List.{list_all, count_by}
+-- Which line of a text breaks which rule of valid tables, in the words of the rules, and what it
+-- means that a line is the first that breaks one.
+use Rattle.std.specs.Prelude.{◌≡◌, ℕ, ◌+◌, ◌<◌, ◌≤◌, List, length, Bool, true, slice_get, Some}
+use Rattle.std.specs.Prelude.{None}
+use Rattle.std.specs.List.{Contains}
+use Rattle.wl_wire.specs.declared.kind.Kind.{Kind}
+use Rattle.wl_wire.specs.declared.kind.Kind.TheVariants as kinds
+use Rattle.wl_wire.specs.declared.kind.Iface.{Iface}
 use Rattle.wl_sigs.specs.declared.signature.Side.{Side}
 use Rattle.wl_sigs.specs.declared.signature.Side.TheVariants.{Request, Event}
-use Rattle.wl_sigs.specs.Tables.{Interface}
-use Rattle.wl_sigs.specs.Rules.{is_name}
+use Rattle.wl_sigs.specs.Tables.{Message, Interface, interface_at, message_of, new_objects}
+use Rattle.wl_sigs.specs.Tables.{has_destroying_event, destroys_target, named_interface}
+use Rattle.wl_sigs.specs.Valid.{IsName}
 use Rattle.wl_written.specs.Text.{WrittenMessage, WrittenInterface}
-use Rattle.wl_sigs.specs.Joined.{all_names, first_place}
-use Rattle.wl_sigs.specs.Broken.{Broken, is_first, makes_object, makes_unnamed, names_missing}
-use Rattle.wl_sigs.specs.Broken.{names_objects, is_race_free, most_new, ended_of}
-
--- a rule, and whether it is kept
-pub record Tested : Type 0 where
-  pub rule : ℕ
-  pub kept : Bool
-
-abbrev pub tested : ℕ → Bool → Tested
-tested rule kept = record { rule = rule; kept = kept }
-
--- the rules that an interface at a place may break by itself
-abbrev pub interface_tests : (List ℕ → Option ℕ) → ℕ → WrittenInterface → List Tested
-interface_tests place here i =
-    tested 1 (is_name i.name && is_first place i.name here)
-    ∷ tested 3 (nat_lt here 1024)
-    ∷ tested 8 (nat_le 1 i.version)
-    ∷ []
-
--- the rules that a message of the interface may break
-abbrev pub message_tests : (List ℕ → Option ℕ) → List Bool → WrittenInterface → Side
-    → (List ℕ → Option ℕ) → ℕ → WrittenMessage → List Tested
-message_tests place ended i side first opcode m =
-    tested 1 (is_name m.name && is_first first m.name opcode)
-    ∷ tested 3 (nat_lt opcode 256 && nat_le (length m.kinds) 20)
-    ∷ tested 4 (nat_le (count_by makes_object m.kinds) (most_new side))
-    ∷ tested 5 (list_all (λ k. not (makes_unnamed k)) m.kinds)
-    ∷ tested 6 (names_objects side m)
-    ∷ tested 7 (is_race_free place ended i side m)
-    ∷ tested 8 (nat_le 1 m.since && nat_le m.since i.version)
-    ∷ tested 9 (list_all (λ k. not (names_missing place k)) m.kinds)
-    ∷ []
+use Rattle.wl_sigs.specs.Joined.{joined}
+use Rattle.wl_sigs.specs.Broken.{Broken}
 
 -- the messages of a side
 abbrev pub written_of : Side → WrittenInterface → List WrittenMessage
 written_of Request i = i.requests
 written_of Event i = i.events
 
--- What a text declares behind these tables: the line of an interface or a message, and the rules
--- that it may break.
-pub data Declares (tables : List Interface) (written : List WrittenInterface) (line : ℕ)
-    (tests : List Tested) : Type 0 where
-  an_interface : (k : ℕ) (i : WrittenInterface)
-      → slice_get written k ≡ Some i → line ≡ i.line
-      → tests ≡ interface_tests (first_place (all_names tables written)) (length tables + k) i
-      → Declares tables written line tests
-  a_message : (k : ℕ) (i : WrittenInterface) (side : Side) (o : ℕ) (m : WrittenMessage)
-      → slice_get written k ≡ Some i → slice_get (written_of side i) o ≡ Some m → line ≡ m.line
-      → tests ≡ message_tests (first_place (all_names tables written))
-      (ended_of tables written) i side (first_place (map (λ n. n.name) (written_of side i))) o m
-      → Declares tables written line tests
+-- The line declares the interface that stands at this place once the text's interfaces are joined
+-- behind these tables.
+pub record DeclaresInterface (tables : List Interface) (written : List WrittenInterface)
+    (line place : ℕ) (i : Interface) : Type 0 where
+  pub index : ℕ
+  pub own : WrittenInterface
+  pub at : slice_get written index ≡ Some own
+  pub line_is : line ≡ own.line
+  pub place_is : place ≡ length tables + index
+  pub stands : interface_at (joined tables written) place ≡ Some i
 
--- the rule is among these and is not kept
-pub record Breaks (tests : List Tested) (rule : ℕ) : Type 0 where
-  pub place : ℕ
-  pub at : slice_get tests place ≡ Some (tested rule false)
+-- The line declares the message at this opcode of one side of the interface at this place.
+pub record DeclaresMessage (tables : List Interface) (written : List WrittenInterface)
+    (line place : ℕ) (i : Interface) (side : Side) (opcode : ℕ) (m : Message) : Type 0 where
+  pub index : ℕ
+  pub owner : WrittenInterface
+  pub own : WrittenMessage
+  pub at : slice_get written index ≡ Some owner
+  pub of : slice_get (written_of side owner) opcode ≡ Some own
+  pub line_is : line ≡ own.line
+  pub place_is : place ≡ length tables + index
+  pub stands : interface_at (joined tables written) place ≡ Some i
+  pub listed : message_of side opcode i ≡ Some m
 
--- The line declares something that breaks the rule, and no lesser one; and what breaks any rule
--- stands at no earlier line.
+-- The interface at this place of all tables breaks the rule by itself.
+pub data InterfaceBreaks (all : List Interface) (place : ℕ) (i : Interface) (rule : ℕ)
+    : Type 0 where
+  -- V1: its name is none, or that of an earlier interface
+  interface_misnamed : rule ≡ 1 → ¬ IsName i.name → InterfaceBreaks all place i rule
+  interface_named_again : (earlier : ℕ) (j : Interface) → rule ≡ 1 → earlier < place
+      → interface_at all earlier ≡ Some j → j.name ≡ i.name → InterfaceBreaks all place i rule
+  -- V3: 1,024 stand before it
+  interface_beyond : rule ≡ 3 → 1024 ≤ place → InterfaceBreaks all place i rule
+  -- V8
+  version_below_one : rule ≡ 8 → i.version < 1 → InterfaceBreaks all place i rule
+
+-- The message at this opcode of one side of this interface, among all tables, breaks the rule.
+pub data MessageBreaks (all : List Interface) (i : Interface) (side : Side) (opcode : ℕ)
+    (m : Message) (rule : ℕ) : Type 0 where
+  -- V1: its name is none, or that of an earlier message of the side
+  message_misnamed : rule ≡ 1 → ¬ IsName m.name → MessageBreaks all i side opcode m rule
+  message_named_again : (earlier : ℕ) (n : Message) → rule ≡ 1 → earlier < opcode
+      → message_of side earlier i ≡ Some n → n.name ≡ m.name
+      → MessageBreaks all i side opcode m rule
+  -- V3: 256 of the side stand before it, or it has more than 20 arguments
+  message_beyond : rule ≡ 3 → 256 ≤ opcode → MessageBreaks all i side opcode m rule
+  too_many_arguments : rule ≡ 3 → 20 < length m.kinds → MessageBreaks all i side opcode m rule
+  -- V4: an event makes an object, or a request more than one
+  event_makes : rule ≡ 4 → side ≡ Event → 0 < length (new_objects m.kinds)
+      → MessageBreaks all i side opcode m rule
+  request_makes_two : rule ≡ 4 → side ≡ Request → 1 < length (new_objects m.kinds)
+      → MessageBreaks all i side opcode m rule
+  -- V5: an argument is a new object without an interface
+  new_without_interface : rule ≡ 5 → Contains m.kinds (kinds.New None)
+      → MessageBreaks all i side opcode m rule
+  -- V6: an argument of a request is an object of any interface
+  object_of_any : (null : Bool) → rule ≡ 6 → side ≡ Request
+      → Contains m.kinds (kinds.Obj null None) → MessageBreaks all i side opcode m rule
+  -- V7: an event destroys its target, and its interface has a request; or an argument of a request
+  -- is an object of an interface that has a destroying event
+  event_destroys : rule ≡ 7 → side ≡ Event → destroys_target m.destroys ≡ true
+      → 0 < length i.requests → MessageBreaks all i side opcode m rule
+  object_of_ended : (null : Bool) (iface : Iface) (j : Interface) → rule ≡ 7 → side ≡ Request
+      → Contains m.kinds (kinds.Obj null (Some iface)) → interface_at all iface.0 ≡ Some j
+      → has_destroying_event j ≡ true → MessageBreaks all i side opcode m rule
+  -- V8
+  since_below_one : rule ≡ 8 → m.since < 1 → MessageBreaks all i side opcode m rule
+  since_above_version : rule ≡ 8 → i.version < m.since → MessageBreaks all i side opcode m rule
+  -- V9: an argument names an interface that is not there
+  interface_missing : (kind : Kind) (iface : Iface) → rule ≡ 9 → Contains m.kinds kind
+      → named_interface kind ≡ Some iface → length all ≤ iface.0
+      → MessageBreaks all i side opcode m rule
+
+-- The line breaks the rule: it declares an interface or a message that does, among the tables that
+-- the text's interfaces make behind these.
+pub data BreaksRule (tables : List Interface) (written : List WrittenInterface) (line rule : ℕ)
+    : Type 0 where
+  by_interface : (place : ℕ) (i : Interface) → DeclaresInterface tables written line place i
+      → InterfaceBreaks (joined tables written) place i rule → BreaksRule tables written line rule
+  by_message : (place : ℕ) (i : Interface) (side : Side) (opcode : ℕ) (m : Message)
+      → DeclaresMessage tables written line place i side opcode m
+      → MessageBreaks (joined tables written) i side opcode m rule
+      → BreaksRule tables written line rule
+
+-- The line breaks the rule and no lesser one, and no earlier line breaks any.
 pub record IsFirstBroken (tables : List Interface) (written : List WrittenInterface) (it : Broken)
     : Type 0 where
-  pub tests : List Tested
-  pub declares : Declares tables written it.line tests
-  pub breaks : Breaks tests it.rule
-  pub least : (rule : ℕ) → Breaks tests rule → it.rule ≤ rule
-  pub first : (line : ℕ) (others : List Tested) (rule : ℕ)
-      → Declares tables written line others → Breaks others rule → it.line ≤ line
+  pub breaks : BreaksRule tables written it.line it.rule
+  pub least : (rule : ℕ) → BreaksRule tables written it.line rule → it.rule ≤ rule
+  pub first : (line rule : ℕ) → BreaksRule tables written line rule → it.line ≤ line

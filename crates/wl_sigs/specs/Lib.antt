@@ -11,3 +11,4 @@ pub mod Places
 pub mod BrokenLines
 pub mod Outcome
 pub mod FirstBroken
+pub mod ByName

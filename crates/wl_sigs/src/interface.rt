@@ -2,8 +2,8 @@
 ghost use Rattle.wl_sigs.specs.Joined.{message_placed, interface_placed};
 ghost use Rattle.wl_sigs.specs.Places.{place_in};
 ghost use Rattle.std.specs.Prelude.{◌≡◌, ℕ, ◌<◌, List, unwrap_or, IfOk, map, slice_get};
-ghost use Rattle.std.specs.Prelude.{option_copied, option_map};
-ghost use Rattle.wl_sigs.specs.Tables.{has_destroying_event, message_of};
+ghost use Rattle.std.specs.Prelude.{option_copied, option_map, position, bytes_eq};
+ghost use Rattle.wl_sigs.specs.Tables.{has_destroying_event, message_of, messages_of};
 ghost use Rattle.wl_sigs.specs.Written.{message_written, interface_written};
 
 use crate::core_interfaces::{CoreInterface, CoreMessage};
@@ -55,6 +55,17 @@ impl<A: Allocator> Entry<A> {
             Side::Request => self.requests.get(opcode as usize),
             Side::Event => self.events.get(opcode as usize),
         }
+    }
+
+    /// The opcode of the first message of a side with this name.
+    pub(crate) fn opcode(&self, side: Side, name: &[u8]) -> Option<usize>
+        ensures { result ≡ position (λ m. bytes_eq m.name name.now) (messages_of side self.now) }
+    {
+        let messages = match side {
+            Side::Request => self.requests.as_slice(),
+            Side::Event => self.events.as_slice(),
+        };
+        messages.iter().position(|message| message.name() == name)
     }
 
     /// Whether an event destroys its target.

@@ -30,7 +30,6 @@ pub fn found_by_its_name()
 
 /// Each constant of `request` and `event` is the opcode at which the core tables have the message
 /// of its name, and each message of the core tables has its constant.
-#[tactic(auto, unfolding(crate::specs::Core::core_tables))]
 pub fn opcodes_are_of_their_names()
     ensures { (side : Side) → opcodes side ≡ opcodes_in core_tables side }
 {}
@@ -42,17 +41,18 @@ pub fn unbroken_where_valid()
         → (first_broken tables written ≡ None) ↔ Valid (joined tables written) }
 {}
 
-/// The broken line of a text that is found breaks its rule and no lesser one, and no earlier line
-/// breaks any.
+/// Of the interfaces that a text lists, the broken line that is found is the first that breaks a
+/// rule of valid tables behind these, and the rule the least that it breaks.
 pub fn first_broken_is_first()
-    ensures { (tables : List Interface) (written : List WrittenInterface) (it : Broken)
-        → first_broken tables written ≡ Some it → IsFirstBroken tables written it }
+    ensures { (tables : List Interface) (text : List ℕ) (written : List WrittenInterface)
+        (it : Broken) → TableText text written
+        → (first_broken tables written ≡ Some it) ↔ IsFirstBroken tables written it }
 {}
 
 /// A text is read behind valid tables, as the tables joined with those that it lists, exactly where
 /// it lists interfaces and the joined tables are valid. It has a bad line exactly where some line
-/// may not stand in it: the first such line. A line that breaks a rule is returned only where every
-/// line may stand: the first line that breaks one, and the least rule that it breaks.
+/// may not stand in it: the first such line. It has a line that breaks a rule exactly where it lists
+/// interfaces, some of which break one: the first such line, and the least rule that it breaks.
 pub fn texts_are_told()
     ensures told { (tables all : List Interface) (text : List ℕ) → Valid tables
         → (outcome tables text ≡ Ok all) ↔ ((written : List WrittenInterface)
@@ -60,7 +60,7 @@ pub fn texts_are_told()
     ensures bad { (tables : List Interface) (text : List ℕ) (n : ℕ)
         → (outcome tables text ≡ Err (BadLine n)) ↔ IsFirstBadLine text n }
     ensures broken { (tables : List Interface) (text : List ℕ) (line rule : ℕ)
-        → outcome tables text ≡ Err (BadTable line rule)
-        → (written : List WrittenInterface) × TableText text written
-        × IsFirstBroken tables written (record { line = line; rule = rule }) }
+        → (outcome tables text ≡ Err (BadTable line rule)) ↔ ((written : List WrittenInterface)
+        × TableText text written
+        × IsFirstBroken tables written (record { line = line; rule = rule })) }
 {}

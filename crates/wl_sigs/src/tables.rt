@@ -1,8 +1,9 @@
 //! Interfaces in their order.
-ghost use Rattle.std.specs.Prelude.{◌≡◌, ◌⊎◌, Err, None, IfOk, map, slice_get, option_copied};
+ghost use Rattle.std.specs.Prelude.{◌≡◌, ◌⊎◌, ◌↔◌, ℕ, Err, Some, None, IfOk, map, slice_get, option_copied};
 ghost use Rattle.std.specs.Prelude.{option_map, position, bytes_eq, length, IfSome, ◌<◌};
 ghost use Rattle.wl_sigs.specs.Core.{core_tables};
-ghost use Rattle.wl_sigs.specs.Tables.{interface_at, signature_at, place_of};
+ghost use Rattle.wl_sigs.specs.ByName.{opcode_of};
+ghost use Rattle.wl_sigs.specs.Tables.{Message, interface_at, signature_at, place_of};
 ghost use Rattle.wl_sigs.specs.Rules.{is_ended_by_event};
 ghost use Rattle.wl_sigs.specs.Valid.{Valid};
 ghost use Rattle.wl_sigs.specs.Written.{interface_written};
@@ -87,6 +88,20 @@ impl<A: Allocator> Tables<A> {
         entry.message(side, opcode)
     }
 
+    /// The opcode of the request or event with this name. None past the tables, or where the
+    /// interface has no such message on that side. It compares names one after the other.
+    pub fn opcode(&self, iface: Iface, side: Side, name: &[u8]) -> Option<u16>
+        ensures answer { result ≡ opcode_of self.now iface.0 side name.now }
+        ensures found { (opcode : ℕ) → (result ≡ Some opcode)
+            ↔ ((m : Message) × (signature_at self.now iface.0 side opcode ≡ Some m)
+            × (m.name ≡ name.now)) }
+        ensures valid { Valid self.now }
+    {
+        let entry = self.entry(iface)?;
+        let opcode = entry.opcode(side, name)?;
+        Some(opcode as u16)
+    }
+
     /// Whether an event destroys objects of the interface at a place. False past the tables.
     pub fn ends_by_event(&self, iface: Iface) -> bool
         ensures answer { result ≡ is_ended_by_event (interface_at self.now iface.0) }
@@ -109,7 +124,6 @@ impl<A: Allocator> Tables<A> {
 impl<A: Allocator + Clone + Drop> Tables<A> {
     /// The core interfaces of wayland.xml, without data transfer, wl_display at place 0. Its only
     /// error is lack of memory.
-    #[tactic(auto, unfolding(crate::specs::Core::core_tables))]
     pub fn core(alloc: A) -> Result<Self, AllocError>
         ensures holds { IfOk result (λ tables. tables ≡ core_tables) }
         ensures valid { IfOk result (λ tables. Valid tables) }

@@ -4,6 +4,7 @@ pub mod Answered
 pub mod Taken
 pub mod Zeros
 pub mod Canonicals
+pub mod Headers
 pub mod Refused
 pub mod Texts
 pub mod Nuls

@@ -1,10 +1,9 @@
 //! The two words before a message's arguments.
 ghost use Rattle.std.specs.Prelude.{◌≡◌, ◌≤◌, length, take};
-ghost use Rattle.wl_wire.specs.Word.{word};
 
 use byteorder::{ByteOrder, LittleEndian};
 
-/// The most bytes that a message has, its header counted.
+/// The most bytes that a message has, its header counted, where both ends agreed on no more.
 pub const MAX_MESSAGE_LEN: u16 = 4096;
 
 /// The first eight bytes of a message. (Section "Wire Format".)
@@ -38,20 +37,19 @@ impl Header {
         ensures spelled { bytes ≡ header_bytes result }
         ensures computes { result ≡ header_at bytes }
     {
-        let object = word_at(&bytes[..4]);
-        let second = word_at(&bytes[4..]);
+        Header::at_front_of(&bytes)
+    }
+
+    /// The header that the first eight bytes are.
+    pub fn at_front_of(bytes: &[u8]) -> Header
+        requires { 8 ≤ length bytes.now }
+        ensures spelled { take 8 bytes.now ≡ header_bytes result }
+        ensures computes { result ≡ header_at bytes.now }
+    {
         Header {
-            object,
-            size: (second / 65536) as u16,
-            opcode: (second % 65536) as u16,
+            object: LittleEndian::read_u32(bytes),
+            size: LittleEndian::read_u16(&bytes[6..8]),
+            opcode: LittleEndian::read_u16(&bytes[4..6]),
         }
     }
-}
-
-/// The number whose word the first four bytes are.
-fn word_at(bytes: &[u8]) -> u32
-    requires { 4 ≤ length bytes.now }
-    ensures { take 4 bytes.now ≡ word result }
-{
-    LittleEndian::read_u32(bytes)
 }

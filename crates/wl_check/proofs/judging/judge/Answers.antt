@@ -9,10 +9,10 @@ pub returns-clause-effect : goal.returns-clause-effect
 returns-clause-effect g c =
     let good : is_size c.args.limit.bytes c.args.frame.now.size ≡ true = cc in
     effect_so c.args.tables.now c.judge_as.result _ _
-    (parts_are c.args.limit.bytes c.args.tables.now (known_in c.args.known.now) c.args.bytes.now c.args.frame.now c.header_of.result _ _ good c.header_of.ensures.header refl refl) c.judge_as.ensures.effect
+    (parts_are c.args.limit.bytes c.args.tables.now (known_in c.args.known.now) c.args.bytes.now c.args.frame.now c.at_front_of.result _ _ good c.at_front_of.ensures.computes refl refl) c.judge_as.ensures.effect
 
 pub returns-clause-text : goal.returns-clause-text
 returns-clause-text g c =
     let good : is_size c.args.limit.bytes c.args.frame.now.size ≡ true = cc in
     text_so c.args.tables.now (known_in c.args.known.now) c.args.output c.args.text.now.items c.judge_as.new.text.items c.judge_as.result _ _
-    (parts_are c.args.limit.bytes c.args.tables.now (known_in c.args.known.now) c.args.bytes.now c.args.frame.now c.header_of.result _ _ good c.header_of.ensures.header refl refl) c.judge_as.ensures.text
+    (parts_are c.args.limit.bytes c.args.tables.now (known_in c.args.known.now) c.args.bytes.now c.args.frame.now c.at_front_of.result _ _ good c.at_front_of.ensures.computes refl refl) c.judge_as.ensures.text

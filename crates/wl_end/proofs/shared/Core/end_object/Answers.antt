@@ -1,7 +1,3 @@
-use Rattle.std.proofs.Common.{sym, ap, ◌∙◌}
-use Rattle.wl_table.specs.View.{closed}
-use Rattle.wl_end.specs.Core.{Core, with_view}
-use Rattle.wl_end.specs.Sending.{with_delete_id}
 use Rattle.wl_objects.specs.Messages.{Server}
 use Rattle.wl_end.proofs.Ends.{ends_by}
 use Rattle.wl_end.proofs.shared.Core.end_object.Goals as goal

@@ -1,4 +1,4 @@
-use Rattle.std.proofs.Common.{Some, sym, subst, rules}
+use Rattle.std.proofs.Common.{sym, subst}
 use Rattle.wl_table.specs.View.{Sound}
 use Rattle.wl_end.specs.Core.{Core}
 use Rattle.wl_end.proofs.Displays.{HasDisplay-opening_next}

@@ -22,7 +22,7 @@ append-requires-2 g c =
     let o = c.self.inside in
     let i = c.self.invariant.kept in
     let r : length c.args.tokens.now ≤ o.tokens.capacity - length o.tokens.items = rw (tokens_wait _ i) at (rw (← c.self.view_is) at c.requires.tokens) in
-    omega (arith, r)
+    omega (arith, r, i.token_room)
 
 pub invariant_of-self : goal.invariant_of-self
 invariant_of-self g c =
@@ -33,7 +33,7 @@ invariant_of-self g c =
     let s : length c.args.tokens.now ≤ o.tokens.capacity - length o.tokens.items = rw (tokens_wait _ i) at (rw (← c.self.view_is) at c.requires.tokens) in
     record {
       kept = rw (c.append.ensures, c.append-2.ensures, c.push_mark.ensures) (pushed_kept _ c.args.message.now c.args.tokens.now i c.requires.whole.size.header
-          (omega (arith, r, i.error_there, i.error_order, c.requires.whole.size.header)) (omega (arith, s)));
+          (omega (arith, r, i.error_there, i.error_order, c.requires.whole.size.header)) (omega (arith, s, i.token_room)));
       small = v.small;
       reserved = rw (c.append.ensures) v.reserved;
       marks_reserved = rw (c.append.ensures, c.push_mark.ensures) v.marks_reserved;

@@ -1,7 +1,12 @@
 use Rattle.std.proofs.Common.{◌-◌, refl, arith}
 use Rattle.std.proofs.lemmas.List.{length-drop}
-use Rattle.wl_message.proofs.Keeps.{reaches_kept, leaves}
+use Rattle.wl_message.proofs.Keeps.{reaches_kept, leaves, marks_fit}
 use Rattle.wl_message.proofs.outbox.Outbox.reach.Goals as goal
+
+pub reach_into-bytes-requires : goal.reach_into-bytes-requires
+reach_into-bytes-requires g c =
+    let i = c.self.invariant.kept in
+    omega (arith, marks_fit c.self.inside.marks.items i.each, i.bytes, i.room, i.error_len, c.self.invariant.small)
 
 pub overflow_add-result : goal.overflow_add-result
 overflow_add-result g c =

@@ -19,7 +19,7 @@ close_object-requires-clause-held g c =
     let object = c.in-Some.object in
     let there = (can.ended object c.in-Some.is).row in
     let view : c.pass.new.self.view ≡ opens core.view made =
-    ap (λ (k : Core). k.view) c.pass.ensures.state ∙ ap (λ (k : Core). k.view) c.in_ok-open_new_object.ensures.core in
+    ap (λ (k : Core). k.view) c.pass.ensures ∙ ap (λ (k : Core). k.view) c.in_ok-open_new_object.ensures.core in
     subst (λ (v : View). IsTrue (is_held v object.id)) (sym view) (held-opened core.view made object.id (ap is_some there.row))
 
 pub close_object-requires-clause-not_display : goal.close_object-requires-clause-not_display
@@ -31,7 +31,7 @@ pub close_object-requires-clause-room : goal.close_object-requires-clause-room
 close_object-requires-clause-room g c =
     let can = subst (λ (s : State). CanTake s.core (pending_in s.core c.args.request.now)) (sym c.self.view_is) c.requires in
     let outbox : c.pass.new.self.outbox ≡ c.self.inside.core.outbox =
-    ap (λ (k : Core). k.outbox) c.pass.ensures.state ∙ ap (λ (k : Core). k.outbox) c.in_ok-open_new_object.ensures.core in
+    ap (λ (k : Core). k.outbox) c.pass.ensures ∙ ap (λ (k : Core). k.outbox) c.in_ok-open_new_object.ensures.core in
     subst (λ (o : Outgoing). IsTrue (fits o delete_id_len 0)) (sym outbox) (can.ended c.in-Some.object c.in-Some.is).room
 
 pub invariant_of-self-in-Some : goal.invariant_of-self-in-Some

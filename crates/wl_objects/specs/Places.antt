@@ -1,0 +1,72 @@
+-- The argument for which a call is refused, by its place.
+use Rattle.std.specs.Prelude.{◌≡◌, ℕ, ◌<◌, ◌≤◌, true, false, List, slice_get, Option, Some, None}
+use Rattle.wl_wire.specs.declared.kind.Kind.{Kind}
+use Rattle.wl_wire.specs.Argument.{Obj}
+use Rattle.wl_sigs.specs.declared.signature.Side.{Side}
+use Rattle.wl_sigs.specs.Tables.{Message, Interface, signature_at}
+use Rattle.wl_table.specs.declared.object.Object.{Object}
+use Rattle.wl_table.specs.declared.object.Entry.{Entry}
+use Rattle.wl_table.specs.View.{View, look}
+use Rattle.wl_objects.specs.Reading.{iface_of}
+use Rattle.wl_objects.specs.Writing.{Given, suits, can_name, names_one, is_live}
+use Rattle.wl_objects.specs.Messages.{is_hidden}
+
+-- An argument stands at the place, and it is of the kind that the message has there.
+pub record SuitsAt (ks : List Kind) (list : List Given) (place : ℕ) : Type 0 where
+  pub kind : Kind
+  pub value : Given
+  pub asked : slice_get ks place ≡ Some kind
+  pub there : slice_get list place ≡ Some value
+  pub suit : suits kind value ≡ true
+
+-- The argument at the place is not of its kind, or it is missing, or the message has none there.
+pub data IsWrongAt (ks : List Kind) (list : List Given) (place : ℕ) : Type 0 where
+  unsuited : {kind : Kind} {value : Given} → slice_get ks place ≡ Some kind
+      → slice_get list place ≡ Some value → suits kind value ≡ false → IsWrongAt ks list place
+  missing : {kind : Kind} → slice_get ks place ≡ Some kind → slice_get list place ≡ None
+      → IsWrongAt ks list place
+  one_too_many : {value : Given} → slice_get ks place ≡ None → slice_get list place ≡ Some value
+      → IsWrongAt ks list place
+
+-- All before the place suit, and what stands there does not.
+pub record IsFirstWrong (ks : List Kind) (list : List Given) (place : ℕ) : Type 0 where
+  pub before : (k : ℕ) → k < place → SuitsAt ks list k
+  pub wrong : IsWrongAt ks list place
+
+-- An argument stands at the place; if it names an object, that is live, of the birth that the
+-- argument tells and of the interface that the message asks for.
+pub record NamesAt (rows : ℕ → Option Entry) (ks : List Kind) (list : List Given) (place : ℕ)
+    : Type 0 where
+  pub kind : Kind
+  pub value : Given
+  pub asked : slice_get ks place ≡ Some kind
+  pub there : slice_get list place ≡ Some value
+  pub named : can_name rows kind value ≡ true
+
+-- The argument at the place names an object that is not live with this birth, or is of another
+-- interface.
+pub record IsLostAt (rows : ℕ → Option Entry) (ks : List Kind) (list : List Given) (place : ℕ)
+    : Type 0 where
+  pub kind : Kind
+  pub object : Object
+  pub asked : slice_get ks place ≡ Some kind
+  pub there : slice_get list place ≡ Some (Obj (Some object))
+  pub lost : names_one (iface_of kind) object (rows object.id) ≡ false
+
+-- All before the place can be named, and what stands there cannot.
+pub record IsFirstLost (rows : ℕ → Option Entry) (ks : List Kind) (list : List Given) (place : ℕ)
+    : Type 0 where
+  pub before : (k : ℕ) → k < place → NamesAt rows ks list k
+  pub lost : IsLostAt rows ks list place
+
+-- A call comes to its arguments: its target is live with this birth, and the message is one that
+-- `send` writes and exists at the target's version.
+pub record Reaches (tables : List Interface) (side : Side) (view : View) (target : Object)
+    (opcode : ℕ) (signature : Message) : Type 0 where
+  pub entry : Entry
+  pub row : look view target.id ≡ Some entry
+  pub birth : entry.birth ≡ target.birth
+  pub live : is_live entry.state ≡ true
+  pub shown : is_hidden side entry.iface opcode ≡ false
+  pub exists : signature_at tables entry.iface.0 side opcode ≡ Some signature
+  pub since : signature.since ≤ entry.version

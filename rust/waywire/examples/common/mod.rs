@@ -1,0 +1,128 @@
+//! What the examples share.
+
+#![allow(dead_code)]
+
+pub mod socket;
+pub mod xdg_shell;
+
+use std::collections::HashMap;
+use std::io::{Error, ErrorKind};
+use std::os::fd::{AsRawFd, OwnedFd, RawFd};
+use std::os::unix::net::UnixStream;
+use std::path::PathBuf;
+use waywire::{Amounts, Client, Server};
+
+pub type Failure = Box<dyn std::error::Error>;
+
+/// What a link asks of its end.
+pub trait End {
+    fn take(&mut self, bytes: &mut [u8], tokens: &mut [u32]) -> Amounts;
+    fn feed(&mut self, bytes: &[u8], tokens: &[u32]) -> Amounts;
+    fn in_room(&self) -> Amounts;
+}
+
+macro_rules! end {
+    ($type:ty) => {
+        impl End for $type {
+            fn take(&mut self, bytes: &mut [u8], tokens: &mut [u32]) -> Amounts {
+                <$type>::take(self, bytes, tokens)
+            }
+
+            fn feed(&mut self, bytes: &[u8], tokens: &[u32]) -> Amounts {
+                <$type>::feed(self, bytes, tokens)
+            }
+
+            fn in_room(&self) -> Amounts {
+                <$type>::in_room(self)
+            }
+        }
+    };
+}
+
+end!(Client);
+end!(Server);
+
+/// An end and its socket. A token is the number of a descriptor that the link owns.
+pub struct Link<E> {
+    pub end: E,
+    socket: UnixStream,
+    descriptors: HashMap<RawFd, OwnedFd>,
+}
+
+impl<E: End> Link<E> {
+    pub fn new(end: E, socket: UnixStream) -> Link<E> {
+        Link { end, socket, descriptors: HashMap::new() }
+    }
+
+    /// The socket.
+    pub fn socket(&self) -> &UnixStream {
+        &self.socket
+    }
+
+    /// The token of a descriptor, which the link owns until its message is sent.
+    pub fn token(&mut self, descriptor: impl Into<OwnedFd>) -> u32 {
+        let descriptor = descriptor.into();
+        let number = descriptor.as_raw_fd();
+        self.descriptors.insert(number, descriptor);
+        number as u32
+    }
+
+    /// The descriptor of a token that was read in a report.
+    pub fn descriptor(&mut self, token: u32) -> Option<OwnedFd> {
+        self.descriptors.remove(&(token as RawFd))
+    }
+
+    /// Sends all that waits.
+    pub fn flush(&mut self) -> std::io::Result<()> {
+        let (mut bytes, mut tokens) = ([0; 4096], [0; socket::MOST_DESCRIPTORS]);
+        loop {
+            let taken = self.end.take(&mut bytes, &mut tokens);
+            if taken.bytes == 0 {
+                return Ok(());
+            }
+            let mut numbers: Vec<RawFd> =
+                tokens[..taken.tokens].iter().map(|&it| it as RawFd).collect();
+            let mut rest = &bytes[..taken.bytes];
+            while !rest.is_empty() {
+                let sent = socket::send(&self.socket, rest, &numbers)?;
+                // They went with the first byte.
+                numbers.drain(..).for_each(|it| drop(self.descriptors.remove(&it)));
+                rest = &rest[sent..];
+            }
+        }
+    }
+
+    /// Sends all that waits, and then waits until something comes. False where the other end has gone.
+    pub fn wait(&mut self) -> std::io::Result<bool> {
+        match self.flush().and_then(|()| self.read()) {
+            Err(error) if has_gone(&error) => Ok(false),
+            came => came,
+        }
+    }
+
+    fn read(&mut self) -> std::io::Result<bool> {
+        let room = self.end.in_room();
+        if room.bytes == 0 || room.tokens < socket::MOST_DESCRIPTORS {
+            return Err(Error::other("the other end sends what it must not"));
+        }
+        let mut bytes = [0; 4096];
+        let most = bytes.len().min(room.bytes);
+        let mut came = Vec::new();
+        let count = socket::receive(&self.socket, &mut bytes[..most], &mut came)?;
+        let tokens: Vec<u32> = came.into_iter().map(|it| self.token(it)).collect();
+        self.end.feed(&bytes[..count], &tokens);
+        Ok(count > 0)
+    }
+}
+
+/// Whether an error says that the other end has closed the connection.
+pub fn has_gone(error: &Error) -> bool {
+    matches!(error.kind(), ErrorKind::BrokenPipe | ErrorKind::ConnectionReset)
+}
+
+/// Where the compositor listens.
+pub fn compositor_path() -> PathBuf {
+    let name = std::env::var_os("WAYLAND_DISPLAY").unwrap_or_else(|| "wayland-0".into());
+    let folder = std::env::var_os("XDG_RUNTIME_DIR").unwrap_or_default();
+    PathBuf::from(folder).join(name)
+}

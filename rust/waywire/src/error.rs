@@ -1,0 +1,285 @@
+//! Why calls are refused, and what is wrong with messages that came.
+
+use crate::sys;
+use std::error::Error;
+use std::fmt;
+
+/// Why an end or tables are not made.
+#[derive(Clone, Copy, Debug, PartialEq, Eq)]
+#[non_exhaustive]
+pub enum NewError {
+    /// Sizes that no end can have: see [`Sizes`](crate::Sizes).
+    BadSizes,
+    /// Out of memory.
+    NoMemory,
+}
+
+/// Why no tables are read from a text.
+#[derive(Clone, Copy, Debug, PartialEq, Eq)]
+#[non_exhaustive]
+pub enum TablesError {
+    /// A line, counted from 1, has none of the forms of such a text.
+    BadLine {
+        /// The first such line.
+        line: usize,
+    },
+    /// Every line has a form, and one breaks a rule of tables.
+    BadTable {
+        /// The first such line, counted from 1.
+        line: usize,
+        /// The least rule that it breaks: 1 to 9 for V1 to V9.
+        rule: u32,
+    },
+    /// Out of memory.
+    NoMemory,
+}
+
+/// Why a message is not written. Nothing has changed.
+#[derive(Clone, Copy, Debug, PartialEq, Eq)]
+#[non_exhaustive]
+pub enum SendError {
+    /// The end has failed, and reads and writes nothing more.
+    Failed,
+    /// The target is not live.
+    Stale,
+    /// Its interface has no such message, or another call writes it.
+    NoSuchMessage,
+    /// The message is newer than its target.
+    TooOld,
+    /// The argument at this place, counted from 0, does not fit the signature, or is missing.
+    WrongArgs {
+        /// The first such place.
+        place: usize,
+    },
+    /// The object at this place is not live, or of another interface.
+    BadObject {
+        /// The first such place.
+        place: usize,
+    },
+    /// No global of this name, interface and version was announced.
+    BadBind,
+    /// The message is longer than 4096 bytes.
+    TooLong,
+    /// The outbox has no room for it: take, and send again.
+    Full,
+    /// No more objects can be opened.
+    NoIds,
+    /// Out of memory.
+    NoMemory,
+    /// The interface has no event that destroys its objects.
+    NotDroppable,
+}
+
+/// Why a global is not added or not withdrawn. Nothing has changed.
+#[derive(Clone, Copy, Debug, PartialEq, Eq)]
+#[non_exhaustive]
+pub enum GlobalError {
+    /// The server has failed.
+    Failed,
+    /// No interface and version that can be advertised.
+    BadGlobal,
+    /// 1,024 globals were added in the server's life.
+    TooMany,
+    /// The name was never given, or is withdrawn.
+    NoSuchGlobal,
+    /// Out of memory.
+    NoMemory,
+}
+
+/// Why no message was read.
+#[derive(Clone, Copy, Debug, PartialEq, Eq)]
+#[non_exhaustive]
+pub enum NextError {
+    /// The message that came is at fault. The end has failed for good; a server has written
+    /// wl_display.error, which is to be taken and sent.
+    Fault(Fault),
+    /// The end had failed before.
+    Failed,
+    /// Out of memory for the object that a request opens. The request stays, and can be read again.
+    NoMemory,
+    /// The server's outbox has no room for the delete_id of what the request destroys. The request
+    /// stays: take, and read again.
+    OutFull,
+}
+
+/// What is wrong with a message that came.
+#[derive(Clone, Copy, Debug, PartialEq, Eq)]
+pub struct Fault {
+    /// What it is.
+    pub kind: FaultKind,
+    /// The byte of the stream at which the message begins.
+    pub offset: u64,
+}
+
+/// The kinds of faults. A place is that of the argument, counted from 0.
+#[derive(Clone, Copy, Debug, PartialEq, Eq)]
+#[non_exhaustive]
+#[allow(missing_docs)]
+pub enum FaultKind {
+    BadSize,
+    UnknownObject,
+    UnknownMessage,
+    /// The argument is malformed: it ends too early (1), is null (2), has no ending NUL (3), or a NUL
+    /// inside (4).
+    BadArgument {
+        place: usize,
+        spelling: u32,
+    },
+    BadObject {
+        place: usize,
+    },
+    BadNewId {
+        place: usize,
+    },
+    TrailingBytes,
+    MissingDescriptor,
+    BadBind,
+    TooManyObjects,
+}
+
+/// A number of the library's `waywire_status`.
+pub(crate) trait Status {
+    fn status(&self) -> u32;
+}
+
+impl Status for NewError {
+    fn status(&self) -> u32 {
+        match self {
+            NewError::BadSizes => sys::BAD_SIZES,
+            NewError::NoMemory => sys::NO_MEMORY,
+        }
+    }
+}
+
+impl Status for TablesError {
+    fn status(&self) -> u32 {
+        match self {
+            TablesError::BadLine { .. } => sys::BAD_LINE,
+            TablesError::BadTable { .. } => sys::BAD_TABLE,
+            TablesError::NoMemory => sys::NO_MEMORY,
+        }
+    }
+}
+
+impl Status for SendError {
+    fn status(&self) -> u32 {
+        match self {
+            SendError::Failed => sys::FAILED,
+            SendError::Stale => sys::STALE,
+            SendError::NoSuchMessage => sys::NO_SUCH_MESSAGE,
+            SendError::TooOld => sys::TOO_OLD,
+            SendError::WrongArgs { .. } => sys::WRONG_ARGS,
+            SendError::BadObject { .. } => sys::BAD_OBJECT,
+            SendError::BadBind => sys::BAD_BIND,
+            SendError::TooLong => sys::TOO_LONG,
+            SendError::Full => sys::FULL,
+            SendError::NoIds => sys::NO_IDS,
+            SendError::NoMemory => sys::NO_MEMORY,
+            SendError::NotDroppable => sys::NOT_DROPPABLE,
+        }
+    }
+}
+
+impl Status for GlobalError {
+    fn status(&self) -> u32 {
+        match self {
+            GlobalError::Failed => sys::FAILED,
+            GlobalError::BadGlobal => sys::BAD_GLOBAL,
+            GlobalError::TooMany => sys::TOO_MANY_GLOBALS,
+            GlobalError::NoSuchGlobal => sys::NO_SUCH_GLOBAL,
+            GlobalError::NoMemory => sys::NO_MEMORY,
+        }
+    }
+}
+
+impl Status for NextError {
+    fn status(&self) -> u32 {
+        match self {
+            NextError::Fault(fault) => fault.kind.status(),
+            NextError::Failed => sys::FAILED,
+            NextError::NoMemory => sys::NO_MEMORY,
+            NextError::OutFull => sys::OUT_FULL,
+        }
+    }
+}
+
+impl Status for FaultKind {
+    fn status(&self) -> u32 {
+        match self {
+            FaultKind::BadSize => sys::FAULT_BAD_SIZE,
+            FaultKind::UnknownObject => sys::FAULT_UNKNOWN_OBJECT,
+            FaultKind::UnknownMessage => sys::FAULT_UNKNOWN_MESSAGE,
+            FaultKind::BadArgument { .. } => sys::FAULT_BAD_ARGUMENT,
+            FaultKind::BadObject { .. } => sys::FAULT_BAD_OBJECT,
+            FaultKind::BadNewId { .. } => sys::FAULT_BAD_NEW_ID,
+            FaultKind::TrailingBytes => sys::FAULT_TRAILING_BYTES,
+            FaultKind::MissingDescriptor => sys::FAULT_MISSING_DESCRIPTOR,
+            FaultKind::BadBind => sys::FAULT_BAD_BIND,
+            FaultKind::TooManyObjects => sys::FAULT_TOO_MANY_OBJECTS,
+        }
+    }
+}
+
+impl fmt::Display for NewError {
+    fn fmt(&self, f: &mut fmt::Formatter<'_>) -> fmt::Result {
+        f.write_str(sys::text_of(self.status()))
+    }
+}
+
+impl fmt::Display for TablesError {
+    fn fmt(&self, f: &mut fmt::Formatter<'_>) -> fmt::Result {
+        match self {
+            TablesError::BadLine { line } => write!(f, "line {line}: bad line"),
+            TablesError::BadTable { line, rule } => write!(f, "line {line}: breaks V{rule}"),
+            TablesError::NoMemory => f.write_str(sys::text_of(self.status())),
+        }
+    }
+}
+
+impl fmt::Display for SendError {
+    fn fmt(&self, f: &mut fmt::Formatter<'_>) -> fmt::Result {
+        f.write_str(sys::text_of(self.status()))?;
+        match self {
+            SendError::WrongArgs { place } | SendError::BadObject { place } => {
+                write!(f, ", argument {place}")
+            }
+            _ => Ok(()),
+        }
+    }
+}
+
+impl fmt::Display for GlobalError {
+    fn fmt(&self, f: &mut fmt::Formatter<'_>) -> fmt::Result {
+        f.write_str(sys::text_of(self.status()))
+    }
+}
+
+impl fmt::Display for NextError {
+    fn fmt(&self, f: &mut fmt::Formatter<'_>) -> fmt::Result {
+        match self {
+            NextError::Fault(fault) => fault.fmt(f),
+            _ => f.write_str(sys::text_of(self.status())),
+        }
+    }
+}
+
+impl fmt::Display for Fault {
+    fn fmt(&self, f: &mut fmt::Formatter<'_>) -> fmt::Result {
+        write!(f, "message at byte {}: {}", self.offset, sys::text_of(self.kind.status()))?;
+        match self.kind {
+            FaultKind::BadArgument { place, spelling } => {
+                write!(f, ", argument {place}: {}", sys::spelling_of(spelling))
+            }
+            FaultKind::BadObject { place } | FaultKind::BadNewId { place } => {
+                write!(f, ", argument {place}")
+            }
+            _ => Ok(()),
+        }
+    }
+}
+
+impl Error for NewError {}
+impl Error for TablesError {}
+impl Error for SendError {}
+impl Error for GlobalError {}
+impl Error for NextError {}

@@ -1,0 +1,87 @@
+//! The message layer of Wayland for clients and servers, without the socket, over libwaywire.
+//!
+//! libwaywire is proved: whatever requests and events two of its ends write, in whatever order, and
+//! however the bytes between them are cut, each end reads exactly the messages that the other wrote,
+//! and every object in them arrives as the one that its writer meant. This crate gives it Rust's
+//! types. It has no dependency, and looks for the library by pkg-config or `WAYWIRE_DIR`.
+//!
+//! # The loop
+//!
+//! An end, a [`Client`] or a [`Server`], turns calls into bytes and bytes into messages. Your code
+//! owns the socket, the event loop and the file descriptors, which an end knows as *tokens*: numbers
+//! of your choice, say the descriptors themselves.
+//!
+//! 1. [`Client::send`] and the like write a message; it waits in the end's outbox.
+//! 2. [`Client::take`] moves out what waits. Write it to the socket, its tokens' descriptors with the
+//!    first byte.
+//! 3. [`Client::feed`] takes in what came from the socket, in any cut.
+//! 4. [`Client::next`] reads one message, until it returns `None`.
+//!
+//! ```
+//! use waywire::{Arg, Client, Incoming, Server, Sizes, Tables, event, request};
+//!
+//! # fn main() -> Result<(), Box<dyn std::error::Error>> {
+//! let tables = Tables::core()?;
+//! let mut client = Client::new(&tables, &Sizes::default())?;
+//! let mut server = Server::new(&tables, &Sizes::default())?;
+//!
+//! let callback = client
+//!     .send(client.display(), request::wl_display::SYNC, &[Arg::NewId])?
+//!     .expect("sync makes an object");
+//!
+//! let (mut bytes, mut tokens) = ([0; 4096], [0; 28]);
+//! let taken = client.take(&mut bytes, &mut tokens);
+//! server.feed(&bytes[..taken.bytes], &tokens[..taken.tokens]);
+//! let asked = server.next()?.expect("a whole request came");
+//! assert_eq!(asked.opcode(), request::wl_display::SYNC);
+//!
+//! server.send(callback, event::wl_callback::DONE, &[Arg::Uint(7)])?;
+//! let taken = server.take(&mut bytes, &mut tokens);
+//! client.feed(&bytes[..taken.bytes], &tokens[..taken.tokens]);
+//! match client.next()? {
+//!     Some(Incoming::Event(done)) => assert_eq!(done.target(), callback),
+//!     other => panic!("{other:?}"),
+//! }
+//! # Ok(())
+//! # }
+//! ```
+//!
+//! # Loans
+//!
+//! What `next` returns is lent from the end until its next call. To keep it longer does not compile:
+//!
+//! ```compile_fail,E0499
+//! # use waywire::{Client, Sizes, Tables};
+//! # let tables = Tables::core().unwrap();
+//! # let mut client = Client::new(&tables, &Sizes::default()).unwrap();
+//! let first = client.next();
+//! let second = client.next();
+//! drop(first);
+//! ```
+//!
+//! # Threads
+//!
+//! Tables, and the ends made with them, stay on the thread that made the tables: none of them is
+//! [`Send`].
+
+#![deny(unsafe_code)]
+
+mod amounts;
+mod args;
+mod client;
+mod error;
+pub mod event;
+mod report;
+pub mod request;
+mod server;
+#[allow(unsafe_code)]
+mod sys;
+mod tables;
+
+pub use amounts::{Amounts, Sizes};
+pub use args::{Arg, Args, Fixed, Value};
+pub use client::Client;
+pub use error::{Fault, FaultKind, GlobalError, NewError, NextError, SendError, TablesError};
+pub use report::{Event, Incoming, Message, Named, ProtocolError, Request};
+pub use server::Server;
+pub use tables::{Interface, Object, Tables};

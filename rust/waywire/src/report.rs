@@ -1,0 +1,121 @@
+//! What ends read.
+
+use crate::args::Args;
+use crate::sys;
+use crate::tables::Object;
+
+/// A message that was read: its target, its opcode and its arguments. Lent from the end.
+#[derive(Clone, Debug)]
+pub struct Message<'a> {
+    target: Object,
+    opcode: u16,
+    args: Args<'a>,
+}
+
+/// A message to a client.
+pub type Event<'a> = Message<'a>;
+
+/// A message to a server.
+pub type Request<'a> = Message<'a>;
+
+impl<'a> Message<'a> {
+    pub(crate) fn of(report: &'a sys::Report) -> Message<'a> {
+        Message { target: report.target(), opcode: report.opcode(), args: Args(report.args()) }
+    }
+
+    /// The object that it is for.
+    pub fn target(&self) -> Object {
+        self.target
+    }
+
+    /// Which message of its target's interface it is.
+    pub fn opcode(&self) -> u16 {
+        self.opcode
+    }
+
+    /// Its arguments, in order.
+    pub fn args(&self) -> Args<'a> {
+        self.args.clone()
+    }
+}
+
+/// What a client reads.
+#[derive(Clone, Debug)]
+#[non_exhaustive]
+pub enum Incoming<'a> {
+    /// An event for a live object.
+    Event(Event<'a>),
+    /// An event for an object that the client has destroyed. Its descriptors are the caller's to
+    /// close.
+    Discarded {
+        /// The object.
+        target: Object,
+        /// Which event of its interface it is.
+        opcode: u16,
+        /// The tokens that came with it.
+        tokens: &'a [u32],
+    },
+    /// wl_display.delete_id: the object is gone, and its id is free again.
+    Deleted(Object),
+    /// wl_display.delete_id of an id that names no object. Nothing has changed.
+    Stray {
+        /// The id.
+        id: u32,
+    },
+    /// wl_display.error: the server has ended the connection. The client has failed.
+    Error(ProtocolError<'a>),
+}
+
+/// What wl_display.error says.
+#[derive(Clone, Copy, Debug, PartialEq, Eq)]
+pub struct ProtocolError<'a> {
+    /// The id of the object that it is about.
+    pub id: u32,
+    /// That object, where the client knows it.
+    pub named: Named,
+    /// A number whose meaning the object's interface gives.
+    pub code: u32,
+    /// The text, which need not be UTF-8.
+    pub text: &'a [u8],
+}
+
+/// The object that an id names.
+#[derive(Clone, Copy, Debug, PartialEq, Eq)]
+pub enum Named {
+    /// None, or an unknown one.
+    Null,
+    /// A live object.
+    Live(Object),
+    /// An object that the client has destroyed already.
+    Dead(Object),
+}
+
+impl std::fmt::Display for ProtocolError<'_> {
+    fn fmt(&self, f: &mut std::fmt::Formatter<'_>) -> std::fmt::Result {
+        write!(f, "error {} of object {}: ", self.code, self.id)?;
+        f.write_str(&String::from_utf8_lossy(self.text))
+    }
+}
+
+impl<'a> Incoming<'a> {
+    /// What a report says, `None` where no whole message waits.
+    pub(crate) fn of(report: &'a sys::Report) -> Option<Incoming<'a>> {
+        Some(match report.kind() {
+            sys::MESSAGE => Incoming::Event(Message::of(report)),
+            sys::DISCARDED => Incoming::Discarded {
+                target: report.target(),
+                opcode: report.opcode(),
+                tokens: report.tokens(),
+            },
+            sys::DELETED => Incoming::Deleted(report.target()),
+            sys::STRAY => Incoming::Stray { id: report.id() },
+            sys::ERROR => Incoming::Error(ProtocolError {
+                id: report.id(),
+                named: report.named(),
+                code: report.code(),
+                text: report.text(),
+            }),
+            _ => return None,
+        })
+    }
+}

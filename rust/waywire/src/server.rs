@@ -1,0 +1,104 @@
+//! The server's end of a connection.
+
+use crate::amounts::{Amounts, Sizes};
+use crate::args::Arg;
+use crate::error::{GlobalError, NewError, NextError, SendError};
+use crate::report::{Message, Request};
+use crate::sys;
+use crate::tables::{Interface, Object, Tables};
+
+/// The server's end of one connection: its objects, its inbox and outbox, the globals it advertises.
+#[derive(Debug)]
+pub struct Server {
+    end: sys::Server,
+    report: Box<sys::Report>,
+}
+
+impl Server {
+    /// A server with wl_display alone, empty queues and no globals.
+    pub fn new(tables: &Tables, sizes: &Sizes) -> Result<Server, NewError> {
+        Ok(Server {
+            end: sys::Server::new(&tables.0, sizes)?,
+            report: Box::new(sys::Report::nothing()),
+        })
+    }
+
+    /// wl_display, which every connection has.
+    pub fn display(&self) -> Object {
+        self.end.display()
+    }
+
+    /// The interface and version of an object that is live, also at a failed server.
+    pub fn live(&self, object: Object) -> Option<(Interface, u32)> {
+        self.end.live(object)
+    }
+
+    /// The free bytes and tokens of the inbox; zeros at a failed server.
+    pub fn in_room(&self) -> Amounts {
+        self.end.in_room()
+    }
+
+    /// Whether nothing waits in the inbox or the outbox.
+    pub fn is_drained(&self) -> bool {
+        self.end.is_drained()
+    }
+
+    /// Adds a global and returns its name. [`announce`](Server::announce) tells it.
+    pub fn add_global(&mut self, interface: Interface, version: u32) -> Result<u32, GlobalError> {
+        self.end.add_global(interface.0, version)
+    }
+
+    /// Withdraws a global. It can still be bound, since a bind may be on its way.
+    pub fn withdraw(&mut self, name: u32) -> Result<(), GlobalError> {
+        self.end.withdraw(name)
+    }
+
+    /// Writes to the open registries what they have not been told yet, as far as it fits, and
+    /// returns how many events that were. Call it after a request has made a registry, after a
+    /// change of the globals, and after a take where not all had fitted.
+    pub fn announce(&mut self) -> Result<usize, SendError> {
+        self.end.announce()
+    }
+
+    /// Writes an event. One that destroys its object is followed by its delete_id: both are written,
+    /// or nothing. The events of wl_display and wl_registry are [`SendError::NoSuchMessage`]: other
+    /// calls write them.
+    pub fn send(&mut self, target: Object, opcode: u16, args: &[Arg<'_>]) -> Result<(), SendError> {
+        self.end.send(target, opcode, args).map(|_none| ())
+    }
+
+    /// Ends an object without its event, as a callback that nobody waits for.
+    pub fn drop_object(&mut self, object: Object) -> Result<(), SendError> {
+        self.end.drop_object(object)
+    }
+
+    /// Ends the connection with wl_display.error about an object. Of the text at most 40 bytes are
+    /// written, and all before a NUL. The server has failed afterwards: take what waits and send it.
+    pub fn post_error(&mut self, object: Object, code: u32, text: &str) -> Result<(), SendError> {
+        self.end.post_error(object, code, text)
+    }
+
+    /// Moves what came into the inbox, as [`Client::feed`](crate::Client::feed) does.
+    pub fn feed(&mut self, bytes: &[u8], tokens: &[u32]) -> Amounts {
+        self.end.feed(bytes, tokens)
+    }
+
+    /// How much [`take`](Server::take) into slices of these lengths would take.
+    pub fn goes(&self, bytes: usize, tokens: usize) -> Amounts {
+        self.end.goes(bytes, tokens)
+    }
+
+    /// Moves what waits to be sent, as [`Client::take`](crate::Client::take) does.
+    pub fn take(&mut self, bytes: &mut [u8], tokens: &mut [u32]) -> Amounts {
+        self.end.take(bytes, tokens)
+    }
+
+    /// Reads the next request; `None` while none is whole. An object that it destroys is closed, and
+    /// its delete_id is written at once. It allocates only for an object that the request makes.
+    // Not an iterator's: what it returns is lent from the server.
+    #[allow(clippy::should_implement_trait)]
+    pub fn next(&mut self) -> Result<Option<Request<'_>>, NextError> {
+        self.end.next(&mut self.report)?;
+        Ok((self.report.kind() == sys::MESSAGE).then(|| Message::of(&self.report)))
+    }
+}

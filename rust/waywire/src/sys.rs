@@ -1,0 +1,794 @@
+//! The calls of waywire.h, and what makes them safe. This is the one module with `unsafe` in it.
+//!
+//! The declarations are those of the header: a test compares sizes, offsets and numbers with what a
+//! program in C says of it. What the header asks of every call is kept by the types here:
+//!
+//! - a pointer to tables or an end is one that the library returned, and an end's is freed once;
+//! - tables are never freed, so what points into them stays;
+//! - all is used on one thread, since raw pointers are neither `Send` nor `Sync`;
+//! - a slice's pointer and length are those of a Rust slice.
+
+use crate::amounts::{Amounts, Sizes};
+use crate::args::Arg;
+use crate::error::{Fault, FaultKind, GlobalError, NewError, NextError, SendError, TablesError};
+use crate::report::Named;
+use crate::tables::{Interface, Object};
+use std::ffi::{c_char, c_void, CStr, CString};
+use std::marker::PhantomData;
+use std::mem::MaybeUninit;
+use std::ptr::{self, NonNull};
+use std::slice;
+
+macro_rules! numbers {
+    ($($name:ident = $number:expr, $header:literal;)*) => {
+        $(pub const $name: u32 = $number;)*
+
+        /// Each number, and its name in the header.
+        #[cfg(test)]
+        const NUMBERS: &[(&str, u32)] = &[$(($header, $name)),*];
+    };
+}
+
+numbers! {
+    FAILED = 1, "WAYWIRE_FAILED";
+    STALE = 2, "WAYWIRE_STALE";
+    NO_SUCH_MESSAGE = 3, "WAYWIRE_NO_SUCH_MESSAGE";
+    TOO_OLD = 4, "WAYWIRE_TOO_OLD";
+    WRONG_ARGS = 5, "WAYWIRE_WRONG_ARGS";
+    BAD_OBJECT = 6, "WAYWIRE_BAD_OBJECT";
+    BAD_BIND = 7, "WAYWIRE_BAD_BIND";
+    TOO_LONG = 8, "WAYWIRE_TOO_LONG";
+    FULL = 9, "WAYWIRE_FULL";
+    NO_IDS = 10, "WAYWIRE_NO_IDS";
+    NO_MEMORY = 11, "WAYWIRE_NO_MEMORY";
+    NOT_DROPPABLE = 12, "WAYWIRE_NOT_DROPPABLE";
+    BAD_GLOBAL = 22, "WAYWIRE_BAD_GLOBAL";
+    TOO_MANY_GLOBALS = 23, "WAYWIRE_TOO_MANY_GLOBALS";
+    NO_SUCH_GLOBAL = 25, "WAYWIRE_NO_SUCH_GLOBAL";
+    FAULT_BAD_SIZE = 31, "WAYWIRE_FAULT_BAD_SIZE";
+    FAULT_UNKNOWN_OBJECT = 32, "WAYWIRE_FAULT_UNKNOWN_OBJECT";
+    FAULT_UNKNOWN_MESSAGE = 33, "WAYWIRE_FAULT_UNKNOWN_MESSAGE";
+    FAULT_BAD_ARGUMENT = 34, "WAYWIRE_FAULT_BAD_ARGUMENT";
+    FAULT_BAD_OBJECT = 35, "WAYWIRE_FAULT_BAD_OBJECT";
+    FAULT_BAD_NEW_ID = 36, "WAYWIRE_FAULT_BAD_NEW_ID";
+    FAULT_TRAILING_BYTES = 37, "WAYWIRE_FAULT_TRAILING_BYTES";
+    FAULT_MISSING_DESCRIPTOR = 38, "WAYWIRE_FAULT_MISSING_DESCRIPTOR";
+    FAULT_BAD_BIND = 39, "WAYWIRE_FAULT_BAD_BIND";
+    FAULT_TOO_MANY_OBJECTS = 40, "WAYWIRE_FAULT_TOO_MANY_OBJECTS";
+    OUT_FULL = 51, "WAYWIRE_OUT_FULL";
+    BAD_SIZES = 63, "WAYWIRE_BAD_SIZES";
+    BAD_LINE = 71, "WAYWIRE_BAD_LINE";
+    BAD_TABLE = 72, "WAYWIRE_BAD_TABLE";
+    INT = 1, "WAYWIRE_INT";
+    UINT = 2, "WAYWIRE_UINT";
+    FIXED = 3, "WAYWIRE_FIXED";
+    STRING = 4, "WAYWIRE_STRING";
+    NULL_STRING = 5, "WAYWIRE_NULL_STRING";
+    OBJECT = 6, "WAYWIRE_OBJECT";
+    NULL_OBJECT = 7, "WAYWIRE_NULL_OBJECT";
+    NEW = 8, "WAYWIRE_NEW";
+    ARRAY = 9, "WAYWIRE_ARRAY";
+    FD = 10, "WAYWIRE_FD";
+    DEAD_OBJECT = 11, "WAYWIRE_DEAD_OBJECT";
+    BOUND = 12, "WAYWIRE_BOUND";
+    MESSAGE = 1, "WAYWIRE_MESSAGE";
+    DISCARDED = 2, "WAYWIRE_DISCARDED";
+    DELETED = 3, "WAYWIRE_DELETED";
+    STRAY = 4, "WAYWIRE_STRAY";
+    ERROR = 5, "WAYWIRE_ERROR";
+    MAX_ARGS = 20, "WAYWIRE_MAX_ARGS";
+}
+
+const OK: u32 = 0;
+
+/// The kinds of arguments of a report.
+pub enum Kind {
+    Int,
+    Uint,
+    Fixed,
+    Str,
+    NullStr,
+    Object,
+    NullObject,
+    NewId,
+    Array,
+    Fd,
+    Dead,
+    Bound,
+}
+
+/// `waywire_arg`.
+#[derive(Clone, Copy, Debug)]
+#[repr(C)]
+struct RawArg {
+    kind: u32,
+    i: i32,
+    u: u32,
+    object: Object,
+    bytes: *const c_void,
+    length: usize,
+}
+
+const NO_ARG: RawArg =
+    RawArg { kind: 0, i: 0, u: 0, object: Object::NONE, bytes: ptr::null(), length: 0 };
+
+impl RawArg {
+    /// An argument of a call, which is read before its slices end.
+    fn of(arg: &Arg<'_>) -> RawArg {
+        let with_bytes = |kind, bytes: &[u8]| RawArg {
+            kind,
+            bytes: bytes.as_ptr().cast(),
+            length: bytes.len(),
+            ..NO_ARG
+        };
+        match *arg {
+            Arg::Int(i) => RawArg { kind: INT, i, ..NO_ARG },
+            Arg::Uint(u) => RawArg { kind: UINT, u, ..NO_ARG },
+            Arg::Fixed(number) => RawArg { kind: FIXED, i: number.raw(), ..NO_ARG },
+            Arg::Str(Some(text)) => with_bytes(STRING, text),
+            Arg::Str(None) => RawArg { kind: NULL_STRING, ..NO_ARG },
+            Arg::Object(Some(object)) => RawArg { kind: OBJECT, object, ..NO_ARG },
+            Arg::Object(None) => RawArg { kind: NULL_OBJECT, ..NO_ARG },
+            Arg::NewId => RawArg { kind: NEW, ..NO_ARG },
+            Arg::Array(bytes) => with_bytes(ARRAY, bytes),
+            Arg::Fd(u) => RawArg { kind: FD, u, ..NO_ARG },
+        }
+    }
+}
+
+/// `waywire_report`.
+#[derive(Debug)]
+#[repr(C)]
+pub struct Report {
+    kind: u32,
+    opcode: u32,
+    target: Object,
+    arg_count: usize,
+    tokens: *const u32,
+    token_count: usize,
+    id: u32,
+    code: u32,
+    named: u32,
+    spelling: u32,
+    text: *const c_char,
+    text_length: usize,
+    place: usize,
+    offset: u64,
+    args: [RawArg; MAX_ARGS as usize],
+}
+
+/// The slice that the library lends. Its pointer may be null where it is empty.
+///
+/// # Safety
+///
+/// The pointer leads to so many items, which stay as they are as long as `'a` lasts.
+unsafe fn lent<'a, T>(items: *const T, length: usize) -> &'a [T] {
+    if length == 0 {
+        return &[];
+    }
+    // Safety: the caller says so, and a slice that is not empty is never null.
+    unsafe { slice::from_raw_parts(items, length) }
+}
+
+impl Report {
+    /// A report that `next` is to fill.
+    pub fn nothing() -> Report {
+        Report {
+            kind: 0,
+            opcode: 0,
+            target: Object::NONE,
+            arg_count: 0,
+            tokens: ptr::null(),
+            token_count: 0,
+            id: 0,
+            code: 0,
+            named: 0,
+            spelling: 0,
+            text: ptr::null(),
+            text_length: 0,
+            place: 0,
+            offset: 0,
+            args: [NO_ARG; MAX_ARGS as usize],
+        }
+    }
+
+    pub fn kind(&self) -> u32 {
+        self.kind
+    }
+
+    pub fn opcode(&self) -> u16 {
+        self.opcode as u16
+    }
+
+    pub fn target(&self) -> Object {
+        self.target
+    }
+
+    pub fn id(&self) -> u32 {
+        self.id
+    }
+
+    pub fn code(&self) -> u32 {
+        self.code
+    }
+
+    pub fn named(&self) -> Named {
+        match self.named {
+            OBJECT => Named::Live(self.target),
+            DEAD_OBJECT => Named::Dead(self.target),
+            _ => Named::Null,
+        }
+    }
+
+    pub fn args(&self) -> ArgsOf<'_> {
+        ArgsOf(self.args[..self.arg_count].iter())
+    }
+
+    pub fn tokens(&self) -> &[u32] {
+        // Safety: `next` of the end that holds this report wrote the pointer and the length, and the
+        // end lends what is there until its next call. A report is private to its end, and it is only
+        // borrowed together with the whole end.
+        unsafe { lent(self.tokens, self.token_count) }
+    }
+
+    pub fn text(&self) -> &[u8] {
+        // Safety: as in `tokens`.
+        unsafe { lent(self.text.cast(), self.text_length) }
+    }
+
+    fn fault(&self, status: u32) -> NextError {
+        let place = self.place;
+        let kind = match status {
+            FAULT_BAD_SIZE => FaultKind::BadSize,
+            FAULT_UNKNOWN_OBJECT => FaultKind::UnknownObject,
+            FAULT_UNKNOWN_MESSAGE => FaultKind::UnknownMessage,
+            FAULT_BAD_ARGUMENT => FaultKind::BadArgument { place, spelling: self.spelling },
+            FAULT_BAD_OBJECT => FaultKind::BadObject { place },
+            FAULT_BAD_NEW_ID => FaultKind::BadNewId { place },
+            FAULT_TRAILING_BYTES => FaultKind::TrailingBytes,
+            FAULT_MISSING_DESCRIPTOR => FaultKind::MissingDescriptor,
+            FAULT_BAD_BIND => FaultKind::BadBind,
+            _ => FaultKind::TooManyObjects,
+        };
+        NextError::Fault(Fault { kind, offset: self.offset })
+    }
+
+    fn result(&self, status: u32) -> Result<(), NextError> {
+        match status {
+            OK => Ok(()),
+            OUT_FULL => Err(NextError::OutFull),
+            NO_MEMORY => Err(NextError::NoMemory),
+            FAULT_BAD_SIZE..=FAULT_TOO_MANY_OBJECTS => Err(self.fault(status)),
+            _ => Err(NextError::Failed),
+        }
+    }
+}
+
+/// The arguments of a report.
+#[derive(Clone)]
+pub struct ArgsOf<'a>(slice::Iter<'a, RawArg>);
+
+impl<'a> Iterator for ArgsOf<'a> {
+    type Item = ArgOf<'a>;
+
+    fn next(&mut self) -> Option<ArgOf<'a>> {
+        self.0.next().map(ArgOf)
+    }
+
+    fn size_hint(&self) -> (usize, Option<usize>) {
+        self.0.size_hint()
+    }
+}
+
+/// One argument of a report.
+pub struct ArgOf<'a>(&'a RawArg);
+
+impl<'a> ArgOf<'a> {
+    pub fn kind(&self) -> Kind {
+        match self.0.kind {
+            INT => Kind::Int,
+            UINT => Kind::Uint,
+            FIXED => Kind::Fixed,
+            STRING => Kind::Str,
+            NULL_STRING => Kind::NullStr,
+            OBJECT => Kind::Object,
+            NULL_OBJECT => Kind::NullObject,
+            NEW => Kind::NewId,
+            ARRAY => Kind::Array,
+            FD => Kind::Fd,
+            DEAD_OBJECT => Kind::Dead,
+            BOUND => Kind::Bound,
+            // No report has another kind.
+            other => unreachable!("an argument of kind {other}"),
+        }
+    }
+
+    pub fn int(&self) -> i32 {
+        self.0.i
+    }
+
+    pub fn uint(&self) -> u32 {
+        self.0.u
+    }
+
+    pub fn object(&self) -> Object {
+        self.0.object
+    }
+
+    pub fn bytes(&self) -> &'a [u8] {
+        // Safety: as in `Report::tokens`; the report is borrowed for `'a`.
+        unsafe { lent(self.0.bytes.cast(), self.0.length) }
+    }
+}
+
+type RawTables = c_void;
+type RawEnd = c_void;
+
+macro_rules! end_calls {
+    ($new:ident $free:ident $display:ident $live:ident $in_room:ident $is_drained:ident
+     $feed:ident $goes:ident $take:ident $send:ident $next:ident) => {
+        extern "C" {
+            fn $new(tables: *const RawTables, sizes: *const Sizes, made: *mut *mut RawEnd) -> u32;
+            fn $free(end: *mut RawEnd);
+            fn $display(end: *const RawEnd, display: *mut Object) -> u32;
+            fn $live(
+                end: *const RawEnd,
+                object: Object,
+                interface: *mut u16,
+                version: *mut u32,
+            ) -> u32;
+            fn $in_room(end: *const RawEnd, room: *mut Amounts) -> u32;
+            fn $is_drained(end: *const RawEnd, drained: *mut bool) -> u32;
+            fn $feed(
+                end: *mut RawEnd,
+                bytes: *const c_void,
+                length: usize,
+                tokens: *const u32,
+                token_count: usize,
+                fed: *mut Amounts,
+            ) -> u32;
+            fn $goes(end: *const RawEnd, bytes: usize, tokens: usize, amounts: *mut Amounts)
+                -> u32;
+            fn $take(
+                end: *mut RawEnd,
+                bytes: *mut c_void,
+                length: usize,
+                tokens: *mut u32,
+                token_count: usize,
+                taken: *mut Amounts,
+            ) -> u32;
+            fn $send(
+                end: *mut RawEnd,
+                target: Object,
+                opcode: u16,
+                args: *const RawArg,
+                arg_count: usize,
+                made: *mut Object,
+                place: *mut usize,
+            ) -> u32;
+            fn $next(end: *mut RawEnd, report: *mut Report) -> u32;
+        }
+    };
+}
+
+end_calls!(waywire_client_new waywire_client_free waywire_client_display waywire_client_live
+    waywire_client_in_room waywire_client_is_drained waywire_client_feed waywire_client_goes
+    waywire_client_take waywire_client_send waywire_client_next);
+end_calls!(waywire_server_new waywire_server_free waywire_server_display waywire_server_live
+    waywire_server_in_room waywire_server_is_drained waywire_server_feed waywire_server_goes
+    waywire_server_take waywire_server_send waywire_server_next);
+
+extern "C" {
+    fn waywire_strerror(status: u32) -> *const c_char;
+    fn waywire_strspelling(spelling: u32) -> *const c_char;
+    fn waywire_tables_core(tables: *mut *mut RawTables) -> u32;
+    fn waywire_tables_read(
+        tables: *const RawTables,
+        text: *const c_void,
+        length: usize,
+        more: *mut *mut RawTables,
+        line: *mut usize,
+        rule: *mut u32,
+    ) -> u32;
+    fn waywire_tables_interface(
+        tables: *const RawTables,
+        name: *const c_char,
+        interface: *mut u16,
+    ) -> u32;
+    fn waywire_tables_name(
+        tables: *const RawTables,
+        interface: u16,
+        name: *mut *const c_char,
+        length: *mut usize,
+    ) -> u32;
+    fn waywire_tables_version(tables: *const RawTables, interface: u16, version: *mut u32) -> u32;
+    fn waywire_client_bind(
+        client: *mut RawEnd,
+        registry: Object,
+        name: u32,
+        interface: *const c_char,
+        version: u32,
+        bound: *mut Object,
+    ) -> u32;
+    fn waywire_server_add_global(
+        server: *mut RawEnd,
+        interface: u16,
+        version: u32,
+        name: *mut u32,
+    ) -> u32;
+    fn waywire_server_withdraw(server: *mut RawEnd, name: u32) -> u32;
+    fn waywire_server_announce(server: *mut RawEnd, count: *mut usize) -> u32;
+    fn waywire_server_drop_object(server: *mut RawEnd, object: Object) -> u32;
+    fn waywire_server_post_error(
+        server: *mut RawEnd,
+        object: Object,
+        code: u32,
+        text: *const c_char,
+    ) -> u32;
+}
+
+/// The text of a static string of the library.
+fn static_text(text: *const c_char) -> &'static str {
+    // Safety: the library returns a static string that ends with a NUL, for any number.
+    unsafe { CStr::from_ptr(text) }.to_str().unwrap_or("")
+}
+
+/// What a status means.
+pub fn text_of(status: u32) -> &'static str {
+    // Safety: any number is allowed.
+    static_text(unsafe { waywire_strerror(status) })
+}
+
+/// How an argument is malformed.
+pub fn spelling_of(spelling: u32) -> &'static str {
+    // Safety: any number is allowed.
+    static_text(unsafe { waywire_strspelling(spelling) })
+}
+
+/// Tables, which are never freed.
+#[derive(Clone, Debug)]
+pub struct Tables(NonNull<RawTables>);
+
+impl Tables {
+    pub fn core() -> Result<Tables, NewError> {
+        let mut made = ptr::null_mut();
+        // Safety: `made` can be written.
+        let _status = unsafe { waywire_tables_core(&mut made) };
+        NonNull::new(made).map(Tables).ok_or(NewError::NoMemory)
+    }
+
+    pub fn read(&self, text: &[u8]) -> Result<Tables, TablesError> {
+        let (mut more, mut line, mut rule) = (ptr::null_mut(), 0, 0);
+        // Safety: the tables are the library's, and all else lasts longer than the call.
+        let status = unsafe {
+            waywire_tables_read(
+                self.0.as_ptr(),
+                text.as_ptr().cast(),
+                text.len(),
+                &mut more,
+                &mut line,
+                &mut rule,
+            )
+        };
+        match (status, NonNull::new(more)) {
+            (OK, Some(more)) => Ok(Tables(more)),
+            (BAD_LINE, _) => Err(TablesError::BadLine { line }),
+            (BAD_TABLE, _) => Err(TablesError::BadTable { line, rule }),
+            _ => Err(TablesError::NoMemory),
+        }
+    }
+
+    pub fn interface(&self, name: &str) -> Option<u16> {
+        let name = CString::new(name).ok()?;
+        let mut interface = 0;
+        // Safety: the tables are the library's, and all else lasts longer than the call.
+        let status =
+            unsafe { waywire_tables_interface(self.0.as_ptr(), name.as_ptr(), &mut interface) };
+        (status == OK).then_some(interface)
+    }
+
+    pub fn name(&self, interface: u16) -> Option<&str> {
+        let (mut name, mut length) = (ptr::null(), 0);
+        // Safety: the tables are the library's, and all else lasts longer than the call.
+        let status =
+            unsafe { waywire_tables_name(self.0.as_ptr(), interface, &mut name, &mut length) };
+        if status != OK {
+            return None;
+        }
+        // Safety: names last as long as tables, which is for good.
+        let bytes = unsafe { lent::<u8>(name.cast(), length) };
+        std::str::from_utf8(bytes).ok()
+    }
+
+    pub fn version(&self, interface: u16) -> Option<u32> {
+        let mut version = 0;
+        // Safety: the tables are the library's, and `version` can be written.
+        let status = unsafe { waywire_tables_version(self.0.as_ptr(), interface, &mut version) };
+        (status == OK).then_some(version)
+    }
+}
+
+/// Why a message was not written.
+fn send_error(status: u32, place: usize) -> SendError {
+    match status {
+        FAILED => SendError::Failed,
+        STALE => SendError::Stale,
+        TOO_OLD => SendError::TooOld,
+        WRONG_ARGS => SendError::WrongArgs { place },
+        BAD_OBJECT => SendError::BadObject { place },
+        BAD_BIND => SendError::BadBind,
+        TOO_LONG => SendError::TooLong,
+        FULL => SendError::Full,
+        NO_IDS => SendError::NoIds,
+        NO_MEMORY => SendError::NoMemory,
+        NOT_DROPPABLE => SendError::NotDroppable,
+        _ => SendError::NoSuchMessage,
+    }
+}
+
+fn sent(status: u32) -> Result<(), SendError> {
+    match status {
+        OK => Ok(()),
+        _ => Err(send_error(status, 0)),
+    }
+}
+
+fn global_error(status: u32) -> GlobalError {
+    match status {
+        FAILED => GlobalError::Failed,
+        TOO_MANY_GLOBALS => GlobalError::TooMany,
+        NO_SUCH_GLOBAL => GlobalError::NoSuchGlobal,
+        NO_MEMORY => GlobalError::NoMemory,
+        _ => GlobalError::BadGlobal,
+    }
+}
+
+macro_rules! end {
+    ($(#[$doc:meta])* $name:ident: $new:ident $free:ident $display:ident $live:ident $in_room:ident
+     $is_drained:ident $feed:ident $goes:ident $take:ident $send:ident $next:ident) => {
+        $(#[$doc])*
+        #[derive(Debug)]
+        pub struct $name {
+            at: NonNull<RawEnd>,
+            tables: PhantomData<Tables>,
+        }
+
+        impl Drop for $name {
+            fn drop(&mut self) {
+                // Safety: the end is the library's, and freed here alone.
+                unsafe { $free(self.at.as_ptr()) }
+            }
+        }
+
+        // Safety, for each call below: the end is the library's and lives as long as `self`, which
+        // is borrowed for the call; every other pointer leads to a local value or to a slice of the
+        // caller's that lasts longer than the call. None is null, so each call with a status that is
+        // not read answers OK.
+        impl $name {
+            pub fn new(tables: &Tables, sizes: &Sizes) -> Result<$name, NewError> {
+                let mut made = ptr::null_mut();
+                match unsafe { $new(tables.0.as_ptr(), sizes, &mut made) } {
+                    BAD_SIZES => Err(NewError::BadSizes),
+                    _ => match NonNull::new(made) {
+                        Some(at) => Ok($name { at, tables: PhantomData }),
+                        None => Err(NewError::NoMemory),
+                    },
+                }
+            }
+
+            pub fn display(&self) -> Object {
+                let mut display = Object::NONE;
+                unsafe { $display(self.at.as_ptr(), &mut display) };
+                display
+            }
+
+            pub fn live(&self, object: Object) -> Option<(Interface, u32)> {
+                let (mut interface, mut version) = (0, 0);
+                let status =
+                    unsafe { $live(self.at.as_ptr(), object, &mut interface, &mut version) };
+                (status == OK).then_some((Interface(interface), version))
+            }
+
+            pub fn in_room(&self) -> Amounts {
+                let mut room = Amounts::default();
+                unsafe { $in_room(self.at.as_ptr(), &mut room) };
+                room
+            }
+
+            pub fn is_drained(&self) -> bool {
+                let mut drained = false;
+                unsafe { $is_drained(self.at.as_ptr(), &mut drained) };
+                drained
+            }
+
+            pub fn feed(&mut self, bytes: &[u8], tokens: &[u32]) -> Amounts {
+                let mut fed = Amounts::default();
+                unsafe {
+                    $feed(self.at.as_ptr(), bytes.as_ptr().cast(), bytes.len(), tokens.as_ptr(),
+                        tokens.len(), &mut fed)
+                };
+                fed
+            }
+
+            pub fn goes(&self, bytes: usize, tokens: usize) -> Amounts {
+                let mut amounts = Amounts::default();
+                unsafe { $goes(self.at.as_ptr(), bytes, tokens, &mut amounts) };
+                amounts
+            }
+
+            pub fn take(&mut self, bytes: &mut [u8], tokens: &mut [u32]) -> Amounts {
+                let mut taken = Amounts::default();
+                unsafe {
+                    $take(self.at.as_ptr(), bytes.as_mut_ptr().cast(), bytes.len(),
+                        tokens.as_mut_ptr(), tokens.len(), &mut taken)
+                };
+                taken
+            }
+
+            pub fn send(
+                &mut self,
+                target: Object,
+                opcode: u16,
+                args: &[Arg<'_>],
+            ) -> Result<Option<Object>, SendError> {
+                // One more than a message can have, so that too many are refused at their place.
+                const MOST: usize = MAX_ARGS as usize + 1;
+                let mut given = [const { MaybeUninit::<RawArg>::uninit() }; MOST];
+                let count = args.len().min(MOST);
+                for (slot, arg) in given.iter_mut().zip(args) {
+                    slot.write(RawArg::of(arg));
+                }
+                let (mut made, mut place) = (Object::NONE, 0);
+                // Safety, besides: the first `count` arguments were written.
+                let status = unsafe {
+                    $send(self.at.as_ptr(), target, opcode, given.as_ptr().cast(), count,
+                        &mut made, &mut place)
+                };
+                match status {
+                    OK => Ok((made != Object::NONE).then_some(made)),
+                    _ => Err(send_error(status, place)),
+                }
+            }
+
+            pub fn next(&mut self, report: &mut Report) -> Result<(), NextError> {
+                let status = unsafe { $next(self.at.as_ptr(), report) };
+                report.result(status)
+            }
+        }
+    };
+}
+
+end!(
+    /// A client's end, freed when it is dropped.
+    Client: waywire_client_new waywire_client_free waywire_client_display waywire_client_live
+    waywire_client_in_room waywire_client_is_drained waywire_client_feed waywire_client_goes
+    waywire_client_take waywire_client_send waywire_client_next
+);
+end!(
+    /// A server's end, freed when it is dropped.
+    Server: waywire_server_new waywire_server_free waywire_server_display waywire_server_live
+    waywire_server_in_room waywire_server_is_drained waywire_server_feed waywire_server_goes
+    waywire_server_take waywire_server_send waywire_server_next
+);
+
+// Safety, for each call of these two: as for the calls that both ends have.
+impl Client {
+    pub fn bind(
+        &mut self,
+        registry: Object,
+        name: u32,
+        interface: &str,
+        version: u32,
+    ) -> Result<Object, SendError> {
+        // No interface has a NUL in its name.
+        let interface = CString::new(interface).map_err(|_| SendError::BadBind)?;
+        let mut bound = Object::NONE;
+        let status = unsafe {
+            waywire_client_bind(
+                self.at.as_ptr(),
+                registry,
+                name,
+                interface.as_ptr(),
+                version,
+                &mut bound,
+            )
+        };
+        sent(status).map(|()| bound)
+    }
+}
+
+impl Server {
+    pub fn add_global(&mut self, interface: u16, version: u32) -> Result<u32, GlobalError> {
+        let mut name = 0;
+        let status =
+            unsafe { waywire_server_add_global(self.at.as_ptr(), interface, version, &mut name) };
+        match status {
+            OK => Ok(name),
+            _ => Err(global_error(status)),
+        }
+    }
+
+    pub fn withdraw(&mut self, name: u32) -> Result<(), GlobalError> {
+        match unsafe { waywire_server_withdraw(self.at.as_ptr(), name) } {
+            OK => Ok(()),
+            status => Err(global_error(status)),
+        }
+    }
+
+    pub fn announce(&mut self) -> Result<usize, SendError> {
+        let mut count = 0;
+        let status = unsafe { waywire_server_announce(self.at.as_ptr(), &mut count) };
+        sent(status).map(|()| count)
+    }
+
+    pub fn drop_object(&mut self, object: Object) -> Result<(), SendError> {
+        sent(unsafe { waywire_server_drop_object(self.at.as_ptr(), object) })
+    }
+
+    pub fn post_error(&mut self, object: Object, code: u32, text: &str) -> Result<(), SendError> {
+        let text = text.split('\0').next().unwrap_or("");
+        let text = CString::new(text).unwrap_or_default();
+        sent(unsafe { waywire_server_post_error(self.at.as_ptr(), object, code, text.as_ptr()) })
+    }
+}
+
+#[cfg(test)]
+mod tests {
+    use super::*;
+    use std::mem::{offset_of, size_of};
+    use std::process::Command;
+
+    /// What a program in C says of the header: numbers, sizes and offsets, a line each.
+    fn said_by_c(expressions: &[String]) -> Vec<usize> {
+        let folder = std::env::temp_dir().join(format!("waywire-layout-{}", std::process::id()));
+        std::fs::create_dir_all(&folder).unwrap();
+        let lines: String =
+            expressions.iter().map(|it| format!("printf(\"%zu\\n\", (size_t)({it}));\n")).collect();
+        let source = folder.join("layout.c");
+        let text = format!(
+            "#include <stdio.h>\n#include <waywire.h>\nint main(void) {{\n{lines}return 0;\n}}\n"
+        );
+        std::fs::write(&source, text).unwrap();
+        let program = folder.join("layout");
+        let built = Command::new("cc")
+            .args(["-I", env!("WAYWIRE_INCLUDE"), "-o"])
+            .args([&program, &source])
+            .status()
+            .expect("a compiler for C");
+        assert!(built.success());
+        let output = Command::new(&program).output().unwrap().stdout;
+        std::fs::remove_dir_all(&folder).unwrap();
+        let text = String::from_utf8(output).unwrap();
+        text.lines().map(|it| it.parse().unwrap()).collect()
+    }
+
+    macro_rules! layout {
+        ($($type:ty, $header:literal: $($field:ident)*;)*) => {
+            vec![$(
+                (concat!("sizeof(", $header, ")").to_string(), size_of::<$type>()),
+                $((
+                    concat!("offsetof(", $header, ", ", stringify!($field), ")").to_string(),
+                    offset_of!($type, $field),
+                ),)*
+            )*]
+        };
+    }
+
+    #[test]
+    fn declarations_are_those_of_the_header() {
+        let mut wanted = layout! {
+            Amounts, "waywire_amounts": bytes tokens;
+            Sizes, "waywire_sizes": out_bytes out_tokens in_bytes in_tokens;
+            RawArg, "waywire_arg": kind i u object bytes length;
+            Report, "waywire_report": kind opcode target arg_count tokens token_count id code named
+                spelling text text_length place offset args;
+        };
+        wanted.push(("sizeof(waywire_object)".into(), size_of::<Object>()));
+        wanted.push(("sizeof(waywire_status)".into(), size_of::<u32>()));
+        wanted.extend(NUMBERS.iter().map(|(name, number)| (name.to_string(), *number as usize)));
+        let expressions: Vec<String> = wanted.iter().map(|it| it.0.clone()).collect();
+        let said = said_by_c(&expressions);
+        let found: Vec<(String, usize)> = expressions.into_iter().zip(said).collect();
+        assert_eq!(found, wanted);
+    }
+}

@@ -1,0 +1,86 @@
+//! The interfaces that ends know, and the objects that are of them.
+
+use crate::error::{NewError, TablesError};
+use crate::sys;
+use std::fmt;
+
+/// An object: its id, and its birth, which tells it from every other object that ever had this id.
+///
+/// It is a plain value. Every call refuses an object that is gone, so one that is kept too long does
+/// no harm. Births count from 0 at each end: keep an object with its end, since no call can tell it
+/// from an object of another connection.
+#[derive(Clone, Copy, PartialEq, Eq, Hash, PartialOrd, Ord)]
+#[repr(C)]
+pub struct Object {
+    birth: u64,
+    id: u32,
+}
+
+impl Object {
+    /// The id on the wire.
+    pub fn id(self) -> u32 {
+        self.id
+    }
+
+    /// The number of the object among all that its end ever had, wl_display being 0.
+    pub fn birth(self) -> u64 {
+        self.birth
+    }
+
+    pub(crate) const NONE: Object = Object { birth: 0, id: 0 };
+}
+
+impl fmt::Debug for Object {
+    fn fmt(&self, f: &mut fmt::Formatter<'_>) -> fmt::Result {
+        write!(f, "{}/{}", self.id, self.birth)
+    }
+}
+
+/// An interface: its place in the tables.
+#[derive(Clone, Copy, Debug, PartialEq, Eq, Hash)]
+pub struct Interface(pub(crate) u16);
+
+/// The interfaces, with the signatures of their messages.
+///
+/// They never change, and are kept until the process ends (some 10 KB): make them once for all ends.
+#[derive(Clone, Debug)]
+pub struct Tables(pub(crate) sys::Tables);
+
+impl Tables {
+    /// The interfaces of the core protocol, wayland.xml without data transfer.
+    pub fn core() -> Result<Tables, NewError> {
+        sys::Tables::core().map(Tables)
+    }
+
+    /// These interfaces, and behind them those that a text declares.
+    ///
+    /// `waywire-tables-from-xml` writes such a text of a protocol's XML.
+    ///
+    /// ```
+    /// # use waywire::{Tables, TablesError};
+    /// let core = Tables::core().unwrap();
+    /// let text = b"interface wp_thing 2\nrequest destroy D\n";
+    /// let more = core.read(text).unwrap();
+    /// let thing = more.interface("wp_thing").unwrap();
+    /// assert_eq!(more.version(thing), Some(2));
+    /// assert_eq!(core.read(b"nonsense").unwrap_err(), TablesError::BadLine { line: 1 });
+    /// ```
+    pub fn read(&self, text: &[u8]) -> Result<Tables, TablesError> {
+        self.0.read(text).map(Tables)
+    }
+
+    /// The interface of a name.
+    pub fn interface(&self, name: &str) -> Option<Interface> {
+        self.0.interface(name).map(Interface)
+    }
+
+    /// The name of an interface. `None` for one of other tables, past these.
+    pub fn name(&self, interface: Interface) -> Option<&str> {
+        self.0.name(interface.0)
+    }
+
+    /// The newest version of an interface. `None` for one of other tables, past these.
+    pub fn version(&self, interface: Interface) -> Option<u32> {
+        self.0.version(interface.0)
+    }
+}

@@ -1,0 +1,294 @@
+/* What passes through the library's pointers, at its edges: places, names, spellings, the last slot of a
+ * report, sizes, tables over tables, a full outbox; and the numbers and texts that the header makes itself. */
+#include "must.h"
+
+#include <limits.h>
+#include <math.h>
+
+static waywire_tables *tables;
+static const waywire_sizes sizes = { 65536, 64, 65536, 64 };
+
+struct pair {
+	waywire_client *client;
+	waywire_server *server;
+	waywire_object display, registry;
+};
+
+static void to_server(struct pair *pair)
+{
+	unsigned char bytes[65536];
+	uint32_t tokens[64];
+	waywire_amounts taken, fed;
+	MUST(!waywire_client_take(pair->client, bytes, sizeof bytes, tokens, 64, &taken));
+	MUST(!waywire_server_feed(pair->server, bytes, taken.bytes, tokens, taken.tokens, &fed));
+	MUST(fed.bytes == taken.bytes && fed.tokens == taken.tokens);
+}
+
+static void to_client(struct pair *pair)
+{
+	unsigned char bytes[65536];
+	uint32_t tokens[64];
+	waywire_amounts taken, fed;
+	MUST(!waywire_server_take(pair->server, bytes, sizeof bytes, tokens, 64, &taken));
+	MUST(!waywire_client_feed(pair->client, bytes, taken.bytes, tokens, taken.tokens, &fed));
+	MUST(fed.bytes == taken.bytes && fed.tokens == taken.tokens);
+}
+
+static void open_pair(struct pair *pair, const waywire_tables *of)
+{
+	waywire_report report;
+	MUST(!waywire_client_new(of, &sizes, &pair->client));
+	MUST(!waywire_server_new(of, &sizes, &pair->server));
+	MUST(!waywire_client_display(pair->client, &pair->display));
+	pair->registry = waywire_wl_display_get_registry(pair->client, pair->display, NULL);
+	to_server(pair);
+	MUST(!waywire_server_next(pair->server, &report) && report.kind == WAYWIRE_MESSAGE);
+}
+
+static void close_pair(struct pair *pair)
+{
+	waywire_client_free(pair->client);
+	waywire_server_free(pair->server);
+}
+
+/* Advertises an interface, and returns an object of it that both ends have. */
+static waywire_object bound(struct pair *pair, const waywire_tables *of, const char *interface)
+{
+	uint16_t place;
+	uint32_t version, name = 0, last = 0;
+	waywire_report report;
+	waywire_object made;
+	MUST(!waywire_tables_interface(of, interface, &place));
+	MUST(!waywire_tables_version(of, place, &version));
+	MUST(!waywire_server_add_global(pair->server, place, version, &name));
+	MUST(!waywire_server_announce(pair->server, NULL));
+	to_client(pair);
+	do {
+		MUST(!waywire_client_next(pair->client, &report));
+		if (report.kind == WAYWIRE_MESSAGE)
+			last = report.args[0].u;
+	} while (report.kind != WAYWIRE_NOTHING);
+	MUST(name == last); /* the name that is returned is the one that is told */
+	MUST(!waywire_client_bind(pair->client, pair->registry, name, interface, version, &made));
+	to_server(pair);
+	MUST(!waywire_server_next(pair->server, &report) && report.kind == WAYWIRE_MESSAGE);
+	MUST(waywire_object_equal(report.args[1].object, made) && report.args[1].u == version);
+	return made;
+}
+
+/* The place of a refused argument, for each of the two causes, and nothing else written. */
+static void places(void)
+{
+	struct pair pair;
+	open_pair(&pair, tables);
+	waywire_object compositor = bound(&pair, tables, "wl_compositor");
+	waywire_object subcompositor = bound(&pair, tables, "wl_subcompositor");
+	waywire_object one = waywire_wl_compositor_create_surface(pair.client, compositor, NULL);
+	waywire_arg args[] = { waywire_new(), waywire_of(one), waywire_of(compositor) };
+	waywire_object made = { 5, 6 };
+	size_t place = 77;
+	MUST(waywire_client_send(pair.client, subcompositor, 1, args, 3, &made, &place)
+		== WAYWIRE_BAD_OBJECT);
+	MUST(place == 2 && made.id == 6 && made.birth == 5);
+	args[2] = waywire_no_object();
+	MUST(waywire_client_send(pair.client, subcompositor, 1, args, 3, NULL, &place)
+		== WAYWIRE_WRONG_ARGS);
+	MUST(place == 2);
+	args[2] = waywire_of(made); /* OBJECT with an id is an object, whatever it is */
+	args[2].object.id = 0;
+	MUST(waywire_client_send(pair.client, subcompositor, 1, args, 3, NULL, &place)
+		== WAYWIRE_BAD_OBJECT);
+	place = 77;
+	MUST(waywire_client_send(pair.client, made, 1, args, 3, NULL, &place) == WAYWIRE_STALE);
+	MUST(place == 77);
+	MUST(!waywire_client_send(pair.client, one, WAYWIRE_WL_SURFACE_REQUEST_COMMIT, NULL, 0, &made, &place));
+	MUST(made.id == 0); /* nothing is made */
+	close_pair(&pair);
+}
+
+/* An attach with OBJECT and id 0 where null is allowed: it is no null. */
+static void object_without_id(void)
+{
+	struct pair pair;
+	open_pair(&pair, tables);
+	waywire_object compositor = bound(&pair, tables, "wl_compositor");
+	waywire_object surface = waywire_wl_compositor_create_surface(pair.client, compositor, NULL);
+	waywire_object none = { 0, 0 };
+	waywire_arg args[] = { waywire_of(none), waywire_int(0), waywire_int(0) };
+	size_t place = 7;
+	MUST(waywire_client_send(pair.client, surface, WAYWIRE_WL_SURFACE_REQUEST_ATTACH, args, 3, NULL, &place)
+		== WAYWIRE_BAD_OBJECT && place == 0);
+	close_pair(&pair);
+}
+
+/* Raw bytes at a fresh server that has a registry with id 2: the fault of the message. */
+static waywire_report fault(const unsigned char *bytes, size_t length, waywire_status wanted)
+{
+	struct pair pair;
+	waywire_report report;
+	waywire_amounts fed;
+	open_pair(&pair, tables);
+	MUST(!waywire_server_feed(pair.server, bytes, length, NULL, 0, &fed) && fed.bytes == length);
+	MUST(waywire_server_next(pair.server, &report) == wanted && report.kind == WAYWIRE_FAULT);
+	MUST(report.offset == 12);
+	close_pair(&pair);
+	return report;
+}
+
+/* Binds whose interface has no ending NUL, a NUL inside, or whose new id is in use. */
+static void faults(void)
+{
+	static const unsigned char without[] = { 2, 0, 0, 0, 0, 0, 28, 0, 1, 0, 0, 0, 2, 0, 0, 0, 'a', 'b', 0, 0,
+		1, 0, 0, 0, 3, 0, 0, 0 };
+	static const unsigned char inside[] = { 2, 0, 0, 0, 0, 0, 28, 0, 1, 0, 0, 0, 4, 0, 0, 0, 'a', 0, 'b', 0,
+		1, 0, 0, 0, 3, 0, 0, 0 };
+	static const unsigned char used[] = { 2, 0, 0, 0, 0, 0, 28, 0, 1, 0, 0, 0, 3, 0, 0, 0, 'a', 'b', 0, 0,
+		1, 0, 0, 0, 2, 0, 0, 0 };
+	waywire_report report = fault(without, sizeof without, WAYWIRE_FAULT_BAD_ARGUMENT);
+	MUST(report.place == 1 && report.spelling == 3);
+	report = fault(inside, sizeof inside, WAYWIRE_FAULT_BAD_ARGUMENT);
+	MUST(report.place == 1 && report.spelling == 4);
+	report = fault(used, sizeof used, WAYWIRE_FAULT_BAD_NEW_ID);
+	MUST(report.place == 1 && report.spelling == 0);
+	MUST(waywire_is_fault(WAYWIRE_FAULT_BAD_SIZE) && waywire_is_fault(WAYWIRE_FAULT_TOO_MANY_OBJECTS));
+	MUST(!waywire_is_fault(WAYWIRE_OUT_FULL) && !waywire_is_fault(WAYWIRE_NO_SUCH_GLOBAL));
+}
+
+/* A message of 20 arguments passes whole, one of 21 is refused, also where 20 would fit. */
+static void twenty(void)
+{
+	static const char text[] = "interface many 1\n"
+		"request most i i i i i i i i i i i i i i i i i i i i\n";
+	static waywire_tables *more, *again; /* never freed */
+	struct pair pair;
+	waywire_report report;
+	waywire_arg args[21];
+	uint16_t interface;
+	size_t place = 7;
+	MUST(!waywire_tables_read(tables, text, strlen(text), &more, NULL, NULL));
+	MUST(!waywire_tables_read(more, "interface last 1\n", 17, &again, NULL, NULL));
+	MUST(!waywire_tables_interface(again, "last", &interface) && interface == 20);
+	open_pair(&pair, again);
+	waywire_object many = bound(&pair, again, "many");
+	for (int each = 0; each < 21; each++)
+		args[each] = waywire_int(each + 1);
+	MUST(waywire_client_send(pair.client, many, 0, args, 21, NULL, &place) == WAYWIRE_WRONG_ARGS);
+	MUST(place == 20);
+	MUST(!waywire_client_send(pair.client, many, 0, args, 20, NULL, NULL));
+	to_server(&pair);
+	MUST(!waywire_server_next(pair.server, &report) && report.arg_count == 20);
+	for (int each = 0; each < 20; each++)
+		MUST(report.args[each].kind == WAYWIRE_INT && report.args[each].i == each + 1);
+	close_pair(&pair);
+}
+
+/* A destroying request waits while the outbox has no room for its delete_id, and is read then. */
+static void full(void)
+{
+	struct pair pair;
+	waywire_sizes narrow = { 40, 4, 4096, 20 };
+	unsigned char bytes[64];
+	waywire_amounts taken;
+	waywire_report report;
+	open_pair(&pair, tables);
+	waywire_server_free(pair.server);
+	MUST(!waywire_server_new(tables, &narrow, &pair.server));
+	waywire_client_free(pair.client);
+	MUST(!waywire_client_new(tables, &sizes, &pair.client));
+	pair.registry = waywire_wl_display_get_registry(pair.client, pair.display, NULL);
+	to_server(&pair);
+	MUST(!waywire_server_next(pair.server, &report));
+	waywire_object compositor = bound(&pair, tables, "wl_compositor");
+	waywire_object region = waywire_wl_compositor_create_region(pair.client, compositor, NULL);
+	waywire_object callback = waywire_wl_display_sync(pair.client, pair.display, NULL);
+	MUST(!waywire_wl_region_destroy(pair.client, region));
+	to_server(&pair);
+	MUST(!waywire_server_next(pair.server, &report) && !waywire_server_next(pair.server, &report));
+	MUST(!waywire_wl_callback_send_done(pair.server, callback, 1)); /* 24 bytes; 16 are left */
+	MUST(!waywire_server_next(pair.server, &report) && report.kind == WAYWIRE_MESSAGE); /* 4 are left */
+	region = waywire_wl_compositor_create_region(pair.client, compositor, NULL);
+	MUST(!waywire_wl_region_destroy(pair.client, region));
+	to_server(&pair);
+	MUST(!waywire_server_next(pair.server, &report));
+	MUST(waywire_server_next(pair.server, &report) == WAYWIRE_OUT_FULL && report.kind == WAYWIRE_NOTHING);
+	MUST(!waywire_server_take(pair.server, bytes, sizeof bytes, NULL, 0, &taken) && taken.bytes == 36);
+	MUST(!waywire_server_next(pair.server, &report) && report.kind == WAYWIRE_MESSAGE);
+	MUST(waywire_object_equal(report.target, region));
+	close_pair(&pair);
+}
+
+/* An error that names an object which the client has destroyed, and a text that is too long for it. */
+static void errors(void)
+{
+	struct pair pair;
+	waywire_report report;
+	open_pair(&pair, tables);
+	waywire_object compositor = bound(&pair, tables, "wl_compositor");
+	waywire_object region = waywire_wl_compositor_create_region(pair.client, compositor, NULL);
+	to_server(&pair);
+	MUST(!waywire_server_next(pair.server, &report));
+	MUST(!waywire_wl_region_destroy(pair.client, region));
+	/* 39 bytes, and then a character of two: the 40th byte would cut it */
+	MUST(!waywire_server_post_error(pair.server, region, 3,
+		"a text that has thirty-nine bytes of it" "\xc3\xa9" " and more"));
+	to_client(&pair);
+	MUST(!waywire_client_next(pair.client, &report) && report.kind == WAYWIRE_ERROR);
+	MUST(report.named == WAYWIRE_DEAD_OBJECT && waywire_object_equal(report.target, region));
+	MUST(report.id == region.id && report.code == 3 && report.text_length == 39);
+	MUST(!strcmp(report.text, "a text that has thirty-nine bytes of it"));
+	close_pair(&pair);
+}
+
+/* The greatest sizes, and one more. */
+static void greatest(void)
+{
+	waywire_sizes most = { 16777216, 65536, 16777216, 65536 }, more;
+	waywire_amounts room;
+	waywire_client *client = NULL;
+	MUST(!waywire_client_new(tables, &most, &client));
+	MUST(!waywire_client_in_room(client, &room) && room.bytes == 16777216 && room.tokens == 65536);
+	waywire_client_free(client);
+	more = most, more.in_bytes++;
+	MUST(waywire_client_new(tables, &more, &client) == WAYWIRE_BAD_SIZES);
+	more = most, more.out_bytes++;
+	MUST(waywire_client_new(tables, &more, &client) == WAYWIRE_BAD_SIZES);
+	more = most, more.in_tokens++;
+	MUST(waywire_client_new(tables, &more, &client) == WAYWIRE_BAD_SIZES);
+	more = most, more.out_tokens++;
+	MUST(waywire_client_new(tables, &more, &client) == WAYWIRE_BAD_SIZES);
+	/* the outbox is as large as it was asked for, and not as the inbox: a request of 12 bytes is too much */
+	waywire_sizes unlike = { 8, 1, 4096, 20 };
+	waywire_object display, none;
+	waywire_status status;
+	MUST(!waywire_client_new(tables, &unlike, &client) && !waywire_client_display(client, &display));
+	none = waywire_wl_display_sync(client, display, &status);
+	MUST(status == WAYWIRE_FULL && none.id == 0);
+	waywire_client_free(client);
+}
+
+static void numbers(void)
+{
+	MUST(waywire_fixed_from_double(2.5) == 640 && waywire_fixed_to_double(640) == 2.5);
+	MUST(waywire_fixed_from_double(-1) == -256 && waywire_fixed_to_double(-1) == -0.00390625);
+	MUST(waywire_fixed_from_double(1e300) == INT32_MAX && waywire_fixed_from_double(-1e300) == INT32_MIN);
+	MUST(waywire_fixed_from_double(8388607.99609375) == INT32_MAX);
+	MUST(waywire_fixed_from_double(-8388608) == INT32_MIN);
+	MUST(waywire_fixed_from_double((double)NAN) == 0);
+	for (int64_t parts = INT32_MIN; parts <= INT32_MAX; parts += 65521)
+		MUST(waywire_fixed_from_double(waywire_fixed_to_double((int32_t)parts)) == parts);
+}
+
+int main(void)
+{
+	MUST(!waywire_tables_core(&tables));
+	places();
+	object_without_id();
+	faults();
+	twenty();
+	full();
+	errors();
+	greatest();
+	numbers();
+	printf("edges: ok\n");
+	return 0;
+}
