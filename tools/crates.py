@@ -1,7 +1,11 @@
-"""The crates of crates.txt: their kinds, and what each stands on."""
+"""The crates of crates.txt: their kinds, what each stands on, and which files are out of layout."""
 
+import filecmp
 import os
 import re
+import shutil
+import subprocess
+import tempfile
 from typing import NamedTuple
 
 TOP = os.path.dirname(os.path.dirname(os.path.realpath(__file__)))
@@ -56,3 +60,20 @@ def nearest(crates):
         own = [it for it in crate.uses if it in crates]
         found[name] = [it for it in own if not any(it in under[other] for other in own)]
     return found
+
+
+def files_below(folder):
+    return [f"{at}/{name}" for at, _, names in os.walk(folder) for name in names]
+
+
+def out_of_layout(name):
+    """Returns the files of a crate that `rt fmt`, run on a copy of the crate, would change."""
+    folder = f"{TOP}/crates/{name}"
+    with tempfile.TemporaryDirectory() as room:
+        for part in ("src", "specs", "proofs"):
+            if os.path.isdir(f"{folder}/{part}"):
+                shutil.copytree(f"{folder}/{part}", f"{room}/{part}")
+        subprocess.run(["rt", "fmt"], cwd=room, stdin=subprocess.DEVNULL, capture_output=True, check=False)
+        names = [os.path.relpath(it, room) for it in files_below(room)]
+        _, *differ = filecmp.cmpfiles(room, folder, names, shallow=False)
+    return sorted(sum(differ, []))
