@@ -2,7 +2,7 @@
 #include "must.h"
 
 static const waywire_sizes sizes = { 65536, 64, 4096, 20 };
-static waywire_tables *tables, *joined;
+static waywire_tables *tables;
 static waywire_client *client;
 static waywire_server *server;
 static waywire_object display = { 0, 1 };
@@ -26,6 +26,7 @@ static void nulls(void)
 	MUST(waywire_client_send(client, display, 0, NULL, 1, NULL, NULL) == WAYWIRE_NULL);
 	MUST(waywire_client_bind(client, display, 1, NULL, 1, NULL) == WAYWIRE_NULL);
 	MUST(waywire_server_post_error(server, display, 0, NULL) == WAYWIRE_NULL);
+	waywire_tables_free(NULL);
 	waywire_client_free(NULL);
 	waywire_server_free(NULL);
 }
@@ -136,7 +137,7 @@ static void more_tables(void)
 	static const char good[] = "interface wp_thing 2\nrequest destroy D\nrequest set_name s @2\n";
 	static const char bad[] = "interface wp_thing 2\n\nnonsense\n";
 	static const char broken[] = "interface wl_seat 1\n";
-	waywire_tables *more = NULL;
+	waywire_tables *joined, *more = NULL;
 	uint16_t interface;
 	uint32_t version, rule = 0;
 	size_t line = 0;
@@ -150,6 +151,7 @@ static void more_tables(void)
 		== WAYWIRE_BAD_TABLE);
 	MUST(line == 1 && rule == 1 && !more);
 	MUST(waywire_tables_read(tables, NULL, 3, &more, NULL, NULL) == WAYWIRE_NULL);
+	waywire_tables_free(joined);
 }
 
 static void texts(void)
@@ -180,6 +182,7 @@ int main(void)
 	texts();
 	waywire_client_free(client);
 	waywire_server_free(server);
+	waywire_tables_free(tables);
 	printf("values: ok\n");
 	return 0;
 }
