@@ -352,6 +352,18 @@ waywire_status waywire_tables_version(const waywire_tables *tables, uint16_t int
 		free(it); \
 	} \
 \
+	/* Whether an end has failed: it then says so of each message, before it looks at it. No interface \
+	 * has this one, so it is refused anyway, and the end stays as it is. */ \
+	static bool end##_has_failed(struct handle *handle) \
+	{ \
+		waywire_arg no_arg; \
+		waywire_object display, no_object; \
+		size_t no_place; \
+		waywire_c_##end##_display(handle, &display); \
+		return waywire_c_##end##_send(handle, display, UINT16_MAX, &no_arg, 0, &no_object, \
+			&no_place) == WAYWIRE_FAILED; \
+	} \
+\
 	waywire_status waywire_##end##_display(const waywire_##end *it, waywire_object *display) \
 	{ \
 		if (!it || !display) \
@@ -396,9 +408,12 @@ waywire_status waywire_tables_version(const waywire_tables *tables, uint16_t int
 		waywire_status status = slice(&bytes, length, 1); \
 		if (!status) \
 			status = slice(&from, token_count, sizeof *tokens); \
-		if (!status) \
-			waywire_c_##end##_feed(&it->handle, bytes, length, from, token_count, fed); \
-		return status; \
+		if (status) \
+			return status; \
+		waywire_c_##end##_feed(&it->handle, bytes, length, from, token_count, fed); \
+		if (fed->bytes || fed->tokens || !end##_has_failed(&it->handle)) \
+			return WAYWIRE_OK; \
+		return WAYWIRE_FAILED; \
 	} \
 \
 	waywire_status waywire_##end##_goes(const waywire_##end *it, size_t bytes, size_t tokens, \

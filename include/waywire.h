@@ -294,7 +294,7 @@ typedef enum waywire_report_kind {
 
 /* What `next` read. It points into the end, and is lent until the end's next call of any kind; that call may
  * be given what was lent, as the interface of a `global` to `bind`. Strings end with a NUL that their length
- * does not count. */
+ * does not count. What lies behind the first `arg_count` of `args` is not written. */
 typedef struct waywire_report {
 	uint32_t kind; /* a waywire_report_kind */
 	uint32_t opcode;
@@ -350,7 +350,8 @@ waywire_status waywire_tables_version(const waywire_tables *tables, uint16_t int
 
 /* ---- a client */
 
-/* The client's end of a connection: its objects, its inbox and outbox, the globals that it was told of. */
+/* The client's end of a connection: its objects, its inbox and outbox, the globals that it was told of. It
+ * remembers 1,024 globals at a time; one that it is told of beyond these cannot be bound. */
 typedef struct waywire_client waywire_client;
 
 /* Makes a client with wl_display alone, an empty inbox and an empty outbox. The caller frees it.
@@ -392,8 +393,8 @@ waywire_status waywire_client_bind(waywire_client *client, waywire_object regist
 	const char *interface, uint32_t version, waywire_object *bound);
 
 /* Copies what came into the inbox: as many tokens as fit, and if these are all, as many bytes as fit.
- * `fed` says how much that was; feed the rest again later. A failed client takes nothing in. `bytes`
- * and `tokens` may be null where their length is 0. */
+ * `fed` says how much that was; feed the rest again later, after `next`. A failed client takes nothing in:
+ * WAYWIRE_FAILED, and `fed` gets zeros. `bytes` and `tokens` may be null where their length is 0. */
 waywire_status waywire_client_feed(waywire_client *client, const void *bytes, size_t length,
 	const uint32_t *tokens, size_t token_count, waywire_amounts *fed);
 
@@ -410,8 +411,9 @@ waywire_status waywire_client_take(waywire_client *client, void *bytes, size_t l
 /* Reads the next message once it is whole; `report` says WAYWIRE_NOTHING before. Its report is lent
  * until the client's next call of any kind. It allocates nothing.
  * With a status of WAYWIRE_FAULT_.. the report is written too (kind WAYWIRE_FAULT) and the client has
- * failed for good, as it has after a report WAYWIRE_ERROR. WAYWIRE_FAILED where it had failed before;
- * the report then says WAYWIRE_NOTHING. */
+ * failed for good, as it has after a report WAYWIRE_ERROR. It writes nothing to the server about that; what
+ * waited in the outbox can still be taken. WAYWIRE_FAILED where it had failed before; the report then says
+ * WAYWIRE_NOTHING. */
 waywire_status waywire_client_next(waywire_client *client, waywire_report *report);
 
 /* ---- a server */

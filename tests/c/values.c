@@ -106,14 +106,34 @@ static void faults(void)
 	MUST(report.kind == WAYWIRE_FAULT && report.place == 0 && report.offset == 0);
 	MUST(waywire_server_next(server, &report) == WAYWIRE_FAILED);
 	MUST(waywire_server_post_error(server, display, 1, "x") == WAYWIRE_FAILED);
+	MUST(waywire_server_feed(server, bytes, 1, NULL, 0, &amounts) == WAYWIRE_FAILED);
+	MUST(amounts.bytes == 0 && amounts.tokens == 0);
+	MUST(waywire_server_feed(server, NULL, 0, NULL, 0, &amounts) == WAYWIRE_FAILED);
 	MUST(!waywire_server_take(server, bytes, sizeof bytes, NULL, 0, &amounts));
-	MUST(amounts.bytes == 32);
+	MUST(amounts.bytes == 32); /* what was asked of it since left nothing there */
 	MUST(!waywire_client_feed(client, bytes, amounts.bytes, NULL, 0, &amounts));
 	MUST(!waywire_client_next(client, &report));
 	MUST(report.kind == WAYWIRE_ERROR && report.id == 1 && report.code == 1);
 	MUST(report.named == WAYWIRE_OBJECT && waywire_object_equal(report.target, display));
 	MUST(!strcmp(report.text, "bad new id") && report.text_length == 10);
 	MUST(waywire_client_next(client, &report) == WAYWIRE_FAILED);
+	MUST(waywire_client_feed(client, bytes, 1, NULL, 0, &amounts) == WAYWIRE_FAILED);
+	MUST(amounts.bytes == 0 && amounts.tokens == 0);
+}
+
+/* An inbox that is full takes nothing, and its end has not failed. */
+static void full(void)
+{
+	static unsigned char bytes[4096];
+	static const uint32_t tokens[20] = { 0 };
+	waywire_server *other;
+	waywire_amounts amounts;
+	MUST(!waywire_server_new(tables, &sizes, &other));
+	MUST(!waywire_server_feed(other, bytes, sizeof bytes, tokens, 20, &amounts));
+	MUST(amounts.bytes == 4096 && amounts.tokens == 20);
+	MUST(!waywire_server_feed(other, bytes, 1, tokens, 1, &amounts));
+	MUST(amounts.bytes == 0 && amounts.tokens == 0);
+	waywire_server_free(other);
 }
 
 static void misspelled(void)
@@ -177,6 +197,7 @@ int main(void)
 	kinds();
 	calls();
 	faults();
+	full();
 	misspelled();
 	more_tables();
 	texts();
