@@ -88,6 +88,7 @@ install: all
 	for file in waywire-config.cmake waywire-config-version.cmake; do \
 		$(call fill,$(LIBDIR)/cmake/waywire) c/$$file.in > $(DESTDIR)$(LIBDIR)/cmake/waywire/$$file; \
 	done
+	chmod 644 $(DESTDIR)$(LIBDIR)/pkgconfig/waywire.pc $(DESTDIR)$(LIBDIR)/cmake/waywire/*.cmake
 	install -m 644 examples/tables/*.tables $(DESTDIR)$(DATADIR)/waywire/tables
 	install -m 644 docs/FORMATS.md $(DESTDIR)$(DATADIR)/doc/waywire
 	install -m 644 tools/protocol.py tools/reference.py tools/valid_tables.py tools/core.tables tools/core.xml \
@@ -99,7 +100,8 @@ install: all
 	if [ -x $(program) ]; then \
 		install -d $(DESTDIR)$(DATADIR)/man/man1 && \
 		install -m 755 $(program) $(DESTDIR)$(BINDIR) && \
-		tools/man-page $(program) > $(DESTDIR)$(DATADIR)/man/man1/waywire.1; \
+		tools/man-page $(program) > $(DESTDIR)$(DATADIR)/man/man1/waywire.1 && \
+		chmod 644 $(DESTDIR)$(DATADIR)/man/man1/waywire.1; \
 	fi
 
 # Made twice, the package has the same bytes.

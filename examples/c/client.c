@@ -94,7 +94,7 @@ static void wait_for(const bool *flag)
 {
 	while (!*flag) {
 		waywire_report report;
-		if (link_wait(&link_to, 5000) <= 0)
+		if (link_wait(&link_to, 20000) <= 0)
 			fail("the connection", "it ended, or nothing came");
 		do {
 			must(waywire_client_next(client, &report));
