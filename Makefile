@@ -53,10 +53,16 @@ out/c/calls.o: c/waywire.c include/waywire.h include/waywire-version.h
 	@mkdir -p out/c
 	$(CC) $(CFLAGS) -std=c99 -Wall -Wextra -Wpedantic -fPIC -Iinclude -c $< -o $@
 
-# One object of the calls, the exports and the toolchain's memory, in which only the calls are global.
-out/c/waywire.o: $(proved) out/c/calls.o
-	$(LD) -r --whole-archive $(proved) --no-whole-archive out/c/calls.o $(KIT)/c/liblibc_c.a -o out/c/whole.o
-	nm -g --defined-only out/c/calls.o | sed -n 's/.* T //p' > out/c/calls.txt
+# The toolchain's memory, over what c/waywire.c has in place of `malloc`, `realloc` and `free`.
+out/c/memory.a: Makefile
+	@mkdir -p out/c
+	$(OBJCOPY) --redefine-sym malloc=memory_malloc --redefine-sym realloc=memory_realloc \
+		--redefine-sym free=memory_free $(KIT)/c/liblibc_c.a $@
+
+# One object of the calls, the exports and the memory, in which only the calls are global.
+out/c/waywire.o: $(proved) out/c/calls.o out/c/memory.a
+	$(LD) -r --whole-archive $(proved) --no-whole-archive out/c/calls.o out/c/memory.a -o out/c/whole.o
+	nm -g --defined-only out/c/calls.o | sed -n 's/.* T \(waywire_\)/\1/p' > out/c/calls.txt
 	$(OBJCOPY) --keep-global-symbols=out/c/calls.txt out/c/whole.o $@
 	@rm -f out/c/whole.o
 
@@ -82,6 +88,7 @@ install: all
 	for file in waywire-config.cmake waywire-config-version.cmake; do \
 		$(call fill,$(LIBDIR)/cmake/waywire) c/$$file.in > $(DESTDIR)$(LIBDIR)/cmake/waywire/$$file; \
 	done
+	chmod 644 $(DESTDIR)$(LIBDIR)/pkgconfig/waywire.pc $(DESTDIR)$(LIBDIR)/cmake/waywire/*.cmake
 	install -m 644 examples/tables/*.tables $(DESTDIR)$(DATADIR)/waywire/tables
 	install -m 644 docs/FORMATS.md $(DESTDIR)$(DATADIR)/doc/waywire
 	install -m 644 tools/protocol.py tools/reference.py tools/valid_tables.py tools/core.tables tools/core.xml \
@@ -93,7 +100,8 @@ install: all
 	if [ -x $(program) ]; then \
 		install -d $(DESTDIR)$(DATADIR)/man/man1 && \
 		install -m 755 $(program) $(DESTDIR)$(BINDIR) && \
-		tools/man-page $(program) > $(DESTDIR)$(DATADIR)/man/man1/waywire.1; \
+		tools/man-page $(program) > $(DESTDIR)$(DATADIR)/man/man1/waywire.1 && \
+		chmod 644 $(DESTDIR)$(DATADIR)/man/man1/waywire.1; \
 	fi
 
 # Made twice, the package has the same bytes.

@@ -2,8 +2,10 @@
  *
  * An export relies on its types and tests nothing: a slice is a pointer that is not null and a length of
  * at most PTRDIFF_MAX, and an out-parameter is never null. So each call here tests what C may pass
- * wrongly. An export takes the address of a handle, so each call puts the caller's pointer into one. */
+ * wrongly. An export takes the address of a handle, which tables and ends begin with here. */
 #include "waywire.h"
+
+#include <stdlib.h>
 
 /* A pointer to the tables or the end that an export made. */
 struct handle {
@@ -11,25 +13,25 @@ struct handle {
 };
 
 uint32_t waywire_c_tables_core(void **tables);
-uint32_t waywire_c_tables_read(struct handle *, const void *text, size_t length, void **more,
+uint32_t waywire_c_tables_read(const struct handle *, const void *text, size_t length, void **more,
 	size_t *line, uint32_t *rule);
-uint32_t waywire_c_tables_interface(struct handle *, const void *name, size_t length,
+uint32_t waywire_c_tables_interface(const struct handle *, const void *name, size_t length,
 	uint16_t *interface);
-uint32_t waywire_c_tables_name(struct handle *, uint16_t interface, const void **name,
+uint32_t waywire_c_tables_name(const struct handle *, uint16_t interface, const void **name,
 	size_t *length);
-uint32_t waywire_c_tables_version(struct handle *, uint16_t interface, uint32_t *version);
+uint32_t waywire_c_tables_version(const struct handle *, uint16_t interface, uint32_t *version);
 
 #define EXPORTS_OF_BOTH(end) \
-	uint32_t waywire_c_##end##_new(struct handle *tables, const waywire_sizes *, void **made); \
+	uint32_t waywire_c_##end##_new(const struct handle *tables, const waywire_sizes *, void **made); \
 	void waywire_c_##end##_free(struct handle); \
-	void waywire_c_##end##_display(struct handle *, waywire_object *display); \
-	uint32_t waywire_c_##end##_live(struct handle *, waywire_object, uint16_t *interface, \
+	void waywire_c_##end##_display(const struct handle *, waywire_object *display); \
+	uint32_t waywire_c_##end##_live(const struct handle *, waywire_object, uint16_t *interface, \
 		uint32_t *version); \
-	void waywire_c_##end##_in_room(struct handle *, waywire_amounts *room); \
-	bool waywire_c_##end##_is_drained(struct handle *); \
+	void waywire_c_##end##_in_room(const struct handle *, waywire_amounts *room); \
+	bool waywire_c_##end##_is_drained(const struct handle *); \
 	void waywire_c_##end##_feed(struct handle *, const void *bytes, size_t length, \
 		const uint32_t *tokens, size_t token_count, waywire_amounts *fed); \
-	void waywire_c_##end##_goes(struct handle *, size_t bytes, size_t tokens, \
+	void waywire_c_##end##_goes(const struct handle *, size_t bytes, size_t tokens, \
 		waywire_amounts *amounts); \
 	void waywire_c_##end##_take(struct handle *, void *bytes, size_t length, uint32_t *tokens, \
 		size_t token_count, waywire_amounts *taken); \
@@ -118,17 +120,139 @@ static void finish(waywire_report *report)
 			report->args[place].bytes = nowhere;
 }
 
+/* ---- the memory of tables
+ *
+ * The exports give up what they allocate for tables, since ends lend them for good. So each tables have
+ * memory of their own: a list of what was allocated while they were made, which is freed as a whole once
+ * neither the caller nor an end uses them, or where they could not be made. */
+
+struct block {
+	struct block *before, *after;
+};
+
+SAME(block, sizeof(struct block) == 16); /* what follows is aligned as `malloc` aligns */
+
+struct waywire_tables {
+	struct handle handle;
+	struct block blocks; /* the head of the list, which is a ring */
+	size_t users;        /* the caller, and each end */
+	char is_taken;       /* a call has the handle */
+};
+
+/* The blocks of the tables that this thread makes; null where it makes none. */
+static __thread struct block *making;
+
+static void *linked(struct block *block, struct block *before)
+{
+	block->before = before;
+	block->after = before->after;
+	block->before->after = block;
+	block->after->before = block;
+	return block + 1;
+}
+
+static struct block *unlinked(void *at)
+{
+	struct block *block = (struct block *)at - 1;
+	block->before->after = block->after;
+	block->after->before = block->before;
+	return block;
+}
+
+/* `malloc`, `realloc` and `free` as the exports call them, never of null: `make` gives them these
+ * names. */
+
+void *memory_malloc(size_t size)
+{
+	if (!making)
+		return malloc(size);
+	struct block *block = malloc(sizeof *block + size);
+	return block ? linked(block, making) : NULL;
+}
+
+void *memory_realloc(void *at, size_t size)
+{
+	if (!making)
+		return realloc(at, size);
+	struct block *block = unlinked(at), *before = block->before;
+	struct block *moved = realloc(block, sizeof *block + size);
+	void *kept = linked(moved ? moved : block, before);
+	return moved ? kept : NULL;
+}
+
+void memory_free(void *at)
+{
+	free(making ? unlinked(at) : at);
+}
+
+static void free_tables(waywire_tables *tables)
+{
+	while (tables->blocks.after != &tables->blocks)
+		free(unlinked(tables->blocks.after + 1));
+	free(tables);
+}
+
+/* Tables without anything in them, for one caller. */
+static waywire_tables *empty_tables(void)
+{
+	waywire_tables *tables = malloc(sizeof *tables);
+	if (tables) {
+		tables->handle.at = NULL;
+		tables->blocks.before = tables->blocks.after = &tables->blocks;
+		tables->users = 1;
+		tables->is_taken = 0;
+	}
+	return tables;
+}
+
+/* Hands out tables that were made, or frees what there is of them. */
+static waywire_status made_tables(waywire_status status, waywire_tables *made, waywire_tables **tables)
+{
+	if (status)
+		free_tables(made);
+	else
+		*tables = made;
+	return status;
+}
+
+/* An export has the handle of its tables for itself, so one call at a time has it: for as long as a search
+ * takes, the making of an end, or the reading of a text. */
+static struct handle take_handle(const waywire_tables *tables)
+{
+	while (__atomic_exchange_n((char *)&tables->is_taken, 1, __ATOMIC_SEQ_CST))
+		__builtin_ia32_pause();
+	return tables->handle;
+}
+
+static void give_handle(const waywire_tables *tables)
+{
+	__atomic_exchange_n((char *)&tables->is_taken, 0, __ATOMIC_SEQ_CST);
+}
+
+static void add_user(const waywire_tables *tables)
+{
+	__atomic_add_fetch((size_t *)&tables->users, 1, __ATOMIC_SEQ_CST);
+}
+
+void waywire_tables_free(waywire_tables *tables)
+{
+	if (tables && !__atomic_sub_fetch(&tables->users, 1, __ATOMIC_SEQ_CST))
+		free_tables(tables);
+}
+
 /* ---- tables */
 
 waywire_status waywire_tables_core(waywire_tables **tables)
 {
 	if (!tables)
 		return WAYWIRE_NULL;
-	void *made = NULL;
-	waywire_status status = waywire_c_tables_core(&made);
-	if (!status)
-		*tables = made;
-	return status;
+	waywire_tables *made = empty_tables();
+	if (!made)
+		return WAYWIRE_NO_MEMORY;
+	making = &made->blocks;
+	waywire_status status = waywire_c_tables_core(&made->handle.at);
+	making = NULL;
+	return made_tables(status, made, tables);
 }
 
 waywire_status waywire_tables_read(const waywire_tables *tables, const void *text, size_t length,
@@ -136,17 +260,21 @@ waywire_status waywire_tables_read(const waywire_tables *tables, const void *tex
 {
 	if (!tables || !more)
 		return WAYWIRE_NULL;
-	struct handle handle = { (void *)tables };
-	void *made = NULL;
 	size_t no_line;
 	uint32_t no_rule;
 	waywire_status status = slice(&text, length, 1);
-	if (!status)
-		status = waywire_c_tables_read(&handle, text, length, &made, line ? line : &no_line,
-			rule ? rule : &no_rule);
-	if (!status)
-		*more = made;
-	return status;
+	if (status)
+		return status;
+	waywire_tables *made = empty_tables();
+	if (!made)
+		return WAYWIRE_NO_MEMORY;
+	struct handle handle = take_handle(tables);
+	making = &made->blocks;
+	status = waywire_c_tables_read(&handle, text, length, &made->handle.at, line ? line : &no_line,
+		rule ? rule : &no_rule);
+	making = NULL;
+	give_handle(tables);
+	return made_tables(status, made, more);
 }
 
 waywire_status waywire_tables_interface(const waywire_tables *tables, const char *name,
@@ -154,8 +282,10 @@ waywire_status waywire_tables_interface(const waywire_tables *tables, const char
 {
 	if (!tables || !name || !interface)
 		return WAYWIRE_NULL;
-	struct handle handle = { (void *)tables };
-	return waywire_c_tables_interface(&handle, name, strlen(name), interface);
+	struct handle handle = take_handle(tables);
+	waywire_status status = waywire_c_tables_interface(&handle, name, strlen(name), interface);
+	give_handle(tables);
+	return status;
 }
 
 waywire_status waywire_tables_name(const waywire_tables *tables, uint16_t interface,
@@ -163,9 +293,10 @@ waywire_status waywire_tables_name(const waywire_tables *tables, uint16_t interf
 {
 	if (!tables || !name || !length)
 		return WAYWIRE_NULL;
-	struct handle handle = { (void *)tables };
 	const void *found = NULL;
+	struct handle handle = take_handle(tables);
 	waywire_status status = waywire_c_tables_name(&handle, interface, &found, length);
+	give_handle(tables);
 	if (!status)
 		*name = found;
 	return status;
@@ -176,101 +307,127 @@ waywire_status waywire_tables_version(const waywire_tables *tables, uint16_t int
 {
 	if (!tables || !version)
 		return WAYWIRE_NULL;
-	struct handle handle = { (void *)tables };
-	return waywire_c_tables_version(&handle, interface, version);
+	struct handle handle = take_handle(tables);
+	waywire_status status = waywire_c_tables_version(&handle, interface, version);
+	give_handle(tables);
+	return status;
 }
 
 /* ---- what both ends have */
 
 #define CALLS_OF_BOTH(end) \
+	/* An end, and the tables that it lends. */ \
+	struct waywire_##end { \
+		struct handle handle; \
+		const waywire_tables *tables; \
+	}; \
+\
 	waywire_status waywire_##end##_new(const waywire_tables *tables, const waywire_sizes *sizes, \
 		waywire_##end **made) \
 	{ \
 		if (!tables || !sizes || !made) \
 			return WAYWIRE_NULL; \
-		struct handle handle = { (void *)tables }; \
-		void *address = NULL; \
-		waywire_status status = waywire_c_##end##_new(&handle, sizes, &address); \
-		if (!status) \
-			*made = address; \
-		return status; \
+		waywire_##end *it = malloc(sizeof *it); \
+		if (!it) \
+			return WAYWIRE_NO_MEMORY; \
+		struct handle handle = take_handle(tables); \
+		waywire_status status = waywire_c_##end##_new(&handle, sizes, &it->handle.at); \
+		give_handle(tables); \
+		if (status) { \
+			free(it); \
+			return status; \
+		} \
+		add_user(tables); \
+		it->tables = tables; \
+		*made = it; \
+		return WAYWIRE_OK; \
 	} \
 \
 	void waywire_##end##_free(waywire_##end *it) \
 	{ \
-		struct handle handle = { it }; \
-		if (it) \
-			waywire_c_##end##_free(handle); \
+		if (!it) \
+			return; \
+		waywire_c_##end##_free(it->handle); \
+		waywire_tables_free((waywire_tables *)it->tables); \
+		free(it); \
+	} \
+\
+	/* Whether an end has failed: it then says so of each message, before it looks at it. No interface \
+	 * has this one, so it is refused anyway, and the end stays as it is. */ \
+	static bool end##_has_failed(struct handle *handle) \
+	{ \
+		waywire_arg no_arg; \
+		waywire_object display, no_object; \
+		size_t no_place; \
+		waywire_c_##end##_display(handle, &display); \
+		return waywire_c_##end##_send(handle, display, UINT16_MAX, &no_arg, 0, &no_object, \
+			&no_place) == WAYWIRE_FAILED; \
 	} \
 \
 	waywire_status waywire_##end##_display(const waywire_##end *it, waywire_object *display) \
 	{ \
-		struct handle handle = { (void *)it }; \
 		if (!it || !display) \
 			return WAYWIRE_NULL; \
-		waywire_c_##end##_display(&handle, display); \
+		waywire_c_##end##_display(&it->handle, display); \
 		return WAYWIRE_OK; \
 	} \
 \
 	waywire_status waywire_##end##_live(const waywire_##end *it, waywire_object object, \
 		uint16_t *interface, uint32_t *version) \
 	{ \
-		struct handle handle = { (void *)it }; \
 		uint16_t no_interface; \
 		uint32_t no_version; \
 		if (!it) \
 			return WAYWIRE_NULL; \
-		return waywire_c_##end##_live(&handle, object, interface ? interface : &no_interface, \
+		return waywire_c_##end##_live(&it->handle, object, interface ? interface : &no_interface, \
 			version ? version : &no_version); \
 	} \
 \
 	waywire_status waywire_##end##_in_room(const waywire_##end *it, waywire_amounts *room) \
 	{ \
-		struct handle handle = { (void *)it }; \
 		if (!it || !room) \
 			return WAYWIRE_NULL; \
-		waywire_c_##end##_in_room(&handle, room); \
+		waywire_c_##end##_in_room(&it->handle, room); \
 		return WAYWIRE_OK; \
 	} \
 \
 	waywire_status waywire_##end##_is_drained(const waywire_##end *it, bool *drained) \
 	{ \
-		struct handle handle = { (void *)it }; \
 		if (!it || !drained) \
 			return WAYWIRE_NULL; \
-		*drained = waywire_c_##end##_is_drained(&handle); \
+		*drained = waywire_c_##end##_is_drained(&it->handle); \
 		return WAYWIRE_OK; \
 	} \
 \
 	waywire_status waywire_##end##_feed(waywire_##end *it, const void *bytes, size_t length, \
 		const uint32_t *tokens, size_t token_count, waywire_amounts *fed) \
 	{ \
-		struct handle handle = { it }; \
 		const void *from = tokens; \
 		if (!it || !fed) \
 			return WAYWIRE_NULL; \
 		waywire_status status = slice(&bytes, length, 1); \
 		if (!status) \
 			status = slice(&from, token_count, sizeof *tokens); \
-		if (!status) \
-			waywire_c_##end##_feed(&handle, bytes, length, from, token_count, fed); \
-		return status; \
+		if (status) \
+			return status; \
+		waywire_c_##end##_feed(&it->handle, bytes, length, from, token_count, fed); \
+		if (fed->bytes || fed->tokens || !end##_has_failed(&it->handle)) \
+			return WAYWIRE_OK; \
+		return WAYWIRE_FAILED; \
 	} \
 \
 	waywire_status waywire_##end##_goes(const waywire_##end *it, size_t bytes, size_t tokens, \
 		waywire_amounts *amounts) \
 	{ \
-		struct handle handle = { (void *)it }; \
 		if (!it || !amounts) \
 			return WAYWIRE_NULL; \
-		waywire_c_##end##_goes(&handle, bytes, tokens, amounts); \
+		waywire_c_##end##_goes(&it->handle, bytes, tokens, amounts); \
 		return WAYWIRE_OK; \
 	} \
 \
 	waywire_status waywire_##end##_take(waywire_##end *it, void *bytes, size_t length, \
 		uint32_t *tokens, size_t token_count, waywire_amounts *taken) \
 	{ \
-		struct handle handle = { it }; \
 		const void *to = bytes, *tokens_to = tokens; \
 		if (!it || !taken) \
 			return WAYWIRE_NULL; \
@@ -278,7 +435,7 @@ waywire_status waywire_tables_version(const waywire_tables *tables, uint16_t int
 		if (!status) \
 			status = slice(&tokens_to, token_count, sizeof *tokens); \
 		if (!status) \
-			waywire_c_##end##_take(&handle, (void *)to, length, (uint32_t *)tokens_to, \
+			waywire_c_##end##_take(&it->handle, (void *)to, length, (uint32_t *)tokens_to, \
 				token_count, taken); \
 		return status; \
 	} \
@@ -287,7 +444,6 @@ waywire_status waywire_tables_version(const waywire_tables *tables, uint16_t int
 		uint16_t opcode, const waywire_arg *args, size_t arg_count, waywire_object *made, \
 		size_t *place) \
 	{ \
-		struct handle handle = { it }; \
 		waywire_arg copies[MAX_GIVEN]; \
 		waywire_object no_object; \
 		size_t no_place; \
@@ -296,16 +452,15 @@ waywire_status waywire_tables_version(const waywire_tables *tables, uint16_t int
 		waywire_status status = copy_args(args, &arg_count, copies); \
 		if (status) \
 			return status; \
-		return waywire_c_##end##_send(&handle, target, opcode, copies, arg_count, \
+		return waywire_c_##end##_send(&it->handle, target, opcode, copies, arg_count, \
 			made ? made : &no_object, place ? place : &no_place); \
 	} \
 \
 	waywire_status waywire_##end##_next(waywire_##end *it, waywire_report *report) \
 	{ \
-		struct handle handle = { it }; \
 		if (!it || !report) \
 			return WAYWIRE_NULL; \
-		waywire_status status = waywire_c_##end##_next(&handle, report, report->args, \
+		waywire_status status = waywire_c_##end##_next(&it->handle, report, report->args, \
 			WAYWIRE_MAX_ARGS); \
 		finish(report); \
 		return status; \
@@ -319,18 +474,16 @@ CALLS_OF_BOTH(server)
 waywire_status waywire_client_bind(waywire_client *client, waywire_object registry, uint32_t name,
 	const char *interface, uint32_t version, waywire_object *bound)
 {
-	struct handle handle = { client };
 	waywire_object no_object;
 	if (!client || !interface)
 		return WAYWIRE_NULL;
-	return waywire_c_client_bind(&handle, registry, name, interface, strlen(interface), version,
+	return waywire_c_client_bind(&client->handle, registry, name, interface, strlen(interface), version,
 		bound ? bound : &no_object);
 }
 
 waywire_status waywire_server_drop_object(waywire_server *server, waywire_object object)
 {
-	struct handle handle = { server };
-	return server ? waywire_c_server_drop_object(&handle, object) : WAYWIRE_NULL;
+	return server ? waywire_c_server_drop_object(&server->handle, object) : WAYWIRE_NULL;
 }
 
 /* How many bytes of a text an error has room for, no character of UTF-8 cut. */
@@ -348,33 +501,29 @@ static size_t error_length(const char *text)
 waywire_status waywire_server_post_error(waywire_server *server, waywire_object object, uint32_t code,
 	const char *text)
 {
-	struct handle handle = { server };
 	if (!server || !text)
 		return WAYWIRE_NULL;
-	return waywire_c_server_post_error(&handle, object, code, text, error_length(text));
+	return waywire_c_server_post_error(&server->handle, object, code, text, error_length(text));
 }
 
 waywire_status waywire_server_add_global(waywire_server *server, uint16_t interface, uint32_t version,
 	uint32_t *name)
 {
-	struct handle handle = { server };
 	uint32_t no_name;
 	if (!server)
 		return WAYWIRE_NULL;
-	return waywire_c_server_add_global(&handle, interface, version, name ? name : &no_name);
+	return waywire_c_server_add_global(&server->handle, interface, version, name ? name : &no_name);
 }
 
 waywire_status waywire_server_withdraw(waywire_server *server, uint32_t name)
 {
-	struct handle handle = { server };
-	return server ? waywire_c_server_withdraw(&handle, name) : WAYWIRE_NULL;
+	return server ? waywire_c_server_withdraw(&server->handle, name) : WAYWIRE_NULL;
 }
 
 waywire_status waywire_server_announce(waywire_server *server, size_t *count)
 {
-	struct handle handle = { server };
 	size_t no_count;
-	return server ? waywire_c_server_announce(&handle, count ? count : &no_count) : WAYWIRE_NULL;
+	return server ? waywire_c_server_announce(&server->handle, count ? count : &no_count) : WAYWIRE_NULL;
 }
 
 /* ---- texts */

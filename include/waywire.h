@@ -19,12 +19,17 @@
  * Objects.  Births count from 0 at each end. So an object of one connection may equal one of another, which no
  * call can tell: keep an object with its end.
  *
- * Memory.  A client or a server belongs to the caller, who frees it; tables are never freed. The
- * library calls `malloc`, `realloc` and `free`, and nothing else of the system. After `new` an end
- * allocates only where an object opens (`send`, `bind`, `next` of a server) and in `add_global`.
+ * Memory.  Tables, a client and a server belong to the caller, who frees each once. Tables may be freed
+ * before the ends made with them, which keep them as long as they need them. The library calls `malloc`,
+ * `realloc` and `free`, and nothing else of the system. After `new` an end allocates only where an object
+ * opens (`send`, `bind`, `next` of a server) and in `add_global`. Where an allocation fails, nothing is
+ * lost.
  *
- * Threads.  Only the thread that made some tables may use them, and the ends made with them. Another
- * thread makes its own. No call may be made from a signal handler.
+ * Threads.  Nothing is bound to the thread that made it. Tables never change: any threads may use them at
+ * once, and make and free ends over them. An end is used by one call at a time, of whatever thread: the
+ * caller orders these calls, as by a lock, or by joining the thread that made the last one. What an end
+ * lent is lent to all threads, until its next call. Different ends share nothing that a call changes. No
+ * call may be made from a signal handler, nor from the child of a `fork` in a process with threads.
  *
  * Statuses.  Each call that can refuse returns a waywire_status. Unless its own text says otherwise,
  * with a status other than WAYWIRE_OK nothing has changed and nothing was written to what the caller
@@ -289,7 +294,7 @@ typedef enum waywire_report_kind {
 
 /* What `next` read. It points into the end, and is lent until the end's next call of any kind; that call may
  * be given what was lent, as the interface of a `global` to `bind`. Strings end with a NUL that their length
- * does not count. */
+ * does not count. What lies behind the first `arg_count` of `args` is not written. */
 typedef struct waywire_report {
 	uint32_t kind; /* a waywire_report_kind */
 	uint32_t opcode;
@@ -313,13 +318,17 @@ typedef struct waywire_report {
 /* The interfaces, each at its place, with the signatures of their messages. */
 typedef struct waywire_tables waywire_tables;
 
-/* Makes the tables of the core protocol (wayland.xml without data transfer). Tables are never freed
- * (some 10 KB): make them once, for all ends of a thread. WAYWIRE_NO_MEMORY. */
+/* Makes the tables of the core protocol (wayland.xml without data transfer). They take some 19 KB: make
+ * them once, for all ends of all threads. The caller frees them. WAYWIRE_NO_MEMORY. */
 waywire_status waywire_tables_core(waywire_tables **tables);
+
+/* Frees tables: their memory is freed now, or with the last of the ends made with them. The caller may not
+ * use them afterwards, and what waywire_tables_name lent may be gone. Null is allowed. */
+void waywire_tables_free(waywire_tables *tables);
 
 /* Makes new tables: these, and the interfaces that a text declares. FORMATS.md, installed in
  * share/doc/waywire, has its grammar; waywire-tables-from-xml writes such texts, and some stand in
- * share/waywire/tables. The new ones are never freed either, and the first stay as they are.
+ * share/waywire/tables. The caller frees the new ones; the first stay as they are, and may be freed.
  * WAYWIRE_BAD_LINE where a line has no form; else WAYWIRE_BAD_TABLE where a line breaks a rule. Both write
  * the first such line to `line`, counted from 1; the second writes the least rule that it breaks to `rule`,
  * 1 to 9. WAYWIRE_NO_MEMORY. `line` and `rule` may be null. */
@@ -330,7 +339,7 @@ waywire_status waywire_tables_read(const waywire_tables *tables, const void *tex
 waywire_status waywire_tables_interface(const waywire_tables *tables, const char *name,
 	uint16_t *interface);
 
-/* The name of the interface at a place, which is valid for good. It does not end with a NUL.
+/* The name of the interface at a place, lent until the tables are freed. It does not end with a NUL.
  * WAYWIRE_NOT_FOUND past the tables. */
 waywire_status waywire_tables_name(const waywire_tables *tables, uint16_t interface,
 	const char **name, size_t *length);
@@ -341,7 +350,8 @@ waywire_status waywire_tables_version(const waywire_tables *tables, uint16_t int
 
 /* ---- a client */
 
-/* The client's end of a connection: its objects, its inbox and outbox, the globals that it was told of. */
+/* The client's end of a connection: its objects, its inbox and outbox, the globals that it was told of. It
+ * remembers 1,024 globals at a time; one that it is told of beyond these cannot be bound. */
 typedef struct waywire_client waywire_client;
 
 /* Makes a client with wl_display alone, an empty inbox and an empty outbox. The caller frees it.
@@ -383,8 +393,8 @@ waywire_status waywire_client_bind(waywire_client *client, waywire_object regist
 	const char *interface, uint32_t version, waywire_object *bound);
 
 /* Copies what came into the inbox: as many tokens as fit, and if these are all, as many bytes as fit.
- * `fed` says how much that was; feed the rest again later. A failed client takes nothing in. `bytes`
- * and `tokens` may be null where their length is 0. */
+ * `fed` says how much that was; feed the rest again later, after `next`. A failed client takes nothing in:
+ * WAYWIRE_FAILED, and `fed` gets zeros. `bytes` and `tokens` may be null where their length is 0. */
 waywire_status waywire_client_feed(waywire_client *client, const void *bytes, size_t length,
 	const uint32_t *tokens, size_t token_count, waywire_amounts *fed);
 
@@ -401,8 +411,9 @@ waywire_status waywire_client_take(waywire_client *client, void *bytes, size_t l
 /* Reads the next message once it is whole; `report` says WAYWIRE_NOTHING before. Its report is lent
  * until the client's next call of any kind. It allocates nothing.
  * With a status of WAYWIRE_FAULT_.. the report is written too (kind WAYWIRE_FAULT) and the client has
- * failed for good, as it has after a report WAYWIRE_ERROR. WAYWIRE_FAILED where it had failed before;
- * the report then says WAYWIRE_NOTHING. */
+ * failed for good, as it has after a report WAYWIRE_ERROR. It writes nothing to the server about that; what
+ * waited in the outbox can still be taken. WAYWIRE_FAILED where it had failed before; the report then says
+ * WAYWIRE_NOTHING. */
 waywire_status waywire_client_next(waywire_client *client, waywire_report *report);
 
 /* ---- a server */

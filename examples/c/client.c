@@ -14,7 +14,6 @@
 #define COLOUR 0xff336699u
 
 static struct link link_to;
-static waywire_tables *core, *tables; /* never freed */
 static waywire_client *client;
 static waywire_object registry, compositor, shm, wm_base, surface, xdg_surface, callback;
 static bool done, configured;
@@ -95,7 +94,7 @@ static void wait_for(const bool *flag)
 {
 	while (!*flag) {
 		waywire_report report;
-		if (link_wait(&link_to, 5000) <= 0)
+		if (link_wait(&link_to, 20000) <= 0)
 			fail("the connection", "it ended, or nothing came");
 		do {
 			must(waywire_client_next(client, &report));
@@ -159,11 +158,14 @@ static void show_window(void)
 int main(void)
 {
 	waywire_sizes sizes = { 65536, 64, 65536, 64 };
+	waywire_tables *core, *tables;
 	waywire_object display;
 	must(waywire_tables_core(&core));
 	must(waywire_tables_read(core, WW_XDG_SHELL_TABLES, strlen(WW_XDG_SHELL_TABLES), &tables, NULL,
 		NULL));
 	must(waywire_client_new(tables, &sizes, &client));
+	waywire_tables_free(core);
+	waywire_tables_free(tables); /* the client keeps them */
 	link_to.client = client;
 	link_to.socket = link_connect();
 	if (link_to.socket < 0)

@@ -28,7 +28,7 @@ struct buffer {
 
 static struct link link_to;
 static waywire_server *server;
-static waywire_tables *core, *tables; /* never freed */
+static waywire_tables *core, *tables;
 static struct pool pools[MOST];
 static struct buffer buffers[MOST];
 static size_t pool_count, buffer_count;
@@ -215,6 +215,8 @@ int main(int argc, char **argv)
 	for (size_t each = 0; each < pool_count; each++)
 		close(pools[each].descriptor);
 	waywire_server_free(server);
+	waywire_tables_free(core);
+	waywire_tables_free(tables);
 	link_close(&link_to);
 	close(listening);
 	unlink(argv[1]);

@@ -159,7 +159,7 @@ static void twenty(void)
 {
 	static const char text[] = "interface many 1\n"
 		"request most i i i i i i i i i i i i i i i i i i i i\n";
-	static waywire_tables *more, *again; /* never freed */
+	waywire_tables *more, *again;
 	struct pair pair;
 	waywire_report report;
 	waywire_arg args[21];
@@ -167,6 +167,7 @@ static void twenty(void)
 	size_t place = 7;
 	MUST(!waywire_tables_read(tables, text, strlen(text), &more, NULL, NULL));
 	MUST(!waywire_tables_read(more, "interface last 1\n", 17, &again, NULL, NULL));
+	waywire_tables_free(more); /* the others have all that is theirs */
 	MUST(!waywire_tables_interface(again, "last", &interface) && interface == 20);
 	open_pair(&pair, again);
 	waywire_object many = bound(&pair, again, "many");
@@ -180,6 +181,7 @@ static void twenty(void)
 	for (int each = 0; each < 20; each++)
 		MUST(report.args[each].kind == WAYWIRE_INT && report.args[each].i == each + 1);
 	close_pair(&pair);
+	waywire_tables_free(again);
 }
 
 /* A destroying request waits while the outbox has no room for its delete_id, and is read then. */
@@ -289,6 +291,7 @@ int main(void)
 	errors();
 	greatest();
 	numbers();
+	waywire_tables_free(tables);
 	printf("edges: ok\n");
 	return 0;
 }

@@ -38,6 +38,7 @@ static inline void read_tables(const char *path)
 	fclose(file);
 	waywire_tables *more;
 	MUST(length < sizeof text && !waywire_tables_read(tables, text, length, &more, NULL, NULL));
+	waywire_tables_free(tables);
 	tables = more;
 }
 

@@ -372,6 +372,7 @@ int main(void)
 	link_to.socket = sockets[0];
 	play();
 	waywire_client_free(link_to.client);
+	waywire_tables_free(tables);
 	link_close(&link_to);
 	MUST(waitpid(child, &status, 0) == child && status == 0);
 	printf("%zu messages, %zu discarded, %zu objects let go\n", messages, discarded, deleted);

@@ -347,6 +347,7 @@ int main(void)
 	MUST(pools == ROUNDS && keyboards == 2 * ROUNDS);
 	MUST(waitpid(child, &status, 0) == child && status == 0);
 	waywire_server_free(link_to.server);
+	waywire_tables_free(tables);
 	link_close(&link_to);
 	printf("%zu messages\n", messages);
 	return 0;

@@ -189,6 +189,7 @@ int main(int argc, char **argv)
 	agree();
 	waywire_client_free(client);
 	waywire_server_free(server);
+	waywire_tables_free(tables);
 	if (recording)
 		fclose(recording);
 	return 0;

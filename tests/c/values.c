@@ -2,7 +2,7 @@
 #include "must.h"
 
 static const waywire_sizes sizes = { 65536, 64, 4096, 20 };
-static waywire_tables *tables, *joined;
+static waywire_tables *tables;
 static waywire_client *client;
 static waywire_server *server;
 static waywire_object display = { 0, 1 };
@@ -26,6 +26,7 @@ static void nulls(void)
 	MUST(waywire_client_send(client, display, 0, NULL, 1, NULL, NULL) == WAYWIRE_NULL);
 	MUST(waywire_client_bind(client, display, 1, NULL, 1, NULL) == WAYWIRE_NULL);
 	MUST(waywire_server_post_error(server, display, 0, NULL) == WAYWIRE_NULL);
+	waywire_tables_free(NULL);
 	waywire_client_free(NULL);
 	waywire_server_free(NULL);
 }
@@ -105,14 +106,34 @@ static void faults(void)
 	MUST(report.kind == WAYWIRE_FAULT && report.place == 0 && report.offset == 0);
 	MUST(waywire_server_next(server, &report) == WAYWIRE_FAILED);
 	MUST(waywire_server_post_error(server, display, 1, "x") == WAYWIRE_FAILED);
+	MUST(waywire_server_feed(server, bytes, 1, NULL, 0, &amounts) == WAYWIRE_FAILED);
+	MUST(amounts.bytes == 0 && amounts.tokens == 0);
+	MUST(waywire_server_feed(server, NULL, 0, NULL, 0, &amounts) == WAYWIRE_FAILED);
 	MUST(!waywire_server_take(server, bytes, sizeof bytes, NULL, 0, &amounts));
-	MUST(amounts.bytes == 32);
+	MUST(amounts.bytes == 32); /* what was asked of it since left nothing there */
 	MUST(!waywire_client_feed(client, bytes, amounts.bytes, NULL, 0, &amounts));
 	MUST(!waywire_client_next(client, &report));
 	MUST(report.kind == WAYWIRE_ERROR && report.id == 1 && report.code == 1);
 	MUST(report.named == WAYWIRE_OBJECT && waywire_object_equal(report.target, display));
 	MUST(!strcmp(report.text, "bad new id") && report.text_length == 10);
 	MUST(waywire_client_next(client, &report) == WAYWIRE_FAILED);
+	MUST(waywire_client_feed(client, bytes, 1, NULL, 0, &amounts) == WAYWIRE_FAILED);
+	MUST(amounts.bytes == 0 && amounts.tokens == 0);
+}
+
+/* An inbox that is full takes nothing, and its end has not failed. */
+static void full(void)
+{
+	static unsigned char bytes[4096];
+	static const uint32_t tokens[20] = { 0 };
+	waywire_server *other;
+	waywire_amounts amounts;
+	MUST(!waywire_server_new(tables, &sizes, &other));
+	MUST(!waywire_server_feed(other, bytes, sizeof bytes, tokens, 20, &amounts));
+	MUST(amounts.bytes == 4096 && amounts.tokens == 20);
+	MUST(!waywire_server_feed(other, bytes, 1, tokens, 1, &amounts));
+	MUST(amounts.bytes == 0 && amounts.tokens == 0);
+	waywire_server_free(other);
 }
 
 static void misspelled(void)
@@ -136,7 +157,7 @@ static void more_tables(void)
 	static const char good[] = "interface wp_thing 2\nrequest destroy D\nrequest set_name s @2\n";
 	static const char bad[] = "interface wp_thing 2\n\nnonsense\n";
 	static const char broken[] = "interface wl_seat 1\n";
-	waywire_tables *more = NULL;
+	waywire_tables *joined, *more = NULL;
 	uint16_t interface;
 	uint32_t version, rule = 0;
 	size_t line = 0;
@@ -150,6 +171,7 @@ static void more_tables(void)
 		== WAYWIRE_BAD_TABLE);
 	MUST(line == 1 && rule == 1 && !more);
 	MUST(waywire_tables_read(tables, NULL, 3, &more, NULL, NULL) == WAYWIRE_NULL);
+	waywire_tables_free(joined);
 }
 
 static void texts(void)
@@ -175,11 +197,13 @@ int main(void)
 	kinds();
 	calls();
 	faults();
+	full();
 	misspelled();
 	more_tables();
 	texts();
 	waywire_client_free(client);
 	waywire_server_free(server);
+	waywire_tables_free(tables);
 	printf("values: ok\n");
 	return 0;
 }

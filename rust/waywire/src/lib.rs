@@ -61,8 +61,31 @@
 //!
 //! # Threads
 //!
-//! Tables, and the ends made with them, stay on the thread that made the tables: none of them is
-//! [`Send`].
+//! Any threads use [`Tables`] at once. An end may go to another thread ([`Send`]), and is used by one at
+//! a time: it is not [`Sync`].
+//!
+//! ```
+//! # use waywire::{Client, Sizes, Tables};
+//! # fn main() -> Result<(), Box<dyn std::error::Error>> {
+//! let tables = Tables::core()?;
+//! let made = std::thread::scope(|threads| {
+//!     threads.spawn(|| Client::new(&tables, &Sizes::default())).join()
+//! });
+//! let client = made.expect("the thread ends")?;
+//! drop(tables);
+//! assert!(client.live(client.display()).is_some());
+//! # Ok(())
+//! # }
+//! ```
+//!
+//! ```compile_fail,E0277
+//! # use waywire::{Server, Sizes, Tables};
+//! # let tables = Tables::core().unwrap();
+//! # let server = Server::new(&tables, &Sizes::default()).unwrap();
+//! std::thread::scope(|threads| {
+//!     threads.spawn(|| server.in_room());
+//! });
+//! ```
 
 #![deny(unsafe_code)]
 

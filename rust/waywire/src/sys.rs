@@ -3,9 +3,11 @@
 //! The declarations are those of the header: a test compares sizes, offsets and numbers with what a
 //! program in C says of it. What the header asks of every call is kept by the types here:
 //!
-//! - a pointer to tables or an end is one that the library returned, and an end's is freed once;
-//! - tables are never freed, so what points into them stays;
-//! - all is used on one thread, since raw pointers are neither `Send` nor `Sync`;
+//! - a pointer to tables or an end is one that the library returned, and it is freed once, by the drop
+//!   of what owns it;
+//! - what points into tables is borrowed from them;
+//! - tables are used by any threads at once, as the header allows; an end by one call at a time, since it
+//!   is not `Sync`;
 //! - a slice's pointer and length are those of a Rust slice.
 
 use crate::amounts::{Amounts, Sizes};
@@ -14,10 +16,10 @@ use crate::error::{Fault, FaultKind, GlobalError, NewError, NextError, SendError
 use crate::report::Named;
 use crate::tables::{Interface, Object};
 use std::ffi::{c_char, c_void, CStr, CString};
-use std::marker::PhantomData;
 use std::mem::MaybeUninit;
 use std::ptr::{self, NonNull};
 use std::slice;
+use std::sync::Arc;
 
 macro_rules! numbers {
     ($($name:ident = $number:expr, $header:literal;)*) => {
@@ -156,6 +158,9 @@ pub struct Report {
     offset: u64,
     args: [RawArg; MAX_ARGS as usize],
 }
+
+// Safety: the pointers lead into the end to which the report is private, and the two move together.
+unsafe impl Send for Report {}
 
 /// The slice that the library lends. Its pointer may be null where it is empty.
 ///
@@ -382,6 +387,7 @@ extern "C" {
     fn waywire_strerror(status: u32) -> *const c_char;
     fn waywire_strspelling(spelling: u32) -> *const c_char;
     fn waywire_tables_core(tables: *mut *mut RawTables) -> u32;
+    fn waywire_tables_free(tables: *mut RawTables);
     fn waywire_tables_read(
         tables: *const RawTables,
         text: *const c_void,
@@ -445,16 +451,40 @@ pub fn spelling_of(spelling: u32) -> &'static str {
     static_text(unsafe { waywire_strspelling(spelling) })
 }
 
-/// Tables, which are never freed.
+/// Tables as the library has them, freed when they are dropped. Ends keep what they need of them.
+#[derive(Debug)]
+struct OwnTables(NonNull<RawTables>);
+
+impl Drop for OwnTables {
+    fn drop(&mut self) {
+        // Safety: the tables are the library's, and freed here alone.
+        unsafe { waywire_tables_free(self.0.as_ptr()) }
+    }
+}
+
+// Safety: the header says so: any threads may use tables at once, and any may free them.
+unsafe impl Send for OwnTables {}
+unsafe impl Sync for OwnTables {}
+
+/// Tables, which go with the last of their clones.
 #[derive(Clone, Debug)]
-pub struct Tables(NonNull<RawTables>);
+pub struct Tables(Arc<OwnTables>);
 
 impl Tables {
+    /// Tables that the library made.
+    fn owned(made: NonNull<RawTables>) -> Tables {
+        Tables(Arc::new(OwnTables(made)))
+    }
+
+    fn at(&self) -> *mut RawTables {
+        self.0 .0.as_ptr()
+    }
+
     pub fn core() -> Result<Tables, NewError> {
         let mut made = ptr::null_mut();
         // Safety: `made` can be written.
         let _status = unsafe { waywire_tables_core(&mut made) };
-        NonNull::new(made).map(Tables).ok_or(NewError::NoMemory)
+        NonNull::new(made).map(Tables::owned).ok_or(NewError::NoMemory)
     }
 
     pub fn read(&self, text: &[u8]) -> Result<Tables, TablesError> {
@@ -462,7 +492,7 @@ impl Tables {
         // Safety: the tables are the library's, and all else lasts longer than the call.
         let status = unsafe {
             waywire_tables_read(
-                self.0.as_ptr(),
+                self.at(),
                 text.as_ptr().cast(),
                 text.len(),
                 &mut more,
@@ -471,7 +501,7 @@ impl Tables {
             )
         };
         match (status, NonNull::new(more)) {
-            (OK, Some(more)) => Ok(Tables(more)),
+            (OK, Some(more)) => Ok(Tables::owned(more)),
             (BAD_LINE, _) => Err(TablesError::BadLine { line }),
             (BAD_TABLE, _) => Err(TablesError::BadTable { line, rule }),
             _ => Err(TablesError::NoMemory),
@@ -482,20 +512,18 @@ impl Tables {
         let name = CString::new(name).ok()?;
         let mut interface = 0;
         // Safety: the tables are the library's, and all else lasts longer than the call.
-        let status =
-            unsafe { waywire_tables_interface(self.0.as_ptr(), name.as_ptr(), &mut interface) };
+        let status = unsafe { waywire_tables_interface(self.at(), name.as_ptr(), &mut interface) };
         (status == OK).then_some(interface)
     }
 
     pub fn name(&self, interface: u16) -> Option<&str> {
         let (mut name, mut length) = (ptr::null(), 0);
         // Safety: the tables are the library's, and all else lasts longer than the call.
-        let status =
-            unsafe { waywire_tables_name(self.0.as_ptr(), interface, &mut name, &mut length) };
+        let status = unsafe { waywire_tables_name(self.at(), interface, &mut name, &mut length) };
         if status != OK {
             return None;
         }
-        // Safety: names last as long as tables, which is for good.
+        // Safety: names last as long as the tables, from which this one is borrowed.
         let bytes = unsafe { lent::<u8>(name.cast(), length) };
         std::str::from_utf8(bytes).ok()
     }
@@ -503,7 +531,7 @@ impl Tables {
     pub fn version(&self, interface: u16) -> Option<u32> {
         let mut version = 0;
         // Safety: the tables are the library's, and `version` can be written.
-        let status = unsafe { waywire_tables_version(self.0.as_ptr(), interface, &mut version) };
+        let status = unsafe { waywire_tables_version(self.at(), interface, &mut version) };
         (status == OK).then_some(version)
     }
 }
@@ -550,8 +578,11 @@ macro_rules! end {
         #[derive(Debug)]
         pub struct $name {
             at: NonNull<RawEnd>,
-            tables: PhantomData<Tables>,
         }
+
+        // Safety: the header says so: an end is bound to no thread, and used by one call at a time,
+        // which it is since it is not `Sync`.
+        unsafe impl Send for $name {}
 
         impl Drop for $name {
             fn drop(&mut self) {
@@ -567,10 +598,10 @@ macro_rules! end {
         impl $name {
             pub fn new(tables: &Tables, sizes: &Sizes) -> Result<$name, NewError> {
                 let mut made = ptr::null_mut();
-                match unsafe { $new(tables.0.as_ptr(), sizes, &mut made) } {
+                match unsafe { $new(tables.at(), sizes, &mut made) } {
                     BAD_SIZES => Err(NewError::BadSizes),
                     _ => match NonNull::new(made) {
-                        Some(at) => Ok($name { at, tables: PhantomData }),
+                        Some(at) => Ok($name { at }),
                         None => Err(NewError::NoMemory),
                     },
                 }

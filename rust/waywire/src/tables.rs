@@ -42,7 +42,8 @@ pub struct Interface(pub(crate) u16);
 
 /// The interfaces, with the signatures of their messages.
 ///
-/// They never change, and are kept until the process ends (some 10 KB): make them once for all ends.
+/// They never change, and any threads use them at once: make them once (some 19 KB) for all ends, which
+/// keep them as long as they need them. A clone is of the same tables.
 #[derive(Clone, Debug)]
 pub struct Tables(pub(crate) sys::Tables);
 

@@ -1,0 +1,102 @@
+/* Tables that threads share: each thread searches them, makes tables over them, and opens a connection
+ * that another thread closes; the one that made them frees them while they are still used. */
+#include "must.h"
+
+#include <pthread.h>
+
+#define THREADS 4
+#define ROUNDS 20
+
+static const waywire_sizes sizes = { 4096, 64, 4096, 64 };
+
+struct pair {
+	pthread_t thread;
+	const waywire_tables *tables;
+	waywire_client *client;
+	waywire_server *server;
+};
+
+/* A request of the client's, and whether the server reads it. */
+static bool asks(struct pair *pair)
+{
+	unsigned char bytes[4096];
+	waywire_amounts taken, fed;
+	waywire_object display, callback;
+	waywire_report report;
+	MUST(!waywire_client_display(pair->client, &display));
+	callback = waywire_wl_display_sync(pair->client, display, NULL);
+	MUST(!waywire_client_take(pair->client, bytes, sizeof bytes, NULL, 0, &taken));
+	MUST(!waywire_server_feed(pair->server, bytes, taken.bytes, NULL, 0, &fed));
+	MUST(!waywire_server_next(pair->server, &report) && report.kind == WAYWIRE_MESSAGE);
+	return waywire_object_equal(report.args[0].object, callback);
+}
+
+static void opens(struct pair *pair)
+{
+	MUST(!waywire_client_new(pair->tables, &sizes, &pair->client));
+	MUST(!waywire_server_new(pair->tables, &sizes, &pair->server));
+}
+
+static void closes(struct pair *pair)
+{
+	waywire_client_free(pair->client);
+	waywire_server_free(pair->server);
+}
+
+static void searches(const waywire_tables *tables)
+{
+	uint16_t place;
+	uint32_t version;
+	const char *name;
+	size_t length;
+	MUST(!waywire_tables_interface(tables, "wl_surface", &place));
+	MUST(!waywire_tables_version(tables, place, &version) && version >= 6);
+	MUST(!waywire_tables_name(tables, place, &name, &length));
+	MUST(length == 10 && !memcmp(name, "wl_surface", length));
+}
+
+static void *works(void *given)
+{
+	static const char text[] = "interface wp_thing 2\nrequest destroy D\n";
+	struct pair *pair = given;
+	waywire_tables *more;
+	uint16_t place;
+	for (int round = 0; round < ROUNDS; round++) {
+		searches(pair->tables);
+		opens(pair);
+		MUST(asks(pair));
+		closes(pair);
+	}
+	MUST(!waywire_tables_read(pair->tables, text, sizeof text - 1, &more, NULL, NULL));
+	MUST(!waywire_tables_interface(more, "wp_thing", &place));
+	pair->tables = more;
+	opens(pair);
+	waywire_tables_free(more); /* the two ends still have them */
+	MUST(asks(pair));
+	return NULL;
+}
+
+int main(void)
+{
+	waywire_tables *tables;
+	struct pair pairs[THREADS], own;
+	MUST(!waywire_tables_core(&tables));
+	own.tables = tables;
+	opens(&own);
+	for (int it = 0; it < THREADS; it++) {
+		pairs[it].tables = tables;
+		MUST(!pthread_create(&pairs[it].thread, NULL, works, &pairs[it]));
+	}
+	searches(tables);
+	for (int it = 0; it < THREADS; it++)
+		MUST(!pthread_join(pairs[it].thread, NULL));
+	waywire_tables_free(tables); /* its two ends still have them */
+	MUST(asks(&own));
+	closes(&own);
+	for (int it = 0; it < THREADS; it++) { /* ends that another thread made */
+		MUST(asks(&pairs[it]));
+		closes(&pairs[it]);
+	}
+	waywire_tables_free(NULL);
+	return 0;
+}
