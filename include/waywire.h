@@ -28,8 +28,8 @@
  * Threads.  Nothing is bound to the thread that made it. Tables never change: any threads may use them at
  * once, and make and free ends over them. An end is used by one call at a time, of whatever thread: the
  * caller orders these calls, as by a lock, or by joining the thread that made the last one. What an end
- * lent is lent to all threads, until its next call. Different ends share nothing that a call changes. No
- * call may be made from a signal handler, nor from the child of a `fork` in a process with threads.
+ * lent is lent to all threads, until its next call. Different ends may be used at once. No call may be made
+ * from a signal handler, nor from the child of a `fork` in a process with threads.
  *
  * Statuses.  Each call that can refuse returns a waywire_status. Unless its own text says otherwise,
  * with a status other than WAYWIRE_OK nothing has changed and nothing was written to what the caller

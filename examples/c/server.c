@@ -176,19 +176,22 @@ static void add(const char *name)
 	must(waywire_server_add_global(server, interface, 1, NULL));
 }
 
-/* Reads all requests that came. False where the client broke a rule. */
+/* Reads all requests that came, each once what was written before is on its way, so that the outbox has
+ * room for what it asks for. False where the client broke a rule, is gone or does not read. */
 static bool serve(void)
 {
 	waywire_report report;
 	do {
+		if (link_drain(&link_to, 5000) < 0)
+			return false;
 		waywire_status status = waywire_server_next(server, &report);
 		if (status) {
 			fprintf(stderr, "server: a request: %s\n", waywire_strerror(status));
 			return false;
 		}
 		asked(&report);
+		must(waywire_server_announce(server, NULL)); /* it may have made a registry */
 	} while (report.kind != WAYWIRE_NOTHING);
-	must(waywire_server_announce(server, NULL));
 	return true;
 }
 

@@ -99,6 +99,24 @@ int link_flush(struct link *link)
 	return 0;
 }
 
+int link_drain(struct link *link, int milliseconds)
+{
+	for (;;) {
+		if (link_flush(link) < 0)
+			return -1;
+		if (link->from == link->to)
+			return 0;
+		struct pollfd wanted = { link->socket, POLLOUT, 0 };
+		int ready = poll(&wanted, 1, milliseconds);
+		if (ready < 0 && errno != EINTR)
+			return -1;
+		if (ready == 0) {
+			errno = ETIMEDOUT;
+			return -1;
+		}
+	}
+}
+
 /* The descriptors that came with some bytes. */
 static size_t received(struct msghdr *message, uint32_t *tokens)
 {

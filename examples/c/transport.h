@@ -32,6 +32,10 @@ int link_listen(const char *path);
 /* Writes what waits in the outbox, as much as the socket takes. 0, or -1 with errno set. */
 int link_flush(struct link *link);
 
+/* Writes all that waits in the outbox, and waits for the socket to take it, each time so many milliseconds
+ * at most. 0, or -1 with errno set; ETIMEDOUT if the other end does not read. */
+int link_drain(struct link *link, int milliseconds);
+
 /* Reads once from the socket into the inbox, out of which all reports were read before. 1 if something
  * came, 0 if nothing is there yet, -1 at the end of the connection (errno 0) or an error; ENOBUFS if the
  * inbox has no room, since the other end sent descriptors that no message takes. */
