@@ -178,8 +178,12 @@ fn finds_by_name(tables: &Tables) -> bool {
 fn finds_opcodes(tables: &Tables) -> bool {
     tables.opcode(Iface(7), Side::Request, b"commit") == Some(6)
         && tables.opcode(Iface(0), Side::Event, b"delete_id") == Some(1)
-        && tables.opcode(Iface(0), Side::Request, b"delete_id").is_none()
-        && tables.opcode(Iface(19), Side::Request, b"destroy").is_none()
+        && tables
+            .opcode(Iface(0), Side::Request, b"delete_id")
+            .is_none()
+        && tables
+            .opcode(Iface(19), Side::Request, b"destroy")
+            .is_none()
 }
 
 // Every signature stands at its place, side and opcode, and nothing else does.
