@@ -10,56 +10,45 @@ ghost use Rattle.wl_jobs.specs.Writing.{AppendsFront};
 use crate::writing::write_whole;
 use itoa::Buffer;
 use std::alloc::AllocError;
-use std::error::Error;
-use std::fmt::{self, Display, Formatter};
 use std::io::{self, ErrorKind, Write};
+use thiserror::Error;
 use wl_recording::RecordingError;
 use wl_sigs::TableFault;
 use wl_socket::SocketError;
 
 /// Why a job has no output. Its text is what standard error says behind `waywire: `.
-#[derive(Clone, Copy, Debug, PartialEq, Eq)]
+#[derive(Clone, Copy, Debug, PartialEq, Eq, Error)]
 pub enum Failure<'a> {
     /// The file of this name cannot be opened, or its reading failed.
+    #[error("cannot read {0}")]
     CannotRead(&'a str),
     /// The file has more than 16,777,216 bytes.
+    #[error("file too long")]
     TooLong,
     /// This line is no line of a recording. Lines are counted from 1.
+    #[error("line {0}: bad line")]
     BadLine(usize),
     /// This line has none of the forms of a text of tables.
+    #[error("tables line {0}: bad line")]
     BadTablesLine(usize),
     /// This line of a text of tables breaks a rule of valid tables, and this is the rule.
+    #[error("tables line {line}: breaks V{rule}")]
     BreaksRule { line: usize, rule: u8 },
     /// The output was not taken.
+    #[error("cannot write")]
     CannotWrite,
     /// A call of the socket failed, its input ended early, or the two ends over it do not have the
     /// same objects.
+    #[error("socket failed")]
     SocketFailed,
     /// There is no memory.
+    #[error("out of memory")]
     Memory,
 }
 
-impl Display for Failure<'_> {
-    ghost use Rattle.std.specs.Prelude.{Some};
-    ghost use Rattle.wl_jobs.specs.Failing.{failure_text};
-
-    ghost output = { λ failure. Some (failure_text failure) };
-
-    fn fmt<W: fmt::Write>(&self, f: &mut Formatter<W>) -> fmt::Result {
-        let mut line = Buffer::new();
-        let mut rule = Buffer::new();
-        let Parts(first, second, third, fourth) = self.parts(&mut line, &mut rule);
-        f.write_str(first)?;
-        f.write_str(second)?;
-        f.write_str(third)?;
-        f.write_str(fourth)
-    }
-}
-
-/// A text in four parts, so that it can be written without allocating.
+/// A text in four parts, so that it can be written without allocating. Contracts name its bytes by
+/// these parts: what is derived for `Display` has no contract.
 struct Parts<'a>(&'a str, &'a str, &'a str, &'a str);
-
-impl Error for Failure<'_> {}
 
 impl Failure<'_> {
     /// Why a call of the socket failed.

@@ -6,6 +6,8 @@ mod acting;
 #[cfg(test)]
 mod demo;
 #[cfg(test)]
+mod failure;
+#[cfg(test)]
 mod job;
 #[cfg(test)]
 mod tables;
