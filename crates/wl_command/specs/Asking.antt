@@ -1,11 +1,15 @@
 -- The command line of the program, and what its words ask for.
 use Rattle.std.specs.Prelude.{◌≡◌, ◌≢◌, ◌⊎◌, ◌<◌, ◌^◌, ℕ, List, [], ◌∷◌, Option, Some, None, String}
-use Rattle.std.specs.Prelude.{codes, map, option_map, true, pos, string_bytes}
+use Rattle.std.specs.Prelude.{codes, map, option_map, true, pos, string_bytes, IsErrAnd}
+use Rattle.std.specs.declared.result.Result.{Result}
+use Rattle.std.specs.declared.result.Result.TheVariants.{Ok, Err}
+use Rattle.std.specs.Cow.{cow_str_bytes}
 use Rattle.std.specs.Str.Parse.{IsNumeral, digits_value, without_leading_plus}
-use Rattle.clap.specs.Words.{App, IsAmong, Row, Rule, Shape, Text, fault_of, first_of, new_app}
-use Rattle.clap.specs.Words.{new_rule, one_of, subcommand_of, with_rule, with_subcommand}
+use Rattle.clap.specs.Words.{App, IsAmong, Row, Rule, Shape, Text, fault_of, first_of, kind_of}
+use Rattle.clap.specs.Words.{new_app, new_rule, one_of, subcommand_of, with_rule, with_subcommand}
 use Rattle.clap.specs.Simple.{on_top}
 use Rattle.clap.specs.declared.builder.value_parser.ValueParser.TheVariants as parser
+use Rattle.clap.specs.declared.error.Error.{Error}
 use Rattle.clap.specs.declared.error.kind.ErrorKind.{ErrorKind}
 use Rattle.clap.specs.declared.error.kind.ErrorKind.TheVariants.{DisplayHelp, DisplayVersion}
 use Rattle.clap.specs.declared.error.kind.ErrorKind.TheVariants.{OutOfMemory}
@@ -137,28 +141,57 @@ pub record Asks (words : List Text) (job : Job) : Type 0 where
   pub faultless : fault_of command_line words ≡ []
   pub named : Names (subcommand_of command_line words) (Some job)
 
--- help is asked for, or the version
+-- what is said to one who asked for it: help, or the version
+abbrev pub IsHelp : ErrorKind → Type 0
+IsHelp DisplayHelp = Unit {0}
+IsHelp DisplayVersion = Unit {0}
+IsHelp _ = ⊥
+
+-- The words ask for help or the version. Behind the word `help` a name that is no command's may be
+-- refused too, so that some words both ask for help and have a fault.
 abbrev pub AsksHelp : List Text → Type 0
 AsksHelp words =
-    IsAmong DisplayHelp (fault_of command_line words)
-    ⊎ IsAmong DisplayVersion (fault_of command_line words)
+    (kind : ErrorKind) × IsAmong kind (fault_of command_line words) × IsHelp kind
 
--- a stop of this status with a text, or out of memory, which has none
-abbrev pub IsStop : ℕ → Stop → Type 0
-IsStop status stop =
-    ((stop.status ≡ status) × (string_bytes stop.text ≢ []))
-    ⊎ ((stop.status ≡ 4) × (string_bytes stop.text ≡ []))
+-- the words have a fault, as a command that is not known, a word too many or too few
+abbrev pub HasFault : List Text → Type 0
+HasFault words =
+    (kind : ErrorKind) × IsAmong kind (fault_of command_line words) × (IsHelp kind → ⊥)
 
--- Why there is no job: help was asked for; or the words ask for none of the program's jobs; or
--- there is no memory. The text is empty for lack of memory alone.
+-- they have none, and yet name no job, as with a limit that is no multiple of 4
+abbrev pub NamesNone : List Text → Type 0
+NamesNone words =
+    (fault_of command_line words ≡ []) × Names (subcommand_of command_line words) None
+
+-- a stop of this status, with a text
+abbrev pub Says : ℕ → Stop → Type 0
+Says status stop = (stop.status ≡ status) × (cow_str_bytes stop.text ≢ [])
+
+-- one for lack of memory, which has none
+abbrev pub IsOutOfMemory : Stop → Type 0
+IsOutOfMemory stop = (stop.status ≡ 4) × (cow_str_bytes stop.text ≡ [])
+
+-- Why there is no job: help was asked for; or the words have a fault; or they name no job; or there
+-- is no memory. The text is empty for lack of memory alone.
 pub data Stops (words : List Text) (stop : Stop) : Type 0 where
-  helps : AsksHelp words → IsStop 0 stop → Stops words stop
-  faulty : ((job : Job) → Asks words job → ⊥) → IsStop 2 stop → Stops words stop
-  no_memory : (stop.status ≡ 4) → string_bytes stop.text ≡ [] → Stops words stop
+  helps : AsksHelp words → Says 0 stop → Stops words stop
+  faulty : HasFault words → Says 2 stop → Stops words stop
+  names_none : NamesNone words → Says 2 stop → Stops words stop
+  no_memory : IsOutOfMemory stop → Stops words stop
+
+-- there is no job, but a stop of this status or one for lack of memory
+abbrev pub StopsWith : ℕ → Result Job Stop → Type 0
+StopsWith status = λ result. IsErrAnd result (λ stop. Says status stop ⊎ IsOutOfMemory stop)
 
 -- the stop for an error of this kind
 abbrev pub StopsFor : ErrorKind → Stop → Type 0
-StopsFor DisplayHelp stop = IsStop 0 stop
-StopsFor DisplayVersion stop = IsStop 0 stop
-StopsFor OutOfMemory stop = (stop.status ≡ 4) × (string_bytes stop.text ≡ [])
-StopsFor _ stop = IsStop 2 stop
+StopsFor DisplayHelp stop = Says 0 stop ⊎ IsOutOfMemory stop
+StopsFor DisplayVersion stop = Says 0 stop ⊎ IsOutOfMemory stop
+StopsFor OutOfMemory stop = IsOutOfMemory stop
+StopsFor _ stop = Says 2 stop ⊎ IsOutOfMemory stop
+
+-- what is answered where the words were parsed, or could not be
+abbrev pub IsAnswer : Result (Option Job) Error → Result Job Stop → Type 0
+IsAnswer (Ok (Some job)) result = result ≡ Ok job
+IsAnswer (Ok None) result = IsErrAnd result (Says 2)
+IsAnswer (Err error) result = IsErrAnd result (StopsFor (kind_of error))

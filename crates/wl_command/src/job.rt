@@ -1,16 +1,21 @@
 //! What the words of a command line ask for.
-ghost use Rattle.std.specs.Prelude.{◌≡◌, List, [], IfOk, IfErr, false, option_map, string_bytes};
+ghost use Rattle.std.specs.Prelude.{◌≡◌, ◌≢◌, List, [], IfOk, IfErr, false, option_map};
+ghost use Rattle.std.specs.Prelude.{string_bytes};
 ghost use Rattle.clap.specs.Words.{HasKind, app_of, fault_of, first_of, found_of, kind_of};
 ghost use Rattle.clap.specs.Words.{rows_of, rule_of, subcommand_of, subcommand_rows_of};
-ghost use Rattle.wl_command.specs.Asking.{Asks, IsJobFor, IsLimitOf, IsNumber, IsStop, Names};
-ghost use Rattle.wl_command.specs.Asking.{Stops, StopsFor, check_command, command_line};
-ghost use Rattle.wl_command.specs.Asking.{demo_command, file_argument, limit_argument};
-ghost use Rattle.wl_command.specs.Asking.{path_argument, piece_argument, socket_command};
-ghost use Rattle.wl_command.specs.Asking.{tables_argument, texts_of, trace_command};
+ghost use Rattle.std.specs.Cow.{cow_str_bytes};
+ghost use Rattle.wl_command.specs.Asking.{Asks, AsksHelp, HasFault, IsAnswer, IsJobFor, IsLimitOf};
+ghost use Rattle.wl_command.specs.Asking.{IsNumber, IsOutOfMemory, Names, NamesNone, Says};
+ghost use Rattle.wl_command.specs.Asking.{Stops, StopsFor, StopsWith, check_command};
+ghost use Rattle.wl_command.specs.Asking.{command_line, demo_command, file_argument};
+ghost use Rattle.wl_command.specs.Asking.{limit_argument, path_argument, piece_argument};
+ghost use Rattle.wl_command.specs.Asking.{socket_command, tables_argument, texts_of};
+ghost use Rattle.wl_command.specs.Asking.{trace_command};
 
 use clap::error::ErrorKind;
 use clap::{Arg, ArgMatches, Command, Error};
 use std::alloc::{AllocError, Global};
+use std::borrow::CowStr;
 use wl_message::Limit;
 
 /// The most bytes that the demonstration carries at once, unless it is told otherwise.
@@ -65,7 +70,7 @@ pub struct Stop {
     pub status: u8,
     /// What to print: help and the version to standard output, a fault to standard error. It is
     /// empty for lack of memory alone.
-    pub text: String,
+    pub text: CowStr<'static, Global>,
 }
 
 fn command<'a>(alloc: Global) -> Result<Command<'a>, AllocError>
@@ -260,25 +265,39 @@ fn parsed(alloc: Global, words: &[String]) -> Result<Option<Job>, Error>
     Ok(chosen(alloc, &matches)?)
 }
 
-fn no_memory(alloc: Global) -> Stop
-    ensures { (result.status ≡ 4) × (string_bytes result.text ≡ []) }
+fn no_memory() -> Stop
+    ensures { IsOutOfMemory result }
 {
     Stop {
         status: 4,
-        text: String::new(alloc),
+        text: CowStr::Borrowed(""),
     }
 }
 
-/// A stop with what is to be said of it, or with what is always said where that is nothing.
-fn stopped(alloc: Global, status: u8, text: String) -> Stop
-    ensures { IsStop status result }
+/// A stop for words that name no job, though the parser takes them.
+fn no_job() -> Stop
+    ensures { Says 2 result }
 {
-    if !text.is_empty() {
-        return Stop { status, text };
+    Stop {
+        status: 2,
+        text: CowStr::Borrowed(USAGE),
     }
-    match String::from_str(alloc, USAGE) {
-        Ok(text) => Stop { status, text },
-        Err(_) => no_memory(alloc),
+}
+
+/// A stop with what the parser says, or with what is always said where that is nothing.
+fn stopped(status: u8, text: String) -> Stop
+    ensures says { Says status result }
+    ensures kept { string_bytes text ≢ [] → cow_str_bytes result.text ≡ string_bytes text }
+{
+    if text.is_empty() {
+        return Stop {
+            status,
+            text: CowStr::Borrowed(USAGE),
+        };
+    }
+    Stop {
+        status,
+        text: CowStr::Owned(text),
     }
 }
 
@@ -286,25 +305,41 @@ fn stop_of(alloc: Global, error: &Error) -> Stop
     ensures { StopsFor (kind_of error.now) result }
 {
     if matches!(error.kind(), ErrorKind::OutOfMemory) {
-        return no_memory(alloc);
+        return no_memory();
     }
     let status = if error.use_stderr() { 2 } else { 0 };
     match error.to_string(alloc) {
-        Ok(text) => stopped(alloc, status, text),
-        Err(_) => no_memory(alloc),
+        Ok(text) => stopped(status, text),
+        Err(_) => no_memory(),
+    }
+}
+
+/// The job that was parsed, or why there is none.
+fn answer(alloc: Global, parsed: Result<Option<Job>, Error>) -> Result<Job, Stop>
+    ensures { IsAnswer parsed result }
+{
+    match parsed {
+        Ok(Some(job)) => Ok(job),
+        Ok(None) => Err(no_job()),
+        Err(error) => Err(stop_of(alloc, &error)),
     }
 }
 
 /// The job that a command line asks for. The first word is the program's name.
 ///
-/// A command that is not known, a word too many and a word too few are faults of usage.
+/// Help and the version are no job: they stop with the status 0. A command that is not known, a
+/// word too many and a word too few are faults of usage: they stop with the status 2.
 pub fn job_of(alloc: Global, words: &[String]) -> Result<Job, Stop>
     ensures asked { IfOk result (Asks (texts_of words.now)) }
     ensures stopped { IfErr result (Stops (texts_of words.now)) }
+
+    // and each cause has its status, but for want of memory
+    ensures helped { AsksHelp (texts_of words.now) → (HasFault (texts_of words.now) → ⊥)
+        → StopsWith 0 result }
+    ensures faulty { HasFault (texts_of words.now) → (AsksHelp (texts_of words.now) → ⊥)
+        → StopsWith 2 result }
+    ensures none { NamesNone (texts_of words.now) → StopsWith 2 result }
+    ensures job { (job : Job) → Asks (texts_of words.now) job → IfErr result IsOutOfMemory }
 {
-    match parsed(alloc, words) {
-        Ok(Some(job)) => Ok(job),
-        Ok(None) => Err(stopped(alloc, 2, String::new(alloc))),
-        Err(error) => Err(stop_of(alloc, &error)),
-    }
+    answer(alloc, parsed(alloc, words))
 }

@@ -5,5 +5,6 @@
 #![tactic(auto)]
 
 mod job;
+pub mod laws;
 
 pub use job::{Job, Stop, job_of};

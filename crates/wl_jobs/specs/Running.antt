@@ -1,5 +1,6 @@
 -- What a run of the whole program does.
-use Rattle.std.specs.Prelude.{◌≡◌, ◌≢◌, ℕ, List, Option, String, Vec, codes, string_bytes}
+use Rattle.std.specs.Prelude.{◌≡◌, ◌≢◌, ℕ, List, Option, String, Vec, codes}
+use Rattle.std.specs.Cow.{cow_str_bytes}
 use Rattle.std.specs.declared.result.Result.{Result}
 use Rattle.std.specs.declared.result.Result.TheVariants.{Ok, Err}
 use Rattle.std.specs.Io.KnownBytes.{Appends}
@@ -89,17 +90,17 @@ pub data Opened {R S O E : Type 0} (remaining : R → Option (List ℕ))
 pub data Told {O E : Type 0} (contents : O → Option (List ℕ)) (said : E → Option (List ℕ))
     (stop : Stop) (out out' : O) (err err' : E) (status : ℕ) : Type 0 where
   helped : stop.status ≡ 0 → status ≡ 0
-      → Appends (contents out) (contents out') (string_bytes stop.text) → err' ≡ err
+      → Appends (contents out) (contents out') (cow_str_bytes stop.text) → err' ≡ err
       → Told contents said stop out out' err err' status
   not_taken : stop.status ≡ 0 → status ≡ 3
-      → AppendsFront (contents out) (contents out') (string_bytes stop.text)
+      → AppendsFront (contents out) (contents out') (cow_str_bytes stop.text)
       → AppendsFront (said err) (said err') (failure_line CannotWrite)
       → Told contents said stop out out' err err' status
   no_memory : stop.status ≡ 4 → status ≡ 4
       → out' ≡ out → AppendsFront (said err) (said err') (failure_line Memory)
       → Told contents said stop out out' err err' status
   faulty : stop.status ≢ 0 → stop.status ≢ 4 → status ≡ stop.status
-      → out' ≡ out → AppendsFront (said err) (said err') (string_bytes stop.text)
+      → out' ≡ out → AppendsFront (said err) (said err') (cow_str_bytes stop.text)
       → Told contents said stop out out' err err' status
 
 -- what is said of words that are no text

@@ -83,13 +83,13 @@ fn report_stop<O: Write, E: Write>(stop: &Stop, out: &mut O, err: &mut E) -> u8
     ensures { Told O.contents E.contents stop.now out.old out.new err.old err.new result }
 {
     match stop.status {
-        0 => match write_through(out, stop.text.as_bytes()) {
+        0 => match write_through(out, stop.text.as_str().as_bytes()) {
             Ok(()) => 0,
             Err(_) => Failure::CannotWrite.report(err),
         },
         4 => Failure::Memory.report(err),
         status => {
-            let _ = write_whole(err, stop.text.as_bytes());
+            let _ = write_whole(err, stop.text.as_str().as_bytes());
             status
         }
     }
