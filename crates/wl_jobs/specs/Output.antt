@@ -122,6 +122,10 @@ HasTables (Check tables limit file) known all = Gathers tables known all
 HasTables (Demo piece) known all = ⊥
 HasTables (Socket path) known all = ⊥
 
+-- the job reads a recording, and its tables are not at fault
+abbrev pub FindsTables : Job → Option (List ℕ) → Type 0
+FindsTables job known = (all : List Interface) × HasTables job known all
+
 -- a text that was read gives no tables, for this fault
 abbrev pub GivesNone : Option (List ℕ) → TableFault → Type 0
 GivesNone known fault = (text : List ℕ) × IsRead known text × (outcome core_tables text ≡ Err fault)
@@ -131,15 +135,15 @@ abbrev pub IsTooLong : Option (List ℕ) → Type 0
 IsTooLong known = IfSome known (λ all. most_bytes < length all)
 
 -- Why a job prints nothing. A file is too long exactly where it has more bytes than may be read.
--- The recording is at fault only where the tables are not.
+-- The recording is at fault only where the tables are not, whether it cannot be read, is too long
+-- or has a bad line.
 abbrev pub IsRefused : Job → Option (List ℕ) → Option (List ℕ) → Failure → Type 0
 IsRefused job known_tables known (CannotRead name) =
-    NamesFile job name.now ⊎ NamesTables job name.now
+    (FindsTables job known_tables × NamesFile job name.now) ⊎ NamesTables job name.now
 IsRefused job known_tables known TooLong =
-    (ReadsFile job × IsTooLong known) ⊎ (ReadsTables job × IsTooLong known_tables)
+    (FindsTables job known_tables × IsTooLong known) ⊎ (ReadsTables job × IsTooLong known_tables)
 IsRefused job known_tables known (BadLine n) =
-    ((all : List Interface) × HasTables job known_tables all)
-    × ((text : List ℕ) × IsRead known text × IsFirstBad text n)
+    FindsTables job known_tables × ((text : List ℕ) × IsRead known text × IsFirstBad text n)
 IsRefused job known_tables known (BadTablesLine n) =
     ReadsTables job × GivesNone known_tables (texts.BadLine n)
 IsRefused job known_tables known (BreaksRule n rule) =

@@ -1,13 +1,14 @@
 //! The lines of the whole session, by words of a command line.
+use crate::words::asked;
 use refusing::RefusingAllocator;
 use std::alloc::{AllocError, Global};
 use std::io;
 use std::test::Fail;
-use wl_command::{Job, job_of};
+use wl_command::Job;
 use wl_jobs::act;
 
 /// What a demonstration prints.
-const LINES: &[u8] = b"-> wl_display@1.get_registry(new id wl_registry@2)
+pub const LINES: &[u8] = b"-> wl_display@1.get_registry(new id wl_registry@2)
 <- wl_registry@2.global(1, \"wl_compositor\", 6)
 <- wl_registry@2.global(2, \"wl_seat\", 9)
 -> wl_registry@2.bind(1, \"wl_compositor\", 6, new id wl_compositor@3)
@@ -21,16 +22,6 @@ const LINES: &[u8] = b"-> wl_display@1.get_registry(new id wl_registry@2)
 <- wl_display@1.delete_id(5)
 agree: 4 objects
 ";
-
-/// The job of the words behind the program's name, or none.
-fn asked(alloc: Global, words: &[&str]) -> Result<Option<Job>, AllocError> {
-    let mut all = Vec::new(alloc);
-    all.push(String::from_str(alloc, "waywire")?)?;
-    for word in words {
-        all.push(String::from_str(alloc, word)?)?;
-    }
-    Ok(job_of(alloc, all.as_slice()).ok())
-}
 
 /// Whether a job ends with 0 and writes these lines, and nothing to standard error.
 fn shows(alloc: Global, job: &Job) -> bool {
@@ -52,8 +43,8 @@ fn shows(alloc: Global, job: &Job) -> bool {
 /// Whether these words ask for a job that shows the session.
 fn words_show(alloc: Global, words: &[&str]) -> Result<bool, AllocError> {
     match asked(alloc, words)? {
-        Some(job) => Ok(shows(alloc, &job)),
-        None => Ok(false),
+        Ok(job) => Ok(shows(alloc, &job)),
+        Err(_) => Ok(false),
     }
 }
 

@@ -1,4 +1,4 @@
-//! The tests of `wl_jobs`, over its public calls.
+//! The tests of `wl_jobs`, over its public calls, and of what it stands on.
 #![tactic(auto)]
 
 #[cfg(test)]
@@ -8,6 +8,14 @@ mod demo;
 #[cfg(test)]
 mod failure;
 #[cfg(test)]
+mod filling;
+#[cfg(test)]
 mod job;
 #[cfg(test)]
+mod socket;
+#[cfg(test)]
 mod tables;
+#[cfg(test)]
+mod words;
+#[cfg(test)]
+mod writing;

@@ -1,9 +1,10 @@
 //! Traces and checks by the tables of a text.
 use std::alloc::{AllocError, Global};
+use std::io::{self, ErrorKind, Read};
 use std::test::Fail;
 use wl_command::Job;
 use wl_jobs::act;
-use wl_message::Limit;
+use wl_message::{Limit, ScriptReader, Step};
 
 /// A text of tables.
 const VIEWPORTER: &[u8] = b"interface wp_viewporter 1
@@ -79,6 +80,9 @@ const REFUSED: [(&[u8], &[u8]); 11] = [
     ),
 ];
 
+/// A text that is no recording.
+const NO_RECORDING: &[u8] = b"> 012\n";
+
 /// The word for the file of tables.
 fn named(alloc: Global) -> Result<Option<String>, AllocError> {
     Ok(Some(String::from_str(alloc, "a.tables")?))
@@ -147,7 +151,57 @@ fn refuses_texts_that_give_no_tables(rt: HostRuntime) -> Result<(), Fail> {
     let alloc = rt.alloc();
     let check = check_by(alloc, named(alloc)?)?;
     for (text, said) in REFUSED {
-        assert!(rt; answers(alloc, &check, (text, b"> 012\n"), 3, (b"", said)));
+        assert!(rt; answers(alloc, &check, (text, NO_RECORDING), 3, (b"", said)));
     }
+    Ok(())
+}
+
+/// Whether a job over these tables and this recording ends with 3, prints nothing, and says this.
+fn says<T: Read, R: Read>(
+    alloc: Global,
+    job: &Job,
+    tables: &mut T,
+    file: &mut R,
+    said: &[u8],
+) -> bool {
+    let mut out = Vec::new(alloc);
+    let mut err = Vec::new(alloc);
+    let status = act(alloc, alloc, job, tables, file, &mut out, &mut err);
+    status == 3 && out.is_empty() && err.as_slice() == said
+}
+
+/// A reader that fails at its first call.
+fn failing() -> ScriptReader<'static> {
+    ScriptReader::new(b"", FAILS)
+}
+
+const FAILS: &[Step] = &[Step::Fail(ErrorKind::BrokenPipe)];
+
+/// The recording fails, or has no end, each time: the tables come first.
+#[test]
+fn refuses_bad_tables_before_any_recording(rt: HostRuntime) -> Result<(), Fail> {
+    let alloc = rt.alloc();
+    let check = check_by(alloc, named(alloc)?)?;
+    for (text, said) in REFUSED {
+        let (mut first, mut second) = (text, text);
+        assert!(rt; says(alloc, &check, &mut first, &mut failing(), said));
+        assert!(rt; says(alloc, &check, &mut second, &mut io::repeat(b'#'), said));
+    }
+    Ok(())
+}
+
+/// Tables that fail or have no end come before a recording that has a bad line, and sound tables
+/// before a recording that fails.
+#[test]
+fn names_the_file_that_is_at_fault(rt: HostRuntime) -> Result<(), Fail> {
+    let alloc = rt.alloc();
+    let check = check_by(alloc, named(alloc)?)?;
+    let (mut first, mut second, mut sound) = (NO_RECORDING, NO_RECORDING, VIEWPORTER);
+    let said = b"waywire: cannot read a.tables\n";
+    assert!(rt; says(alloc, &check, &mut failing(), &mut first, said));
+    let said = b"waywire: file too long\n";
+    assert!(rt; says(alloc, &check, &mut io::repeat(b'#'), &mut second, said));
+    let said = b"waywire: cannot read a.rec\n";
+    assert!(rt; says(alloc, &check, &mut sound, &mut failing(), said));
     Ok(())
 }
