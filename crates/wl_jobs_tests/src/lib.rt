@@ -4,6 +4,8 @@
 #[cfg(test)]
 mod acting;
 #[cfg(test)]
+mod commands;
+#[cfg(test)]
 mod demo;
 #[cfg(test)]
 mod failure;
@@ -15,6 +17,8 @@ mod job;
 mod socket;
 #[cfg(test)]
 mod tables;
+#[cfg(test)]
+mod verdict;
 #[cfg(test)]
 mod words;
 #[cfg(test)]

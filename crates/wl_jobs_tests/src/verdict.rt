@@ -1,0 +1,32 @@
+//! The line of a verdict that no file is long enough for.
+use std::alloc::{AllocError, Global};
+use std::test::Fail;
+use wl_check::check;
+use wl_jobs::write_verdict;
+use wl_message::Limit;
+use wl_recording::{Direction, Recording};
+use wl_sigs::Tables;
+
+/// wl_display.sync for each id from 2 to the last one, and for the id behind it.
+fn requests(alloc: Global) -> Result<Vec<u8>, AllocError> {
+    let mut bytes = Vec::new(alloc);
+    for id in 2u32..1_048_578 {
+        bytes.extend_from_slice(&[1, 0, 0, 0, 0, 0, 12, 0])?;
+        bytes.extend_from_slice(&id.to_le_bytes())?;
+    }
+    Ok(bytes)
+}
+
+#[test]
+fn prints_that_there_are_too_many_objects(rt: HostRuntime) -> Result<(), Fail> {
+    let alloc = rt.alloc();
+    let tables = Tables::core(alloc)?;
+    let mut recording = Recording::new(alloc);
+    recording.add(Direction::ToServer, &requests(alloc)?, 0)?;
+    let verdict = check(alloc, &recording, &tables, Limit::USUAL)?;
+    let mut line = Vec::new(alloc);
+    write_verdict(&mut line, &verdict)?;
+    let wanted = b"broken: > message 1048576 at byte 12582900: F10 too many objects\n";
+    assert!(rt; line.as_slice() == wanted.as_slice());
+    Ok(())
+}
