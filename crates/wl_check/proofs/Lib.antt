@@ -18,3 +18,5 @@ pub mod Piecing
 pub mod Telling
 pub mod Verdicts
 pub mod Outcomes
+pub mod Printing
+pub mod Copies

@@ -38,14 +38,14 @@ use Rattle.wl_check.proofs.Reading.{after_front, effects_same, get_front, known_
 -- ---- a session that goes on: its first messages stay
 
 -- One session begins another.
-record Begins (tables : List Interface) (s t : Session) : Type 0 where
-  more : List Frame
-  frames : t.frames ≡ s.frames ++ more
-  later : List Judged
-  judged : messages tables t ≡ messages tables s ++ later
-  streams : (d : Direction) → length (s.streams d) ≤ length (t.streams d)
+pub record Begins (tables : List Interface) (s t : Session) : Type 0 where
+  pub more : List Frame
+  pub frames : t.frames ≡ s.frames ++ more
+  pub later : List Judged
+  pub judged : messages tables t ≡ messages tables s ++ later
+  pub streams : (d : Direction) → length (s.streams d) ≤ length (t.streams d)
 
-one_more : (limit : ℕ) (tables : List Interface) (ps : List Piece) (p : Piece) → Begins tables (session_of limit ps) (session_of limit (ps ++ p ∷ []))
+pub one_more : (limit : ℕ) (tables : List Interface) (ps : List Piece) (p : Piece) → Begins tables (session_of limit ps) (session_of limit (ps ++ p ∷ []))
 one_more limit tables ps p =
     let rest = after_front limit tables (λ d. stream_of d (ps ++ p ∷ [])) (messages tables (session_of limit ps)) (completed limit ps p) in
     record {
@@ -89,7 +89,7 @@ at_more tables s t k p b h at = record {
   taken_to_client = at.taken_to_client;
 }
 
-lines_same : (tables : List Interface) (s t : Session) (k : ℕ) → Begins tables s t → k ≤ length s.frames → lines_within tables s k ≡ lines_within tables t k
+pub lines_same : (tables : List Interface) (s t : Session) (k : ℕ) → Begins tables s t → k ≤ length s.frames → lines_within tables s k ≡ lines_within tables t k
 unfolding lines_within
 lines_same tables s t zero b h = refl
 lines_same tables s t (suc k) b h =

@@ -7,3 +7,6 @@ pub mod Seen
 pub mod Trace
 pub mod Course
 pub mod Text
+pub mod Copied
+pub mod Printed
+pub mod Inspected

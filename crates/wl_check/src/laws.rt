@@ -8,13 +8,17 @@ ghost use Rattle.wl_check.specs.Merged.{cut, stream_of};
 ghost use Rattle.wl_check.specs.Places.{holder, is_ending, used, advertised_version};
 ghost use Rattle.wl_check.specs.Session.{Answers, AreWithin, Session, effects, examined, messages};
 ghost use Rattle.wl_check.specs.Session.{session_of};
-ghost use Rattle.wl_check.specs.Trace.{lasting};
+ghost use Rattle.wl_check.specs.Inspected.{HasPassed, Inspected};
+ghost use Rattle.wl_check.specs.declared.inspector.Inspector.{Inspector as Inspectors};
+ghost use Rattle.wl_check.specs.Trace.{lasting, trace_of};
 ghost use Rattle.wl_check.specs.declared.verdict.Verdict.{Verdict as Verdicts};
 ghost use Rattle.wl_recording.specs.declared.piece.Direction.{Direction as Way};
 ghost use Rattle.wl_recording.specs.Piece.{Piece};
 ghost use Rattle.wl_check.specs.Text.{marks_in, part_of, sound, Brings, ComeInOrder, EndsWith};
 ghost use Rattle.wl_check.specs.Text.{Held, IsExamined, IsOpen, IsPrinted, WasAdvertised};
 ghost use Rattle.wl_check.specs.Text.{WasUsed};
+
+use std::alloc::Allocator;
 
 /// The messages of a stream are those that its sizes cut off. A bad size, if one follows them,
 /// stands behind them and is the last.
@@ -99,4 +103,19 @@ pub fn a_trace_ends_with_the_verdict()
 pub fn a_session_has_one_verdict()
     ensures { (tables : List Interface) (session : Session) (one other : Verdicts)
         → Answers tables session one → Answers tables session other → one ≡ other }
+{}
+
+/// Where the pieces of a recording pass an inspector one by one, what it prints of them, put one
+/// behind the other, is what `trace` prints of the recording, and its verdict is that of `check`.
+pub fn inspecting_is_checking<A: Allocator>()
+    ensures lines { (limit : ℕ) (tables : List Interface) (pieces : List Piece) (text : List ℕ)
+        (inspector : Inspectors A)
+        → Inspected limit tables pieces text inspector
+        → text ≡ trace_of tables (session_of limit pieces) }
+    ensures verdict { (limit : ℕ) (tables : List Interface) (pieces : List Piece) (text : List ℕ)
+        (inspector : Inspectors A) (inspected checked : Verdicts)
+        → Inspected limit tables pieces text inspector
+        → (HasPassed limit tables pieces inspector
+        → Answers tables (session_of limit pieces) inspected)
+        → Answers tables (session_of limit pieces) checked → inspected ≡ checked }
 {}

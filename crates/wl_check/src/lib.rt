@@ -6,9 +6,12 @@
 #![tactic(auto)]
 
 mod checking;
+mod copying;
 mod course;
 mod effect;
 mod frames;
+mod inspecting;
+mod inspector;
 mod judging;
 mod known;
 pub mod laws;
@@ -18,5 +21,6 @@ mod tracing;
 mod verdict;
 
 pub use checking::{check, check_text};
+pub use inspector::Inspector;
 pub use tracing::{trace, trace_text};
 pub use verdict::Verdict;

@@ -76,7 +76,7 @@ fn take_piece<A: Allocator + Clone>(
 
 impl<A: Allocator + Clone> Scanner<A> {
     /// Before the first piece.
-    fn new(alloc: &A, tables: &Tables) -> Result<Self, AllocError>
+    pub(crate) fn new(alloc: &A, tables: &Tables) -> Result<Self, AllocError>
         ensures valid { OnOk result (Valid tables.now) }
         ensures none { IfOk result (λ s. (limit : ℕ) (output : Wish)
             → IsAfter limit tables.now output [] s) }

@@ -1,0 +1,36 @@
+-- What an inspector makes of the pieces that pass.
+use Rattle.std.specs.Prelude.{◌≡◌, ℕ, List, [], ◌∷◌, ◌++◌}
+use Rattle.wl_sigs.specs.Tables.{Interface}
+use Rattle.wl_recording.specs.Piece.{Piece}
+use Rattle.wl_check.specs.declared.course.Output.TheVariants.{Nothing}
+use Rattle.wl_check.specs.declared.inspector.Inspector.{Inspector}
+use Rattle.wl_check.specs.Course.{IsAfter}
+use Rattle.wl_check.specs.Printed.{AreOwnLines}
+
+-- the lines that its last call printed
+abbrev pub printed : {A : Type 0} → Inspector A → List ℕ
+printed i = i.lines.items
+
+-- These pieces passed an inspector of this limit and these tables, one by one and no others.
+pub record HasPassed {A : Type 0} (limit : ℕ) (tables : List Interface) (ps : List Piece)
+    (i : Inspector A) : Type 0 where
+  pub limit_is : i.limit.bytes ≡ limit
+  pub tables_are : i.tables.now ≡ tables
+  pub after : IsAfter limit tables Nothing ps i.scanner
+
+-- What a call does: the piece passed behind the others, and what it printed is what the trace of
+-- their recording has more with it.
+abbrev pub Passes : {A : Type 0} → ℕ → List Interface → Piece → Inspector A → Inspector A → Type 0
+Passes limit tables piece before after =
+    (ps : List Piece) → HasPassed limit tables ps before
+    → HasPassed limit tables (ps ++ piece ∷ []) after
+    × AreOwnLines limit tables ps piece (printed after)
+
+-- An inspector that these pieces passed one by one, and what the calls printed, put one behind the
+-- other.
+pub data Inspected {A : Type 0} (limit : ℕ) (tables : List Interface) : List Piece → List ℕ
+    → Inspector A → Type 0 where
+  begun : {i : Inspector A} → HasPassed limit tables [] i → Inspected limit tables [] [] i
+  passed : {ps : List Piece} {text : List ℕ} {before after : Inspector A} {piece : Piece}
+      → Inspected limit tables ps text before → Passes limit tables piece before after
+      → Inspected limit tables (ps ++ piece ∷ []) (text ++ printed after) after

@@ -1,0 +1,225 @@
+//! The messages that a piece completes, judged and printed as it passes.
+ghost use Rattle.std.specs.Prelude.{◌≡◌, ◌≤◌, ◌∷◌, ◌++◌, ℕ, List, [], true, drop, length};
+ghost use Rattle.std.specs.Prelude.{OnOk, IfOk};
+ghost use Rattle.wl_recording.specs.Piece.{Piece};
+ghost use Rattle.wl_sigs.specs.Tables.{Interface};
+ghost use Rattle.wl_sigs.specs.Valid.{Valid};
+ghost use Rattle.wl_check.specs.declared.course.Output.TheVariants.{Nothing};
+ghost use Rattle.wl_check.specs.Course.{is_open, AllJudged, Along, Comes, Follows, IsAfter};
+ghost use Rattle.wl_check.specs.Course.{IsJudged, OthersStay, WentOn};
+ghost use Rattle.wl_check.specs.Printed.{piece_of, AreOwnLines, PrintsOn};
+ghost use Rattle.wl_check.specs.Session.{session_of, Answers, Session};
+
+use crate::course::{Course, Output, Stage};
+use crate::frames::{Frame, Stream, remove_front, size_in_front};
+use crate::judging::judge;
+use crate::scanning::Scanner;
+use crate::verdict::Verdict;
+use std::alloc::{AllocError, Allocator};
+use wl_message::Limit;
+use wl_recording::Direction;
+use wl_sigs::Tables;
+
+/// Judges the next message, which begins these bytes, and appends its line.
+fn print_next<A: Allocator + Clone>(
+    course: &mut Course<A>,
+    bytes: &[u8],
+    frame: &Frame,
+    tables: &Tables,
+    limit: Limit,
+    lines: &mut Vec<u8, A>,
+) -> Result<(), AllocError>
+    requires valid { Valid tables.now }
+    requires comes { ∥ ((s : Session)
+        × Comes limit.bytes tables.now s Nothing course.old frame.now bytes.now) ∥₁ }
+    ensures judged { OnOk result ((s : Session)
+        → Comes limit.bytes tables.now s Nothing course.old frame.now bytes.now
+        → IsJudged tables.now s Nothing course.new) }
+    ensures lines { OnOk result ((s : Session)
+        → Comes limit.bytes tables.now s Nothing course.old frame.now bytes.now
+        → PrintsOn tables.now s course.old.count course.new.count lines.old.items
+        lines.new.items) }
+    ensures on { OnOk result (is_open course.new.stage ≡ true
+        → WentOn limit.bytes frame.now course.old course.new) }
+    ensures other { OnOk result (OthersStay frame.now.direction course.old course.new) }
+{
+    let known = &course.progress.known;
+    let effect = match judge(tables, known, bytes, frame, limit, lines, Output::Lines)? {
+        Ok(effect) => effect,
+        Err(fault) => {
+            course.stage = Stage::Broken(*frame, fault);
+            return Ok(());
+        }
+    };
+    let place = course.count + 1;
+    course.progress.advance(place, frame, &effect)?;
+    course.count = place;
+    if effect.is_error {
+        course.stage = Stage::Ended;
+    }
+    Ok(())
+}
+
+/// Judges the messages that stand whole in these bytes of a direction, appends their lines, and
+/// returns where the bytes of the next begin. One that breaks a rule or ends the session is the
+/// last.
+fn print_all<A: Allocator + Clone>(
+    course: &mut Course<A>,
+    bytes: &[u8],
+    direction: Direction,
+    tokens: u128,
+    tables: &Tables,
+    limit: Limit,
+    lines: &mut Vec<u8, A>,
+) -> Result<usize, AllocError>
+    requires valid { Valid tables.now }
+    requires follows { ∥ ((s : Session)
+        × Follows limit.bytes tables.now s Nothing course.old direction tokens bytes.now) ∥₁ }
+    ensures place { IfOk result (λ place. place ≤ length bytes.now) }
+    ensures judged { IfOk result (λ place. (s : Session)
+        → Follows limit.bytes tables.now s Nothing course.old direction tokens bytes.now
+        → AllJudged limit.bytes tables.now s Nothing course.new direction
+        (drop place bytes.now)) }
+    ensures lines { OnOk result ((s : Session)
+        → Follows limit.bytes tables.now s Nothing course.old direction tokens bytes.now
+        → PrintsOn tables.now s course.old.count course.new.count lines.old.items
+        lines.new.items) }
+    ensures other { OnOk result (OthersStay direction course.old course.new) }
+{
+    let mut place = 0;
+    'messages: loop {
+        let rest = &bytes[place..];
+        let Some(size) = size_in_front(rest, limit) else {
+            return Ok(place);
+        };
+        let frame = Frame {
+            direction,
+            start: course.progress.tally(direction).end,
+            size,
+            tokens,
+        };
+        print_next(course, rest, &frame, tables, limit, lines)?;
+        if !course.is_open() {
+            return Ok(place);
+        }
+        place += size as usize;
+    }
+}
+
+/// Judges the messages that a piece of a direction completes, and appends their lines. It keeps
+/// what is left, unless the session has ended or a message broke a rule; then it only counts.
+fn print_stream<A: Allocator + Clone>(
+    course: &mut Course<A>,
+    stream: &mut Stream<A>,
+    direction: Direction,
+    bytes: &[u8],
+    tokens: usize,
+    tables: &Tables,
+    limit: Limit,
+    lines: &mut Vec<u8, A>,
+) -> Result<(), AllocError>
+    requires valid { Valid tables.now }
+    requires along { ∥ ((ps : List Piece)
+        × Along limit.bytes tables.now Nothing direction ps course.old stream.old) ∥₁ }
+    ensures along { OnOk result ((ps : List Piece)
+        → Along limit.bytes tables.now Nothing direction ps course.old stream.old
+        → Along limit.bytes tables.now Nothing direction
+        (ps ++ piece_of direction bytes.now tokens ∷ []) course.new stream.new) }
+    ensures lines { OnOk result ((ps : List Piece)
+        → Along limit.bytes tables.now Nothing direction ps course.old stream.old
+        → PrintsOn tables.now
+        (session_of limit.bytes (ps ++ piece_of direction bytes.now tokens ∷ []))
+        course.old.count course.new.count lines.old.items lines.new.items) }
+    ensures going { OnOk result (is_open course.new.stage ≡ true
+        → is_open course.old.stage ≡ true) }
+    ensures other { OnOk result (OthersStay direction course.old course.new) }
+{
+    // More than these numbers count does not fit into any memory.
+    let Some(len) = stream.len.checked_add(bytes.len()) else {
+        return Err(AllocError);
+    };
+    let Some(tokens) = stream.tokens.checked_add(tokens as u128) else {
+        return Err(AllocError);
+    };
+    stream.len = len;
+    stream.tokens = tokens;
+    if !course.is_open() {
+        return Ok(());
+    }
+    stream.bytes.extend_from_slice(bytes)?;
+    let place = print_all(
+        course,
+        stream.bytes.as_slice(),
+        direction,
+        tokens,
+        tables,
+        limit,
+        lines,
+    )?;
+    remove_front(&mut stream.bytes, place);
+    Ok(())
+}
+
+/// Judges the messages that a piece completes, and appends their lines.
+pub(crate) fn print_piece<A: Allocator + Clone>(
+    scanner: &mut Scanner<A>,
+    direction: Direction,
+    bytes: &[u8],
+    tokens: usize,
+    tables: &Tables,
+    limit: Limit,
+    lines: &mut Vec<u8, A>,
+) -> Result<(), AllocError>
+    requires valid { Valid tables.now }
+    requires after { ∥ ((ps : List Piece)
+        × IsAfter limit.bytes tables.now Nothing ps scanner.old) ∥₁ }
+    requires none { lines.old.items ≡ [] }
+    ensures after { OnOk result ((ps : List Piece)
+        → IsAfter limit.bytes tables.now Nothing ps scanner.old
+        → IsAfter limit.bytes tables.now Nothing
+        (ps ++ piece_of direction bytes.now tokens ∷ []) scanner.new) }
+    ensures lines { OnOk result ((ps : List Piece)
+        → IsAfter limit.bytes tables.now Nothing ps scanner.old
+        → AreOwnLines limit.bytes tables.now ps (piece_of direction bytes.now tokens)
+        lines.new.items) }
+{
+    match direction {
+        Direction::ToServer => print_stream(
+            &mut scanner.course,
+            &mut scanner.to_server,
+            direction,
+            bytes,
+            tokens,
+            tables,
+            limit,
+            lines,
+        ),
+        Direction::ToClient => print_stream(
+            &mut scanner.course,
+            &mut scanner.to_client,
+            direction,
+            bytes,
+            tokens,
+            tables,
+            limit,
+            lines,
+        ),
+    }
+}
+
+/// The verdict on the session of all pieces so far.
+pub(crate) fn verdict_on<A: Allocator>(scanner: &Scanner<A>) -> Verdict
+    requires { ∥ ((limit : ℕ) × (tables : List Interface) × (ps : List Piece)
+        × IsAfter limit tables Nothing ps scanner.now) ∥₁ }
+    ensures { (limit : ℕ) (tables : List Interface) (ps : List Piece)
+        → IsAfter limit tables Nothing ps scanner.now
+        → Answers tables (session_of limit ps) result }
+{
+    let progress = &scanner.course.progress;
+    match &scanner.course.stage {
+        Stage::Broken(frame, fault) => progress.broken(frame, *fault),
+        Stage::Open | Stage::Ended => {
+            progress.lawful(scanner.to_server.len, scanner.to_client.len)
+        }
+    }
+}

@@ -1,0 +1,104 @@
+//! A live session, judged as its pieces pass.
+ghost use Rattle.std.specs.Prelude.{◌≡◌, ℕ, List, [], OnOk, OnErr, IfOk};
+ghost use Rattle.wl_recording.specs.Piece.{Piece};
+ghost use Rattle.wl_sigs.specs.Tables.{Interface};
+ghost use Rattle.wl_check.specs.declared.course.Output.TheVariants.{Nothing};
+ghost use Rattle.wl_check.specs.Course.{IsAfter};
+
+use crate::copying::copy_of;
+use crate::inspecting::{print_piece, verdict_on};
+use crate::scanning::Scanner;
+use crate::verdict::Verdict;
+use std::alloc::{AllocError, Allocator, Global};
+use wl_message::Limit;
+use wl_objects::DISPLAY;
+use wl_recording::Direction;
+use wl_sigs::Tables;
+
+/// Judges a session while it goes on: each piece as it passes, cut anywhere.
+///
+/// It says of the pieces so far what [`check`](crate::check) and [`trace`](crate::trace) say of a
+/// recording of them. Behind a message that breaks a rule, and behind a wl_display.error, it judges
+/// and prints nothing more, and only counts.
+///
+/// It keeps the objects that are held, the globals that were advertised, the bytes of started
+/// messages and the lines of the last piece. So its memory grows with open objects and started
+/// messages alone, however long the session lasts.
+#[derive(Drop)]
+pub struct Inspector<'t, A: Allocator = Global> {
+    tables: &'t Tables,
+    limit: Limit,
+    pub(crate) scanner: Scanner<A>,
+    lines: Vec<u8, A>,
+    ghost begun: { ∥ ((ps : List Piece)
+        × IsAfter limit.bytes tables.now Nothing ps scanner) ∥₁ },
+}
+
+impl<'t, A: Allocator + Clone> Inspector<'t, A> {
+    ghost use Rattle.wl_check.specs.Inspected.{printed, HasPassed, Passes};
+    ghost use Rattle.wl_check.specs.Printed.{piece_of};
+
+    /// Before the first piece. Messages may be as long as the limit says.
+    pub fn new(alloc: A, tables: &'t Tables, limit: Limit) -> Result<Self, AllocError>
+        ensures passed { IfOk result (λ inspector. HasPassed limit.bytes tables.now [] inspector) }
+        ensures lines { IfOk result (λ inspector. printed inspector ≡ []) }
+    {
+        Ok(Inspector {
+            tables,
+            limit,
+            scanner: Scanner::new(&alloc, tables)?,
+            lines: Vec::new(alloc),
+        })
+    }
+
+    /// Judges the messages that a piece completes, and prints their lines.
+    ///
+    /// Where memory runs out, nothing has changed, and the piece can be passed again.
+    pub fn pass(
+        &mut self,
+        direction: Direction,
+        bytes: &[u8],
+        tokens: usize,
+    ) -> Result<(), AllocError>
+        ensures ok { OnOk result ((limit : ℕ) (tables : List Interface)
+            → Passes limit tables (piece_of direction bytes.now tokens) self.old self.new) }
+        ensures err { OnErr result (self.new ≡ self.old) }
+    {
+        // That tables are valid is what each of their calls says.
+        let _version = self.tables.version(DISPLAY);
+        let mut scanner = copy_of(&self.scanner)?;
+        let mut lines = Vec::new(self.lines.allocator().clone()?);
+        print_piece(
+            &mut scanner,
+            direction,
+            bytes,
+            tokens,
+            self.tables,
+            self.limit,
+            &mut lines,
+        )?;
+        self.scanner = scanner;
+        self.lines = lines;
+        Ok(())
+    }
+}
+
+impl<'t, A: Allocator> Inspector<'t, A> {
+    ghost use Rattle.wl_check.specs.Inspected.{printed, HasPassed};
+    ghost use Rattle.wl_check.specs.Session.{session_of, Answers};
+
+    /// The lines that the last `pass` printed, each ended by a line feed.
+    pub fn lines(&self) -> &[u8]
+        ensures { result.now ≡ printed self.now }
+    {
+        self.lines.as_slice()
+    }
+
+    /// The verdict on the session of the pieces so far.
+    pub fn verdict(&self) -> Verdict
+        ensures { (limit : ℕ) (tables : List Interface) (ps : List Piece)
+            → HasPassed limit tables ps self.now → Answers tables (session_of limit ps) result }
+    {
+        verdict_on(&self.scanner)
+    }
+}

@@ -1,0 +1,50 @@
+//! However the bytes are cut, an inspector says what the trace of their recording says.
+ghost use Rattle.std.specs.Prelude.{◌<◌};
+
+use crate::passing::inspect;
+use crate::recordings::ALL;
+use std::alloc::Global;
+use std::test::Fail;
+use wl_check::trace;
+use wl_message::Limit;
+use wl_recording::Recording;
+use wl_sigs::Tables;
+
+/// Whether the pieces, cut into parts of this size, give the lines and the verdict of the trace.
+fn agrees(alloc: Global, tables: &Tables, text: &[u8], size: usize) -> bool
+    requires { 0 < size }
+{
+    let Ok(recording) = Recording::parse(alloc, text) else {
+        return false;
+    };
+    let Ok((lines, verdict)) = trace(alloc, &recording, tables, Limit::USUAL) else {
+        return false;
+    };
+    match inspect(alloc, tables, &recording, size) {
+        Ok(told) => told.lines.as_slice() == lines.as_slice() && told.verdict == verdict,
+        Err(_) => false,
+    }
+}
+
+/// How many of the recordings agree.
+fn agreeing(alloc: Global, tables: &Tables, size: usize) -> u64
+    requires { 0 < size }
+{
+    let mut count = 0u64;
+    for text in ALL.iter() {
+        if agrees(alloc, tables, text, size) {
+            count = count.saturating_add(1);
+        }
+    }
+    count
+}
+
+#[test]
+fn says_what_the_trace_says(rt: HostRuntime) -> Result<(), Fail> {
+    let tables = Tables::core(rt.alloc())?;
+    assert_eq!(rt; agreeing(rt.alloc(), &tables, 1), 5);
+    assert_eq!(rt; agreeing(rt.alloc(), &tables, 5), 5);
+    assert_eq!(rt; agreeing(rt.alloc(), &tables, 12), 5);
+    assert_eq!(rt; agreeing(rt.alloc(), &tables, 4096), 5);
+    Ok(())
+}

@@ -1,0 +1,57 @@
+//! Passing a recording through an inspector.
+ghost use Rattle.std.specs.Prelude.{◌<◌};
+
+use std::alloc::{AllocError, Allocator, Global};
+use wl_check::{Inspector, Verdict};
+use wl_message::Limit;
+use wl_recording::{Passed, Recording};
+use wl_sigs::Tables;
+
+/// What was printed in all, and the last verdict.
+#[derive(Drop)]
+pub struct Told {
+    pub lines: Vec<u8>,
+    pub verdict: Verdict,
+}
+
+/// Passes a piece, its bytes cut into parts of this size, its tokens with the first part. The lines
+/// are appended to those of the pieces before it.
+fn pass_cut<A: Allocator + Clone>(
+    inspector: &mut Inspector<'_, A>,
+    piece: &Passed,
+    size: usize,
+    lines: &mut Vec<u8>,
+) -> Result<(), AllocError>
+    requires { 0 < size }
+{
+    let mut tokens = piece.tokens as usize;
+    let bytes = piece.bytes.as_slice();
+    if bytes.is_empty() {
+        inspector.pass(piece.direction, bytes, tokens)?;
+        return lines.extend_from_slice(inspector.lines());
+    }
+    for part in bytes.chunks(size) {
+        inspector.pass(piece.direction, part, tokens)?;
+        lines.extend_from_slice(inspector.lines())?;
+        tokens = 0;
+    }
+    Ok(())
+}
+
+/// Passes the pieces of a recording one by one, each cut into parts of this size.
+pub fn inspect(
+    alloc: Global,
+    tables: &Tables,
+    recording: &Recording,
+    size: usize,
+) -> Result<Told, AllocError>
+    requires { 0 < size }
+{
+    let mut inspector = Inspector::new(alloc, tables, Limit::USUAL)?;
+    let mut lines = Vec::new(alloc);
+    for piece in recording.pieces() {
+        pass_cut(&mut inspector, piece, size, &mut lines)?;
+    }
+    let verdict = inspector.verdict();
+    Ok(Told { lines, verdict })
+}
