@@ -1,6 +1,6 @@
-//! Plays recorded sessions cut, changed and without memory, and prints for each sweep how often it played
-//! and how often the result was wrong. The recordings are those that the command line names
-//! (docs/SCENES.md).
+//! Plays recorded sessions cut, changed and without memory, and lists of moves over both tables of
+//! objects. Prints for each sweep how often it played and how often the result was wrong. The
+//! recordings and lists are those that the command line names (crates/scenes/README.md).
 #![tactic(auto)]
 
 mod births;
@@ -8,6 +8,7 @@ mod changes;
 mod cuts;
 mod dice;
 mod fault;
+mod moves;
 mod refusals;
 mod replay;
 mod runs;
@@ -18,6 +19,7 @@ mod tally;
 use births::{born_at_client, born_at_server};
 use changes::judge_changed;
 use cuts::judge_cut;
+use moves::compare_tables;
 use refusals::{Call, refuse};
 use refusing::RefusingAllocator;
 use replay::{Props, sweep_client, sweep_server};
@@ -66,13 +68,22 @@ fn sweep_text(rt: &HostRuntime, props: Props<'_>, text: &str) -> io::Result<bool
     }
 }
 
+/// Sweeps over a file's text: a list of moves where its name ends in `.moves`, else a recording.
+fn sweep_file(rt: &HostRuntime, props: Props<'_>, name: &str, text: &str) -> io::Result<bool> {
+    if name.ends_with(".moves") {
+        report(rt, "over both tables", compare_tables(props, text))
+    } else {
+        sweep_text(rt, props, text)
+    }
+}
+
 /// Sweeps over the files that the command line names. Whether all went well.
 fn sweep_files(rt: &HostRuntime, props: Props<'_>) -> io::Result<bool> {
     let mut all = true;
     for name in env::args(rt)?.skip(1) {
         let text = fs::read_to_string(rt, name.as_str())?;
         println!(rt; "{name}")?;
-        all = sweep_text(rt, props, text.as_str())? && all;
+        all = sweep_file(rt, props, name.as_str(), text.as_str())? && all;
     }
     Ok(all)
 }

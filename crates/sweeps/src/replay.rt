@@ -17,7 +17,7 @@ use wl_server::Server;
 use wl_sigs::Tables;
 
 /// The boxes of every end.
-const SIZES: Sizes = Sizes {
+pub const SIZES: Sizes = Sizes {
     out_bytes: 4096,
     out_tokens: 64,
     in_bytes: 4096,
