@@ -1,6 +1,6 @@
-# The library for C. `make` proves and builds it where it is not built yet; `make install` installs it,
-# and the program `waywire` with its manual page where that is built (./waywire --build); `make dist`
-# packs all of that for machines that have no toolchain.
+# The library for C, and the tool `waywire-inspect` over it. `make` proves and builds the library where it is
+# not built yet; `make install` installs both, and the program `waywire` with its manual page where that is
+# built (./waywire --build); `make dist` packs all of that for machines that have no toolchain.
 #
 #     make install PREFIX=/usr/local LIBDIR=/usr/local/lib DESTDIR=
 PREFIX ?= /usr/local
@@ -29,6 +29,7 @@ abi = $(if $(filter 0,$(MAJOR)),0.$(word 2,$(numbers)),$(MAJOR))
 soname = libwaywire.so.$(abi)
 shared = out/c/libwaywire.so.$(VERSION)
 program ?= crates/waywire/out/waywire
+inspect = out/c/waywire-inspect
 headers = include/waywire.h include/waywire-core.h include/waywire-version.h
 package = waywire-$(VERSION)-x86_64-linux
 # A file that a build tool reads finds the other folders from its own, so that an installed tree can move.
@@ -37,7 +38,11 @@ fill = sed 's|@UP@|$(call from,$(1),$(PREFIX))|; s|@LIBDIR@|$(call from,$(PREFIX
 	s|@INCLUDEDIR@|$(call from,$(PREFIX),$(INCLUDEDIR))|; s|@VERSION@|$(VERSION)|; \
 	s|@SONAME@|$(soname)|; s|@ABI@|$(abi)|'
 
-all: $(archive) $(shared)
+# The tool finds the texts of tables from its own folder: $(call inspect_with,FOLDER,TOOL) makes it so.
+inspect_with = $(CC) $(CFLAGS) -std=c99 -Wall -Wextra -Wpedantic -Iinclude -DWAYWIRE_TABLES='"$(1)"' \
+	c/inspect/*.c $(archive) -o $(2)
+
+all: $(archive) $(shared) $(inspect)
 
 $(proved): $(sources)
 	cd crates/waywire_c && rt lib
@@ -75,10 +80,13 @@ $(shared): out/c/waywire.o
 	@ln -sf $(notdir $@) out/c/$(soname)
 	@ln -sf $(soname) out/c/libwaywire.so
 
+$(inspect): c/inspect/*.c c/inspect/inspect.h $(archive)
+	$(call inspect_with,$(call from,$(dir $@),examples/tables),$@)
+
 install: all
 	install -d $(DESTDIR)$(INCLUDEDIR) $(DESTDIR)$(LIBDIR)/pkgconfig $(DESTDIR)$(LIBDIR)/cmake/waywire \
 		$(DESTDIR)$(BINDIR) $(DESTDIR)$(DATADIR)/waywire/tables $(DESTDIR)$(DATADIR)/waywire/tools \
-		$(DESTDIR)$(DATADIR)/doc/waywire
+		$(DESTDIR)$(DATADIR)/doc/waywire $(DESTDIR)$(DATADIR)/man/man1
 	install -m 644 $(headers) $(DESTDIR)$(INCLUDEDIR)
 	install -m 644 $(archive) $(DESTDIR)$(LIBDIR)
 	install -m 755 $(shared) $(DESTDIR)$(LIBDIR)
@@ -97,8 +105,9 @@ install: all
 		install -m 755 tools/$$tool $(DESTDIR)$(DATADIR)/waywire/tools && \
 		ln -sf $(call from,$(BINDIR),$(DATADIR)/waywire/tools)/$$tool $(DESTDIR)$(BINDIR)/waywire-$$tool; \
 	done
+	$(call inspect_with,$(call from,$(BINDIR),$(DATADIR)/waywire/tables),$(DESTDIR)$(BINDIR)/waywire-inspect)
+	sed 's|@VERSION@|$(VERSION)|' c/inspect/waywire-inspect.1.in > $(DESTDIR)$(DATADIR)/man/man1/waywire-inspect.1
 	if [ -x $(program) ]; then \
-		install -d $(DESTDIR)$(DATADIR)/man/man1 && \
 		install -m 755 $(program) $(DESTDIR)$(BINDIR) && \
 		tools/man-page $(program) > $(DESTDIR)$(DATADIR)/man/man1/waywire.1 && \
 		chmod 644 $(DESTDIR)$(DATADIR)/man/man1/waywire.1; \

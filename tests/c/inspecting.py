@@ -1,0 +1,722 @@
+#!/usr/bin/env python3
+"""Tests of waywire-inspect: clients and compositors that these tests play, and weston.
+
+    tests/c/inspecting.py [CLASS[.TEST]]..
+
+INSPECT in the environment is the tool, out/c/waywire-inspect where nothing is said; WAYWIRE is a built
+`waywire`, which judges what was recorded, and may be missing. tools/check-c runs these tests."""
+import contextlib
+import os
+import re
+import resource
+import shutil
+import signal
+import socket
+import struct
+import subprocess
+import sys
+import tempfile
+import threading
+import time
+import unittest
+
+ROOT = os.path.dirname(os.path.dirname(os.path.dirname(os.path.realpath(__file__))))
+INSPECT = os.environ.get("INSPECT", f"{ROOT}/out/c/waywire-inspect").split()
+WAYWIRE = os.environ.get("WAYWIRE")
+# How long anything may take that ends, in seconds.
+LONG = 60
+SYNC = "-> wl_display@1.sync(new id wl_callback@{})\n"
+
+
+def message(target, opcode, *words):
+    return struct.pack(f"<IHH{len(words)}I", target, opcode, 8 + 4 * len(words), *words)
+
+
+def sync(number):
+    return message(1, 0, number)
+
+
+def done(number):
+    """A callback's end: its event, and its delete_id."""
+    return message(number, 0, 7) + message(1, 1, number)
+
+
+def closed(descriptors):
+    for it in descriptors:
+        os.close(it)
+
+
+class Inspected(unittest.TestCase):
+    """A folder with a compositor's socket, and the tool."""
+
+    def setUp(self):
+        self.folder = self.enterContext(tempfile.TemporaryDirectory(prefix="inspect-"))
+        self.recorded = f"{self.folder}/a.rec"
+        self.listener = self.enterContext(socket.socket(socket.AF_UNIX))
+        self.listener.bind(f"{self.folder}/display")
+        self.listener.listen(64)
+        self.listener.settimeout(LONG)
+        self.env = {**os.environ, "XDG_RUNTIME_DIR": self.folder, "WAYLAND_DISPLAY": "display"}
+        self.env.pop("WAYLAND_SOCKET", None)
+
+    def enterContext(self, context):
+        made = context.__enter__()
+        self.addCleanup(context.__exit__, None, None, None)
+        return made
+
+    def start(self, *words, **kept):
+        """Starts the tool, and notes the path of its socket where there is no command."""
+        self.tool = subprocess.Popen([*INSPECT, *words], env=self.env, text=True,
+                                     **{"stdout": subprocess.PIPE, "stderr": subprocess.PIPE, **kept})
+        self.addCleanup(self.end)
+        if not kept and not any(it in words for it in (sys.executable, "sh")):
+            name = self.tool.stdout.readline().rstrip("\n").removeprefix("WAYLAND_DISPLAY=")
+            self.path = f"{self.folder}/{name}"
+
+    def end(self):
+        self.tool.kill()
+        self.tool.wait()
+        for it in (self.tool.stdout, self.tool.stderr):
+            if it:
+                it.close()
+
+    def client(self):
+        """A client, and the compositor's end of its connection."""
+        client = self.enterContext(socket.socket(socket.AF_UNIX))
+        client.settimeout(LONG)
+        client.connect(self.path)
+        peer = self.enterContext(self.listener.accept()[0])
+        peer.settimeout(LONG)
+        return client, peer
+
+    def comes(self, target, data):
+        got = b""
+        while len(got) < len(data) and (part := target.recv(len(data) - len(got))):
+            got += part
+        self.assertEqual(got, data)
+
+    def passes(self, source, target, data):
+        source.sendall(data)
+        self.comes(target, data)
+
+    def finish(self, number=signal.SIGTERM, status=0):
+        """Stops the tool by a signal, and returns what it said."""
+        if number:
+            self.tool.send_signal(number)
+        said = self.tool.communicate(timeout=LONG)
+        self.assertEqual(self.tool.returncode, status, said)
+        return said
+
+    def ran(self, *words, status=0, **kept):
+        """Runs the tool to its end, and returns what it said."""
+        done_with = subprocess.run([*INSPECT, *words], env=self.env, timeout=LONG, text=True,
+                                   **{"stdout": subprocess.PIPE, "stderr": subprocess.PIPE, **kept})
+        self.assertEqual(done_with.returncode, status, (done_with.stdout, done_with.stderr))
+        return done_with.stdout, done_with.stderr
+
+    def checked(self, path, verdict):
+        """The program's verdict of what was recorded is the tool's."""
+        if WAYWIRE:
+            said = subprocess.run([WAYWIRE, "check", path], capture_output=True, text=True, timeout=LONG)
+            self.assertEqual(said.stdout, verdict + "\n")
+
+    def answering(self, *answers):
+        """A compositor that reads once before each answer, and then until its client has gone."""
+        def answer():
+            with self.listener.accept()[0] as peer:
+                for it in answers:
+                    peer.recv(4096)
+                    peer.sendall(it)
+                while peer.recv(4096):
+                    pass
+        thread = threading.Thread(target=answer, daemon=True)
+        thread.start()
+        self.addCleanup(thread.join, LONG)
+
+
+# A client that sends what it is given in hexadecimal digits, reads so many bytes, and ends so.
+CLIENT = """
+import os, signal, socket, sys
+display = socket.socket(socket.AF_UNIX)
+display.connect(os.environ["XDG_RUNTIME_DIR"] + "/" + os.environ["WAYLAND_DISPLAY"])
+display.sendall(bytes.fromhex(sys.argv[1]))
+display.recv(int(sys.argv[2]), socket.MSG_WAITALL)
+if len(sys.argv) > 4:
+    os.kill(os.getpid(), signal.SIGKILL)
+sys.exit(int(sys.argv[3]))
+"""
+
+
+def client(data, length, *status):
+    return [sys.executable, "-c", CLIENT, data.hex(), str(length), *(str(it) for it in status)]
+
+
+class Passing(Inspected):
+    """What passes is what was sent."""
+
+    def test_bytes_and_descriptors(self):
+        self.start("--record", self.recorded)
+        client, compositor = self.client()
+        for source, target, word in ((client, compositor, b"request"), (compositor, client, b"event")):
+            readers, writers = zip(os.pipe(), os.pipe())
+            socket.send_fds(source, [word], writers)
+            closed(writers)
+            data, numbers, _, _ = socket.recv_fds(target, 100, 10)
+            self.assertEqual((data, len(numbers)), (word, 2))
+            for reader, number in zip(readers, numbers):
+                os.write(number, word)
+                os.close(number)
+                # All copies of the writing end are closed: the tool has kept none.
+                self.assertEqual((os.read(reader, 100), os.read(reader, 100)), (word, b""))
+                os.close(reader)
+            self.passes(target, source, b"x")
+        client.close()
+        self.assertEqual(compositor.recv(100), b"")
+        self.finish(status=1)
+        request, event = b"request".hex(), b"event".hex()
+        with open(self.recorded, encoding="ascii") as file:
+            self.assertEqual(file.read(), f"> {request} +2\n< 78\n< {event} +2\n> 78\n")
+
+    def test_descriptors_are_not_kept(self):
+        self.start()
+        client, compositor = self.client()
+        counts = []
+        with open(os.devnull, "rb") as null:
+            for number in range(40):
+                socket.send_fds(client, [sync(2 + number)], [null.fileno()] * (1 + number * 6))
+                _, numbers, _, _ = socket.recv_fds(compositor, 100, 253)
+                self.assertEqual(len(numbers), 1 + number * 6)
+                closed(numbers)
+                self.passes(compositor, client, b"xxxx")
+                counts.append(len(os.listdir(f"/proc/{self.tool.pid}/fd")))
+        self.assertEqual(len(set(counts)), 1, counts)
+        client.close()
+        self.assertEqual(compositor.recv(100), b"")
+        self.finish(status=1)
+
+    def test_a_slow_compositor(self):
+        """It takes a part at a time; the descriptor comes with the first byte; the client has to wait."""
+        self.start("--record", self.recorded)
+        client, compositor = self.client()
+        data = bytes(range(256)) * 16384
+        with open(os.devnull, "rb") as null:
+            sent = socket.send_fds(client, [data], [null.fileno()])
+        client.settimeout(1)
+        with contextlib.suppress(TimeoutError):
+            while sent < len(data):
+                sent += client.send(data[sent:])
+        self.assertLess(sent, 2_000_000)
+        writer = threading.Thread(target=client.sendall, args=(data[sent:],), daemon=True)
+        client.settimeout(LONG)
+        writer.start()
+        got, numbers = bytearray(), []
+        while len(got) < len(data):
+            part, more, _, _ = socket.recv_fds(compositor, 30000, 10)
+            numbers += [len(got)] * len(more)
+            closed(more)
+            got.extend(part)
+        writer.join(LONG)
+        self.assertEqual((bytes(got) == data, numbers), (True, [0]))
+        self.finish(status=1)
+        with open(self.recorded, encoding="ascii") as file:
+            words = [it.split() for it in file]
+        self.assertEqual("".join(it[1] for it in words), data.hex())
+        self.assertEqual([it[2:] for it in words if it[2:]], [["+1"]])
+
+    def test_the_last_words_of_a_compositor(self):
+        """What it wrote before it closed arrives, though what the client wrote cannot go on."""
+        self.start()
+        client, compositor = self.client()
+        self.passes(client, compositor, b"one")
+        compositor.send(b"error")
+        compositor.close()
+        with contextlib.suppress(BrokenPipeError, ConnectionResetError):
+            for _ in range(100):
+                client.send(b"request")
+        self.assertEqual(client.recv(100), b"error")
+        with contextlib.suppress(ConnectionResetError):
+            self.assertEqual(client.recv(100), b"")
+        self.tool.send_signal(signal.SIGTERM)
+        _, error = self.tool.communicate(timeout=LONG)
+        self.assertIn("waywire-inspect: the compositor has closed the connection of client 1\n", error)
+
+    def test_the_last_words_of_a_client(self):
+        self.start()
+        client, compositor = self.client()
+        data = sync(2) * 20_000
+        writer = threading.Thread(target=lambda: (client.sendall(data), client.close()), daemon=True)
+        writer.start()
+        time.sleep(0.3)
+        got = b""
+        while part := compositor.recv(65536):
+            got += part
+        self.assertEqual(len(got), len(data))
+        self.finish(status=1)
+
+    def test_a_client_that_ends_its_writing(self):
+        """It still reads what the compositor answers."""
+        self.start()
+        client, compositor = self.client()
+        client.sendall(sync(2))
+        client.shutdown(socket.SHUT_WR)
+        self.comes(compositor, sync(2))
+        self.passes(compositor, client, done(2))
+        compositor.close()
+        self.assertEqual(client.recv(100), b"")
+        said, error = self.finish()
+        self.assertEqual(said.splitlines()[-1], "lawful: 1 requests, 2 events, 0 and 0 bytes left")
+        self.assertEqual(error.count("\n"), 1)
+
+    def test_many_small_requests(self):
+        self.start("--record", self.recorded)
+        client, compositor = self.client()
+        count, numbers = 10_000, range(2, 102)
+        part = b"".join(sync(it) for it in numbers)
+        answer = b"".join(done(it) for it in numbers)
+        reader = threading.Thread(target=self.drain, args=(self.tool.stdout,), daemon=True)
+        reader.start()
+        for _ in range(count // len(numbers)):
+            for it in numbers:
+                client.sendall(sync(it))
+            self.comes(compositor, part)
+            self.passes(compositor, client, answer)
+        client.close()
+        self.assertEqual(compositor.recv(100), b"")
+        self.tool.send_signal(signal.SIGTERM)
+        self.assertEqual(self.tool.wait(LONG), 0)
+        reader.join(LONG)
+        lines = self.lines.splitlines()
+        self.assertEqual(sum(it.startswith("-> wl_display@1.sync(") for it in lines), count)
+        verdict = f"lawful: {count} requests, {2 * count} events, 0 and 0 bytes left"
+        self.assertEqual(lines[-1], verdict)
+        self.checked(self.recorded, verdict)
+
+    def drain(self, file):
+        self.lines = file.read()
+
+
+class Judging(Inspected):
+    """What is printed, and the exit status."""
+
+    def test_a_command(self):
+        self.answering(done(2))
+        said = self.ran("--record", self.recorded, *client(sync(2), 24, 7), status=7)
+        lines = SYNC.format(2) + "<- wl_callback@2.done(7)\n<- wl_display@1.delete_id(2)\n"
+        verdict = "lawful: 1 requests, 2 events, 0 and 0 bytes left"
+        self.assertEqual(said, (lines + verdict + "\n", ""))
+        with open(self.recorded, encoding="ascii") as file:
+            self.assertEqual(file.read(), f"> {sync(2).hex()}\n< {done(2).hex()}\n")
+        self.checked(self.recorded, verdict)
+        self.assertEqual(sorted(os.listdir(self.folder)), ["a.rec", "display"])
+
+    def test_a_broken_message(self):
+        """It is named at its place; what comes behind it is passed, and not printed."""
+        self.answering(done(2))
+        data = sync(2) + message(9, 0) + sync(3)
+        said, error = self.ran("--record", self.recorded, *client(data, 24, 0), status=1)
+        verdict = "broken: > message 2 at byte 12: F2 unknown object"
+        self.assertEqual((said, error), (SYNC.format(2) + verdict + "\n" + verdict + "\n", ""))
+        self.checked(self.recorded, verdict)
+        with open(self.recorded, encoding="ascii") as file:
+            self.assertEqual(file.read(), f"> {data.hex()}\n< {done(2).hex()}\n")
+
+    def test_a_broken_message_and_a_status(self):
+        self.answering(b"x")
+        self.ran(*client(message(9, 0), 1, 3), status=3)
+
+    def test_what_is_broken_is_red(self):
+        self.answering(done(2))
+        said, _ = self.ran("--color=always", *client(sync(2) + message(9, 0), 24, 0), status=1)
+        red = "\x1b[31mbroken: > message 2 at byte 12: F2 unknown object\x1b[0m\n"
+        self.assertEqual(said, SYNC.format(2) + 2 * red)
+
+    def test_stop_when_broken(self):
+        self.start("--stop-when-broken")
+        client, compositor = self.client()
+        other, other_compositor = self.client()
+        client.sendall(sync(2) + message(9, 0))
+        with contextlib.suppress(ConnectionResetError):
+            self.assertEqual(client.recv(100), b"")
+        with contextlib.suppress(ConnectionResetError):
+            while compositor.recv(100):
+                pass
+        self.passes(other, other_compositor, sync(2))
+        said, error = self.finish(status=1)
+        verdict = "#1 broken: > message 2 at byte 12: F2 unknown object\n"
+        self.assertEqual(said, "#1 " + SYNC.format(2) + 2 * verdict + "#2 " + SYNC.format(2)
+                         + "#2 lawful: 1 requests, 0 events, 0 and 0 bytes left\n")
+        self.assertEqual(error, "waywire-inspect: client 1 is closed: a message broke a rule\n")
+
+    def test_several_clients(self):
+        self.start("--record", self.recorded)
+        (one, at_one), (two, at_two) = self.client(), self.client()
+        self.passes(one, at_one, sync(2))
+        self.passes(two, at_two, sync(2))
+        self.passes(at_two, two, done(2))
+        self.passes(two, at_two, message(9, 0))
+        self.passes(at_one, one, done(2))
+        said, error = self.finish(signal.SIGINT, status=1)
+        verdict = "broken: > message 2 at byte 12: F2 unknown object"
+        self.assertEqual(sorted(said.splitlines()), sorted([
+            *(f"#{it} {line}" for it in (1, 2) for line in (
+                SYNC.format(2).strip(), "<- wl_callback@2.done(7)", "<- wl_display@1.delete_id(2)")),
+            f"#2 {verdict}", f"#2 {verdict}", "#1 lawful: 1 requests, 2 events, 0 and 0 bytes left"]))
+        self.assertEqual(error, "")
+        for it in (one, at_one, two, at_two):
+            self.assertEqual(it.recv(100), b"")
+        self.checked(self.recorded, "lawful: 1 requests, 2 events, 0 and 0 bytes left")
+        self.checked(self.recorded + ".2", verdict)
+        self.assertEqual(sorted(os.listdir(self.folder)), ["a.rec", "a.rec.2", "display"])
+
+    def test_only_and_time(self):
+        self.start("--only", "wl_callback,wl_registry", "--time")
+        client, compositor = self.client()
+        self.passes(client, compositor, message(1, 1, 2) + sync(3))
+        self.passes(compositor, client, done(3))
+        said, _ = self.finish()
+        self.assertRegex(said, r"\A *\d+\.\d{6} <- wl_callback@3\.done\(7\)\n"
+                               r" *\d+\.\d{6} lawful: 2 requests, 2 events, 0 and 0 bytes left\n\Z")
+
+    def test_the_installed_tables(self):
+        """All are known where none is named."""
+        event = message(2, 0, 1, 12, *struct.unpack("<3I", b"xdg_wm_base\0"), 5)
+        bind = message(2, 0, 1, 12, *struct.unpack("<3I", b"xdg_wm_base\0"), 1, 3)
+        for words, verdict, status in (
+            ([], "lawful: 2 requests, 1 events, 0 and 0 bytes left", 0),
+            (["--tables", f"{ROOT}/examples/tables/viewporter.tables"],
+             "broken: > message 2 at byte 12: F9 bad bind", 1),
+            (["--tables", f"{ROOT}/examples/tables/layer-shell.tables", "--tables",
+              f"{ROOT}/examples/tables/xdg-shell.tables"],
+             "lawful: 2 requests, 1 events, 0 and 0 bytes left", 0),
+        ):
+            with self.subTest(words):
+                self.start(*words)
+                client, compositor = self.client()
+                self.passes(client, compositor, message(1, 1, 2))
+                self.passes(compositor, client, event)
+                self.passes(client, compositor, bind)
+                said, error = self.finish(status=status)
+                self.assertEqual((said.splitlines()[-1], error), (verdict, ""))
+
+    def test_nothing_to_inspect(self):
+        bad = f"{self.folder}/bad.tables"
+        with open(bad, "w", encoding="ascii") as file:
+            file.write("interface one 1\n\nno form\n")
+        for words, said in (
+            (["true"], "true made no connection"),
+            ([f"{self.folder}/none"], f"{self.folder}/none: No such file or directory"),
+            (["--limit", "7", "true"], "--limit 7: not a multiple of 4 from 4096 to 65532"),
+            (["--limit", "0", "true"], "--limit 0: not a multiple of 4 from 4096 to 65532"),
+            (["--color=red", "true"], "--color red: not auto, always or never"),
+            (["--tables", bad, "true"], f"{bad} line 3: bad line"),
+            (["--tables", self.folder, "true"], f"cannot read {self.folder}: Is a directory"),
+            (["--record", f"{self.folder}/none/a", "true"],
+             f"cannot write {self.folder}/none/a: No such file or directory"),
+        ):
+            with self.subTest(words):
+                said = f"waywire-inspect: {said}\n"
+                self.assertEqual(self.ran(*words, status=125), ("", said))
+        self.assertIn("unrecognized option '--nonesuch'", self.ran("--nonesuch", status=125)[1])
+        self.env["WAYLAND_DISPLAY"] = "none"
+        self.assertIn(f"no compositor at {self.folder}/none", self.ran("true", status=125)[1])
+
+    def test_help(self):
+        said, error = self.ran("--help")
+        self.assertEqual((error, self.ran("--version")[0].split()[0]), ("", "waywire-inspect"))
+        with open(f"{ROOT}/c/inspect/waywire-inspect.1.in", encoding="utf-8") as file:
+            page = file.read().replace("\\-", "-")
+        for option in re.findall(r"^  (--[a-z-]+)", said, re.M):
+            self.assertIn(option, page)
+
+
+class Failing(Inspected):
+    """What goes wrong is said in one line, and what passes passes on."""
+
+    def passes_on(self, count=3):
+        client, compositor = self.client()
+        for number in range(2, 2 + count):
+            self.passes(client, compositor, sync(number))
+            self.passes(compositor, client, done(number))
+
+    def test_a_full_disk(self):
+        self.start("--record", "/dev/full")
+        self.passes_on()
+        said, error = self.finish()
+        self.assertEqual(error, "waywire-inspect: cannot write /dev/full: No space left on device; "
+                                "the recording ends there\n")
+        self.assertEqual(said.splitlines()[-1], "lawful: 3 requests, 6 events, 0 and 0 bytes left")
+
+    def test_a_file_that_may_not_grow(self):
+        """The recording ends with a whole line."""
+        def small():
+            resource.setrlimit(resource.RLIMIT_FSIZE, (100, 100))
+            signal.signal(signal.SIGXFSZ, signal.SIG_IGN)
+        self.start("--record", self.recorded, preexec_fn=small)
+        name = self.tool.stdout.readline().rstrip("\n").removeprefix("WAYLAND_DISPLAY=")
+        self.path = f"{self.folder}/{name}"
+        self.passes_on()
+        _, error = self.finish()
+        self.assertEqual(error.count("\n"), 1)
+        with open(self.recorded, encoding="ascii") as file:
+            self.assertEqual(file.read(), f"> {sync(2).hex()}\n< {done(2).hex()}\n")
+
+    def test_a_closed_output(self):
+        for how in ("full", "reader", "closed"):
+            with self.subTest(how):
+                output = self.output(how)
+                self.start(stdout=output, preexec_fn=(lambda: os.close(1)) if how == "closed" else None)
+                if output is not None:
+                    os.close(output)
+                self.path = self.found()
+                self.passes_on(100)
+                _, error = self.finish()
+                self.assertRegex(error, r"\Awaywire-inspect: cannot write to standard output: [^\n]*; "
+                                        r"messages are judged and not printed\n\Z")
+
+    def output(self, how):
+        if how == "full":
+            return os.open("/dev/full", os.O_WRONLY)
+        if how == "closed":
+            return None
+        reader, writer = os.pipe()
+        os.close(reader)
+        return writer
+
+    def found(self):
+        """The socket of a tool that cannot print its name."""
+        path = f"{self.folder}/waywire-{self.tool.pid}"
+        for _ in range(600):
+            if os.path.exists(path):
+                return path
+            time.sleep(0.05)
+        raise AssertionError("it does not listen")
+
+    def test_an_output_that_nobody_reads(self):
+        """It stops what passes, and a signal stops the tool."""
+        self.start()
+        client, compositor = self.client()
+        self.passes(client, compositor, message(1, 1, 2))
+        event = message(2, 1, 0) * 100
+        threading.Thread(target=self.drain, args=(client,), daemon=True).start()
+        compositor.settimeout(2)
+        with self.assertRaises(TimeoutError):
+            for _ in range(10_000):
+                compositor.sendall(event)
+        self.tool.send_signal(signal.SIGTERM)
+        self.assertEqual(self.tool.wait(LONG), 0)
+
+    def drain(self, client):
+        with contextlib.suppress(OSError):
+            while client.recv(65536):
+                pass
+
+    def test_a_killed_client(self):
+        self.answering(done(2))
+        said, error = self.ran(*client(sync(2), 24, 0, "kill"), status=137)
+        self.assertEqual(said.splitlines()[-1], "lawful: 1 requests, 2 events, 0 and 0 bytes left")
+        self.assertEqual(error, f"waywire-inspect: {sys.executable} was ended by signal 9 (Killed)\n")
+
+    def test_a_client_that_goes(self):
+        self.start()
+        client, compositor = self.client()
+        self.passes(client, compositor, sync(2) + b"half")
+        client.close()
+        self.assertEqual(compositor.recv(100), b"")
+        said, error = self.finish()
+        self.assertEqual(said.splitlines()[-1], "lawful: 1 requests, 0 events, 4 and 0 bytes left")
+        self.assertEqual(error, f"waywire-inspect: client 1 (process {os.getpid()}) has closed its "
+                                "connection\n")
+
+    def test_a_compositor_that_goes(self):
+        self.start()
+        client, compositor = self.client()
+        self.passes(client, compositor, sync(2))
+        compositor.sendall(done(2))
+        compositor.close()
+        self.listener.close()
+        self.comes(client, done(2))
+        self.assertEqual(client.recv(100), b"")
+        with socket.socket(socket.AF_UNIX) as late:
+            late.settimeout(LONG)
+            late.connect(self.path)
+            self.assertEqual(late.recv(100), b"")
+        _, error = self.finish()
+        self.assertEqual(error, "waywire-inspect: the compositor has closed the connection of client 1\n"
+                                f"waywire-inspect: no compositor at {self.folder}/display: "
+                                "Connection refused\n")
+
+    def test_a_command_that_is_stopped(self):
+        """It is told the signal; what it sends on that is passed."""
+        words = "import os, signal, socket, sys\n" \
+                "d = socket.socket(socket.AF_UNIX)\n" \
+                "d.connect(os.environ['XDG_RUNTIME_DIR'] + '/' + os.environ['WAYLAND_DISPLAY'])\n" \
+                f"def stop(*_):\n    d.sendall(bytes.fromhex('{sync(3).hex()}'))\n    sys.exit({{}})\n" \
+                "signal.signal(signal.SIGTERM, stop)\n" \
+                f"d.sendall(bytes.fromhex('{sync(2).hex()}'))\n" \
+                "while True: signal.pause()\n"
+        for status in (0, 5):
+            with self.subTest(status):
+                self.start(sys.executable, "-c", words.format(status))
+                with self.listener.accept()[0] as peer:
+                    self.comes(peer, sync(2))
+                    self.tool.send_signal(signal.SIGTERM)
+                    self.comes(peer, sync(3))
+                    said, _ = self.finish(None, status)
+                self.assertEqual(said.splitlines()[-1],
+                                 "lawful: 2 requests, 0 events, 0 and 0 bytes left")
+
+    def test_a_command_that_does_not_stop(self):
+        words = "import os, signal, socket\n" \
+                "d = socket.socket(socket.AF_UNIX)\n" \
+                "d.connect(os.environ['XDG_RUNTIME_DIR'] + '/' + os.environ['WAYLAND_DISPLAY'])\n" \
+                "for it in (signal.SIGTERM, signal.SIGINT): signal.signal(it, signal.SIG_IGN)\n" \
+                f"d.sendall(bytes.fromhex('{sync(2).hex()}'))\n" \
+                "while True: signal.pause()\n"
+        self.start(sys.executable, "-c", words)
+        with self.listener.accept()[0] as peer:
+            self.comes(peer, sync(2))
+            said, error = self.finish(signal.SIGINT, 137)
+            self.assertEqual(peer.recv(12), b"")
+        self.assertEqual((said.splitlines()[-1], error),
+                         ("lawful: 1 requests, 0 events, 0 and 0 bytes left", ""))
+
+    def test_no_numbers_for_descriptors(self):
+        """A client whose descriptors cannot be taken is closed, and the others are not."""
+        def few():
+            resource.setrlimit(resource.RLIMIT_NOFILE, (600, 600))
+        self.start(preexec_fn=few)
+        name = self.tool.stdout.readline().rstrip("\n").removeprefix("WAYLAND_DISPLAY=")
+        self.path = f"{self.folder}/{name}"
+        made = [self.enterContext(socket.socket(socket.AF_UNIX)) for _ in range(60)]
+        for it in made:
+            it.settimeout(LONG)
+            it.connect(self.path)
+        peer = self.enterContext(self.listener.accept()[0])
+        self.passes(made[0], peer, sync(2))
+        self.assertEqual(made[-1].recv(10), b"")
+        self.passes(made[0], peer, sync(3))
+        _, error = self.finish()
+        self.assertIn("a client is refused: too many descriptors are open\n", error)
+
+
+class Weston(Inspected):
+    """Real clients at weston without a screen."""
+
+    def setUp(self):
+        super().setUp()
+        for it in ("weston", "weston-simple-shm"):
+            if not shutil.which(it):
+                self.skipTest(f"{it} is not installed")
+        self.env["WAYLAND_DISPLAY"] = "weston"
+        words = ["weston", "--backend=headless-backend.so", "--socket=weston", "--idle-time=0"]
+        self.log = self.enterContext(open(f"{self.folder}/weston.log", "wb"))
+        self.weston = subprocess.Popen(words, env=self.env, stdout=self.log, stderr=self.log)
+        self.addCleanup(self.end_weston)
+        for _ in range(600):
+            with socket.socket(socket.AF_UNIX) as tried, contextlib.suppress(OSError):
+                tried.connect(f"{self.folder}/weston")
+                return
+            time.sleep(0.05)
+        raise AssertionError("weston does not listen")
+
+    def end_weston(self):
+        self.weston.terminate()
+        try:
+            self.weston.wait(20)
+        except subprocess.TimeoutExpired:
+            self.weston.kill()
+            self.weston.wait()
+
+    # A line of WAYLAND_DEBUG: a time, an arrow where it is a request, and the message.
+    DEBUG = re.compile(r"\[ *[\d.]+\] (?:\{[^}]*\} )?( -> )?(\w+)[@#](\d+)\.(\w+)\(")
+
+    def told(self, error):
+        """The requests, and the events of wl_display and others, that WAYLAND_DEBUG says."""
+        requests, own, others = [], [], []
+        for line in error.splitlines():
+            found = self.DEBUG.match(line)
+            if found and found[1]:
+                requests.append(found.groups()[1:])
+            elif found:
+                (own if found[2] == "wl_display" else others).append(found.groups()[1:])
+        return requests, own, others
+
+    LINE = re.compile(r"(->|<-) (\w+)@(\d+)\.(\w+)\(")
+
+    def printed(self, said):
+        """The same of the lines that the tool printed."""
+        requests, own, others = [], [], []
+        for line in said.splitlines():
+            found = self.LINE.match(line)
+            if found and found[1] == "->":
+                requests.append(found.groups()[1:])
+            elif found:
+                (own if found[2] == "wl_display" else others).append(found.groups()[1:])
+        return requests, own, others
+
+    def same(self, told, printed, which):
+        """One list begins with the other. The client's own word ends with what it wrote and did not send,
+        or lacks what came and it did not read any more."""
+        length = min(len(told), len(printed))
+        self.assertEqual(told[:length], printed[:length], which)
+        self.assertLess(max(len(told), len(printed)) - length, 32, which)
+
+    def inspected(self, *command, seconds=2):
+        """Runs a client for a while: it says each message, and so does the tool; and what was recorded has
+        the same verdict."""
+        if not shutil.which(command[0]):
+            self.skipTest(f"{command[0]} is not installed")
+        self.env["WAYLAND_DEBUG"] = "1"
+        with open(f"{self.folder}/said", "w+", encoding="utf-8") as out, \
+                open(f"{self.folder}/error", "w+", encoding="utf-8") as err:
+            self.start("--record", self.recorded, *command, stdout=out, stderr=err)
+            time.sleep(seconds)
+            self.finish(signal.SIGINT, self.status_of(command[0]))
+            out.seek(0)
+            err.seek(0)
+            said, error = out.read(), err.read()
+        told, printed = self.told(error), self.printed(said)
+        # libwayland says nothing of an event for an object that nobody listens to.
+        heard = {it[:2] for it in told[2]}
+        printed = (*printed[:2], [it for it in printed[2] if it[:2] in heard])
+        self.assertGreater(len(told[0]), 20)
+        for which, *lists in zip(("requests", "events of wl_display", "events"), told, printed):
+            self.same(*lists, which)
+        verdict = said.splitlines()[-1]
+        self.assertTrue(verdict.startswith("lawful: "), verdict)
+        if WAYWIRE:
+            tables = f"{self.folder}/all.tables"
+            with open(tables, "wb") as file:
+                for name in sorted(os.listdir(f"{ROOT}/examples/tables")):
+                    if name.endswith(".tables"):
+                        with open(f"{ROOT}/examples/tables/{name}", "rb") as one:
+                            file.write(one.read())
+            checked = subprocess.run([WAYWIRE, "check", "--tables", tables, self.recorded],
+                                     capture_output=True, text=True, timeout=LONG)
+            self.assertEqual(checked.stdout, verdict + "\n")
+
+    def status_of(self, name):
+        """How a client ends by SIGINT: weston-simple-shm takes it."""
+        return 0 if name == "weston-simple-shm" else 128 + signal.SIGINT
+
+    def test_simple_shm(self):
+        self.inspected("weston-simple-shm")
+
+    def test_flower(self):
+        self.inspected("weston-flower")
+
+    def test_a_dialog_of_gtk(self):
+        self.env["GDK_BACKEND"] = "wayland"
+        self.inspected("zenity", "--info", "--text=waywire", seconds=4)
+
+    def test_the_compositor_is_killed(self):
+        self.start("sh", "-c", "exec weston-simple-shm")
+        time.sleep(1.5)
+        self.weston.kill()
+        said, error = self.tool.communicate(timeout=LONG)
+        self.assertTrue(said.splitlines()[-1].startswith("lawful: "), said[-300:])
+        self.assertIn("waywire-inspect: the compositor has closed the connection of client 1\n", error)
+
+
+if __name__ == "__main__":
+    unittest.main()
