@@ -1,8 +1,9 @@
-/* waywire-inspect: stands between Wayland clients and their compositor, hands on all that passes, and prints
- * and judges each message (main.c).
+/* waywire-inspect: stands between Wayland clients and their compositor, hands on all that passes,
+ * and prints and judges each message.
  *
- * A session is one client's connection (session.c). It has two ways, one for each direction (way.c), and an
- * inspector of the library, which is told each piece after it was handed on. run.c waits for all sessions. */
+ * A session is one client's connection (session.c). It has two ways, one for each direction
+ * (way.c), and an inspector of the library, which is told each piece after it was handed on. run.c
+ * waits for all sessions. */
 #ifndef INSPECT_H
 #define INSPECT_H
 
@@ -39,7 +40,7 @@ void say(const char *format, ...) __attribute__((format(printf, 1, 2)));
 /* Writes a line to standard error and ends with the status of nothing inspected. */
 void fail(const char *format, ...) __attribute__((format(printf, 1, 2), noreturn));
 
-/* What stands in front of a line: the time, and the client's number, 0 where there is one client alone. */
+/* What stands in front of a line: the time, and the client's number, 0 where there is one alone. */
 struct front {
 	double seconds;
 	unsigned number;
@@ -59,8 +60,8 @@ void print_name(const char *display);
 /* Hands what was printed to standard output. */
 void print_now(void);
 
-/* The signals that are blocked while standard output takes nothing. After one that is not, it is waited for a
- * second and no more. */
+/* The signals that are blocked while standard output takes nothing. After one that is not, it is
+ * waited for a second and no more. */
 void print_waits_with(const sigset_t *signals);
 
 /* From now on standard output is waited for a second at most. */
@@ -68,7 +69,8 @@ void print_briefly(void);
 
 /* ---- the tables (tables.c) */
 
-/* The tables of the core and of the files, or of all that are installed. Ends the tool where it fails. */
+/* The tables of the core and of the files, or of all that are installed. Ends the tool where it
+ * fails. */
 const waywire_tables *read_tables(const struct options *options);
 
 /* ---- a recording (recording.c) */
@@ -80,11 +82,11 @@ struct recording {
 	off_t length;
 };
 
-/* Begins the recording of a client: the file of --record, behind it `.2` for the second, and so on. False,
- * with a line said, where that fails. */
+/* Begins the recording of a client: the file of --record, with `.2` behind it for the second, and
+ * so on. False, with a line said, where that fails. */
 bool recording_begin(struct recording *recording, const struct options *options, unsigned number);
 
-/* Adds a piece. Where the file takes it not, that is said and the recording ends with the piece before. */
+/* Adds a piece. Where the file does not take it, that is said, and the recording ends before it. */
 void recording_add(struct recording *recording, int from, const unsigned char *bytes, size_t length,
 	size_t descriptor_count);
 
@@ -92,14 +94,15 @@ void recording_end(struct recording *recording);
 
 /* ---- sockets (sockets.c) */
 
-/* A socket that listens in XDG_RUNTIME_DIR; its name is written to `name`. Ends the tool where it fails. */
+/* A socket that listens in XDG_RUNTIME_DIR; its name is written to `name`. Ends the tool where it
+ * fails. */
 int listen_in_runtime_folder(char *name, size_t size);
 
 /* Removes that socket's name. */
 void stop_listening(int listener);
 
-/* A socket that is connected to the compositor, which was at WAYLAND_DISPLAY when the tool was started; -1
- * with a line said. */
+/* A socket that is connected to the compositor, at the WAYLAND_DISPLAY of the tool's start; -1 with
+ * a line said. */
 int connect_to_compositor(void);
 
 /* Notes the compositor's path. To be called before WAYLAND_DISPLAY is changed. */

@@ -1,4 +1,4 @@
-/* What the tool prints: lines of messages and verdicts on standard output, all else on standard error. */
+/* What the tool prints: messages and verdicts on standard output, all else on standard error. */
 #define _GNU_SOURCE
 #include "inspect.h"
 

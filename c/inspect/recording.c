@@ -10,7 +10,7 @@
 
 /* What `waywire` reads at most, in bytes. */
 #define LONGEST 16777216
-/* The most that a line has beside the digits: the direction, two spaces, `+`, five digits and a line feed. */
+/* The most that a line has beside the digits: an arrow, two spaces, `+`, 3 digits, a line feed. */
 #define BESIDE_DIGITS 16
 
 bool recording_begin(struct recording *recording, const struct options *options, unsigned number)

@@ -30,6 +30,7 @@ struct run {
 	struct recording first;
 	bool has_command, is_running;
 	bool is_full;       /* no client could be accepted: to be tried again soon */
+	bool is_later;      /* what waits is to be tried again soon, though nothing is ready */
 	int status;         /* of the command, once it has ended */
 	int stops;          /* how often it was told to stop */
 	struct timespec stop_again;
@@ -52,7 +53,8 @@ static void on_child(int number)
 	child_ended = 1;
 }
 
-/* Blocks the signals that are waited for, and sets what they do. `before` gets those that were blocked. */
+/* Blocks the signals that are waited for, and sets what they do. `before` gets those that were
+ * blocked. */
 static void take_signals(sigset_t *before)
 {
 	static const int stopping[] = { SIGINT, SIGTERM, SIGHUP };
@@ -92,7 +94,8 @@ static int left_until(const struct timespec *time)
 
 /* ---- the command */
 
-/* Starts the command, with the tool's socket as its WAYLAND_DISPLAY. Returns what posix_spawnp does. */
+/* Starts the command, with the tool's socket as its WAYLAND_DISPLAY. Returns what posix_spawnp
+ * does. */
 static int start(struct run *run, char **command, const char *display, const sigset_t *before)
 {
 	posix_spawnattr_t attributes;
@@ -159,7 +162,7 @@ static bool make_room(struct run *run)
 	return true;
 }
 
-/* A connection to the compositor: that which was made first, where it is not used and still there. */
+/* A connection to the compositor: that which was made first, where it is unused and still there. */
 static int connected(struct run *run)
 {
 	int made = run->connected;
@@ -227,7 +230,8 @@ static void end_sessions(struct run *run, bool all)
 
 /* ---- the end */
 
-/* The command is told to end; if it is told again, the sessions end; and then it is ended. */
+/* The command is told to end. The second time the sessions end too, and the third time it is
+ * killed. */
 static void stop(struct run *run, int number)
 {
 	run->shared.is_stopping = true;
@@ -236,8 +240,14 @@ static void stop(struct run *run, int number)
 	run->stop_again = later(GRACE);
 	if (run->is_running && (run->stops > 1 || !was_typed))
 		kill(run->shared.command, run->stops > 2 ? SIGKILL : run->stops > 1 ? SIGTERM : number);
-	if (!run->is_running || run->stops > 1)
+	if (run->stops > 1)
 		end_sessions(run, true);
+}
+
+/* Whether the sessions go on for no longer than something comes at once. */
+static bool is_ending(const struct run *run)
+{
+	return run->stops && !run->is_running;
 }
 
 /* Whether nothing can come any more but a client that waits to be accepted. */
@@ -247,29 +257,30 @@ static bool is_done(const struct run *run)
 }
 
 /* How long to wait, in milliseconds; -1 where no limit is. */
-static int patience(const struct run *run, bool is_later)
+static int patience(const struct run *run)
 {
-	if (is_done(run))
+	if (is_done(run) || is_ending(run))
 		return 0;
-	if (is_later)
+	if (run->is_later)
 		return SOON;
 	return run->stops ? left_until(&run->stop_again) : -1;
 }
 
-/* Waits until something can be done. False where a signal came or nothing is ready. */
-static bool wait_for_any(struct run *run)
+/* Waits until something can be done. Returns what ppoll does: 0 where nothing is ready in time,
+ * less where a signal came. */
+static int wait_for_any(struct run *run)
 {
-	bool is_later = run->is_full;
+	bool is_closed = run->is_full || is_ending(run);
 	size_t count = 1;
-	run->polled[0] = (struct pollfd){ is_later ? -1 : run->listener, POLLIN, 0 };
+	run->polled[0] = (struct pollfd){ is_closed ? -1 : run->listener, POLLIN, 0 };
+	run->is_later = run->is_full;
 	run->is_full = false;
 	for (struct session *it = run->sessions; it; it = it->next, count += 2)
-		is_later |= session_wants(it, run->polled + count);
-	int milliseconds = patience(run, is_later);
+		run->is_later |= session_wants(it, run->polled + count);
+	int milliseconds = patience(run);
 	struct timespec time = { milliseconds / 1000, milliseconds % 1000 * 1000000L };
-	int ready = ppoll(run->polled, (nfds_t)count, milliseconds < 0 ? NULL : &time,
+	return ppoll(run->polled, (nfds_t)count, milliseconds < 0 ? NULL : &time,
 		&run->shared.while_waiting);
-	return ready > 0 || (!ready && is_later);
 }
 
 /* Does all that can be done. */
@@ -288,14 +299,15 @@ static void inspect(struct run *run)
 {
 	for (;;) {
 		bool was_done = is_done(run);
-		if (wait_for_any(run))
+		int ready = wait_for_any(run);
+		if (ready > 0 || (!ready && run->is_later))
 			step(run);
 		if (child_ended)
 			reap(run);
 		if (stopped_by || (run->stops && !left_until(&run->stop_again)))
 			stop(run, stopped_by);
 		stopped_by = 0;
-		if (run->stops && !run->is_running)
+		if (is_ending(run) && !ready)
 			end_sessions(run, true);
 		if (was_done && is_done(run))
 			return;

@@ -26,12 +26,14 @@ static void stop_judging(struct session *session, waywire_status status)
 }
 
 /* Prints the verdict of all that has passed. Returns what the library says. */
-static waywire_status print_verdict_of(struct session *session, struct shared *shared, bool if_broken)
+static waywire_status print_verdict_of(struct session *session, struct shared *shared,
+	bool if_broken)
 {
 	const char *line;
 	size_t length;
 	int is_broken;
-	waywire_status status = waywire_inspector_verdict(session->inspector, &line, &length, &is_broken);
+	waywire_status status = waywire_inspector_verdict(session->inspector, &line, &length,
+		&is_broken);
 	if (status || (if_broken && !is_broken))
 		return status;
 	struct front front = front_of(session, shared);
@@ -195,9 +197,11 @@ void session_end(struct session *session, struct shared *shared)
 		close(session->sockets[from]);
 	}
 	recording_end(&session->recording);
-	waywire_status status = session->inspector ? print_verdict_of(session, shared, false) : WAYWIRE_OK;
-	if (status)
-		stop_judging(session, status);
+	if (session->inspector) {
+		waywire_status status = print_verdict_of(session, shared, false);
+		if (status)
+			stop_judging(session, status);
+	}
 	if (!session->inspector) {
 		struct front front = front_of(session, shared);
 		print_verdict(shared->options, &front, unjudged, sizeof unjudged - 1, false);

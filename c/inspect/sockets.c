@@ -17,7 +17,8 @@
 
 static struct sockaddr_un compositor, own;
 
-/* Writes the address of a name, which is a path where it begins with a slash; false where it is too long. */
+/* Writes the address of a name, which is a path where it begins with a slash; false where it is too
+ * long. */
 static bool address_of(struct sockaddr_un *address, const char *name)
 {
 	const char *folder = getenv("XDG_RUNTIME_DIR");

@@ -51,8 +51,10 @@ static void read_text(struct text *text)
 
 static waywire_tables *core, *tables; /* never freed */
 
-/* Reads the texts, joined. At a fault `line` is the line of the joined text, and `rule` a rule or 0. */
-static waywire_status read_joined(const struct text *texts, size_t count, size_t *line, uint32_t *rule)
+/* Reads the texts, joined. At a fault `line` is the line of the joined text, and `rule` may be its
+ * rule. */
+static waywire_status read_joined(const struct text *texts, size_t count, size_t *line,
+	uint32_t *rule)
 {
 	size_t length = 0;
 	for (size_t each = 0; each < count; each++)
@@ -78,9 +80,9 @@ static struct text *text_of(struct text *texts, size_t *line)
 	}
 }
 
-/* Says what is wrong with a line, to be left out or not. */
-static void describe(char *said, size_t size, waywire_status status, const struct text *text, size_t line,
-	uint32_t rule)
+/* Writes what is wrong with a line. */
+static void describe(char *said, size_t size, waywire_status status, const struct text *text,
+	size_t line, uint32_t rule)
 {
 	if (status == WAYWIRE_BAD_TABLE)
 		snprintf(said, size, "%s line %zu: breaks V%u", text->path, line, rule);

@@ -3,9 +3,10 @@
 
     tests/c/inspecting.py [CLASS[.TEST]]..
 
-INSPECT in the environment is the tool, out/c/waywire-inspect where nothing is said; WAYWIRE is a built
-`waywire`, which judges what was recorded, and may be missing. tools/check-c runs these tests."""
+INSPECT in the environment is the tool, out/c/waywire-inspect where nothing is said; WAYWIRE is a
+built `waywire`, which judges what was recorded, and may be missing. tools/check-c runs them."""
 import contextlib
+import glob
 import os
 import re
 import resource
@@ -26,6 +27,7 @@ WAYWIRE = os.environ.get("WAYWIRE")
 # How long anything may take that ends, in seconds.
 LONG = 60
 SYNC = "-> wl_display@1.sync(new id wl_callback@{})\n"
+GONE = "waywire-inspect: the compositor has closed the connection of client 1\n"
 
 
 def message(target, opcode, *words):
@@ -66,12 +68,16 @@ class Inspected(unittest.TestCase):
 
     def start(self, *words, **kept):
         """Starts the tool, and notes the path of its socket where there is no command."""
-        self.tool = subprocess.Popen([*INSPECT, *words], env=self.env, text=True,
-                                     **{"stdout": subprocess.PIPE, "stderr": subprocess.PIPE, **kept})
+        self.tool = subprocess.Popen([*INSPECT, *words], **self.how(kept))
         self.addCleanup(self.end)
         if not kept and not any(it in words for it in (sys.executable, "sh")):
             name = self.tool.stdout.readline().rstrip("\n").removeprefix("WAYLAND_DISPLAY=")
             self.path = f"{self.folder}/{name}"
+
+    def how(self, kept):
+        """How the tool is run."""
+        piped = {"stdout": subprocess.PIPE, "stderr": subprocess.PIPE}
+        return {**piped, "env": self.env, "text": True, **kept}
 
     def end(self):
         self.tool.kill()
@@ -109,16 +115,15 @@ class Inspected(unittest.TestCase):
 
     def ran(self, *words, status=0, **kept):
         """Runs the tool to its end, and returns what it said."""
-        done_with = subprocess.run([*INSPECT, *words], env=self.env, timeout=LONG, text=True,
-                                   **{"stdout": subprocess.PIPE, "stderr": subprocess.PIPE, **kept})
-        self.assertEqual(done_with.returncode, status, (done_with.stdout, done_with.stderr))
-        return done_with.stdout, done_with.stderr
+        it = subprocess.run([*INSPECT, *words], timeout=LONG, **self.how(kept))
+        self.assertEqual(it.returncode, status, (it.stdout, it.stderr))
+        return it.stdout, it.stderr
 
-    def checked(self, path, verdict):
+    def checked(self, path, verdict, *words):
         """The program's verdict of what was recorded is the tool's."""
         if WAYWIRE:
-            said = subprocess.run([WAYWIRE, "check", path], capture_output=True, text=True, timeout=LONG)
-            self.assertEqual(said.stdout, verdict + "\n")
+            it = subprocess.run([WAYWIRE, "check", *words, path], timeout=LONG, **self.how({}))
+            self.assertEqual(it.stdout, verdict + "\n")
 
     def answering(self, *answers):
         """A compositor that reads once before each answer, and then until its client has gone."""
@@ -134,11 +139,14 @@ class Inspected(unittest.TestCase):
         self.addCleanup(thread.join, LONG)
 
 
-# A client that sends what it is given in hexadecimal digits, reads so many bytes, and ends so.
-CLIENT = """
+# A client that is connected.
+STAYING = """
 import os, signal, socket, sys
 display = socket.socket(socket.AF_UNIX)
 display.connect(os.environ["XDG_RUNTIME_DIR"] + "/" + os.environ["WAYLAND_DISPLAY"])
+"""
+# One that sends what it is given in hexadecimal digits, reads so many bytes, and ends so.
+CLIENT = STAYING + """
 display.sendall(bytes.fromhex(sys.argv[1]))
 display.recv(int(sys.argv[2]), socket.MSG_WAITALL)
 if len(sys.argv) > 4:
@@ -157,7 +165,8 @@ class Passing(Inspected):
     def test_bytes_and_descriptors(self):
         self.start("--record", self.recorded)
         client, compositor = self.client()
-        for source, target, word in ((client, compositor, b"request"), (compositor, client, b"event")):
+        ways = ((client, compositor, b"request"), (compositor, client, b"event"))
+        for source, target, word in ways:
             readers, writers = zip(os.pipe(), os.pipe())
             socket.send_fds(source, [word], writers)
             closed(writers)
@@ -195,7 +204,7 @@ class Passing(Inspected):
         self.finish(status=1)
 
     def test_a_slow_compositor(self):
-        """It takes a part at a time; the descriptor comes with the first byte; the client has to wait."""
+        """It takes a part at a time, and the client has to wait. The descriptor is at the front."""
         self.start("--record", self.recorded)
         client, compositor = self.client()
         data = bytes(range(256)) * 16384
@@ -238,14 +247,16 @@ class Passing(Inspected):
             self.assertEqual(client.recv(100), b"")
         self.tool.send_signal(signal.SIGTERM)
         _, error = self.tool.communicate(timeout=LONG)
-        self.assertIn("waywire-inspect: the compositor has closed the connection of client 1\n", error)
+        self.assertIn(GONE, error)
 
     def test_the_last_words_of_a_client(self):
         self.start()
         client, compositor = self.client()
         data = sync(2) * 20_000
-        writer = threading.Thread(target=lambda: (client.sendall(data), client.close()), daemon=True)
-        writer.start()
+        def write():
+            client.sendall(data)
+            client.close()
+        threading.Thread(target=write, daemon=True).start()
         time.sleep(0.3)
         got = b""
         while part := compositor.recv(65536):
@@ -357,14 +368,16 @@ class Judging(Inspected):
         self.passes(at_one, one, done(2))
         said, error = self.finish(signal.SIGINT, status=1)
         verdict = "broken: > message 2 at byte 12: F2 unknown object"
-        self.assertEqual(sorted(said.splitlines()), sorted([
-            *(f"#{it} {line}" for it in (1, 2) for line in (
-                SYNC.format(2).strip(), "<- wl_callback@2.done(7)", "<- wl_display@1.delete_id(2)")),
-            f"#2 {verdict}", f"#2 {verdict}", "#1 lawful: 1 requests, 2 events, 0 and 0 bytes left"]))
+        lawful = "lawful: 1 requests, 2 events, 0 and 0 bytes left"
+        lines = [SYNC.format(2).strip(), "<- wl_callback@2.done(7)", "<- wl_display@1.delete_id(2)"]
+        wanted = {1: [*lines, lawful], 2: [*lines, verdict, verdict]}
+        for number, its_lines in wanted.items():
+            its = [it for it in said.splitlines() if it.startswith(f"#{number} ")]
+            self.assertEqual(its, [f"#{number} {it}" for it in its_lines])
         self.assertEqual(error, "")
         for it in (one, at_one, two, at_two):
             self.assertEqual(it.recv(100), b"")
-        self.checked(self.recorded, "lawful: 1 requests, 2 events, 0 and 0 bytes left")
+        self.checked(self.recorded, lawful)
         self.checked(self.recorded + ".2", verdict)
         self.assertEqual(sorted(os.listdir(self.folder)), ["a.rec", "a.rec.2", "display"])
 
@@ -464,14 +477,16 @@ class Failing(Inspected):
         for how in ("full", "reader", "closed"):
             with self.subTest(how):
                 output = self.output(how)
-                self.start(stdout=output, preexec_fn=(lambda: os.close(1)) if how == "closed" else None)
+                close = (lambda: os.close(1)) if how == "closed" else None
+                self.start(stdout=output, preexec_fn=close)
                 if output is not None:
                     os.close(output)
                 self.path = self.found()
                 self.passes_on(100)
                 _, error = self.finish()
-                self.assertRegex(error, r"\Awaywire-inspect: cannot write to standard output: [^\n]*; "
-                                        r"messages are judged and not printed\n\Z")
+                self.assertRegex(
+                    error, r"\Awaywire-inspect: cannot write to standard output: [^\n]*; "
+                           r"messages are judged and not printed\n\Z")
 
     def output(self, how):
         if how == "full":
@@ -514,7 +529,8 @@ class Failing(Inspected):
         self.answering(done(2))
         said, error = self.ran(*client(sync(2), 24, 0, "kill"), status=137)
         self.assertEqual(said.splitlines()[-1], "lawful: 1 requests, 2 events, 0 and 0 bytes left")
-        self.assertEqual(error, f"waywire-inspect: {sys.executable} was ended by signal 9 (Killed)\n")
+        wanted = f"waywire-inspect: {sys.executable} was ended by signal 9 (Killed)\n"
+        self.assertEqual(error, wanted)
 
     def test_a_client_that_goes(self):
         self.start()
@@ -541,19 +557,19 @@ class Failing(Inspected):
             late.connect(self.path)
             self.assertEqual(late.recv(100), b"")
         _, error = self.finish()
-        self.assertEqual(error, "waywire-inspect: the compositor has closed the connection of client 1\n"
-                                f"waywire-inspect: no compositor at {self.folder}/display: "
-                                "Connection refused\n")
+        refused = f"waywire-inspect: no compositor at {self.folder}/display: Connection refused\n"
+        self.assertEqual(error, GONE + refused)
 
     def test_a_command_that_is_stopped(self):
         """It is told the signal; what it sends on that is passed."""
-        words = "import os, signal, socket, sys\n" \
-                "d = socket.socket(socket.AF_UNIX)\n" \
-                "d.connect(os.environ['XDG_RUNTIME_DIR'] + '/' + os.environ['WAYLAND_DISPLAY'])\n" \
-                f"def stop(*_):\n    d.sendall(bytes.fromhex('{sync(3).hex()}'))\n    sys.exit({{}})\n" \
-                "signal.signal(signal.SIGTERM, stop)\n" \
-                f"d.sendall(bytes.fromhex('{sync(2).hex()}'))\n" \
-                "while True: signal.pause()\n"
+        words = STAYING + f"""
+def stop(*_):
+    display.sendall(bytes.fromhex("{sync(3).hex()}"))
+    sys.exit({{}})
+signal.signal(signal.SIGTERM, stop)
+display.sendall(bytes.fromhex("{sync(2).hex()}"))
+while True: signal.pause()
+"""
         for status in (0, 5):
             with self.subTest(status):
                 self.start(sys.executable, "-c", words.format(status))
@@ -566,12 +582,12 @@ class Failing(Inspected):
                                  "lawful: 2 requests, 0 events, 0 and 0 bytes left")
 
     def test_a_command_that_does_not_stop(self):
-        words = "import os, signal, socket\n" \
-                "d = socket.socket(socket.AF_UNIX)\n" \
-                "d.connect(os.environ['XDG_RUNTIME_DIR'] + '/' + os.environ['WAYLAND_DISPLAY'])\n" \
-                "for it in (signal.SIGTERM, signal.SIGINT): signal.signal(it, signal.SIG_IGN)\n" \
-                f"d.sendall(bytes.fromhex('{sync(2).hex()}'))\n" \
-                "while True: signal.pause()\n"
+        words = STAYING + f"""
+for it in (signal.SIGTERM, signal.SIGINT):
+    signal.signal(it, signal.SIG_IGN)
+display.sendall(bytes.fromhex("{sync(2).hex()}"))
+while True: signal.pause()
+"""
         self.start(sys.executable, "-c", words)
         with self.listener.accept()[0] as peer:
             self.comes(peer, sync(2))
@@ -655,15 +671,15 @@ class Weston(Inspected):
         return requests, own, others
 
     def same(self, told, printed, which):
-        """One list begins with the other. The client's own word ends with what it wrote and did not send,
-        or lacks what came and it did not read any more."""
+        """One list begins with the other. The client's own word ends with what it wrote and did not
+        send, or lacks what came and it did not read any more."""
         length = min(len(told), len(printed))
         self.assertEqual(told[:length], printed[:length], which)
         self.assertLess(max(len(told), len(printed)) - length, 32, which)
 
     def inspected(self, *command, seconds=2):
-        """Runs a client for a while: it says each message, and so does the tool; and what was recorded has
-        the same verdict."""
+        """Runs a client for a while: it says each message, and so does the tool; and what was
+        recorded has the same verdict."""
         if not shutil.which(command[0]):
             self.skipTest(f"{command[0]} is not installed")
         self.env["WAYLAND_DEBUG"] = "1"
@@ -684,16 +700,16 @@ class Weston(Inspected):
             self.same(*lists, which)
         verdict = said.splitlines()[-1]
         self.assertTrue(verdict.startswith("lawful: "), verdict)
-        if WAYWIRE:
-            tables = f"{self.folder}/all.tables"
-            with open(tables, "wb") as file:
-                for name in sorted(os.listdir(f"{ROOT}/examples/tables")):
-                    if name.endswith(".tables"):
-                        with open(f"{ROOT}/examples/tables/{name}", "rb") as one:
-                            file.write(one.read())
-            checked = subprocess.run([WAYWIRE, "check", "--tables", tables, self.recorded],
-                                     capture_output=True, text=True, timeout=LONG)
-            self.assertEqual(checked.stdout, verdict + "\n")
+        self.checked(self.recorded, verdict, "--tables", self.all_tables())
+
+    def all_tables(self):
+        """The installed texts, joined."""
+        path = f"{self.folder}/all.tables"
+        with open(path, "wb") as file:
+            for name in sorted(glob.glob(f"{ROOT}/examples/tables/*.tables")):
+                with open(name, "rb") as one:
+                    file.write(one.read())
+        return path
 
     def status_of(self, name):
         """How a client ends by SIGINT: weston-simple-shm takes it."""
@@ -705,9 +721,12 @@ class Weston(Inspected):
     def test_flower(self):
         self.inspected("weston-flower")
 
-    def test_a_dialog_of_gtk(self):
+    def test_gtk(self):
         self.env["GDK_BACKEND"] = "wayland"
-        self.inspected("zenity", "--info", "--text=waywire", seconds=4)
+        if shutil.which("zenity"):
+            self.inspected("zenity", "--info", "--text=waywire", seconds=4)
+        else:
+            self.inspected("gtk3-widget-factory", seconds=4)
 
     def test_the_compositor_is_killed(self):
         self.start("sh", "-c", "exec weston-simple-shm")
@@ -715,7 +734,7 @@ class Weston(Inspected):
         self.weston.kill()
         said, error = self.tool.communicate(timeout=LONG)
         self.assertTrue(said.splitlines()[-1].startswith("lawful: "), said[-300:])
-        self.assertIn("waywire-inspect: the compositor has closed the connection of client 1\n", error)
+        self.assertIn(GONE, error)
 
 
 if __name__ == "__main__":

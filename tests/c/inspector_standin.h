@@ -1,3 +1,4 @@
+#pragma once
 #include <waywire.h>
 typedef struct waywire_inspector waywire_inspector;
 typedef enum waywire_sender { WAYWIRE_FROM_CLIENT = 0, WAYWIRE_FROM_SERVER = 1 } waywire_sender;
