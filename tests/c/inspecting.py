@@ -119,11 +119,15 @@ class Inspected(unittest.TestCase):
         self.assertEqual(it.returncode, status, (it.stdout, it.stderr))
         return it.stdout, it.stderr
 
-    def checked(self, path, verdict, *words):
-        """The program's verdict of what was recorded is the tool's."""
+    def checked(self, path, lines, *words):
+        """What the program prints of a recording is what the tool printed, the verdict last."""
         if WAYWIRE:
-            it = subprocess.run([WAYWIRE, "check", *words, path], timeout=LONG, **self.how({}))
-            self.assertEqual(it.stdout, verdict + "\n")
+            ran = [subprocess.run([WAYWIRE, job, *words, path], timeout=LONG, **self.how({}))
+                   for job in ("trace", "check")]
+            is_broken = lines[-1].startswith("broken: ")
+            self.assertEqual([it.returncode for it in ran], [is_broken] * 2)
+            self.assertEqual(ran[0].stdout.splitlines(), lines[:-1] + lines[-1:] * is_broken)
+            self.assertEqual(ran[1].stdout.splitlines(), lines[-1:])
 
     def answering(self, *answers):
         """A compositor that reads once before each answer, and then until its client has gone."""
@@ -278,6 +282,26 @@ class Passing(Inspected):
         self.assertEqual(said.splitlines()[-1], "lawful: 1 requests, 2 events, 0 and 0 bytes left")
         self.assertEqual(error.count("\n"), 1)
 
+    def test_memory_does_not_grow(self):
+        self.start()
+        client, compositor = self.client()
+        part, used = bytes(2**20), []
+        reader = threading.Thread(target=self.read_all, args=(compositor,), daemon=True)
+        reader.start()
+        for _ in range(4):
+            for _ in range(64):
+                client.sendall(part)
+            with open(f"/proc/{self.tool.pid}/status", encoding="ascii") as file:
+                used.append(int(re.search(r"VmRSS:\s*(\d+) kB", file.read())[1]))
+        self.assertLess(used[-1], used[0] + 1000, used)
+        client.close()
+        reader.join(LONG)
+        self.finish(status=1)
+
+    def read_all(self, end):
+        while end.recv(2**20):
+            pass
+
     def test_many_small_requests(self):
         self.start("--record", self.recorded)
         client, compositor = self.client()
@@ -300,7 +324,7 @@ class Passing(Inspected):
         self.assertEqual(sum(it.startswith("-> wl_display@1.sync(") for it in lines), count)
         verdict = f"lawful: {count} requests, {2 * count} events, 0 and 0 bytes left"
         self.assertEqual(lines[-1], verdict)
-        self.checked(self.recorded, verdict)
+        self.checked(self.recorded, lines)
 
     def drain(self, file):
         self.lines = file.read()
@@ -317,7 +341,7 @@ class Judging(Inspected):
         self.assertEqual(said, (lines + verdict + "\n", ""))
         with open(self.recorded, encoding="ascii") as file:
             self.assertEqual(file.read(), f"> {sync(2).hex()}\n< {done(2).hex()}\n")
-        self.checked(self.recorded, verdict)
+        self.checked(self.recorded, said[0].splitlines())
         self.assertEqual(sorted(os.listdir(self.folder)), ["a.rec", "display"])
 
     def test_a_broken_message(self):
@@ -327,7 +351,7 @@ class Judging(Inspected):
         said, error = self.ran("--record", self.recorded, *client(data, 24, 0), status=1)
         verdict = "broken: > message 2 at byte 12: F2 unknown object"
         self.assertEqual((said, error), (SYNC.format(2) + verdict + "\n" + verdict + "\n", ""))
-        self.checked(self.recorded, verdict)
+        self.checked(self.recorded, said.splitlines()[:-1])
         with open(self.recorded, encoding="ascii") as file:
             self.assertEqual(file.read(), f"> {data.hex()}\n< {done(2).hex()}\n")
 
@@ -377,8 +401,8 @@ class Judging(Inspected):
         self.assertEqual(error, "")
         for it in (one, at_one, two, at_two):
             self.assertEqual(it.recv(100), b"")
-        self.checked(self.recorded, lawful)
-        self.checked(self.recorded + ".2", verdict)
+        self.checked(self.recorded, wanted[1])
+        self.checked(self.recorded + ".2", wanted[2][:-1])
         self.assertEqual(sorted(os.listdir(self.folder)), ["a.rec", "a.rec.2", "display"])
 
     def test_only_and_time(self):
@@ -700,7 +724,7 @@ class Weston(Inspected):
             self.same(*lists, which)
         verdict = said.splitlines()[-1]
         self.assertTrue(verdict.startswith("lawful: "), verdict)
-        self.checked(self.recorded, verdict, "--tables", self.all_tables())
+        self.checked(self.recorded, said.splitlines(), "--tables", self.all_tables())
 
     def all_tables(self):
         """The installed texts, joined."""
