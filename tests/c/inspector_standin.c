@@ -1,4 +1,10 @@
-/* Stand-in for the library: asks tools/reference.py. */
+/* Stands in for the library where it has no inspector yet: it asks tools/reference.py. To be deleted then.
+ *
+ *     make include/waywire-version.h
+ *     cc -std=gnu99 -D_GNU_SOURCE= -Iinclude -Itests/c -include inspector_standin.h \
+ *         -DWAYWIRE_TABLES='"../../examples/tables"' -DSTANDIN="\"$PWD/tests/c/inspector_standin.py\"" \
+ *         c/inspect/*.c tests/c/inspector_standin.c -o out/c/waywire-inspect
+ */
 #define _GNU_SOURCE
 #include "inspector_standin.h"
 #include <stdio.h>
@@ -10,6 +16,7 @@ struct waywire_inspector { int id; char *lines; size_t length; char *line; };
 struct waywire_tables { int id; };
 static FILE *to, *from;
 extern char **environ;
+static void stop(void) { fclose(to); fclose(from); }
 static void start(void)
 {
 	int in[2], out[2]; pid_t pid;
@@ -23,6 +30,7 @@ static void start(void)
 	posix_spawn_file_actions_destroy(&a); posix_spawnattr_destroy(&at);
 	close(in[0]); close(out[1]);
 	to = fdopen(in[1], "w"); from = fdopen(out[0], "r");
+	atexit(stop);
 }
 static long number(void) { long n = 0; fflush(to); if (fscanf(from, "%ld", &n) != 1) abort(); fgetc(from); return n; }
 waywire_status waywire_tables_core(waywire_tables **t) { if (!to) start(); *t = calloc(1, sizeof **t); return 0; }
