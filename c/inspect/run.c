@@ -29,6 +29,7 @@ struct run {
 	struct recording first;
 	bool has_command, is_running;
 	bool is_full;       /* no client could be accepted: to be tried again soon */
+	bool was_full;      /* that was so before, and said */
 	bool is_later;      /* what waits is to be tried again soon, though nothing is ready */
 	int status;         /* of the command, once it has ended */
 	int stops;          /* how often it was told to stop */
@@ -191,10 +192,14 @@ static void begin(struct run *run, int client)
 		say("a client is refused: out of memory");
 		close(client);
 		close(compositor);
+		if (number > 1)
+			recording_end(&recording);
 		return;
 	}
-	made->next = run->sessions;
-	run->sessions = made;
+	struct session **last = &run->sessions;
+	while (*last)
+		last = &(*last)->next;
+	*last = made;
 	run->session_count++;
 }
 
@@ -207,7 +212,9 @@ static void accept_client(struct run *run)
 		say("a client is refused: too many descriptors are open");
 		close(client);
 	} else if (errno != EAGAIN && errno != EINTR && errno != ECONNABORTED) {
-		run->is_full = true;
+		if (!run->was_full)
+			say("a client has to wait: %s", strerror(errno));
+		run->is_full = run->was_full = true;
 	}
 }
 
