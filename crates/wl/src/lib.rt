@@ -6,9 +6,11 @@
 //! Which socket carries these, when it is read, and on which thread, is the caller's choice, so a
 //! toolkit, a compositor, a proxy and a test use the same two types.
 //!
-//! What each call returns and leaves is its contract, and is proved. Together: each end reads
-//! exactly the messages that the other wrote, however the bytes are cut, and once both streams are
-//! drained both ends have the same objects.
+//! What each call returns and leaves is its contract, and is proved. Together, for two ends of this
+//! library that begin together, over a transport that keeps bytes in order and descriptors in step:
+//! up to the first error that the server posts, each end reads exactly the messages that the other
+//! wrote, however the bytes are cut, and once both streams are drained both ends have the same
+//! objects.
 //!
 //! # The loop
 //!
