@@ -44,10 +44,16 @@ impl Write for End<'_> {
     }
 }
 
+/// What is on its way over one connection.
+#[derive(Drop)]
+struct Ways {
+    to_server: Way,
+    to_client: Way,
+}
+
 /// A socket in memory, with what is on its way over the one connection to it.
 struct Socket<'a> {
-    to_server: &'a Way,
-    to_client: &'a Way,
+    ways: &'a Ways,
     is_stuck: bool,
 }
 
@@ -56,22 +62,21 @@ impl<'a> Bound for Socket<'a> {
 
     fn connect(&self) -> io::Result<End<'a>> {
         Ok(End {
-            input: self.to_client,
-            output: self.to_server,
+            input: &self.ways.to_client,
+            output: &self.ways.to_server,
         })
     }
 
     fn accept(&self) -> io::Result<End<'a>> {
         Ok(End {
-            input: self.to_server,
-            output: self.to_client,
+            input: &self.ways.to_server,
+            output: &self.ways.to_client,
         })
     }
 
     fn remove(self) -> io::Result<()> {
         let Socket {
-            to_server: _to_server,
-            to_client: _to_client,
+            ways: _ways,
             is_stuck,
         } = self;
         if is_stuck {
@@ -84,8 +89,10 @@ impl<'a> Bound for Socket<'a> {
 /// Whether a run over such a socket writes these bytes to standard output and to standard error.
 fn writes(alloc: Global, is_stuck: bool, written: (&[u8], &[u8])) -> Result<bool, AllocError> {
     let words = command_line(alloc, &["socket", "a.sock"])?;
-    let to_server = RefCell::new(Vec::new(alloc));
-    let to_client = RefCell::new(Vec::new(alloc));
+    let ways = Ways {
+        to_server: RefCell::new(Vec::new(alloc)),
+        to_client: RefCell::new(Vec::new(alloc)),
+    };
     let mut out = Vec::new(alloc);
     let mut err = Vec::new(alloc);
     let _ending = run(
@@ -94,8 +101,7 @@ fn writes(alloc: Global, is_stuck: bool, written: (&[u8], &[u8])) -> Result<bool
         |_name: &str| Ok(io::empty()),
         |_path: &str| {
             Ok(Socket {
-                to_server: &to_server,
-                to_client: &to_client,
+                ways: &ways,
                 is_stuck,
             })
         },
