@@ -50,7 +50,7 @@ struct front {
 void print_lines(const struct options *options, const struct front *front, const char *lines,
 	size_t length);
 
-/* Prints the line of a verdict, which has no line feed. */
+/* Prints the line of a verdict, whose line feed is not counted. */
 void print_verdict(const struct options *options, const struct front *front, const char *line,
 	size_t length, bool is_broken);
 
@@ -69,9 +69,9 @@ void print_briefly(void);
 
 /* ---- the tables (tables.c) */
 
-/* The tables of the core and of the files, or of all that are installed. Ends the tool where it
- * fails. */
-const waywire_tables *read_tables(const struct options *options);
+/* The tables of the core and of the files, or of all that are installed, to be freed. Ends the tool
+ * where it fails. */
+waywire_tables *read_tables(const struct options *options);
 
 /* ---- a recording (recording.c) */
 
