@@ -7,7 +7,7 @@
 
 #include <stdlib.h>
 
-/* A pointer to the tables or the end that an export made. */
+/* A pointer to the tables, the end or the inspector that an export made. */
 struct handle {
 	void *at;
 };
@@ -52,6 +52,13 @@ uint32_t waywire_c_server_add_global(struct handle *, uint16_t interface, uint32
 	uint32_t *name);
 uint32_t waywire_c_server_withdraw(struct handle *, uint32_t name);
 uint32_t waywire_c_server_announce(struct handle *, size_t *count);
+
+uint32_t waywire_c_inspector_new(const struct handle *tables, uint32_t limit, void **made);
+void waywire_c_inspector_free(struct handle);
+uint32_t waywire_c_inspector_pass(struct handle *, uint32_t sender, const void *bytes, size_t length,
+	size_t token_count);
+void waywire_c_inspector_lines(const struct handle *, const void **lines, size_t *length);
+uint32_t waywire_c_inspector_verdict(struct handle *, const void **line, size_t *length, bool *broken);
 
 /* ---- layouts, which the exports have too */
 
@@ -124,7 +131,7 @@ static void finish(waywire_report *report)
  *
  * The exports give up what they allocate for tables, since ends lend them for good. So each tables have
  * memory of their own: a list of what was allocated while they were made, which is freed as a whole once
- * neither the caller nor an end uses them, or where they could not be made. */
+ * neither the caller nor an end or an inspector uses them, or where they could not be made. */
 
 struct block {
 	struct block *before, *after;
@@ -135,7 +142,7 @@ SAME(block, sizeof(struct block) == 16); /* what follows is aligned as `malloc` 
 struct waywire_tables {
 	struct handle handle;
 	struct block blocks; /* the head of the list, which is a ring */
-	size_t users;        /* the caller, and each end */
+	size_t users;        /* the caller, each end and each inspector */
 	char is_taken;       /* a call has the handle */
 };
 
@@ -524,6 +531,83 @@ waywire_status waywire_server_announce(waywire_server *server, size_t *count)
 {
 	size_t no_count;
 	return server ? waywire_c_server_announce(&server->handle, count ? count : &no_count) : WAYWIRE_NULL;
+}
+
+/* ---- an inspector */
+
+/* An inspector, and the tables that it lends. */
+struct waywire_inspector {
+	struct handle handle;
+	const waywire_tables *tables;
+};
+
+waywire_status waywire_inspector_new(const waywire_tables *tables, uint32_t limit,
+	waywire_inspector **inspector)
+{
+	if (!tables || !inspector)
+		return WAYWIRE_NULL;
+	waywire_inspector *made = malloc(sizeof *made);
+	if (!made)
+		return WAYWIRE_NO_MEMORY;
+	struct handle handle = take_handle(tables);
+	waywire_status status = waywire_c_inspector_new(&handle, limit, &made->handle.at);
+	give_handle(tables);
+	if (status) {
+		free(made);
+		return status;
+	}
+	add_user(tables);
+	made->tables = tables;
+	*inspector = made;
+	return WAYWIRE_OK;
+}
+
+void waywire_inspector_free(waywire_inspector *inspector)
+{
+	if (!inspector)
+		return;
+	waywire_c_inspector_free(inspector->handle);
+	waywire_tables_free((waywire_tables *)inspector->tables);
+	free(inspector);
+}
+
+waywire_status waywire_inspector_pass(waywire_inspector *inspector, waywire_sender sender,
+	const void *bytes, size_t length, size_t token_count)
+{
+	if (!inspector)
+		return WAYWIRE_NULL;
+	waywire_status status = slice(&bytes, length, 1);
+	if (status)
+		return status;
+	return waywire_c_inspector_pass(&inspector->handle, sender, bytes, length, token_count);
+}
+
+waywire_status waywire_inspector_lines(const waywire_inspector *inspector, const char **lines,
+	size_t *length)
+{
+	const void *found;
+	if (!inspector || !lines || !length)
+		return WAYWIRE_NULL;
+	waywire_c_inspector_lines(&inspector->handle, &found, length);
+	*lines = found ? found : (const char *)nowhere;
+	return WAYWIRE_OK;
+}
+
+waywire_status waywire_inspector_verdict(waywire_inspector *inspector, const char **line,
+	size_t *length, int *broken)
+{
+	const void *found;
+	bool is_broken;
+	if (!inspector || !line || !length)
+		return WAYWIRE_NULL;
+	waywire_status status = waywire_c_inspector_verdict(&inspector->handle, &found, length,
+		&is_broken);
+	if (status)
+		return status;
+	*line = found;
+	if (broken)
+		*broken = is_broken;
+	return WAYWIRE_OK;
 }
 
 /* ---- texts */

@@ -16,20 +16,24 @@
  * message, and the caller passes the descriptor along with these bytes; for each descriptor that came
  * with some bytes the caller feeds a token with them. No descriptor is ever closed here.
  *
+ * A tool between two ends has neither: it passes what it sees to an inspector, which says each message in a
+ * line, and whether the session breaks a rule.
+ *
  * Objects.  Births count from 0 at each end. So an object of one connection may equal one of another, which no
  * call can tell: keep an object with its end.
  *
- * Memory.  Tables, a client and a server belong to the caller, who frees each once. Tables may be freed
- * before the ends made with them, which keep them as long as they need them. The library calls `malloc`,
- * `realloc` and `free`, and nothing else of the system. After `new` an end allocates only where an object
- * opens (`send`, `bind`, `next` of a server) and in `add_global`. Where an allocation fails, nothing is
- * lost.
+ * Memory.  Tables, a client, a server and an inspector belong to the caller, who frees each once. Tables may
+ * be freed before the ends and inspectors made with them, which keep them as long as they need them. The
+ * library calls `malloc`, `realloc` and `free`, and nothing else of the system. After `new` an end allocates
+ * only where an object opens (`send`, `bind`, `next` of a server) and in `add_global`; an inspector in `pass`
+ * and `verdict`. Where an allocation fails, nothing is lost.
  *
  * Threads.  Nothing is bound to the thread that made it. Tables never change: any threads may use them at
- * once, and make and free ends over them. An end is used by one call at a time, of whatever thread: the
- * caller orders these calls, as by a lock, or by joining the thread that made the last one. What an end
- * lent is lent to all threads, until its next call. Different ends may be used at once. No call may be made
- * from a signal handler, nor from the child of a `fork` in a process with threads.
+ * once, and make and free ends and inspectors over them. An end is used by one call at a time, of whatever
+ * thread: the caller orders these calls, as by a lock, or by joining the thread that made the last one. What
+ * an end lent is lent to all threads, until its next call. Different ends may be used at once. All of this
+ * holds of an inspector as of an end. No call may be made from a signal handler, nor from the child of a
+ * `fork` in a process with threads.
  *
  * Statuses.  Each call that can refuse returns a waywire_status. Unless its own text says otherwise,
  * with a status other than WAYWIRE_OK nothing has changed and nothing was written to what the caller
@@ -100,8 +104,8 @@ typedef enum waywire_status {
 
 	/* Values that a call does not accept. */
 	WAYWIRE_NULL = 61,           /* null where a pointer is needed */
-	WAYWIRE_BAD_VALUE = 62,      /* an argument of a kind that no call accepts */
-	WAYWIRE_BAD_SIZES = 63,      /* sizes that no end can have */
+	WAYWIRE_BAD_VALUE = 62,      /* an argument of a kind that no call accepts, or no sender */
+	WAYWIRE_BAD_SIZES = 63,      /* sizes that no end can have, or a limit that no message has */
 	WAYWIRE_NOT_FOUND = 64,      /* no such interface, or the object is not live */
 	WAYWIRE_TOO_LARGE = 65,      /* a length above PTRDIFF_MAX */
 
@@ -479,6 +483,50 @@ waywire_status waywire_server_post_error(waywire_server *server, waywire_object 
  * waits to be taken, and the server has failed for good. WAYWIRE_FAILED where it had failed before.
  * With any other status than WAYWIRE_OK and WAYWIRE_FAULT_.. the report says WAYWIRE_NOTHING. */
 waywire_status waywire_server_next(waywire_server *server, waywire_report *report);
+
+/* ---- an inspector */
+
+/* Judges a session that others hold, while it goes on: all that passes between a client and a server, piece by
+ * piece. It says of the pieces so far what the commands `waywire trace` and `waywire check` say of a recording
+ * of them. Its memory grows with the objects that are open and the bytes of messages that are not whole yet,
+ * and not with the length of the session. */
+typedef struct waywire_inspector waywire_inspector;
+
+/* Who sent a piece. */
+typedef enum waywire_sender {
+	WAYWIRE_FROM_CLIENT = 0, /* requests */
+	WAYWIRE_FROM_SERVER = 1  /* events */
+} waywire_sender;
+
+/* The limit where the two ends have not agreed on another: what the ends of this library have. */
+#define WAYWIRE_USUAL_LIMIT 4096
+
+/* Makes an inspector that has seen nothing. `limit` is the most bytes that a message may have, its header
+ * counted: a multiple of 4 from 4,096 to 65,532. The caller frees it. WAYWIRE_BAD_SIZES, WAYWIRE_NO_MEMORY. */
+waywire_status waywire_inspector_new(const waywire_tables *tables, uint32_t limit,
+	waywire_inspector **inspector);
+
+/* Frees an inspector, and what it lent. Null is allowed. */
+void waywire_inspector_free(waywire_inspector *inspector);
+
+/* Judges the messages that a piece completes: bytes as they came from a sender, cut anywhere, and the number
+ * of descriptors that came with them. `bytes` may be null where their length is 0. Behind a message that
+ * breaks a rule, and behind a wl_display.error, nothing more is judged and no line is printed.
+ * WAYWIRE_BAD_VALUE where `sender` is none. WAYWIRE_NO_MEMORY: the piece can be passed again. */
+waywire_status waywire_inspector_pass(waywire_inspector *inspector, waywire_sender sender,
+	const void *bytes, size_t length, size_t token_count);
+
+/* The lines of the messages that the last piece completed, each ended by a line feed; none before the first
+ * piece. A message that breaks a rule has no line. They do not end with a NUL, and are lent until the
+ * inspector's next `pass` or `verdict`. */
+waywire_status waywire_inspector_lines(const waywire_inspector *inspector, const char **lines,
+	size_t *length);
+
+/* The verdict on all pieces so far, as the line that `waywire check` prints, ended by a line feed and not by a
+ * NUL. It is lent until the inspector's next `pass` or `verdict`. `broken`, which may be null, gets 1 where a
+ * message breaks a rule, which the line names, and else 0. WAYWIRE_NO_MEMORY: what was lent before is gone. */
+waywire_status waywire_inspector_verdict(waywire_inspector *inspector, const char **line,
+	size_t *length, int *broken);
 
 #ifdef __cplusplus
 }

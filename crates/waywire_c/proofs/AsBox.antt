@@ -2,3 +2,4 @@
 pub mod Tables
 pub mod Client
 pub mod Server
+pub mod Inspector

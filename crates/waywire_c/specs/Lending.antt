@@ -9,6 +9,9 @@ use Rattle.waywire_c.specs.contracts.held.HeldClient.{the_row as held_client}
 use Rattle.waywire_c.specs.declared.server_handle.ServerHandle.{ServerHandle}
 use Rattle.waywire_c.specs.contracts.server_handle.ServerHandle.{the_row as server_handle}
 use Rattle.waywire_c.specs.contracts.held.HeldServer.{the_row as held_server}
+use Rattle.waywire_c.specs.declared.inspector_handle.InspectorHandle.{InspectorHandle}
+use Rattle.waywire_c.specs.contracts.inspector_handle.InspectorHandle.{the_row as inspector_handle}
+use Rattle.waywire_c.specs.contracts.held.HeldInspector.{the_row as held_inspector}
 
 abbrev pub with_tables : TablesHandle → held_tables.Denot → TablesHandle
 with_tables h w = record { ptr = h.ptr; alloc = h.alloc; held = w }
@@ -27,3 +30,9 @@ with_server h w = record { ptr = h.ptr; alloc = h.alloc; held = w }
 
 abbrev pub LendsServer : MutBor ServerHandle → MutBor held_server.Denot → Fml
 LendsServer h r = Lends server_handle held_server h r (with_server h.now)
+
+abbrev pub with_inspector : InspectorHandle → held_inspector.Denot → InspectorHandle
+with_inspector h w = record { ptr = h.ptr; alloc = h.alloc; held = w }
+
+abbrev pub LendsInspector : MutBor InspectorHandle → MutBor held_inspector.Denot → Fml
+LendsInspector h r = Lends inspector_handle held_inspector h r (with_inspector h.now)

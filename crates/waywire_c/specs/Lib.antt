@@ -2,3 +2,4 @@ pub mod Owned
 pub mod Lending
 pub mod Statuses
 pub mod Values
+pub mod Inspecting

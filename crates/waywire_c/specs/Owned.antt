@@ -8,6 +8,7 @@ use Rattle.std_heap.specs.contracts.GlobalAllocator.TheImpl.{ghosts}
 use Rattle.waywire_c.specs.contracts.held.HeldTables as tables
 use Rattle.waywire_c.specs.contracts.held.HeldClient as client
 use Rattle.waywire_c.specs.contracts.held.HeldServer as server
+use Rattle.waywire_c.specs.contracts.held.HeldInspector as inspector
 
 abbrev pub owns_tables : Global → Ptr → tables.the_row.Denot → Fml
 owns_tables alloc = box_owns (ghosts.dealloc_token alloc) tables.the_row
@@ -26,3 +27,9 @@ owns_server alloc = box_owns (ghosts.dealloc_token alloc) server.the_row
 
 abbrev pub held_server_coded : Coded server.the_row.Denot
 held_server_coded = server.the_row.coded
+
+abbrev pub owns_inspector : Global → Ptr → inspector.the_row.Denot → Fml
+owns_inspector alloc = box_owns (ghosts.dealloc_token alloc) inspector.the_row
+
+abbrev pub held_inspector_coded : Coded inspector.the_row.Denot
+held_inspector_coded = inspector.the_row.coded

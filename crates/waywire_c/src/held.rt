@@ -1,4 +1,5 @@
 //! What a handle leads to. Each is a type of its own, so that a handle's proofs name it in a word.
+use wl_check::Inspector;
 use wl_client::Client;
 use wl_objects::SlotTable;
 use wl_server::Server;
@@ -18,4 +19,11 @@ pub struct HeldClient {
 #[derive(Drop)]
 pub struct HeldServer {
     pub server: Server<'static, SlotTable>,
+}
+
+/// An inspector, and the line of the verdict that was asked for last.
+#[derive(Drop)]
+pub struct HeldInspector {
+    pub inspector: Inspector<'static>,
+    pub line: Vec<u8>,
 }

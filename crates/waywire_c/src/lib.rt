@@ -1,6 +1,6 @@
-//! The library for C: signature tables and the two ends behind handles, and one export for each of
-//! their calls. `c/waywire.c` stands above these exports, tests what C may pass wrongly, and gives
-//! them the names of `include/waywire.h`, which documents each call.
+//! The library for C: signature tables, the two ends and the inspector behind handles, and one
+//! export for each of their calls. `c/waywire.c` stands above these exports, tests what C may pass
+//! wrongly, and gives them the names of `include/waywire.h`, which documents each call.
 //!
 //! An export takes a handle by a `&mut`, so it owns what the handle leads to for the call and no
 //! longer. What a report or a name lends is written as a pointer, which owns nothing.
@@ -9,6 +9,8 @@
 mod client;
 mod client_handle;
 mod held;
+mod inspector;
+mod inspector_handle;
 mod making;
 mod parts;
 mod reading;

@@ -1,10 +1,11 @@
 //! What handles lead to is made.
 ghost use Rattle.wl_message.specs.Arrived.{AreSizes};
 
-use crate::held::{HeldClient, HeldServer, HeldTables};
+use crate::held::{HeldClient, HeldInspector, HeldServer, HeldTables};
 use std::alloc::{AllocError, Global};
+use wl_check::Inspector;
 use wl_client::Client;
-use wl_message::Sizes;
+use wl_message::{Limit, Sizes};
 use wl_server::Server;
 use wl_sigs::{TableFault, Tables};
 
@@ -67,4 +68,20 @@ pub fn server(
 {
     let server = Server::new(alloc, tables, sizes)?;
     boxed(alloc, HeldServer { server })
+}
+
+/// An inspector by these tables and this limit.
+pub fn inspector(
+    alloc: Global,
+    tables: &'static Tables,
+    limit: Limit,
+) -> Result<Box<HeldInspector>, AllocError> {
+    let inspector = Inspector::new(alloc, tables, limit)?;
+    boxed(
+        alloc,
+        HeldInspector {
+            inspector,
+            line: Vec::new(alloc),
+        },
+    )
 }
