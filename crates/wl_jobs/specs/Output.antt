@@ -12,6 +12,7 @@ use Rattle.wl_recording.specs.Text.{Recorded, IsFirstBad}
 use Rattle.wl_check.specs.declared.verdict.Verdict.{Verdict}
 use Rattle.wl_check.specs.Session.{Answers, session_of}
 use Rattle.wl_check.specs.Trace.{trace_of}
+use Rattle.wl_verdict.specs.Verdict.{verdict_line}
 use Rattle.wl_command.specs.declared.job.Job.{Job}
 use Rattle.wl_command.specs.declared.job.Job.TheVariants.{Trace, Check, Demo, Socket}
 use Rattle.wl_demo.specs.Demo.{IsShown}
@@ -22,7 +23,7 @@ use Rattle.wl_jobs.specs.declared.failure.Failure.TheVariants.{BadTablesLine, Br
 use Rattle.wl_jobs.specs.declared.failure.Failure.TheVariants.{CannotWrite, SocketFailed, Memory}
 use Rattle.wl_jobs.specs.Failing.{failure_line, status_of}
 use Rattle.wl_jobs.specs.Writing.{AppendsFront}
-use Rattle.wl_jobs.specs.Verdict.{verdict_line, last_line, verdict_status}
+use Rattle.wl_jobs.specs.Verdict.{last_line, verdict_status}
 
 -- The text is a recording, and the output is the line of the verdict on it by this limit and these
 -- tables.

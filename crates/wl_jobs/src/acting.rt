@@ -7,7 +7,7 @@ ghost use Rattle.wl_jobs.specs.Output.{IsTablesRefusal, IsTraced, ReadsFile};
 ghost use Rattle.wl_recording.specs.Text.{IsFirstBad};
 
 use crate::failure::Failure;
-use crate::verdict::{status_of, write_broken, write_verdict};
+use crate::verdict::{status_of, write_broken};
 use crate::writing::write_through;
 use std::alloc::{Allocator, Global};
 use std::io::{ErrorKind, Read, Write};
@@ -16,6 +16,7 @@ use wl_command::Job;
 use wl_demo::demo;
 use wl_message::Limit;
 use wl_sigs::Tables;
+use wl_verdict::write_verdict;
 
 /// The most bytes of a file.
 const MOST: usize = 16_777_216;

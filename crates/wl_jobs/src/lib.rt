@@ -15,5 +15,4 @@ pub use acting::act;
 pub use failure::Failure;
 pub use running::{Ending, run};
 pub use socket::Bound;
-pub use verdict::write_verdict;
 pub use wl_command::{Job, Stop, job_of};

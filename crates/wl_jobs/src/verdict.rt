@@ -1,88 +1,10 @@
-//! A verdict, printed.
+//! What a command makes of a verdict.
 ghost use Rattle.std.specs.Prelude.{◌≡◌, ◌≤◌, ◌++◌, OnOk};
-ghost use Rattle.wl_jobs.specs.Verdict.{broken_text, counts_text, last_line, left_text};
-ghost use Rattle.wl_jobs.specs.Verdict.{message_text, sign_text, verdict_line, verdict_status};
+ghost use Rattle.wl_jobs.specs.Verdict.{last_line, verdict_status};
 
 use std::alloc::{AllocError, Allocator};
-use std::io::Write;
 use wl_check::Verdict;
-use wl_objects::Fault;
-use wl_recording::Direction;
-
-/// Appends the line of a verdict.
-pub fn write_verdict<A: Allocator>(
-    out: &mut Vec<u8, A>,
-    verdict: &Verdict,
-) -> Result<(), AllocError>
-    ensures { OnOk result (out.new.items ≡ out.old.items ++ verdict_line verdict.now) }
-{
-    match verdict {
-        Verdict::Lawful {
-            requests,
-            events,
-            left_to_server,
-            left_to_client,
-        } => {
-            write_counts(out, *requests, *events)?;
-            write_left(out, *left_to_server, *left_to_client)
-        }
-        Verdict::Broken {
-            direction,
-            index,
-            offset,
-            fault,
-        } => {
-            write_message(out, *direction, *index)?;
-            write_fault(out, *offset, fault)
-        }
-    }
-}
-
-/// Appends the first part of the line on a lawful session: how many messages were counted.
-fn write_counts<A: Allocator>(
-    out: &mut Vec<u8, A>,
-    requests: usize,
-    events: usize,
-) -> Result<(), AllocError>
-    ensures { OnOk result (out.new.items ≡ out.old.items ++ counts_text requests events) }
-{
-    write!(out, "lawful: {requests} requests, {events} events, ").map_err(|_| AllocError)
-}
-
-/// Appends the second part: how many bytes are left.
-fn write_left<A: Allocator>(
-    out: &mut Vec<u8, A>,
-    left_to_server: usize,
-    left_to_client: usize,
-) -> Result<(), AllocError>
-    ensures { OnOk result (out.new.items ≡ out.old.items
-        ++ left_text left_to_server left_to_client) }
-{
-    writeln!(out, "{left_to_server} and {left_to_client} bytes left").map_err(|_| AllocError)
-}
-
-/// Appends the first part of the line on a broken session: which message breaks a rule.
-fn write_message<A: Allocator>(
-    out: &mut Vec<u8, A>,
-    direction: Direction,
-    index: usize,
-) -> Result<(), AllocError>
-    ensures { OnOk result (out.new.items ≡ out.old.items ++ message_text direction index) }
-{
-    let sign = sign_of(direction);
-    write!(out, "broken: {sign} message {index}").map_err(|_| AllocError)
-}
-
-/// Appends the second part: where it begins, and the rule.
-fn write_fault<A: Allocator>(
-    out: &mut Vec<u8, A>,
-    offset: usize,
-    fault: &Fault,
-) -> Result<(), AllocError>
-    ensures { OnOk result (out.new.items ≡ out.old.items ++ broken_text offset fault.now) }
-{
-    writeln!(out, " at byte {offset}: {fault}").map_err(|_| AllocError)
-}
+use wl_verdict::write_verdict;
 
 /// Appends the line of a verdict where a rule is broken, and else nothing.
 pub fn write_broken<A: Allocator>(out: &mut Vec<u8, A>, verdict: &Verdict) -> Result<(), AllocError>
@@ -102,15 +24,5 @@ pub fn status_of(verdict: &Verdict) -> u8
     match verdict {
         Verdict::Lawful { .. } => 0,
         Verdict::Broken { .. } => 1,
-    }
-}
-
-/// The sign of a direction.
-fn sign_of(direction: Direction) -> &'static str
-    ensures { result.now ≡ sign_text direction }
-{
-    match direction {
-        Direction::ToServer => ">",
-        Direction::ToClient => "<",
     }
 }

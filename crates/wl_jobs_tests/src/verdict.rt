@@ -2,10 +2,10 @@
 use std::alloc::{AllocError, Global};
 use std::test::Fail;
 use wl_check::check;
-use wl_jobs::write_verdict;
 use wl_message::Limit;
 use wl_recording::{Direction, Recording};
 use wl_sigs::Tables;
+use wl_verdict::write_verdict;
 
 /// wl_display.sync for each id from 2 to the last one, and for the id behind it.
 fn requests(alloc: Global) -> Result<Vec<u8>, AllocError> {
