@@ -50,7 +50,7 @@ struct front {
 void print_lines(const struct options *options, const struct front *front, const char *lines,
 	size_t length);
 
-/* Prints the line of a verdict, which has no line feed. */
+/* Prints the line of a verdict, whose line feed is not counted. */
 void print_verdict(const struct options *options, const struct front *front, const char *line,
 	size_t length, bool is_broken);
 

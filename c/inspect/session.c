@@ -37,7 +37,7 @@ static waywire_status print_verdict_of(struct session *session, struct shared *s
 	if (status || (if_broken && !is_broken))
 		return status;
 	struct front front = front_of(session, shared);
-	print_verdict(shared->options, &front, line, length, is_broken);
+	print_verdict(shared->options, &front, line, length - 1, is_broken);
 	session->is_broken = is_broken;
 	shared->any_is_broken |= session->is_broken;
 	return status;

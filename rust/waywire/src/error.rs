@@ -4,11 +4,12 @@ use crate::sys;
 use std::error::Error;
 use std::fmt;
 
-/// Why an end or tables are not made.
+/// Why tables, an end or an inspector are not made.
 #[derive(Clone, Copy, Debug, PartialEq, Eq)]
 #[non_exhaustive]
 pub enum NewError {
-    /// Sizes that no end can have: see [`Sizes`](crate::Sizes).
+    /// Sizes that no end can have: see [`Sizes`](crate::Sizes). Or a limit that no message has: see
+    /// [`Inspector::new`](crate::Inspector::new).
     BadSizes,
     /// Out of memory.
     NoMemory,
@@ -101,6 +102,10 @@ pub enum NextError {
     /// stays: take, and read again.
     OutFull,
 }
+
+/// Out of memory. Nothing has changed.
+#[derive(Clone, Copy, Debug, PartialEq, Eq)]
+pub struct NoMemory;
 
 /// What is wrong with a message that came.
 #[derive(Clone, Copy, Debug, PartialEq, Eq)]
@@ -203,6 +208,12 @@ impl Status for NextError {
     }
 }
 
+impl Status for NoMemory {
+    fn status(&self) -> u32 {
+        sys::NO_MEMORY
+    }
+}
+
 impl Status for FaultKind {
     fn status(&self) -> u32 {
         match self {
@@ -263,6 +274,12 @@ impl fmt::Display for NextError {
     }
 }
 
+impl fmt::Display for NoMemory {
+    fn fmt(&self, f: &mut fmt::Formatter<'_>) -> fmt::Result {
+        f.write_str(sys::text_of(self.status()))
+    }
+}
+
 impl fmt::Display for Fault {
     fn fmt(&self, f: &mut fmt::Formatter<'_>) -> fmt::Result {
         write!(f, "message at byte {}: {}", self.offset, sys::text_of(self.kind.status()))?;
@@ -283,3 +300,4 @@ impl Error for TablesError {}
 impl Error for SendError {}
 impl Error for GlobalError {}
 impl Error for NextError {}
+impl Error for NoMemory {}

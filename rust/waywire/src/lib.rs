@@ -64,8 +64,8 @@
 //!
 //! # Threads
 //!
-//! Any threads use [`Tables`] at once. An end may go to another thread ([`Send`]), and is used by one at
-//! a time: it is not [`Sync`].
+//! Any threads use [`Tables`] at once. An end, or an [`Inspector`], may go to another thread ([`Send`]), and
+//! is used by one at a time: it is not [`Sync`].
 //!
 //! ```
 //! # use waywire::{Client, Sizes, Tables};
@@ -97,6 +97,7 @@ mod args;
 mod client;
 mod error;
 pub mod event;
+mod inspector;
 mod report;
 pub mod request;
 mod server;
@@ -107,7 +108,10 @@ mod tables;
 pub use amounts::{Amounts, Sizes};
 pub use args::{Arg, Args, Fixed, Value};
 pub use client::Client;
-pub use error::{Fault, FaultKind, GlobalError, NewError, NextError, SendError, TablesError};
+pub use error::{
+    Fault, FaultKind, GlobalError, NewError, NextError, NoMemory, SendError, TablesError,
+};
+pub use inspector::{Inspector, Sender, Verdict};
 pub use report::{Event, Incoming, Message, Named, ProtocolError, Request};
 pub use server::Server;
 pub use tables::{Interface, Object, Tables};

@@ -3,19 +3,22 @@
 //! The declarations are those of the header: a test compares sizes, offsets and numbers with what a
 //! program in C says of it. What the header asks of every call is kept by the types here:
 //!
-//! - a pointer to tables or an end is one that the library returned, and it is freed once, by the drop
-//!   of what owns it;
-//! - what points into tables is borrowed from them;
-//! - tables are used by any threads at once, as the header allows; an end by one call at a time, since it
-//!   is not `Sync`;
+//! - a pointer to tables, an end or an inspector is one that the library returned, and it is freed once,
+//!   by the drop of what owns it;
+//! - what points into tables or an inspector is borrowed from them;
+//! - tables are used by any threads at once, as the header allows; an end or an inspector by one call at
+//!   a time, since it is not `Sync`;
 //! - a slice's pointer and length are those of a Rust slice.
 
 use crate::amounts::{Amounts, Sizes};
 use crate::args::Arg;
-use crate::error::{Fault, FaultKind, GlobalError, NewError, NextError, SendError, TablesError};
+use crate::error::{
+    Fault, FaultKind, GlobalError, NewError, NextError, NoMemory, SendError, TablesError,
+};
+use crate::inspector::Sender;
 use crate::report::Named;
 use crate::tables::{Interface, Object};
-use std::ffi::{c_char, c_void, CStr, CString};
+use std::ffi::{c_char, c_int, c_void, CStr, CString};
 use std::mem::MaybeUninit;
 use std::ptr::{self, NonNull};
 use std::slice;
@@ -79,6 +82,9 @@ numbers! {
     STRAY = 4, "WAYWIRE_STRAY";
     ERROR = 5, "WAYWIRE_ERROR";
     MAX_ARGS = 20, "WAYWIRE_MAX_ARGS";
+    FROM_CLIENT = 0, "WAYWIRE_FROM_CLIENT";
+    FROM_SERVER = 1, "WAYWIRE_FROM_SERVER";
+    USUAL_LIMIT = 4096, "WAYWIRE_USUAL_LIMIT";
 }
 
 const OK: u32 = 0;
@@ -328,6 +334,7 @@ impl<'a> ArgOf<'a> {
 
 type RawTables = c_void;
 type RawEnd = c_void;
+type RawInspector = c_void;
 
 macro_rules! end_calls {
     ($new:ident $free:ident $display:ident $live:ident $in_room:ident $is_drained:ident
@@ -430,6 +437,30 @@ extern "C" {
         object: Object,
         code: u32,
         text: *const c_char,
+    ) -> u32;
+    fn waywire_inspector_new(
+        tables: *const RawTables,
+        limit: u32,
+        inspector: *mut *mut RawInspector,
+    ) -> u32;
+    fn waywire_inspector_free(inspector: *mut RawInspector);
+    fn waywire_inspector_pass(
+        inspector: *mut RawInspector,
+        sender: u32,
+        bytes: *const c_void,
+        length: usize,
+        token_count: usize,
+    ) -> u32;
+    fn waywire_inspector_lines(
+        inspector: *const RawInspector,
+        lines: *mut *const c_char,
+        length: *mut usize,
+    ) -> u32;
+    fn waywire_inspector_verdict(
+        inspector: *mut RawInspector,
+        line: *mut *const c_char,
+        length: *mut usize,
+        broken: *mut c_int,
     ) -> u32;
 }
 
@@ -763,6 +794,63 @@ impl Server {
     }
 }
 
+/// An inspector, freed when it is dropped.
+#[derive(Debug)]
+pub struct Inspector(NonNull<RawInspector>);
+
+// Safety: the header says so: an inspector is bound to no thread, and used by one call at a time, which
+// it is since it is not `Sync`.
+unsafe impl Send for Inspector {}
+
+impl Drop for Inspector {
+    fn drop(&mut self) {
+        // Safety: the inspector is the library's, and freed here alone.
+        unsafe { waywire_inspector_free(self.0.as_ptr()) }
+    }
+}
+
+// Safety, for each call: as for the calls of an end.
+impl Inspector {
+    pub fn new(tables: &Tables, limit: u32) -> Result<Inspector, NewError> {
+        let mut made = ptr::null_mut();
+        match unsafe { waywire_inspector_new(tables.at(), limit, &mut made) } {
+            BAD_SIZES => Err(NewError::BadSizes),
+            _ => NonNull::new(made).map(Inspector).ok_or(NewError::NoMemory),
+        }
+    }
+
+    pub fn pass(&mut self, sender: Sender, bytes: &[u8], tokens: usize) -> Result<(), NoMemory> {
+        let from = match sender {
+            Sender::Client => FROM_CLIENT,
+            Sender::Server => FROM_SERVER,
+        };
+        let (at, bytes, length) = (self.0.as_ptr(), bytes.as_ptr().cast(), bytes.len());
+        match unsafe { waywire_inspector_pass(at, from, bytes, length, tokens) } {
+            OK => Ok(()),
+            _ => Err(NoMemory),
+        }
+    }
+
+    pub fn lines(&self) -> &[u8] {
+        let (mut lines, mut length) = (ptr::null(), 0);
+        unsafe { waywire_inspector_lines(self.0.as_ptr(), &mut lines, &mut length) };
+        // Safety: they are lent until the next `pass` or `verdict`, which take the inspector by a
+        // `&mut`, and this borrows it.
+        unsafe { lent(lines.cast(), length) }
+    }
+
+    /// The line of the verdict, and whether a message breaks a rule.
+    pub fn verdict(&mut self) -> Result<(&[u8], bool), NoMemory> {
+        let (mut line, mut length, mut broken) = (ptr::null(), 0, 0);
+        let at = self.0.as_ptr();
+        match unsafe { waywire_inspector_verdict(at, &mut line, &mut length, &mut broken) } {
+            // Safety: as in `lines`.
+            OK => Ok((unsafe { lent(line.cast(), length) }, broken != 0)),
+            _ => Err(NoMemory),
+        }
+    }
+}
+
 #[cfg(test)]
 mod tests {
     use super::*;
@@ -816,6 +904,7 @@ mod tests {
         };
         wanted.push(("sizeof(waywire_object)".into(), size_of::<Object>()));
         wanted.push(("sizeof(waywire_status)".into(), size_of::<u32>()));
+        wanted.push(("sizeof(waywire_sender)".into(), size_of::<u32>()));
         wanted.extend(NUMBERS.iter().map(|(name, number)| (name.to_string(), *number as usize)));
         let expressions: Vec<String> = wanted.iter().map(|it| it.0.clone()).collect();
         let said = said_by_c(&expressions);

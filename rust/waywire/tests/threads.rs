@@ -1,7 +1,7 @@
 //! Tables that threads share, and ends that go from one thread to another.
 
 use std::thread;
-use waywire::{request, Arg, Client, Server, Sizes, Tables};
+use waywire::{request, Arg, Client, Inspector, Server, Sizes, Tables};
 
 fn may_go_and_be_shared<T: Send + Sync>() {}
 
@@ -38,6 +38,7 @@ fn tables_and_ends_may_go_to_other_threads() {
     may_go_and_be_shared::<Tables>();
     may_go::<Client>();
     may_go::<Server>();
+    may_go::<Inspector>();
 }
 
 #[test]
