@@ -1,5 +1,6 @@
 /* What passes through the library's pointers, at its edges: places, names, spellings, the last slot of a
- * report, sizes, tables over tables, a full outbox; and the numbers and texts that the header makes itself. */
+ * report, sizes, tables over tables, a full outbox; an inspector's values and lines; and the numbers and texts
+ * that the header makes itself. */
 #include "must.h"
 
 #include <limits.h>
@@ -268,6 +269,77 @@ static void greatest(void)
 	waywire_client_free(client);
 }
 
+/* Which limits an inspector takes. */
+static void limits(void)
+{
+	static const uint32_t taken[] = { 4096, 4100, 65532 };
+	static const uint32_t refused[] = { 0, 4092, 4097, 65533, 65536, UINT32_MAX };
+	waywire_inspector *inspector = NULL;
+	for (size_t each = 0; each < sizeof refused / sizeof *refused; each++)
+		MUST(waywire_inspector_new(tables, refused[each], &inspector) == WAYWIRE_BAD_SIZES && !inspector);
+	for (size_t each = 0; each < sizeof taken / sizeof *taken; each++) {
+		MUST(!waywire_inspector_new(tables, taken[each], &inspector));
+		waywire_inspector_free(inspector);
+		inspector = NULL;
+	}
+	MUST(waywire_inspector_new(NULL, 4096, &inspector) == WAYWIRE_NULL && !inspector);
+	MUST(waywire_inspector_new(tables, 4096, NULL) == WAYWIRE_NULL);
+	waywire_inspector_free(NULL);
+}
+
+/* Whether the last piece printed this. */
+static bool has_lines(const waywire_inspector *inspector, const char *wanted)
+{
+	const char *lines = NULL;
+	size_t length = 7;
+	MUST(!waywire_inspector_lines(inspector, &lines, &length) && lines);
+	return length == strlen(wanted) && !memcmp(lines, wanted, length);
+}
+
+/* Whether this is the verdict. */
+static bool has_verdict(waywire_inspector *inspector, const char *wanted)
+{
+	const char *line = NULL;
+	size_t length = 7;
+	int broken = 7;
+	MUST(!waywire_inspector_verdict(inspector, &line, &length, &broken));
+	MUST(broken == (*wanted == 'b'));
+	return length == strlen(wanted) && !memcmp(line, wanted, length);
+}
+
+/* What is no piece changes nothing, the lines are those of the last one, and the verdict is that of all. */
+static void inspected(void)
+{
+	static const unsigned char sync[] = { 1, 0, 0, 0, 0, 0, 12, 0, 2, 0, 0, 0 };
+	static const unsigned char unknown[] = { 9, 0, 0, 0, 0, 0, 8, 0 };
+	static const char line[] = "-> wl_display@1.sync(new id wl_callback@2)\n";
+	static const char lawful[] = "lawful: 1 requests, 0 events, 0 and 0 bytes left\n";
+	static const char broken[] = "broken: > message 2 at byte 12: F2 unknown object\n";
+	waywire_inspector *it;
+	const char *text = line;
+	size_t length = 7;
+	MUST(!waywire_inspector_new(tables, WAYWIRE_USUAL_LIMIT, &it));
+	MUST(has_lines(it, "") && has_verdict(it, "lawful: 0 requests, 0 events, 0 and 0 bytes left\n"));
+	MUST(!waywire_inspector_pass(it, WAYWIRE_FROM_CLIENT, sync, sizeof sync, 0) && has_lines(it, line));
+	MUST(waywire_inspector_pass(it, (waywire_sender)2, sync, sizeof sync, 0) == WAYWIRE_BAD_VALUE);
+	MUST(waywire_inspector_pass(it, WAYWIRE_FROM_CLIENT, NULL, 1, 0) == WAYWIRE_NULL);
+	MUST(waywire_inspector_pass(it, WAYWIRE_FROM_CLIENT, sync, SIZE_MAX, 0) == WAYWIRE_TOO_LARGE);
+	MUST(waywire_inspector_pass(NULL, WAYWIRE_FROM_CLIENT, sync, sizeof sync, 0) == WAYWIRE_NULL);
+	MUST(waywire_inspector_lines(it, NULL, &length) == WAYWIRE_NULL && length == 7);
+	MUST(waywire_inspector_lines(it, &text, NULL) == WAYWIRE_NULL && text == line);
+	MUST(waywire_inspector_verdict(it, NULL, &length, NULL) == WAYWIRE_NULL && length == 7);
+	MUST(waywire_inspector_verdict(it, &text, NULL, NULL) == WAYWIRE_NULL && text == line);
+	MUST(!waywire_inspector_verdict(it, &text, &length, NULL) && length == strlen(lawful));
+	MUST(has_lines(it, line) && has_verdict(it, lawful));
+	MUST(!waywire_inspector_pass(it, WAYWIRE_FROM_SERVER, NULL, 0, 0));
+	MUST(has_lines(it, "") && has_verdict(it, lawful));
+	MUST(!waywire_inspector_pass(it, WAYWIRE_FROM_CLIENT, unknown, sizeof unknown, 0));
+	MUST(has_lines(it, "") && has_verdict(it, broken));
+	MUST(!waywire_inspector_pass(it, WAYWIRE_FROM_CLIENT, sync, sizeof sync, 0));
+	MUST(has_lines(it, "") && has_verdict(it, broken));
+	waywire_inspector_free(it);
+}
+
 static void numbers(void)
 {
 	MUST(waywire_fixed_from_double(2.5) == 640 && waywire_fixed_to_double(640) == 2.5);
@@ -290,6 +362,8 @@ int main(void)
 	full();
 	errors();
 	greatest();
+	limits();
+	inspected();
 	numbers();
 	waywire_tables_free(tables);
 	printf("edges: ok\n");

@@ -46,6 +46,7 @@ static const char text[] = "interface wp_one 2\nrequest destroy D\nrequest name 
 static waywire_tables *core, *made_tables;
 static waywire_client *client;
 static waywire_server *server;
+static waywire_inspector *inspector, *passing;
 
 static waywire_status makes_core(void)
 {
@@ -67,14 +68,21 @@ static waywire_status makes_server(void)
 	return waywire_server_new(core, &sizes, &server);
 }
 
+static waywire_status makes_inspector(void)
+{
+	return waywire_inspector_new(core, WAYWIRE_USUAL_LIMIT, &inspector);
+}
+
 static void frees(void)
 {
 	waywire_tables_free(made_tables);
 	waywire_client_free(client);
 	waywire_server_free(server);
+	waywire_inspector_free(inspector);
 	made_tables = NULL;
 	client = NULL;
 	server = NULL;
+	inspector = NULL;
 }
 
 /* Refuses the first allocation of a call, then its second, and so on until it has all that it asks for. */
@@ -89,12 +97,64 @@ static void each_refused(const char *name, waywire_status (*call)(void))
 		left = -1;
 		if (refused) {
 			MUST(status == WAYWIRE_NO_MEMORY);
-			MUST(!made_tables && !client && !server && used == before);
+			MUST(!made_tables && !client && !server && !inspector && used == before);
 		}
 	} while (refused);
 	MUST(!status && number > 2);
 	frees();
 	MUST(used == before);
+	printf("%s: %ld allocations\n", name, number - 1);
+}
+
+static const char lawful[] = "lawful: 1 requests, 0 events, 0 and 0 bytes left\n";
+static const char line[] = "-> wl_display@1.sync(new id wl_callback@2)\n";
+
+/* Whether the inspector's last piece printed this. */
+static bool has_lines(const char *wanted)
+{
+	const char *lines;
+	size_t length;
+	MUST(!waywire_inspector_lines(passing, &lines, &length));
+	return length == strlen(wanted) && !memcmp(lines, wanted, length);
+}
+
+/* A piece whose allocations are refused is not passed, and passes once they are granted. */
+static waywire_status passes(void)
+{
+	static const unsigned char sync[] = { 1, 0, 0, 0, 0, 0, 12, 0, 2, 0, 0, 0 };
+	waywire_status status = waywire_inspector_pass(passing, WAYWIRE_FROM_CLIENT, sync, sizeof sync, 0);
+	MUST(has_lines(status ? "" : line));
+	return status;
+}
+
+/* A verdict that is refused leaves the inspector as it was. */
+static waywire_status judges(void)
+{
+	const char *text = line;
+	size_t length = 7;
+	int broken = 7;
+	waywire_status status = waywire_inspector_verdict(passing, &text, &length, &broken);
+	if (status)
+		MUST(text == line && length == 7 && broken == 7);
+	else
+		MUST(!broken && length == strlen(lawful) && !memcmp(text, lawful, length));
+	MUST(has_lines(line));
+	return status;
+}
+
+/* Refuses one allocation of a call at an inspector after the other; then it has what it keeps. */
+static void each_refused_of_inspector(const char *name, waywire_status (*call)(void))
+{
+	long number = 0;
+	waywire_status status;
+	do {
+		left = number++;
+		refused = 0;
+		status = call();
+		left = -1;
+		MUST(status == (refused ? WAYWIRE_NO_MEMORY : WAYWIRE_OK));
+	} while (refused);
+	MUST(number > 1);
 	printf("%s: %ld allocations\n", name, number - 1);
 }
 
@@ -106,6 +166,11 @@ int main(void)
 	each_refused("tables of a text", reads);
 	each_refused("a client", makes_client);
 	each_refused("a server", makes_server);
+	each_refused("an inspector", makes_inspector);
+	MUST(!waywire_inspector_new(core, WAYWIRE_USUAL_LIMIT, &passing));
+	each_refused_of_inspector("a piece", passes);
+	each_refused_of_inspector("a verdict", judges);
+	waywire_inspector_free(passing);
 	MUST(waywire_tables_read(core, "nonsense", 8, &made_tables, NULL, NULL) == WAYWIRE_BAD_LINE);
 	waywire_tables_free(core);
 	MUST(used == before);

@@ -1,5 +1,5 @@
-/* Tables that threads share: each thread searches them, makes tables over them, and opens a connection
- * that another thread closes; the one that made them frees them while they are still used. */
+/* Tables that threads share: each thread searches them, makes tables over them, and opens an inspected
+ * connection that another thread closes; the one that made them frees them while they are still used. */
 #include "must.h"
 
 #include <pthread.h>
@@ -14,6 +14,7 @@ struct pair {
 	const waywire_tables *tables;
 	waywire_client *client;
 	waywire_server *server;
+	waywire_inspector *inspector;
 };
 
 /* A request of the client's, and whether the server reads it. */
@@ -23,9 +24,13 @@ static bool asks(struct pair *pair)
 	waywire_amounts taken, fed;
 	waywire_object display, callback;
 	waywire_report report;
+	const char *lines;
+	size_t length;
 	MUST(!waywire_client_display(pair->client, &display));
 	callback = waywire_wl_display_sync(pair->client, display, NULL);
 	MUST(!waywire_client_take(pair->client, bytes, sizeof bytes, NULL, 0, &taken));
+	MUST(!waywire_inspector_pass(pair->inspector, WAYWIRE_FROM_CLIENT, bytes, taken.bytes, 0));
+	MUST(!waywire_inspector_lines(pair->inspector, &lines, &length) && length > 0);
 	MUST(!waywire_server_feed(pair->server, bytes, taken.bytes, NULL, 0, &fed));
 	MUST(!waywire_server_next(pair->server, &report) && report.kind == WAYWIRE_MESSAGE);
 	return waywire_object_equal(report.args[0].object, callback);
@@ -35,12 +40,14 @@ static void opens(struct pair *pair)
 {
 	MUST(!waywire_client_new(pair->tables, &sizes, &pair->client));
 	MUST(!waywire_server_new(pair->tables, &sizes, &pair->server));
+	MUST(!waywire_inspector_new(pair->tables, WAYWIRE_USUAL_LIMIT, &pair->inspector));
 }
 
 static void closes(struct pair *pair)
 {
 	waywire_client_free(pair->client);
 	waywire_server_free(pair->server);
+	waywire_inspector_free(pair->inspector);
 }
 
 static void searches(const waywire_tables *tables)
@@ -71,7 +78,7 @@ static void *works(void *given)
 	MUST(!waywire_tables_interface(more, "wp_thing", &place));
 	pair->tables = more;
 	opens(pair);
-	waywire_tables_free(more); /* the two ends still have them */
+	waywire_tables_free(more); /* the ends and the inspector still have them */
 	MUST(asks(pair));
 	return NULL;
 }
@@ -90,7 +97,7 @@ int main(void)
 	searches(tables);
 	for (int it = 0; it < THREADS; it++)
 		MUST(!pthread_join(pairs[it].thread, NULL));
-	waywire_tables_free(tables); /* its two ends still have them */
+	waywire_tables_free(tables); /* its ends and its inspector still have them */
 	MUST(asks(&own));
 	closes(&own);
 	for (int it = 0; it < THREADS; it++) { /* ends that another thread made */
