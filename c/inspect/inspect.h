@@ -69,9 +69,9 @@ void print_briefly(void);
 
 /* ---- the tables (tables.c) */
 
-/* The tables of the core and of the files, or of all that are installed. Ends the tool where it
- * fails. */
-const waywire_tables *read_tables(const struct options *options);
+/* The tables of the core and of the files, or of all that are installed, to be freed. Ends the tool
+ * where it fails. */
+waywire_tables *read_tables(const struct options *options);
 
 /* ---- a recording (recording.c) */
 

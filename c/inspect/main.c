@@ -116,7 +116,9 @@ int main(int count, char **words)
 		take_option(&options, option, optarg);
 	if (optind < count)
 		options.command = words + optind;
-	int status = run(&options, read_tables(&options));
+	waywire_tables *tables = read_tables(&options);
+	int status = run(&options, tables);
+	waywire_tables_free(tables);
 	free(options.tables);
 	return status;
 }

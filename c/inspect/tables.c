@@ -49,12 +49,10 @@ static void read_text(struct text *text)
 	text->bytes = less ? less : text->bytes;
 }
 
-static waywire_tables *core, *tables; /* never freed */
-
-/* Reads the texts, joined. At a fault `line` is the line of the joined text, and `rule` may be its
- * rule. */
-static waywire_status read_joined(const struct text *texts, size_t count, size_t *line,
-	uint32_t *rule)
+/* Reads the texts, joined, into new tables over the core's. At a fault `line` is the line of the
+ * joined text, and `rule` may be its rule. */
+static waywire_status read_joined(const waywire_tables *core, const struct text *texts, size_t count,
+	waywire_tables **tables, size_t *line, uint32_t *rule)
 {
 	size_t length = 0;
 	for (size_t each = 0; each < count; each++)
@@ -65,7 +63,7 @@ static waywire_status read_joined(const struct text *texts, size_t count, size_t
 			memcpy(at, texts[each].bytes, texts[each].length);
 			at += texts[each].length;
 		}
-	waywire_status status = waywire_tables_read(core, joined, length, &tables, line, rule);
+	waywire_status status = waywire_tables_read(core, joined, length, tables, line, rule);
 	free(joined);
 	return status;
 }
@@ -91,17 +89,20 @@ static void describe(char *said, size_t size, waywire_status status, const struc
 }
 
 /* Reads the texts, joined. A text with a fault is left out where it need not be there. */
-static void read_texts(struct text *texts, size_t count, const struct options *options)
+static waywire_tables *read_texts(struct text *texts, size_t count, const struct options *options)
 {
+	waywire_tables *core, *tables;
 	if (waywire_tables_core(&core))
 		fail("out of memory");
 	for (;;) {
 		char said[PATH_MAX + 64];
 		size_t line = 0;
 		uint32_t rule = 0;
-		waywire_status status = read_joined(texts, count, &line, &rule);
-		if (!status)
-			return;
+		waywire_status status = read_joined(core, texts, count, &tables, &line, &rule);
+		if (!status) {
+			waywire_tables_free(core);
+			return tables;
+		}
 		if (status != WAYWIRE_BAD_LINE && status != WAYWIRE_BAD_TABLE)
 			fail("the tables are not read: %s", waywire_strerror(status));
 		struct text *text = text_of(texts, &line);
@@ -159,7 +160,7 @@ static char **installed(size_t *count)
 	return paths;
 }
 
-const waywire_tables *read_tables(const struct options *options)
+waywire_tables *read_tables(const struct options *options)
 {
 	size_t count = options->table_count;
 	char **paths = count ? options->tables : installed(&count);
@@ -168,7 +169,7 @@ const waywire_tables *read_tables(const struct options *options)
 		texts[each].path = paths[each];
 		read_text(&texts[each]);
 	}
-	read_texts(texts, count, options);
+	waywire_tables *tables = read_texts(texts, count, options);
 	for (size_t each = 0; each < count; each++) {
 		free(texts[each].bytes);
 		if (paths != options->tables)
