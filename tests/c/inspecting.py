@@ -802,10 +802,7 @@ class Weston(Inspected):
 
     def test_gtk(self):
         self.env["GDK_BACKEND"] = "wayland"
-        if shutil.which("zenity"):
-            self.inspected("zenity", "--info", "--text=waywire")
-        else:
-            self.inspected("gtk3-widget-factory")
+        self.inspected("zenity", "--info", "--text=waywire")
 
     def test_the_compositor_is_killed(self):
         paths = self.start_at_files("weston-simple-shm")
