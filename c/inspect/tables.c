@@ -51,8 +51,8 @@ static void read_text(struct text *text)
 
 /* Reads the texts, joined, into new tables over the core's. At a fault `line` is the line of the
  * joined text, and `rule` may be its rule. */
-static waywire_status read_joined(const waywire_tables *core, const struct text *texts, size_t count,
-	waywire_tables **tables, size_t *line, uint32_t *rule)
+static waywire_status read_joined(const waywire_tables *core, const struct text *texts,
+	size_t count, waywire_tables **tables, size_t *line, uint32_t *rule)
 {
 	size_t length = 0;
 	for (size_t each = 0; each < count; each++)
