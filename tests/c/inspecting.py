@@ -122,7 +122,7 @@ class Inspected(unittest.TestCase):
     def checked(self, path, lines, *words):
         """What the program prints of a recording is what the tool printed, the verdict last."""
         if WAYWIRE:
-            ran = [subprocess.run([WAYWIRE, job, *words, path], timeout=LONG, **self.how({}))
+            ran = [subprocess.run([WAYWIRE, job, *words, path], timeout=5 * LONG, **self.how({}))
                    for job in ("trace", "check")]
             is_broken = lines[-1].startswith("broken: ")
             self.assertEqual([it.returncode for it in ran], [is_broken] * 2)
