@@ -21,7 +21,7 @@ numbers := $(subst ., ,$(VERSION))
 MAJOR := $(word 1,$(numbers))
 
 proved = crates/waywire_c/out/libwaywire_c.a
-crates := waywire_c $(shell sed -n 's/^waywire_c staticlib: //p' crates.txt)
+crates := $(shell top=. bash -c '. tools/programs.sh && crates_of waywire_c')
 sources := $(wildcard $(crates:%=crates/%/src/*.rt))
 archive = out/c/libwaywire.a
 # Versions of one major number are compatible; below 1, those of one minor number.

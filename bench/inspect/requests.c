@@ -13,7 +13,8 @@
 
 static struct wl_compositor *compositor;
 
-static void found(void *data, struct wl_registry *registry, uint32_t name, const char *interface, uint32_t version)
+static void found(void *data, struct wl_registry *registry, uint32_t name, const char *interface,
+	uint32_t version)
 {
 	(void)data, (void)version;
 	if (!strcmp(interface, "wl_compositor"))

@@ -1,4 +1,5 @@
-//! The calls of waywire.h, and what makes them safe. This is the one module with `unsafe` in it.
+//! The calls of waywire.h, and what makes them safe. This module, with the one below it, is
+//! the only one with `unsafe` in it.
 //!
 //! The declarations are those of the header: a test compares sizes, offsets and numbers with what a
 //! program in C says of it. What the header asks of every call is kept by the types here:
@@ -12,17 +13,18 @@
 
 use crate::amounts::{Amounts, Sizes};
 use crate::args::Arg;
-use crate::error::{
-    Fault, FaultKind, GlobalError, NewError, NextError, NoMemory, SendError, TablesError,
-};
-use crate::inspector::Sender;
+use crate::error::{Fault, FaultKind, GlobalError, NewError, NextError, SendError, TablesError};
 use crate::report::Named;
 use crate::tables::{Interface, Object};
-use std::ffi::{c_char, c_int, c_void, CStr, CString};
+use std::ffi::{c_char, c_void, CStr, CString};
 use std::mem::MaybeUninit;
 use std::ptr::{self, NonNull};
 use std::slice;
 use std::sync::Arc;
+
+mod inspector;
+
+pub use inspector::Inspector;
 
 macro_rules! numbers {
     ($($name:ident = $number:expr, $header:literal;)*) => {
@@ -334,7 +336,6 @@ impl<'a> ArgOf<'a> {
 
 type RawTables = c_void;
 type RawEnd = c_void;
-type RawInspector = c_void;
 
 macro_rules! end_calls {
     ($new:ident $free:ident $display:ident $live:ident $in_room:ident $is_drained:ident
@@ -437,30 +438,6 @@ extern "C" {
         object: Object,
         code: u32,
         text: *const c_char,
-    ) -> u32;
-    fn waywire_inspector_new(
-        tables: *const RawTables,
-        limit: u32,
-        inspector: *mut *mut RawInspector,
-    ) -> u32;
-    fn waywire_inspector_free(inspector: *mut RawInspector);
-    fn waywire_inspector_pass(
-        inspector: *mut RawInspector,
-        sender: u32,
-        bytes: *const c_void,
-        length: usize,
-        token_count: usize,
-    ) -> u32;
-    fn waywire_inspector_lines(
-        inspector: *const RawInspector,
-        lines: *mut *const c_char,
-        length: *mut usize,
-    ) -> u32;
-    fn waywire_inspector_verdict(
-        inspector: *mut RawInspector,
-        line: *mut *const c_char,
-        length: *mut usize,
-        broken: *mut c_int,
     ) -> u32;
 }
 
@@ -791,63 +768,6 @@ impl Server {
         let text = text.split('\0').next().unwrap_or("");
         let text = CString::new(text).unwrap_or_default();
         sent(unsafe { waywire_server_post_error(self.at.as_ptr(), object, code, text.as_ptr()) })
-    }
-}
-
-/// An inspector, freed when it is dropped.
-#[derive(Debug)]
-pub struct Inspector(NonNull<RawInspector>);
-
-// Safety: the header says so: an inspector is bound to no thread, and used by one call at a time, which
-// it is since it is not `Sync`.
-unsafe impl Send for Inspector {}
-
-impl Drop for Inspector {
-    fn drop(&mut self) {
-        // Safety: the inspector is the library's, and freed here alone.
-        unsafe { waywire_inspector_free(self.0.as_ptr()) }
-    }
-}
-
-// Safety, for each call: as for the calls of an end.
-impl Inspector {
-    pub fn new(tables: &Tables, limit: u32) -> Result<Inspector, NewError> {
-        let mut made = ptr::null_mut();
-        match unsafe { waywire_inspector_new(tables.at(), limit, &mut made) } {
-            BAD_SIZES => Err(NewError::BadSizes),
-            _ => NonNull::new(made).map(Inspector).ok_or(NewError::NoMemory),
-        }
-    }
-
-    pub fn pass(&mut self, sender: Sender, bytes: &[u8], tokens: usize) -> Result<(), NoMemory> {
-        let from = match sender {
-            Sender::Client => FROM_CLIENT,
-            Sender::Server => FROM_SERVER,
-        };
-        let (at, bytes, length) = (self.0.as_ptr(), bytes.as_ptr().cast(), bytes.len());
-        match unsafe { waywire_inspector_pass(at, from, bytes, length, tokens) } {
-            OK => Ok(()),
-            _ => Err(NoMemory),
-        }
-    }
-
-    pub fn lines(&self) -> &[u8] {
-        let (mut lines, mut length) = (ptr::null(), 0);
-        unsafe { waywire_inspector_lines(self.0.as_ptr(), &mut lines, &mut length) };
-        // Safety: they are lent until the next `pass` or `verdict`, which take the inspector by a
-        // `&mut`, and this borrows it.
-        unsafe { lent(lines.cast(), length) }
-    }
-
-    /// The line of the verdict, and whether a message breaks a rule.
-    pub fn verdict(&mut self) -> Result<(&[u8], bool), NoMemory> {
-        let (mut line, mut length, mut broken) = (ptr::null(), 0, 0);
-        let at = self.0.as_ptr();
-        match unsafe { waywire_inspector_verdict(at, &mut line, &mut length, &mut broken) } {
-            // Safety: as in `lines`.
-            OK => Ok((unsafe { lent(line.cast(), length) }, broken != 0)),
-            _ => Err(NoMemory),
-        }
     }
 }
 
