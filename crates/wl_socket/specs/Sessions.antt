@@ -4,7 +4,7 @@ use Rattle.wl_socket.specs.declared.session.Session.{Session}
 use Rattle.wl_socket.specs.Streams.{Connected}
 
 -- no error is posted in the session
-abbrev pub connected : {T C S : Type 0} → Session T C S → Connected C S
+abbrev pub connected : {T C S A : Type 0} → Session T C S A → Connected C S
 connected session = record {
   pair = record {
     client = session.client;
