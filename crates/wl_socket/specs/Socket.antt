@@ -48,8 +48,8 @@ pub record Told : Type 0 where
 abbrev pub by_itself : Known Told
 by_itself = record { left = λ told. told.left; taken = λ told. told.taken }
 
--- the text is what is shown of the session over some two streams
-abbrev pub IsShown : List Interface → List ℕ → Type 0
-IsShown tables text =
+-- The text is what is shown of the session over some two streams, of which this is known.
+abbrev pub IsShownOverStreams : List Interface → List ℕ → Type 0
+IsShownOverStreams tables text =
     (client_stream : Told) × ((server_stream : Told)
     × Shows by_itself by_itself tables client_stream server_stream text)
