@@ -33,7 +33,7 @@ parts_told c s (part ∷ parts) now last (next, first, rest) = (all_told c s nex
 pub shown_over_streams : {C S : Type 0} (c : Known C) (s : Known S) (tables : List Interface) (client_stream : C) (server_stream : S) (text : List ℕ)
     → Shows c s tables client_stream server_stream text → IsShownOverStreams tables text
 shown_over_streams c s tables client_stream server_stream text shows =
-    (told c client_stream, told s server_stream, record {
+    (told c client_stream, (told s server_stream, record {
       pieces = shows.pieces;
       objects = shows.objects;
       ends = record {
@@ -44,4 +44,4 @@ shown_over_streams c s tables client_stream server_stream text shows =
         counted = shows.ends.counted;
       };
       whole = shows.whole;
-    })
+    }))
