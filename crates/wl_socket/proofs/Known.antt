@@ -32,8 +32,11 @@ parts_told c s (part ∷ parts) now last (next, first, rest) = (all_told c s nex
 
 pub shown_over_streams : {C S : Type 0} (c : Known C) (s : Known S) (tables : List Interface) (client_stream : C) (server_stream : S) (text : List ℕ)
     → Shows c s tables client_stream server_stream text → IsShownOverStreams tables text
-shown_over_streams c s tables client_stream server_stream text shows =
-    (told c client_stream, (told s server_stream, record {
+shown_over_streams c s tables client_stream server_stream text shows = (
+  told c client_stream,
+  (
+    told s server_stream,
+    record {
       pieces = shows.pieces;
       objects = shows.objects;
       ends = record {
@@ -44,4 +47,6 @@ shown_over_streams c s tables client_stream server_stream text shows =
         counted = shows.ends.counted;
       };
       whole = shows.whole;
-    }))
+    },
+  ),
+)

@@ -18,7 +18,7 @@ use Rattle.wl_recording.specs.Piece.{Piece, passed}
 use Rattle.wl_recording.specs.declared.piece.Direction.TheVariants as ways
 use Rattle.wl_world.specs.Pair.{Move, AddGlobal}
 use Rattle.wl_socket.specs.Streams.{Known, Connected, Sends}
-use Rattle.wl_socket.specs.Playing.{Accepts, Part, Call, ClientTurn, ServerTurn, PlaysPart, PlaysOver}
+use Rattle.wl_socket.specs.Playing.{Accepts, Part, Call, ClientTurn, ServerTurn, PlaysOver}
 use Rattle.wl_socket.specs.Socket.{Ends}
 
 -- parts, and then others
@@ -63,20 +63,21 @@ pub client_turn : {C S X E : Type 0} (c : Known C) (s : Known S) (result : Resul
     → OnOk result ((reports : List requests.Report) × Reads server_streams.reading (arrived server_streams.reading to delivered []) reports None to')
     → OnOk result (PlaysOver c s (ClientTurn ∷ []) (over from to pieces writer reader) (over from' to' pieces' writer' reader'))
 client_turn c s (Ok x) from from' to to' pieces pieces' writer writer' reader reader' count bytes recorded delivered sends counted others as_many given same_recorded added same_delivered (reports, read) =
-    let all = added ∙ ap (λ (xs : List ℕ). pieces ++ passed ways.ToServer xs 0) same_recorded in
-    (over from' to' pieces' writer' reader',
-    record {
-      bytes = bytes;
-      sends = sends;
-      receives = record {
-        as_many = as_many ∙ counted;
-        given = given;
-        reports = reports;
-        read = subst (λ (xs : List ℕ). Reads server_streams.reading (arrived server_streams.reading to xs []) reports None to') same_delivered read;
-      };
-      leaves = λ i. record { client = others i; server = to'; recording = all i; ended_at = None };
-    },
-    refl)
+    let all = added ∙ ap (λ (xs : List ℕ). pieces ++ passed ways.ToServer xs 0) same_recorded in (
+      over from' to' pieces' writer' reader',
+      record {
+        bytes = bytes;
+        sends = sends;
+        receives = record {
+          as_many = as_many ∙ counted;
+          given = given;
+          reports = reports;
+          read = subst (λ (xs : List ℕ). Reads server_streams.reading (arrived server_streams.reading to xs []) reports None to') same_delivered read;
+        };
+        leaves = λ i. record { client = others i; server = to'; recording = all i; ended_at = None };
+      },
+      refl,
+    )
 client_turn c s (Err e) from from' to to' pieces pieces' writer writer' reader reader' count bytes recorded delivered sends counted others as_many given same_recorded added same_delivered read = tt
 
 pub server_turn : {C S X E : Type 0} (c : Known C) (s : Known S) (result : Result X E) (from from' : server.State) (to to' : client.State) (pieces pieces' : List Piece) (writer writer' : S) (reader reader' : C)
@@ -85,20 +86,21 @@ pub server_turn : {C S X E : Type 0} (c : Known C) (s : Known S) (result : Resul
     → OnOk result ((reports : List events.Report) × Reads client_streams.reading (arrived client_streams.reading to delivered []) reports None to')
     → OnOk result (PlaysOver c s (ServerTurn ∷ []) (over to from pieces reader writer) (over to' from' pieces' reader' writer'))
 server_turn c s (Ok x) from from' to to' pieces pieces' writer writer' reader reader' count bytes recorded delivered sends counted others as_many given same_recorded added same_delivered (reports, read) =
-    let all = added ∙ ap (λ (xs : List ℕ). pieces ++ passed ways.ToClient xs 0) same_recorded in
-    (over to' from' pieces' reader' writer',
-    record {
-      bytes = bytes;
-      sends = sends;
-      receives = record {
-        as_many = as_many ∙ counted;
-        given = given;
-        reports = reports;
-        read = subst (λ (xs : List ℕ). Reads client_streams.reading (arrived client_streams.reading to xs []) reports None to') same_delivered read;
-      };
-      leaves = λ i. record { client = to'; server = others i; recording = all i; ended_at = None };
-    },
-    refl)
+    let all = added ∙ ap (λ (xs : List ℕ). pieces ++ passed ways.ToClient xs 0) same_recorded in (
+      over to' from' pieces' reader' writer',
+      record {
+        bytes = bytes;
+        sends = sends;
+        receives = record {
+          as_many = as_many ∙ counted;
+          given = given;
+          reports = reports;
+          read = subst (λ (xs : List ℕ). Reads client_streams.reading (arrived client_streams.reading to xs []) reports None to') same_delivered read;
+        };
+        leaves = λ i. record { client = to'; server = others i; recording = all i; ended_at = None };
+      },
+      refl,
+    )
 server_turn c s (Err e) from from' to to' pieces pieces' writer writer' reader reader' count bytes recorded delivered sends counted others as_many given same_recorded added same_delivered read = tt
 
 -- ---- the end

@@ -1,6 +1,6 @@
 -- What several flushes write is what waited, and a piece that is taken in whole is read.
-use Rattle.std.proofs.Common.{◌≡◌, ℕ, ◌+◌, ◌-◌, ◌<◌, ◌≤◌, List, [], ◌∷◌, ◌++◌, length, take, drop, Option, refl, sym, ap, subst, ◌∙◌, arith, length-append, length-drop, IfOk, OnOk}
-use Rattle.std.specs.Prelude.{Bool, true, false, Result, Ok, Err, IsOk, Some, None}
+use Rattle.std.proofs.Common.{◌≡◌, ℕ, ◌+◌, ◌-◌, ◌≤◌, List, [], ◌∷◌, length, take, drop, Option, refl, sym, ap, subst, ◌∙◌, arith, length-append, length-drop, IfOk, OnOk}
+use Rattle.std.specs.Prelude.{Bool, true, false, Result, Ok, Err, Some, None}
 use Rattle.std.specs.Io.KnownBytes.{Appends}
 use Rattle.std.proofs.lemmas.List.{take_all}
 use Rattle.wl_message.specs.declared.streams.FlushError.{FlushError}

@@ -1,5 +1,5 @@
 -- What it is to play the session over two streams.
-use Rattle.std.specs.Prelude.{◌≡◌, ℕ, List, [], ◌∷◌, ◌++◌, length, map, Option}
+use Rattle.std.specs.Prelude.{◌≡◌, ℕ, List, [], ◌∷◌, ◌++◌, length, map}
 use Rattle.std.specs.declared.result.Result.TheVariants.{Ok}
 use Rattle.wl_sigs.specs.Tables.{Interface}
 use Rattle.wl_message.specs.Outgoing.{waiting_bytes}
@@ -10,7 +10,7 @@ use Rattle.wl_server.specs.Streams as requests
 use Rattle.wl_recording.specs.declared.piece.Direction.TheVariants as ways
 use Rattle.wl_recording.specs.Piece.{passed}
 use Rattle.wl_world.specs.Pair.{Move, Reply, ClientSend, ClientBind, ServerSend, AddGlobal}
-use Rattle.wl_world.specs.Pair.{Announce, Does, PairState, new_pair}
+use Rattle.wl_world.specs.Pair.{Announce, Does, new_pair}
 use Rattle.wl_demo_session.specs.Session.{adding_globals, getting_registry, announcing_globals}
 use Rattle.wl_demo_session.specs.Session.{binding_globals, finishing_callback, drawing_surface}
 use Rattle.wl_demo_session.specs.Session.{sizes}

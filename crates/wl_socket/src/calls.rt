@@ -70,7 +70,11 @@ impl<'t, T: Table + Drop, C: Read + Write + Drop, S: Read + Write + Drop> Sessio
             (known S.remaining S.contents) (calls session.drawing_surface)
             (connected self.old) (connected self.new)) }
     {
-        self.send_request(COMPOSITOR, request::wl_compositor::CREATE_SURFACE, &[Arg::New])?;
+        self.send_request(
+            COMPOSITOR,
+            request::wl_compositor::CREATE_SURFACE,
+            &[Arg::New],
+        )?;
         self.send_request(SURFACE, request::wl_surface::COMMIT, &[])?;
         self.send_request(SURFACE, request::wl_surface::DESTROY, &[])
     }

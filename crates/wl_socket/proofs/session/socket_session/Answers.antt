@@ -1,5 +1,5 @@
 use Rattle.std.proofs.Common.{subst}
-use Rattle.wl_socket.specs.Streams.{known, Connected}
+use Rattle.wl_socket.specs.Streams.{known}
 use Rattle.wl_socket.specs.Playing.{PlaysOver, session}
 use Rattle.wl_socket.specs.Sessions.{connected}
 use Rattle.wl_socket.proofs.session.socket_session.Goals as goal

@@ -2,7 +2,7 @@ use Rattle.std.proofs.Common.{◌≡◌, ◌+◌, ◌∙◌, ℕ, ap, refl, sym,
 use Rattle.std.specs.Prelude.{Ok, Err}
 use Rattle.wl_message.specs.declared.streams.FlushError.{FlushError}
 use Rattle.wl_message.specs.Streams.{written_of}
-use Rattle.wl_socket.proofs.Turns.{Written, written_none, flushed, flushed_all, counts_all, all_sends, all_counted, all_others}
+use Rattle.wl_socket.proofs.Turns.{Written, written_none, flushed, flushed_all, counts_all, all_sends, all_counted}
 use Rattle.wl_socket.proofs.turn.flush_all.Goals as goal
 
 pub tries-init : goal.tries-init

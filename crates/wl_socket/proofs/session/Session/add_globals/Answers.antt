@@ -1,4 +1,4 @@
-use Rattle.std.proofs.Common.{[], ◌∷◌, refl}
+use Rattle.std.proofs.Common.{[], ◌∷◌}
 use Rattle.std.specs.Prelude.{codes}
 use Rattle.wl_world.specs.Pair.{AddGlobal}
 use Rattle.wl_demo_session.specs.Session.{named}

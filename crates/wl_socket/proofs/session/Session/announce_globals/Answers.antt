@@ -1,9 +1,6 @@
-use Rattle.std.proofs.Common.{[], ◌∷◌, refl}
-use Rattle.std.specs.Prelude.{codes}
+use Rattle.std.proofs.Common.{refl}
 use Rattle.wl_world.specs.Pair.{Announce}
-use Rattle.wl_demo_session.specs.Session.{announcing_globals}
 use Rattle.wl_socket.specs.Streams.{known}
-use Rattle.wl_socket.specs.Playing.{Call}
 use Rattle.wl_socket.specs.Sessions.{connected}
 use Rattle.wl_socket.proofs.Plays.{ends_call}
 use Rattle.wl_socket.proofs.session.Session.announce_globals.Goals as goal

@@ -1,5 +1,4 @@
 use Rattle.std.proofs.Common.{[], ◌∷◌, refl}
-use Rattle.std.specs.Prelude.{codes}
 use Rattle.wl_world.specs.Pair.{ClientSend}
 use Rattle.wl_demo_session.specs.Session.{the_compositor, the_surface, new_object}
 use Rattle.wl_socket.specs.Streams.{known}

@@ -1,10 +1,8 @@
 use Rattle.std.proofs.Common.{[], ◌∷◌, refl}
-use Rattle.std.specs.Prelude.{codes}
 use Rattle.wl_wire.specs.Argument.{Uint}
 use Rattle.wl_world.specs.Pair.{ServerSend}
 use Rattle.wl_demo_session.specs.Session.{the_callback}
 use Rattle.wl_socket.specs.Streams.{known}
-use Rattle.wl_socket.specs.Playing.{Call}
 use Rattle.wl_socket.specs.Sessions.{connected}
 use Rattle.wl_socket.proofs.Plays.{ends_call}
 use Rattle.wl_socket.proofs.session.Session.finish_callback.Goals as goal

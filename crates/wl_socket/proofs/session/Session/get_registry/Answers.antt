@@ -1,9 +1,7 @@
 use Rattle.std.proofs.Common.{[], ◌∷◌, refl}
-use Rattle.std.specs.Prelude.{codes}
 use Rattle.wl_world.specs.Pair.{ClientSend}
 use Rattle.wl_demo_session.specs.Session.{the_display, new_object}
 use Rattle.wl_socket.specs.Streams.{known}
-use Rattle.wl_socket.specs.Playing.{Call}
 use Rattle.wl_socket.specs.Sessions.{connected}
 use Rattle.wl_socket.proofs.Plays.{ends_call}
 use Rattle.wl_socket.proofs.session.Session.get_registry.Goals as goal
