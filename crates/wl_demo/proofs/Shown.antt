@@ -12,7 +12,9 @@ use Rattle.wl_world.specs.Pair.{PairState, new_pair}
 use Rattle.wl_world.specs.Stands.{Stands}
 use Rattle.wl_demo.specs.Session.{session}
 use Rattle.wl_demo.specs.Playing.{Plays}
-use Rattle.wl_demo.specs.Demo.{IsShown, Tells, agreement_line, sizes}
+use Rattle.wl_demo_session.specs.Agreement.{agreement_line}
+use Rattle.wl_demo_session.specs.Session.{sizes}
+use Rattle.wl_demo.specs.Demo.{IsShown, Tells}
 
 -- the lines of what was lent, and behind them the last line
 pub whole_text : (tables : List Interface) (lent pieces : List Piece) (lines text : List ℕ) (agree : Bool) (counted objects : ℕ)

@@ -1,28 +1,18 @@
 -- What a demonstration prints.
-use Rattle.std.specs.Prelude.{◌≡◌, ◌↔◌, ℕ, Bool, true, false, IsTrue, List, ◌++◌, codes}
-use Rattle.std.specs.Fmt.{decimal}
+use Rattle.std.specs.Prelude.{◌≡◌, ◌↔◌, ℕ, Bool, IsTrue, List, ◌++◌}
 use Rattle.std.specs.FinMap.{len as row_count}
 use Rattle.wl_sigs.specs.Tables.{Interface}
-use Rattle.wl_message.specs.declared.amounts.Sizes.{Sizes}
 use Rattle.wl_message.specs.Cut.{usual_limit}
-use Rattle.wl_message.specs.Limits.{usual}
 use Rattle.wl_check.specs.Session.{session_of}
 use Rattle.wl_check.specs.Trace.{trace_of}
 use Rattle.wl_world.specs.World.{opening}
 use Rattle.wl_world.specs.Pair.{PairState, new_pair}
 use Rattle.wl_world.specs.Stands.{Stands}
 use Rattle.wl_world.specs.Runs.{Agree}
+use Rattle.wl_demo_session.specs.Agreement.{agreement_line}
+use Rattle.wl_demo_session.specs.Session.{sizes}
 use Rattle.wl_demo.specs.Session.{session}
 use Rattle.wl_demo.specs.Playing.{Plays}
-
--- whether both ends have the same objects
-abbrev pub agreement : Bool → List ℕ
-agreement true = codes "agree"
-agreement false = codes "disagree"
-
-abbrev pub agreement_line : Bool → ℕ → List ℕ
-agreement_line agree objects =
-    agreement agree ++ codes ": " ++ decimal objects ++ codes " objects\n"
 
 -- The text is the trace of what was carried between the two ends of this pair, and a last line:
 -- whether both have the same objects, all live, and how many the client has.
@@ -31,15 +21,6 @@ pub record Tells (tables : List Interface) (pair : PairState) (text : List ℕ) 
   pub exact : IsTrue agree ↔ Agree pair.client.core.view pair.server.core.view
   pub whole : text ≡ trace_of tables (session_of usual_limit pair.recording)
       ++ agreement_line agree (row_count pair.client.core.view.rows)
-
-abbrev pub sizes : Sizes
-sizes = record {
-  out_bytes = 65536;
-  out_tokens = 64;
-  in_bytes = 65536;
-  in_tokens = 64;
-  limit = usual;
-}
 
 -- The text tells of two ends that began new, after the session of both, of which each carry moved
 -- at most `piece` bytes.

@@ -6,4 +6,4 @@ mod playing;
 mod session;
 mod showing;
 
-pub use showing::{demo, write_agreement};
+pub use showing::demo;

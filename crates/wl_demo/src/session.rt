@@ -3,25 +3,15 @@ ghost use Rattle.std.specs.Prelude.{◌≡◌, IfOk, List, [], ◌∷◌, map, S
 ghost use Rattle.wl_sigs.specs.Tables.{place_of};
 ghost use Rattle.wl_session.specs.Meaning.{args_of, move_of, moves_of};
 ghost use Rattle.wl_world.specs.Pair.{AddGlobal, ClientBind, ClientSend, ServerSend};
-ghost use Rattle.wl_demo.specs.Session as session;
+ghost use Rattle.wl_demo_session.specs.Session as session;
 
 use std::alloc::{AllocError, Allocator};
+use wl_demo_session::{CALLBACK, COMPOSITOR, DISPLAY, REGISTRY, SURFACE};
 use wl_objects::{DISPLAY as DISPLAY_INTERFACE, Object};
 use wl_session::{Move, SendArg};
 use wl_sigs::Tables;
 use wl_sigs::event::wl_callback;
 use wl_sigs::request::{wl_compositor, wl_display, wl_surface};
-
-const DISPLAY: Object = Object { id: 1, birth: 0 };
-
-const REGISTRY: Object = Object { id: 2, birth: 1 };
-
-const COMPOSITOR: Object = Object { id: 3, birth: 2 };
-
-const CALLBACK: Object = Object { id: 5, birth: 4 };
-
-/// The surface has the id of the callback, which is gone by then.
-const SURFACE: Object = Object { id: 5, birth: 5 };
 
 /// A list of moves.
 pub type Moves<A> = Vec<Move<A>, A>;

@@ -1,23 +1,14 @@
 //! What is printed of the session.
-ghost use Rattle.std.specs.Prelude.{◌≡◌, ◌++◌, IfOk, OnOk};
-ghost use Rattle.wl_demo.specs.Demo.{IsShown, Tells, agreement_line};
+ghost use Rattle.std.specs.Prelude.{IfOk};
+ghost use Rattle.wl_demo.specs.Demo.{IsShown, Tells};
 
 use crate::playing::play;
 use std::alloc::{AllocError, Allocator};
-use std::io::Write;
-use wl_message::{Limit, Sizes};
+use wl_demo_session::{SIZES, write_agreement};
+use wl_message::Limit;
 use wl_objects::{SlotTable, Table};
 use wl_session::{Pair, trace};
 use wl_sigs::Tables;
-
-/// The boxes of both ends.
-const SIZES: Sizes = Sizes {
-    out_bytes: 65_536,
-    out_tokens: 64,
-    in_bytes: 65_536,
-    in_tokens: 64,
-    limit: Limit::USUAL,
-};
 
 /// What the program prints: the lines of what was carried, and whether both ends have the same
 /// objects then. Each carry moves at most `piece` bytes. The error is lack of memory.
@@ -44,16 +35,4 @@ fn printed<T: Table>(
     let (mut text, _verdict) = trace(alloc, pair.recording(), tables, Limit::USUAL)?;
     write_agreement(&mut text, pair.agree(), pair.len())?;
     Ok(text)
-}
-
-/// Appends the last line: how many objects the client has, and whether the server has the same.
-pub fn write_agreement<A: Allocator>(
-    out: &mut Vec<u8, A>,
-    agree: bool,
-    objects: usize,
-) -> Result<(), AllocError>
-    ensures { OnOk result (out.new.items ≡ out.old.items ++ agreement_line agree objects) }
-{
-    let word = if agree { "agree" } else { "disagree" };
-    writeln!(out, "{word}: {objects} objects").map_err(|_| AllocError)
 }

@@ -1,1 +1,4 @@
+pub mod Streams
+pub mod Playing
+pub mod Sessions
 pub mod Socket

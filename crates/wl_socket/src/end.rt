@@ -1,63 +1,33 @@
 //! What a client and a server do alike with a stream.
+ghost use Rattle.std.specs.Prelude.{◌≡◌};
+ghost use Rattle.wl_message.specs.Streams.{Flushes, written_of};
+ghost use Rattle.wl_end.specs.Core.{with_gone};
 
-use crate::error::SocketError;
-use std::alloc::Allocator;
-use std::io::{Read, Write};
+use std::io::Write;
 use wl_client::Client;
-use wl_message::{FillError, FlushError};
+use wl_end::Receiver;
+use wl_message::FlushError;
 use wl_objects::Table;
 use wl_server::Server;
 
-/// A client or a server.
-pub(crate) trait End {
-    type Alloc: Allocator + Clone + Drop;
-
-    /// Reads once from a reader into the inbox.
-    fn fill<R: Read>(&mut self, reader: &mut R) -> Result<usize, FillError>;
-
+/// A client or a server, which reads messages and writes to streams.
+pub(crate) trait Sender: Receiver {
     /// Writes what waits in the outbox to a writer.
-    fn flush<W: Write>(&mut self, writer: &mut W) -> Result<usize, FlushError>;
-
-    /// Reads all messages that came in.
-    fn read_waiting(&mut self, alloc: Self::Alloc) -> Result<(), SocketError>;
+    fn flush<W: Write>(&mut self, writer: &mut W) -> Result<usize, FlushError>
+        ensures flushes { Flushes (Self.core self.old).outbox (W.contents writer.old) result
+            (Self.core self.new).outbox (W.contents writer.new) }
+        ensures others { self.new
+            ≡ Self.with_core self.old (with_gone (Self.core self.old) (written_of result)) };
 }
 
-impl<'t, T: Table> End for Client<'t, T> {
-    type Alloc = T::Alloc;
-
-    fn fill<R: Read>(&mut self, reader: &mut R) -> Result<usize, FillError> {
-        Client::fill(self, reader)
-    }
-
+impl<'t, T: Table> Sender for Client<'t, T> {
     fn flush<W: Write>(&mut self, writer: &mut W) -> Result<usize, FlushError> {
         Client::flush(self, writer)
     }
-
-    fn read_waiting(&mut self, alloc: T::Alloc) -> Result<(), SocketError> {
-        let mut reports = Vec::new(alloc);
-        match self.read_all(&[], &mut reports).stop {
-            Some(error) => Err(SocketError::from(error)),
-            None => Ok(()),
-        }
-    }
 }
 
-impl<'t, T: Table> End for Server<'t, T> {
-    type Alloc = T::Alloc;
-
-    fn fill<R: Read>(&mut self, reader: &mut R) -> Result<usize, FillError> {
-        Server::fill(self, reader)
-    }
-
+impl<'t, T: Table> Sender for Server<'t, T> {
     fn flush<W: Write>(&mut self, writer: &mut W) -> Result<usize, FlushError> {
         Server::flush(self, writer)
-    }
-
-    fn read_waiting(&mut self, alloc: T::Alloc) -> Result<(), SocketError> {
-        let mut reports = Vec::new(alloc);
-        match self.read_all(&[], &mut reports).stop {
-            Some(error) => Err(SocketError::from(error)),
-            None => Ok(()),
-        }
     }
 }

@@ -2,6 +2,7 @@
 //! socket.
 #![tactic(auto)]
 
+mod calls;
 mod end;
 mod error;
 mod session;

@@ -1,32 +1,22 @@
 //! The session over two streams.
-ghost use Rattle.std.specs.Prelude.{◌≡◌, ◌↔◌, IfOk, IsTrue};
+ghost use Rattle.std.specs.Prelude.{◌≡◌, ◌↔◌, ◌∷◌, [], IfOk, OnOk, IsTrue};
 ghost use Rattle.std.specs.FinMap.{len as row_count};
 ghost use Rattle.wl_world.specs.Runs.{Agree};
+ghost use Rattle.wl_socket.specs.Streams.{known};
+ghost use Rattle.wl_socket.specs.Playing.{PlaysOver, ClientTurn, ServerTurn, begin, session};
+ghost use Rattle.wl_socket.specs.Sessions.{connected};
 ghost use Rattle.wl_socket.specs.Socket.{Ends};
 
-use crate::end::End;
 use crate::error::SocketError;
-use crate::turn::{fill_all, flush_all};
+use crate::turn::{deliver, flush_all, receive};
 use std::alloc::Allocator;
 use std::io::{Read, Write};
 use wl_client::Client;
-use wl_message::{Limit, Sizes};
-use wl_objects::{Arg, Object, SlotTable, Table};
+use wl_demo_session::SIZES;
+use wl_objects::{SlotTable, Table};
 use wl_server::Server;
-use wl_session::{Direction, Recording, Tee, same_rows};
-use wl_sigs::{Tables, event, request};
-
-/// The boxes of both ends.
-const SIZES: Sizes = Sizes {
-    out_bytes: 65_536,
-    out_tokens: 64,
-    in_bytes: 65_536,
-    in_tokens: 64,
-    limit: Limit::USUAL,
-};
-
-/// How many bytes each reading side can copy in one turn.
-const ROOM: usize = 4096;
+use wl_session::{Direction, Recording, same_rows};
+use wl_sigs::Tables;
 
 /// How a session over streams ended.
 #[derive(Debug, Drop)]
@@ -40,7 +30,7 @@ pub struct Played<A: Allocator> {
 }
 
 /// Plays the session of the demonstration over two connected streams, turn by turn: one end writes
-/// all that waits, then the other reads until all of it has come.
+/// all that waits, then the other reads until as many bytes have come.
 ///
 /// A read or write that fails is made again, `retries` times in all; the next failure ends the
 /// session with `Failed`. So does an end of input before all has come.
@@ -55,7 +45,9 @@ where
     A: Allocator + Clone + Drop,
     C: Read + Write + Drop,
     S: Read + Write + Drop,
-    ensures { IfOk result (λ played. Ends played.agree played.objects) }
+    ensures { IfOk result (λ played. Ends (known C.remaining C.contents)
+        (known S.remaining S.contents) tables.now client server played.recording played.agree
+        played.objects) }
 {
     let mut session: Session<'_, SlotTable<A>, C, S> = Session::new(
         alloc, tables, client, server, retries,
@@ -64,17 +56,17 @@ where
     Ok(session.ended())
 }
 
-/// Both ends, the stream of each in a `Tee`, and what has passed.
+/// Both ends, the stream of each, and what has passed.
 #[derive(Drop)]
-struct Session<'t, T: Table, C: Read, S: Read> {
-    client: Client<'t, T>,
-    server: Server<'t, T>,
-    client_stream: Tee<C, T::Alloc>,
-    server_stream: Tee<S, T::Alloc>,
-    recording: Recording<T::Alloc>,
-    retries: usize,
-    /// For the reports.
-    alloc: T::Alloc,
+pub(crate) struct Session<'t, T: Table, C, S> {
+    pub(crate) client: Client<'t, T>,
+    pub(crate) server: Server<'t, T>,
+    pub(crate) client_stream: C,
+    pub(crate) server_stream: S,
+    pub(crate) recording: Recording<T::Alloc>,
+    pub(crate) retries: usize,
+    /// For what is read.
+    pub(crate) alloc: T::Alloc,
 }
 
 impl<'t, T: Table + Drop, C: Read + Write + Drop, S: Read + Write + Drop> Session<'t, T, C, S> {
@@ -84,17 +76,15 @@ impl<'t, T: Table + Drop, C: Read + Write + Drop, S: Read + Write + Drop> Sessio
         client: C,
         server: S,
         retries: usize,
-    ) -> Result<Self, SocketError> {
-        let client_stream = Tee::new(alloc.clone()?, client, ROOM)?;
-        let server_stream = Tee::new(alloc.clone()?, server, ROOM)?;
-        let client = Client::new(alloc.clone()?, tables, SIZES)?;
-        let server = Server::new(alloc.clone()?, tables, SIZES)?;
+    ) -> Result<Self, SocketError>
+        ensures { IfOk result (λ session. connected session ≡ begin tables.now client server) }
+    {
         let recording = Recording::new(alloc.clone()?);
         Ok(Session {
-            client,
-            server,
-            client_stream,
-            server_stream,
+            client: Client::new(alloc.clone()?, tables, SIZES)?,
+            server: Server::new(alloc.clone()?, tables, SIZES)?,
+            client_stream: client,
+            server_stream: server,
             recording,
             retries,
             alloc,
@@ -102,70 +92,57 @@ impl<'t, T: Table + Drop, C: Read + Write + Drop, S: Read + Write + Drop> Sessio
     }
 
     /// A client binds two globals, asks for a callback, and makes, commits and destroys a surface.
-    fn play(&mut self, tables: &Tables) -> Result<(), SocketError> {
-        self.give(tables, b"wl_compositor", 6)?;
-        self.give(tables, b"wl_seat", 9)?;
-        let display = self.client.display();
-        let registry = self.make(display, request::wl_display::GET_REGISTRY)?;
+    fn play(&mut self, tables: &Tables) -> Result<(), SocketError>
+        ensures { OnOk result (PlaysOver (known C.remaining C.contents)
+            (known S.remaining S.contents) (session tables.now) (connected self.old)
+            (connected self.new)) }
+    {
+        self.add_globals(tables)?;
+        self.get_registry()?;
         self.to_server()?;
-        self.server.announce()?;
+        self.announce_globals()?;
         self.to_client()?;
-        let compositor = self.client.bind(registry, 1, b"wl_compositor", 6)?;
-        self.client.bind(registry, 2, b"wl_seat", 9)?;
-        let callback = self.make(display, request::wl_display::SYNC)?;
+        self.bind_globals()?;
         self.to_server()?;
-        self.server
-            .send(callback, event::wl_callback::DONE, &[Arg::Uint(1)])?;
+        self.finish_callback()?;
         self.to_client()?;
-        let surface = self.make(compositor, request::wl_compositor::CREATE_SURFACE)?;
-        self.client.send(surface, request::wl_surface::COMMIT, &[])?;
-        self.client
-            .send(surface, request::wl_surface::DESTROY, &[])?;
+        self.draw_surface()?;
         self.to_server()?;
         self.to_client()
     }
 
-    /// The server gives a global.
-    fn give(&mut self, tables: &Tables, name: &[u8], version: u32) -> Result<(), SocketError> {
-        let iface = tables.interface(name).ok_or(SocketError::Failed)?;
-        self.server.add_global(iface, version)?;
-        Ok(())
-    }
-
-    /// The client writes a request whose only argument is a new object, and returns that object.
-    fn make(&mut self, target: Object, opcode: u16) -> Result<Object, SocketError> {
-        let made = self.client.send(target, opcode, &[Arg::New])?;
-        made.ok_or(SocketError::Failed)
-    }
-
     /// What the client has written goes to the server, which reads it.
-    fn to_server(&mut self) -> Result<(), SocketError> {
-        let writer = self.client_stream.reader();
-        let count = flush_all(&mut self.client, writer, &mut self.retries)?;
-        fill_all(
-            &mut self.server,
+    fn to_server(&mut self) -> Result<(), SocketError>
+        ensures { OnOk result (PlaysOver (known C.remaining C.contents)
+            (known S.remaining S.contents) (ClientTurn ∷ []) (connected self.old)
+            (connected self.new)) }
+    {
+        let count = flush_all(&mut self.client, &mut self.client_stream, &mut self.retries)?;
+        let bytes = receive(
+            self.alloc.clone()?,
             &mut self.server_stream,
             count,
             &mut self.retries,
         )?;
-        self.server_stream
-            .add_to(&mut self.recording, Direction::ToServer)?;
-        self.server.read_waiting(self.alloc.clone()?)
+        self.recording.add(Direction::ToServer, &bytes, 0)?;
+        deliver(self.alloc.clone()?, &mut self.server, &bytes)
     }
 
     /// What the server has written goes to the client, which reads it.
-    fn to_client(&mut self) -> Result<(), SocketError> {
-        let writer = self.server_stream.reader();
-        let count = flush_all(&mut self.server, writer, &mut self.retries)?;
-        fill_all(
-            &mut self.client,
+    fn to_client(&mut self) -> Result<(), SocketError>
+        ensures { OnOk result (PlaysOver (known C.remaining C.contents)
+            (known S.remaining S.contents) (ServerTurn ∷ []) (connected self.old)
+            (connected self.new)) }
+    {
+        let count = flush_all(&mut self.server, &mut self.server_stream, &mut self.retries)?;
+        let bytes = receive(
+            self.alloc.clone()?,
             &mut self.client_stream,
             count,
             &mut self.retries,
         )?;
-        self.client_stream
-            .add_to(&mut self.recording, Direction::ToClient)?;
-        self.client.read_waiting(self.alloc.clone()?)
+        self.recording.add(Direction::ToClient, &bytes, 0)?;
+        deliver(self.alloc.clone()?, &mut self.client, &bytes)
     }
 
     /// What passed, and whether both ends have the same objects now.
@@ -173,6 +150,7 @@ impl<'t, T: Table + Drop, C: Read + Write + Drop, S: Read + Write + Drop> Sessio
         ensures agree { IsTrue result.agree
             ↔ Agree self.entry.client.core.view self.entry.server.core.view }
         ensures objects { result.objects ≡ row_count self.entry.client.core.view.rows }
+        ensures passed { result.recording ≡ self.entry.recording }
     {
         Played {
             agree: same_rows(&self.client, &self.server),

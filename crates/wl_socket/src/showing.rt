@@ -1,12 +1,13 @@
 //! What is printed of the session.
 ghost use Rattle.std.specs.Prelude.{IfOk};
+ghost use Rattle.wl_socket.specs.Streams.{known};
 ghost use Rattle.wl_socket.specs.Socket.{Shows};
 
 use crate::error::SocketError;
 use crate::session::{Played, socket_session};
 use std::alloc::{AllocError, Allocator};
 use std::io::{Read, Write};
-use wl_demo::write_agreement;
+use wl_demo_session::write_agreement;
 use wl_message::Limit;
 use wl_session::trace;
 use wl_sigs::Tables;
@@ -24,7 +25,8 @@ where
     A: Allocator + Clone + Drop,
     C: Read + Write + Drop,
     S: Read + Write + Drop,
-    ensures { IfOk result (λ text. Shows tables.now text.items) }
+    ensures { IfOk result (λ text. Shows (known C.remaining C.contents)
+        (known S.remaining S.contents) tables.now client server text.items) }
 {
     let played = socket_session(alloc.clone()?, tables, client, server, 0)?;
     if !played.agree {

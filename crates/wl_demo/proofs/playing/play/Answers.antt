@@ -1,6 +1,7 @@
 use Rattle.std.proofs.Common.{◌++◌}
 use Rattle.wl_session.specs.Meaning.{moves_of}
-use Rattle.wl_demo.specs.Session.{each_once, adding_globals, getting_registry, announcing_globals, binding_globals, finishing_callback, drawing_surface, to_server, to_client}
+use Rattle.wl_demo_session.specs.Session.{adding_globals, getting_registry, announcing_globals, binding_globals, finishing_callback, drawing_surface}
+use Rattle.wl_demo.specs.Session.{each_once, to_server, to_client}
 use Rattle.wl_demo.proofs.Runs.{plays_on, plays_then, plays_these}
 use Rattle.wl_demo.proofs.playing.play.Goals as goal
 

@@ -4,7 +4,7 @@ use Rattle.wl_message.specs.declared.limit.Limit.{Limit}
 use Rattle.wl_message.specs.Limits.{usual}
 use Rattle.wl_message.proofs.Limits.{same_limit}
 use Rattle.wl_world.specs.Pair.{new_pair}
-use Rattle.wl_demo.specs.Demo.{sizes}
+use Rattle.wl_demo_session.specs.Session.{sizes}
 use Rattle.wl_demo.proofs.Shown.{shown_from_new}
 use Rattle.wl_demo.proofs.showing.demo.Goals as goal
 
