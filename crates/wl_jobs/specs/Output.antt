@@ -15,7 +15,7 @@ use Rattle.wl_check.specs.Trace.{trace_of}
 use Rattle.wl_command.specs.declared.job.Job.{Job}
 use Rattle.wl_command.specs.declared.job.Job.TheVariants.{Trace, Check, Demo, Socket}
 use Rattle.wl_demo.specs.Demo.{IsShown}
-use Rattle.wl_socket.specs.Socket.{Shows}
+use Rattle.wl_socket.specs.Socket.{IsShownOverStreams}
 use Rattle.wl_jobs.specs.declared.failure.Failure.{Failure}
 use Rattle.wl_jobs.specs.declared.failure.Failure.TheVariants.{CannotRead, TooLong, BadLine}
 use Rattle.wl_jobs.specs.declared.failure.Failure.TheVariants.{BadTablesLine, BreaksRule}
@@ -74,7 +74,7 @@ IsDone (Check tables limit file) known_tables known output status =
 IsDone (Demo piece) known_tables known output status =
     IsShown core_tables piece output × (status ≡ 0)
 IsDone (Socket path) known_tables known output status =
-    Shows core_tables output × (status ≡ 0)
+    IsShownOverStreams core_tables output × (status ≡ 0)
 
 -- the job reads a recording
 abbrev pub ReadsFile : Job → Type 0

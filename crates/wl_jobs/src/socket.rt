@@ -1,7 +1,7 @@
 //! The session of both ends over a socket that is bound, connected to itself, and removed.
 ghost use Rattle.std.specs.Prelude.{◌≡◌, IfOk, IfErr};
 ghost use Rattle.wl_sigs.specs.Core.{core_tables};
-ghost use Rattle.wl_socket.specs.Socket.{Shows};
+ghost use Rattle.wl_socket.specs.Socket.{IsShownOverStreams};
 ghost use Rattle.wl_jobs.specs.Output.{IsSocketRefusal};
 
 use crate::acting::Printed;
@@ -34,7 +34,8 @@ pub(crate) fn over<A: Allocator + Clone + Drop, B: Bound>(
     global: Global,
     bound: B,
 ) -> Result<Printed<A>, Failure<'static>>
-    ensures shows { IfOk result (λ o. Shows core_tables o.text.items × (o.status ≡ 0)) }
+    ensures shows { IfOk result (λ o. IsShownOverStreams core_tables o.text.items
+        × (o.status ≡ 0)) }
     ensures refused { IfErr result IsSocketRefusal }
 {
     let text = played(alloc, global, &bound);
@@ -52,7 +53,7 @@ fn played<A: Allocator + Clone + Drop, B: Bound>(
     global: Global,
     bound: &B,
 ) -> Result<Vec<u8, A>, Failure<'static>>
-    ensures shows { IfOk result (λ text. Shows core_tables text.items) }
+    ensures shows { IfOk result (λ text. IsShownOverStreams core_tables text.items) }
     ensures refused { IfErr result IsSocketRefusal }
 {
     let client = connected(bound.connect())?;
