@@ -16,8 +16,8 @@
  * message, and the caller passes the descriptor along with these bytes; for each descriptor that came
  * with some bytes the caller feeds a token with them. No descriptor is ever closed here.
  *
- * A tool between two ends has neither: it passes what it sees to an inspector, which says each message in a
- * line, and whether the session breaks a rule.
+ * Inspectors.  A tool that stands between two ends has no end of its own. It passes what it sees to an
+ * inspector, which gives each message a line, and says whether the session breaks a rule.
  *
  * Objects.  Births count from 0 at each end. So an object of one connection may equal one of another, which no
  * call can tell: keep an object with its end.
@@ -38,8 +38,8 @@
  * Statuses.  Each call that can refuse returns a waywire_status. Unless its own text says otherwise,
  * with a status other than WAYWIRE_OK nothing has changed and nothing was written to what the caller
  * passed. A null pointer where one is needed is WAYWIRE_NULL, and a length above PTRDIFF_MAX is
- * WAYWIRE_TOO_LARGE. To pass a pointer to memory that is not there, or an end that was freed, is
- * undefined behaviour.
+ * WAYWIRE_TOO_LARGE. To pass a pointer to memory that is not there, or an end or an inspector that was
+ * freed, is undefined behaviour.
  *
  * Processors.  The library is for x86-64, little-endian, with the instructions of x86-64-v2 (SSE4.2, from
  * 2009 on).
