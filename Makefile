@@ -45,7 +45,7 @@ inspect_with = $(CC) $(CFLAGS) -std=c99 -Wall -Wextra -Wpedantic -Iinclude -DWAY
 all: $(archive) $(shared) $(inspect)
 
 $(proved): $(sources)
-	cd crates/waywire_c && rt lib
+	tools/library-of-c
 	@touch $@
 
 include/waywire-version.h: $(numbered) Makefile
