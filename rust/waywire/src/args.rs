@@ -21,6 +21,7 @@ impl Fixed {
 }
 
 impl From<Fixed> for f64 {
+    #[inline]
     fn from(number: Fixed) -> f64 {
         f64::from(number.0) / 256.0
     }
@@ -28,6 +29,7 @@ impl From<Fixed> for f64 {
 
 /// The nearest of the numbers that are there.
 impl From<f64> for Fixed {
+    #[inline]
     fn from(number: f64) -> Fixed {
         // A cast ends at the greatest and the least.
         Fixed((number * 256.0).round() as i32)
@@ -62,12 +64,14 @@ pub enum Arg<'a> {
 }
 
 impl<'a> From<&'a str> for Arg<'a> {
+    #[inline]
     fn from(text: &'a str) -> Arg<'a> {
         Arg::Str(Some(text.as_bytes()))
     }
 }
 
 impl From<Object> for Arg<'_> {
+    #[inline]
     fn from(object: Object) -> Self {
         Arg::Object(Some(object))
     }
@@ -119,6 +123,7 @@ impl Args<'_> {
 impl<'a> Iterator for Args<'a> {
     type Item = Value<'a>;
 
+    #[inline]
     fn next(&mut self) -> Option<Value<'a>> {
         let arg = self.0.next()?;
         Some(match arg.kind() {

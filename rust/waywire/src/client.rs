@@ -29,6 +29,7 @@ impl Client {
     }
 
     /// The interface and version of an object that is live, also at a failed client.
+    #[inline]
     pub fn live(&self, object: Object) -> Option<(Interface, u32)> {
         self.end.live(object)
     }
@@ -48,6 +49,7 @@ impl Client {
     /// An object that the request destroys is dead afterwards. Events for it may still come
     /// ([`Incoming::Discarded`]), until [`Incoming::Deleted`] ends it. wl_registry.bind is
     /// [`SendError::NoSuchMessage`]: [`bind`](Client::bind) writes it.
+    #[inline]
     pub fn send(
         &mut self,
         target: Object,
@@ -70,23 +72,27 @@ impl Client {
 
     /// Moves what came into the inbox: as many tokens as fit, and if these are all, as many bytes as
     /// fit. Feed the rest again later. A failed client takes nothing.
+    #[inline]
     pub fn feed(&mut self, bytes: &[u8], tokens: &[u32]) -> Amounts {
         self.end.feed(bytes, tokens)
     }
 
     /// How much [`take`](Client::take) into slices of these lengths would take.
+    #[inline]
     pub fn goes(&self, bytes: usize, tokens: usize) -> Amounts {
         self.end.goes(bytes, tokens)
     }
 
     /// Moves what waits to be sent into the slices, as much as they hold, also at a failed client.
     /// The tokens of a message go with its first byte: pass their descriptors on with these bytes.
+    #[inline]
     pub fn take(&mut self, bytes: &mut [u8], tokens: &mut [u32]) -> Amounts {
         self.end.take(bytes, tokens)
     }
 
     /// Reads the next message; `None` while none is whole. It allocates nothing.
     // Not an iterator's: what it returns is lent from the client.
+    #[inline]
     #[allow(clippy::should_implement_trait)]
     pub fn next(&mut self) -> Result<Option<Incoming<'_>>, NextError> {
         self.end.next(&mut self.report)?;

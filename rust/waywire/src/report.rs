@@ -19,21 +19,25 @@ pub type Event<'a> = Message<'a>;
 pub type Request<'a> = Message<'a>;
 
 impl<'a> Message<'a> {
+    #[inline]
     pub(crate) fn of(report: &'a sys::Report) -> Message<'a> {
         Message { target: report.target(), opcode: report.opcode(), args: Args(report.args()) }
     }
 
     /// The object that it is for.
+    #[inline]
     pub fn target(&self) -> Object {
         self.target
     }
 
     /// Which message of its target's interface it is.
+    #[inline]
     pub fn opcode(&self) -> u16 {
         self.opcode
     }
 
     /// Its arguments, in order.
+    #[inline]
     pub fn args(&self) -> Args<'a> {
         self.args.clone()
     }
@@ -99,6 +103,7 @@ impl std::fmt::Display for ProtocolError<'_> {
 
 impl<'a> Incoming<'a> {
     /// What a report says, `None` where no whole message waits.
+    #[inline]
     pub(crate) fn of(report: &'a sys::Report) -> Option<Incoming<'a>> {
         Some(match report.kind() {
             sys::MESSAGE => Incoming::Event(Message::of(report)),

@@ -29,6 +29,7 @@ impl Server {
     }
 
     /// The interface and version of an object that is live, also at a failed server.
+    #[inline]
     pub fn live(&self, object: Object) -> Option<(Interface, u32)> {
         self.end.live(object)
     }
@@ -63,6 +64,7 @@ impl Server {
     /// Writes an event. One that destroys its object is followed by its delete_id: both are written,
     /// or nothing. The events of wl_display and wl_registry are [`SendError::NoSuchMessage`]: other
     /// calls write them.
+    #[inline]
     pub fn send(&mut self, target: Object, opcode: u16, args: &[Arg<'_>]) -> Result<(), SendError> {
         self.end.send(target, opcode, args).map(|_none| ())
     }
@@ -79,16 +81,19 @@ impl Server {
     }
 
     /// Moves what came into the inbox, as [`Client::feed`](crate::Client::feed) does.
+    #[inline]
     pub fn feed(&mut self, bytes: &[u8], tokens: &[u32]) -> Amounts {
         self.end.feed(bytes, tokens)
     }
 
     /// How much [`take`](Server::take) into slices of these lengths would take.
+    #[inline]
     pub fn goes(&self, bytes: usize, tokens: usize) -> Amounts {
         self.end.goes(bytes, tokens)
     }
 
     /// Moves what waits to be sent, as [`Client::take`](crate::Client::take) does.
+    #[inline]
     pub fn take(&mut self, bytes: &mut [u8], tokens: &mut [u32]) -> Amounts {
         self.end.take(bytes, tokens)
     }
@@ -96,6 +101,7 @@ impl Server {
     /// Reads the next request; `None` while none is whole. An object that it destroys is closed, and
     /// its delete_id is written at once. It allocates only for an object that the request makes.
     // Not an iterator's: what it returns is lent from the server.
+    #[inline]
     #[allow(clippy::should_implement_trait)]
     pub fn next(&mut self) -> Result<Option<Request<'_>>, NextError> {
         self.end.next(&mut self.report)?;

@@ -124,6 +124,7 @@ const NO_ARG: RawArg =
 
 impl RawArg {
     /// An argument of a call, which is read before its slices end.
+    #[inline]
     fn of(arg: &Arg<'_>) -> RawArg {
         let with_bytes = |kind, bytes: &[u8]| RawArg {
             kind,
@@ -175,6 +176,7 @@ unsafe impl Send for Report {}
 /// # Safety
 ///
 /// The pointer leads to so many items, which stay as they are as long as `'a` lasts.
+#[inline]
 unsafe fn lent<'a, T>(items: *const T, length: usize) -> &'a [T] {
     if length == 0 {
         return &[];
@@ -205,14 +207,17 @@ impl Report {
         }
     }
 
+    #[inline]
     pub fn kind(&self) -> u32 {
         self.kind
     }
 
+    #[inline]
     pub fn opcode(&self) -> u16 {
         self.opcode as u16
     }
 
+    #[inline]
     pub fn target(&self) -> Object {
         self.target
     }
@@ -233,6 +238,7 @@ impl Report {
         }
     }
 
+    #[inline]
     pub fn args(&self) -> ArgsOf<'_> {
         ArgsOf(self.args[..self.arg_count].iter())
     }
@@ -266,6 +272,7 @@ impl Report {
         NextError::Fault(Fault { kind, offset: self.offset })
     }
 
+    #[inline]
     fn result(&self, status: u32) -> Result<(), NextError> {
         match status {
             OK => Ok(()),
@@ -284,6 +291,7 @@ pub struct ArgsOf<'a>(slice::Iter<'a, RawArg>);
 impl<'a> Iterator for ArgsOf<'a> {
     type Item = ArgOf<'a>;
 
+    #[inline]
     fn next(&mut self) -> Option<ArgOf<'a>> {
         self.0.next().map(ArgOf)
     }
@@ -297,6 +305,7 @@ impl<'a> Iterator for ArgsOf<'a> {
 pub struct ArgOf<'a>(&'a RawArg);
 
 impl<'a> ArgOf<'a> {
+    #[inline]
     pub fn kind(&self) -> Kind {
         match self.0.kind {
             INT => Kind::Int,
@@ -621,6 +630,7 @@ macro_rules! end {
                 display
             }
 
+            #[inline]
             pub fn live(&self, object: Object) -> Option<(Interface, u32)> {
                 let (mut interface, mut version) = (0, 0);
                 let status =
@@ -640,6 +650,7 @@ macro_rules! end {
                 drained
             }
 
+            #[inline]
             pub fn feed(&mut self, bytes: &[u8], tokens: &[u32]) -> Amounts {
                 let mut fed = Amounts::default();
                 unsafe {
@@ -649,12 +660,14 @@ macro_rules! end {
                 fed
             }
 
+            #[inline]
             pub fn goes(&self, bytes: usize, tokens: usize) -> Amounts {
                 let mut amounts = Amounts::default();
                 unsafe { $goes(self.at.as_ptr(), bytes, tokens, &mut amounts) };
                 amounts
             }
 
+            #[inline]
             pub fn take(&mut self, bytes: &mut [u8], tokens: &mut [u32]) -> Amounts {
                 let mut taken = Amounts::default();
                 unsafe {
@@ -664,6 +677,7 @@ macro_rules! end {
                 taken
             }
 
+            #[inline]
             pub fn send(
                 &mut self,
                 target: Object,
@@ -689,6 +703,7 @@ macro_rules! end {
                 }
             }
 
+            #[inline]
             pub fn next(&mut self, report: &mut Report) -> Result<(), NextError> {
                 let status = unsafe { $next(self.at.as_ptr(), report) };
                 report.result(status)
