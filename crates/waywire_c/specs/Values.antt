@@ -3,7 +3,7 @@ use Rattle.std.specs.Prelude.{ℕ}
 use Rattle.wl_wire.specs.declared.kind.Iface.{Iface}
 use Rattle.wl_message.specs.declared.amounts.Fed.{Fed}
 use Rattle.wl_message.specs.declared.amounts.Taken.{Taken}
-use Rattle.wl_table.specs.declared.object.Object.{Object}
+use Rattle.wl_object_map.specs.declared.object.Object.{Object}
 use Rattle.waywire_c.specs.declared.values.CObject.{CObject}
 use Rattle.waywire_c.specs.declared.values.CAmounts.{CAmounts}
 

@@ -1,7 +1,8 @@
 //! What C calls of a client.
 ghost use Rattle.std.specs.Prelude.{◌≡◌, ◌≢◌, ◌++◌, length, take, drop};
 ghost use Rattle.wl_message.specs.Outgoing.{goes, waiting_bytes, waiting_tokens};
-ghost use Rattle.wl_end.specs.Core.{in_room, is_drained, live, display_object, feeds, with_arrived, with_gone};
+ghost use Rattle.wl_connection.specs.Core.{in_room, is_drained, live, display_object, feeds};
+ghost use Rattle.wl_connection.specs.Core.{with_arrived, with_gone};
 ghost use Rattle.wl_client.specs.State.{with_core};
 ghost use Rattle.wl_client.specs.Calls.{after_bind};
 ghost use Rattle.wl_client.specs.Reports.{after_next, next_answer};

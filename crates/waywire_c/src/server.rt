@@ -1,9 +1,11 @@
 //! What C calls of a server.
 ghost use Rattle.std.specs.Prelude.{◌≡◌, ◌≢◌, ◌++◌, length, take, drop};
 ghost use Rattle.wl_message.specs.Outgoing.{goes, waiting_bytes, waiting_tokens};
-ghost use Rattle.wl_end.specs.Core.{in_room, is_drained, live, display_object, feeds, with_arrived, with_gone};
+ghost use Rattle.wl_connection.specs.Core.{in_room, is_drained, live, display_object, feeds};
+ghost use Rattle.wl_connection.specs.Core.{with_arrived, with_gone};
 ghost use Rattle.wl_server.specs.State.{with_core};
-ghost use Rattle.wl_server.specs.Calls.{after_drop, after_error, after_withdraw, drop_refusal, error_refusal, with_global, withdraw_refusal};
+ghost use Rattle.wl_server.specs.Calls.{after_drop, after_error, after_withdraw, drop_refusal};
+ghost use Rattle.wl_server.specs.Calls.{error_refusal, with_global, withdraw_refusal};
 ghost use Rattle.wl_server.specs.Requests.{after_next};
 ghost use Rattle.waywire_c.specs.Statuses.{find_outcome, global_outcome, send_outcome};
 ghost use Rattle.waywire_c.specs.Values.{fed_of, iface_at, object_of, taken_of};
