@@ -12,7 +12,7 @@ use Rattle.std.proofs.lemmas.List.Folds.{list_any_at}
 use Rattle.wl_wire.specs.declared.kind.Kind.{Kind}
 use Rattle.wl_wire.specs.declared.kind.Kind.TheVariants as kinds
 use Rattle.wl_wire.specs.declared.kind.Iface.{Iface}
-use Rattle.wl_wire.specs.Argument.{Int, Uint, Fixed, Str, Obj, New, NewNamed, Array, Fd}
+use Rattle.wl_wire.specs.Argument.{Int, Obj, New}
 use Rattle.wl_sigs.specs.declared.signature.Side.{Side}
 use Rattle.wl_sigs.specs.declared.signature.Side.TheVariants.{Request, Event}
 use Rattle.wl_sigs.specs.Tables.{Message, Interface, interface_at, signature_at, messages_of, message_of, new_objects, has_destroying_event, destroys_target}
@@ -42,6 +42,7 @@ of_at tables place side opcode m (Some i) e h = record { interface = i; there = 
 pub of_message : (tables : List Interface) (place : ℕ) (side : Side) (opcode : ℕ) (m : Message) → signature_at tables place side opcode ≡ Some m → Of tables place side opcode m
 of_message tables place side opcode m h = of_at tables place side opcode m (interface_at tables place) refl h
 
+-- an opcode that has a signature is below 65536
 pub opcode_low : (tables : List Interface) → Valid tables → (place : ℕ) (side : Side) (opcode : ℕ) (m : Message) → signature_at tables place side opcode ≡ Some m → opcode < 65536
 opcode_low tables v place side opcode m h =
     let o = of_message tables place side opcode m h in
@@ -57,6 +58,7 @@ with_event i true opcode m e h k =
     let q : ◌≡◌ {A = Option Message} None (Some m) = sym n ∙ ap (λ (l : List Message). slice_get l opcode) (sym (h e)) ∙ k in
     absurd (cc q)
 
+-- an interface with a request has no destroying event
 pub target_plain : (tables : List Interface) → Valid tables → (x : Born) (opcode : ℕ) (m : Message) → signature_at tables x.iface.0 Request opcode ≡ Some m → by_event tables x ≡ false
 target_plain tables v x opcode m h =
     let o = of_message tables x.iface.0 Request opcode m h in
@@ -83,25 +85,16 @@ named_plain tables view k id birth (Some iface) null e n p h =
     ap (λ o. by_event tables (born_at o)) l.there ∙ argument_plain tables iface l.entry.iface (interface_at tables l.entry.iface.0) refl of (λ i q. p null iface i e q)
 
 object_kind : (k : Kind) (x : Object) → suits k (Obj (Some x)) ≡ true → (null : Bool) × (iface : Option Iface) × (k ≡ kinds.Obj null iface)
-object_kind kinds.Int x h = absurd (cc h)
-object_kind kinds.Uint x h = absurd (cc h)
-object_kind kinds.Fixed x h = absurd (cc h)
-object_kind (kinds.Str n) x h = absurd (cc h)
 object_kind (kinds.Obj null iface) x h = (null, iface, refl)
 object_kind (kinds.New None) x h = absurd (cc h)
-object_kind (kinds.New (Some i)) x h = absurd (cc h)
-object_kind kinds.Array x h = absurd (cc h)
-object_kind kinds.Fd x h = absurd (cc h)
+object_kind kind x h = absurd (cc h)
 
+-- an object that a request can name has no destroying event
 pub objects_plain : (tables : List Interface) (view : View) (new : Known) (ks : List Kind) (given : List Given) → AllRight view ks given → All NamedKind ks → All (PlainKind tables) ks
     → Each (λ x. by_event tables x.born ≡ false) (objects (map (meant view new) given))
 objects_plain tables view new [] [] r n p = tt
 objects_plain tables view new [] (a ∷ given) r n p = absurd r
 objects_plain tables view new (k ∷ ks) [] r n p = absurd r
-objects_plain tables view new (k ∷ ks) (Int z ∷ given) r n p = objects_plain tables view new ks given r.1 (All-tail NamedKind k ks n) (All-tail (PlainKind tables) k ks p)
-objects_plain tables view new (k ∷ ks) (Uint z ∷ given) r n p = objects_plain tables view new ks given r.1 (All-tail NamedKind k ks n) (All-tail (PlainKind tables) k ks p)
-objects_plain tables view new (k ∷ ks) (Fixed z ∷ given) r n p = objects_plain tables view new ks given r.1 (All-tail NamedKind k ks n) (All-tail (PlainKind tables) k ks p)
-objects_plain tables view new (k ∷ ks) (Str z ∷ given) r n p = objects_plain tables view new ks given r.1 (All-tail NamedKind k ks n) (All-tail (PlainKind tables) k ks p)
 objects_plain tables view new (k ∷ ks) (Obj None ∷ given) r n p = objects_plain tables view new ks given r.1 (All-tail NamedKind k ks n) (All-tail (PlainKind tables) k ks p)
 objects_plain tables view new (k ∷ ks) (Obj (Some x) ∷ given) r n p =
     let o = object_kind k x r.0.suit in (
@@ -109,10 +102,7 @@ objects_plain tables view new (k ∷ ks) (Obj (Some x) ∷ given) r n p =
           (subst (λ (y : Kind). (is_live_as x.birth (look view x.id) && row_is_of (iface_of y) (look view x.id)) ≡ true) o.2 r.0.named),
       objects_plain tables view new ks given r.1 (All-tail NamedKind k ks n) (All-tail (PlainKind tables) k ks p),
     )
-objects_plain tables view new (k ∷ ks) (New x ∷ given) r n p = objects_plain tables view new ks given r.1 (All-tail NamedKind k ks n) (All-tail (PlainKind tables) k ks p)
-objects_plain tables view new (k ∷ ks) (NewNamed name own x ∷ given) r n p = objects_plain tables view new ks given r.1 (All-tail NamedKind k ks n) (All-tail (PlainKind tables) k ks p)
-objects_plain tables view new (k ∷ ks) (Array z ∷ given) r n p = objects_plain tables view new ks given r.1 (All-tail NamedKind k ks n) (All-tail (PlainKind tables) k ks p)
-objects_plain tables view new (k ∷ ks) (Fd z ∷ given) r n p = objects_plain tables view new ks given r.1 (All-tail NamedKind k ks n) (All-tail (PlainKind tables) k ks p)
+objects_plain tables view new (k ∷ ks) (a ∷ given) r n p = objects_plain tables view new ks given r.1 (All-tail NamedKind k ks n) (All-tail (PlainKind tables) k ks p)
 
 -- what `send` writes makes no object without an interface in its signature
 pub unnamed_none : (tables : List Interface) → Valid tables → (iface : Iface) (side : Side) (opcode : ℕ) (m : Message) → signature_at tables iface.0 side opcode ≡ Some m → is_hidden side iface opcode ≡ false
@@ -126,6 +116,7 @@ unnamed_none tables v iface Event opcode m h hid = elim (v.unnamed_new_in_bind_a
   | inr a ↦ a
 ]
 
+-- a signature makes at most one object
 pub few_new : (tables : List Interface) → Valid tables → (place : ℕ) (side : Side) (opcode : ℕ) (m : Message) → signature_at tables place side opcode ≡ Some m → length (new_objects m.kinds) ≤ 1
 few_new tables v place Request opcode m h = v.few_objects_made.requests place opcode m h
 few_new tables v place Event opcode m h = let e = ap length (v.few_objects_made.events place opcode m h) in omega (arith, e)
@@ -140,6 +131,7 @@ display_keeps zero m h = subst KeepsTarget h refl
 display_keeps (suc zero) m h = subst KeepsTarget h refl
 display_keeps (suc (suc n)) m h = absurd (cc h)
 
+-- no request of wl_display destroys it
 pub display_lasts : (tables : List Interface) → Valid tables → (opcode : ℕ) (m : Message) → signature_at tables 0 Request opcode ≡ Some m → destroys_target m.destroys ≡ false
 display_lasts tables v opcode m h = display_keeps opcode m (ap (option_and_then (message_of Request opcode)) (sym v.fixed_four.display) ∙ h)
 
@@ -148,13 +140,16 @@ event_ends : (i : Interface) (opcode : ℕ) (m : Message) → slice_get i.events
 event_ends i opcode m h d =
     list_any_at (λ (x : Message). destroys_target x.destroys) i.events opcode m (slice_get_within i.events opcode m h) (ap (λ (x : Message). destroys_target x.destroys) (get_or_from_slice_get i.events opcode m m h) ∙ d)
 
+-- an interface with an event that destroys its target has a destroying event
 pub ends_so : (tables : List Interface) (x : Born) (opcode : ℕ) (m : Message) → signature_at tables x.iface.0 Event opcode ≡ Some m → destroys_target m.destroys ≡ true → by_event tables x ≡ true
 ends_so tables x opcode m h d =
     let o = of_message tables x.iface.0 Event opcode m h in
     ap is_ended_by_event o.there ∙ event_ends o.interface opcode m o.message d
 
+-- no event makes an object
 pub no_event_new : (tables : List Interface) → Valid tables → (place opcode : ℕ) (m : Message) → signature_at tables place Event opcode ≡ Some m → length (new_objects m.kinds) ≤ 0
 no_event_new tables v place opcode m h = let e = ap length (v.few_objects_made.events place opcode m h) in omega (arith, e)
 
+-- wl_display has no destroying event
 pub display_plain : (tables : List Interface) → Valid tables → is_ended_by_event (interface_at tables 0) ≡ false
 display_plain tables v = rw v.fixed_four.display refl

@@ -34,9 +34,11 @@ use Rattle.theory_recording.proofs.JudgedAsMeant.{call_as}
 
 -- ---- what is advertised stays so
 
+-- what was advertised of a global never becomes less
 abbrev pub Grows : Knows → Knows → Type 0
 Grows k k' = (name iface : ℕ) → k.advertised_version name iface ≤ k'.advertised_version name iface
 
+-- each global that the client remembers is still advertised
 pub remembers_on : (k k' : Knows) → Grows k k' → (gs : List Remembered) → Each (λ g. IsAdvertised k g.name g.iface.0 g.version) gs → Each (λ g. IsAdvertised k' g.name g.iface.0 g.version) gs
 remembers_on k k' grows gs h =
     each_by (λ (g : Remembered). IsAdvertised k g.name g.iface.0 g.version) (λ (g : Remembered). IsAdvertised k' g.name g.iface.0 g.version)
@@ -46,12 +48,14 @@ tells_one : (tables : List Interface) (k k' : Knows) → Grows k k' → (c : Com
 tells_one tables k k' grows (Event m) h = λ is name version text iface args place. (let l = h is name version text iface args place in let more = grows name iface.0 in omega (arith, l, more))
 tells_one tables k k' grows (Delete x) h = tt
 
+-- each global that is told is still advertised
 pub tells_on : (tables : List Interface) (k k' : Knows) → Grows k k' → (cs : List (Coming Known)) → Each (TellsAdvertised tables k) cs → Each (TellsAdvertised tables k') cs
 tells_on tables k k' grows cs h = each_by (TellsAdvertised tables k) (TellsAdvertised tables k') (tells_one tables k k' grows) cs h
 
 binds_one : (k k' : Knows) → Grows k k' → (m : Message Known) → BindsAdvertised k m → BindsAdvertised k' m
 binds_one k k' grows m h = λ is name x first made. (let l = h is name x first made in let more = grows name x.born.iface.0 in omega (arith, l, more))
 
+-- each global that is bound is still advertised
 pub binds_on : (k k' : Knows) → Grows k k' → (ms : List (Message Known)) → Each (BindsAdvertised k) ms → Each (BindsAdvertised k') ms
 binds_on k k' grows ms h = each_by (BindsAdvertised k) (BindsAdvertised k') (binds_one k k' grows) ms h
 
@@ -77,13 +81,7 @@ named_as : (tables : List Interface) (target : ℕ) (kind : Kind) (iface : List 
     → IsNamed tables iface version new
 named_as tables target (kinds.New None) iface version new h = named_by tables iface version new (place_of tables iface) refl h
 named_as tables target (kinds.New (Some i)) iface version new h = absurd (cc h)
-named_as tables target kinds.Int iface version new h = absurd (cc h)
-named_as tables target kinds.Uint iface version new h = absurd (cc h)
-named_as tables target kinds.Fixed iface version new h = absurd (cc h)
-named_as tables target (kinds.Str null) iface version new h = absurd (cc h)
-named_as tables target (kinds.Obj null i) iface version new h = absurd (cc h)
-named_as tables target kinds.Array iface version new h = absurd (cc h)
-named_as tables target kinds.Fd iface version new h = absurd (cc h)
+named_as tables target kind iface version new h = absurd (cc h)
 
 named_in : (tables : List Interface) (target name : ℕ) (iface : List ℕ) (version : ℕ) (new : Known) (ks : List Kind) → AreOf tables target ks (Uint name ∷ NewNamed iface version new ∷ [])
     → IsNamed tables iface version new
@@ -140,6 +138,7 @@ bad_bind_at tables given k m entry fit true v c iface version told is =
     let may = fine_bind tables k g.name g.new low high (told bind g.name g.new first new) in
     rw (is, first, makes, may) refl
 
+-- a bind that fits, of a global that was advertised, is not a bad one
 pub no_bad_bind : (tables : List Interface) (given : List Global) (k : Knows) (m : Message Known) (entry : Entry) (fit : AsksFitly tables given m) → Valid tables → Each (IsGlobal tables) given
     → entry.iface ≡ m.target.born.iface → entry.version ≡ m.target.born.version → BindsAdvertised k m
     → is_bad_bind tables k Request m.opcode (call_as ToServer m entry fit.fits.signature).received ≡ false

@@ -60,12 +60,14 @@ module _ {test : Born → Bool} where
   use_last n (make a r) h f = make a (use_last n r h f)
   use_last n (destroy z a b r) h f = destroy z a b (use_last n r h f)
 
+  -- requests lead to where one more makes an object
   pub make_last : {qs : List Ask} {v w : Rows Row} (n : Known) → Leads test qs v w → Fresh w n → Leads test (qs ++ Make n ∷ []) v (made w n.id (Open n.born))
   make_last n done g = make g done
   make_last n (use_ a b r) g = use_ a b (make_last n r g)
   make_last n (make a r) g = make a (make_last n r g)
   make_last n (destroy z a b r) g = destroy z a b (make_last n r g)
 
+  -- requests lead to where one more destroys an object
   pub destroy_last : {qs : List Ask} {v w : Rows Row} (n : Known) → Leads test qs v w → w.rows n.id ≡ Some (Open n.born) → test n.born ≡ false → n.id ≢ 1
       → Leads test (qs ++ Destroy n ∷ []) v (at w n.id (Some (Ending n.born)))
   destroy_last n done h f y = destroy y h f done
@@ -75,12 +77,14 @@ module _ {test : Born → Bool} where
 
   -- ---- the events in flight in two parts
 
+  -- events are read in two parts
   pub reads_parted : (es : List Tell) {fs : List Tell} {v w : Rows Row} → Reads test (es ++ fs) v w → Parted test es fs v w
   reads_parted [] {fs} {v} {w} r = record { between = v; first = all_read; then = r }
   reads_parted (e ∷ es) (name a r) = let p = reads_parted es r in record { between = p.between; first = name a p.first; then = p.then }
   reads_parted (e ∷ es) (end b a r) = let p = reads_parted es r in record { between = p.between; first = end b a p.first; then = p.then }
   reads_parted (e ∷ es) (delete z a b r) = let p = reads_parted es r in record { between = p.between; first = delete z a b p.first; then = p.then }
 
+  -- events lead from rows to just one set of rows
   pub reads_one_way : {es : List Tell} {v a b : Rows Row} → Reads test es v a → Reads test es v b → a ≡ b
   reads_one_way all_read all_read = refl
   reads_one_way (name p r) (name q s) = reads_one_way r s

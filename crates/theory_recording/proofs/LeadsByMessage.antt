@@ -61,6 +61,7 @@ module _ {test : Born → Bool} where
     reads = destroy_before x.id x.born m.reads h f;
   }
 
+  -- a request behind those not yet recorded: the rows join again
   pub asks_more : {qs : List Ask} {es : List Tell} {here v : Rows Row} (x : Known) (xs : List Known) (n o : Option Known)
       → Joins test qs es here v → OpenRow v x → test x.born ≡ false → Each (OpenRow v) xs → Each (λ o. test o.born ≡ false) xs → IfThere (Fresh v) n
       → IfThere (OpenRow v) o → IfThere (λ x. test x.born ≡ false) o → IfThere Mortal o
@@ -88,6 +89,7 @@ module _ {test : Born → Bool} where
   new_off x xs None o h k r = let p = ends_off o r in record { target = h; args = k; new = tt; mortal = p.1; rest = p.0 }
   new_off x xs (Some n) o h k (make g r) = let p = ends_off o r in record { target = h; args = k; new = g; mortal = p.1; rest = p.0 }
 
+  -- what the first of the requests that lead on names is open, and the others lead on behind it
   pub ask_recorded : {qs : List Ask} {v w : Rows Row} (x : Known) (xs : List Known) (n o : Option Known) → Leads test ((Use x ∷ (map Use xs ++ (makes n ++ destroys o))) ++ qs) v w
       → RecordsAsk test qs v w x xs n o
   ask_recorded {qs} {v} {w} x xs n o (use_ h f r) =

@@ -31,6 +31,9 @@
 //! descriptors pass, `flush` writes what waits to a stream (steps 2 and 3), and `fill` reads from
 //! one (steps 3 and 4). No call waits by itself, and none calls back.
 //!
+//! The calls that both ends have, such as `take` and `feed`, are those of the trait [`End`]: bring
+//! it in with them, and write code for either end over it.
+//!
 //! Messages have names: [`request::wl_surface::COMMIT`](request) is the opcode of
 //! wl_surface.commit, and [`event::wl_callback::DONE`](event) that of wl_callback.done.
 //!
@@ -97,7 +100,7 @@
 //! use anyhow::{Context, Result, bail};
 //! use std::io::Write;
 //! use wl::{
-//!     Arg, Direction, Got, GotRef, Incoming, Limit, Object, OwnedArgs, OwnedIncoming, Recording,
+//!     Arg, Direction, End, Got, GotRef, Incoming, Limit, Object, OwnedArgs, OwnedIncoming, Recording,
 //!     Sizes, SlotTable, Tables, event, request, trace,
 //! };
 //!
@@ -263,7 +266,7 @@
 
 pub use wl_check::Inspector;
 pub use wl_client::{Client, Incoming, OwnedIncoming, Tokens};
-pub use wl_connection::ReadAll;
+pub use wl_connection::{End, ReadAll};
 pub use wl_message::{Fed, FillError, FlushError, Limit, Piece, Sizes, Taken};
 pub use wl_objects::{
     Arg, Args, Entry, Fault, Got, GotRef, MapTable, Named, NextError, Object, OwnedArgs, SendError,

@@ -1,5 +1,5 @@
 -- What a server is after the step of a request.
-use Rattle.std.proofs.Common.{◌≡◌, ◌≢◌, ℕ, zero, suc, ◌+◌, ◌<◌, ◌≤◌, length, take, drop, get_or, Bool, true, false, List, [], ◌∷◌, ◌++◌, Some, None, map, refl, sym, ap, subst, ◌∙◌, inr, arith, rules, eqb, cond}
+use Rattle.std.proofs.Common.{◌≡◌, ◌≢◌, ℕ, ◌+◌, ◌<◌, length, take, get_or, Bool, true, false, List, [], ◌∷◌, ◌++◌, Some, None, map, refl, sym, ap, subst, ◌∙◌, inr, arith, rules, eqb, cond}
 use Rattle.std.specs.Prelude.{Option, not, nat_eq, if◌then◌else◌, IsOk, IsTrue, is_some}
 use Rattle.std.specs.List.{filter}
 use Rattle.std.specs.declared.result.Result.{Result}
@@ -15,21 +15,21 @@ use Rattle.wl_objects.specs.declared.error.NextError.TheVariants as errors
 use Rattle.wl_object_map.specs.declared.object.Object.{Object}
 use Rattle.wl_object_map.specs.View.{View, is_held, look}
 use Rattle.wl_object_map.specs.Views.{look-opened_at}
+use Rattle.wl_objects.specs.declared.parsed.ParsedArg.{ParsedArg}
 use Rattle.wl_objects.specs.Messages.{NewObject, made, opens, same_iface, reader_of}
 use Rattle.wl_sigs.specs.Fixed.{registry}
-use Rattle.wl_wire.specs.Word.{header_bytes}
-use Rattle.wl_wire.specs.declared.header.Header.{Header}
-use Rattle.wl_message.specs.Cut.{front, Whole}
-use Rattle.wl_message.specs.Arrived.{Arrived, without_first}
+use Rattle.wl_message.specs.Arrived.{Arrived, Tells, without_first}
+use Rattle.wl_message.specs.declared.inbox.Frame.{Frame}
 use Rattle.wl_connection.specs.Core.{Core, past, with_view}
 use Rattle.wl_connection.specs.Receiving.{Found, is_none}
 use Rattle.wl_connection.specs.Outcomes.{answers_with, left}
-use Rattle.wl_connection.proofs.Receivings.{some_reported}
+use Rattle.wl_connection.proofs.Frames.{body-front}
+use Rattle.wl_connection.proofs.Receivings.{first-tokens, some_reported}
 use Rattle.wl_server.specs.State.{State, Global, Registry, RiseFrom, with_core, untold}
 use Rattle.wl_server.specs.Requests.{Report, report, request, made_in, is_out_full, next_answer, after_next, answer_found, state_found, state_past, registries_after, needs_memory, opens_object, IsNext, IsLentNext}
 use Rattle.wl_server.specs.Registries.{without_registry, registry_birth}
 use Rattle.wl_server.specs.declared.pending.PendingRequest.{PendingRequest}
-use Rattle.wl_server.specs.Steps.{Step, ended_by, pending_in, report_over, taken_report, step_of, step_found, front_step, checked_front, after_front, after_step, report_by, core_by, core_told, core_without, state_of}
+use Rattle.wl_server.specs.Steps.{CanTake, Step, ended_by, pending_in, outlined, taken_report, step_of, step_found, front_step, checked_front, after_front, after_step, report_by, core_by, core_told, core_without, registries_by, state_of, whole_state}
 use Rattle.wl_server.proofs.Risings.{rise-below, rise-new}
 
 -- ---- the registries
@@ -204,25 +204,41 @@ inbox-without (Some object) core = refl
 pub inbox-taken : (core : Core) (step : Step) → (core_by core step).inbox ≡ without_first core.inbox step.size step.tokens
 inbox-taken core step = inbox-without step.ended (past (with_view core (opens core.view step.made)) step.size step.tokens)
 
--- ---- the tokens of a request in front
-
-pub first-taken : (n : ℕ) (a b : List ℕ) → n ≤ length a → n ≤ length b → ((k : ℕ) → k < n → get_or a k 0 ≡ get_or b k 0) → take n a ≡ take n b
-first-taken zero a b p q f = refl
-first-taken (suc n) [] b p q f = absurd (omega (arith, p))
-first-taken (suc n) (x ∷ a) [] p q f = absurd (omega (arith, q))
-first-taken (suc n) (x ∷ a) (y ∷ b) p q f =
-    let one : x ≡ y = f 0 (omega arith) in
-    let more = first-taken n a b (omega (arith, p)) (omega (arith, q)) (λ k l. f (suc k) (omega (arith, l))) in
-    λ i. one i ∷ more i
-
--- the body of the message in front
-pub body-front : (limit : ℕ) (bytes body : List ℕ) (n : ℕ) (h : Header) → front limit bytes ≡ Whole n → front limit bytes ≡ Whole h.size → take h.size bytes ≡ header_bytes h ++ body → body ≡ drop 8 (take n bytes)
-body-front limit bytes body n h f g t =
-    let both = sym f ∙ g in
-    let same : n ≡ h.size = cc both in
-    sym (ap (λ (k : ℕ). drop 8 (take k bytes)) same ∙ ap (drop 8) t)
-
 -- ---- the report that is lent
 
-pub taken-is : (core now : Core) (p : PendingRequest) → now ≡ core_by core (pending_in core p) → taken_report now p ≡ (pending_in core p).report
-taken-is core now p e = ap (λ (k : Core). taken_report k p) e ∙ ap (λ (b : Arrived). report_over b.last b.last_tokens p) (inbox-taken core (pending_in core p))
+pub taken-is : (core now : Core) (args : List ParsedArg) (p : PendingRequest) → now ≡ core_by core (pending_in core args p) → taken_report now args p ≡ (pending_in core args p).report
+taken-is core now args p e = ap (λ (k : Core). taken_report k args p) e ∙ ap (λ (b : Arrived). outlined b.last args b.last_tokens p.outline) (inbox-taken core (pending_in core args p))
+
+-- ---- the report that is copied
+
+-- the body and the tokens of a request in front, as they were told
+pub front-told : (core inner : Core) (args held : List ParsedArg) (p : PendingRequest) (o : Option Frame) (f : Frame) (tokens : List ℕ) → inner ≡ core → held ≡ args → CanTake core (pending_in core args p) → o ≡ Some f → Tells inner.inbox (Ok o) → length tokens ≡ 20
+    → ((place : ℕ) → place < p.tokens → place < 20 → get_or tokens place 0 ≡ get_or inner.inbox.tokens place 0)
+    → outlined f.body.now held (take p.tokens tokens) p.outline ≡ (pending_in core args p).report
+front-told core inner args held p o f tokens same kept can e t all first =
+    let told = subst (λ (x : Option Frame). Tells core.inbox (Ok x)) e (subst (λ (k : Core). Tells k.inbox (Ok o)) same t) in
+    let body = body-front core.inbox.limit.bytes core.inbox.bytes f.body.now p.size f.header can.whole told.0 told.1 in
+    let few = can.few in
+    let own = first-tokens p.tokens tokens core.inbox.tokens (omega (arith, few, all)) can.tokens (λ k less. first k less (omega (arith, less, few)) ∙ ap (λ (b : Core). get_or b.inbox.tokens k 0) same) in
+    λ i. outlined (body i) (kept i) (own i) p.outline
+
+-- ---- a read of an end and what stands beside it
+
+-- after an error
+pub err-left : (core now : Core) (globals : List Global) (rs : List Registry) (why : NextError) → Err why ≡ checked_front (whole_state core globals rs) → now ≡ core_told core why
+    → whole_state now globals rs ≡ left (whole_state core globals rs) (after_next (whole_state core globals rs)) (let it : Result (Option Report) NextError = Err why in it)
+err-left core now globals rs why e n = ap (λ (k : Core). whole_state k globals rs) n ∙ leaves-err (whole_state core globals rs) why e
+
+-- where nothing is whole yet
+pub none-left : (core now : Core) (globals : List Global) (rs : List Registry) → Ok None ≡ checked_front (whole_state core globals rs) → now ≡ core
+    → whole_state now globals rs ≡ after_next (whole_state core globals rs)
+none-left core now globals rs e n = ap (λ (k : Core). whole_state k globals rs) n ∙ after-is (whole_state core globals rs) (Ok None) e
+
+-- where a request was taken
+pub taken-left : (core now : Core) (globals : List Global) (rs ms : List Registry) (step : Step) → Ok (Some step) ≡ checked_front (whole_state core globals rs) → now ≡ core_by core step → ms ≡ registries_by core rs step
+    → whole_state now globals ms ≡ after_next (whole_state core globals rs)
+taken-left core now globals rs ms step e n m = (λ i. whole_state (n i) globals (m i)) ∙ after-is (whole_state core globals rs) (Ok (Some step)) e
+
+-- what is reported of it
+pub step-answer : (state : State) (step : Step) (report : Report) → Ok (Some step) ≡ checked_front state → report ≡ step.report → (let it : Result (Option Report) NextError = Ok (Some report) in it) ≡ next_answer state
+step-answer state step report e r = ap (λ (x : Report). let it : Result (Option Report) NextError = Ok (Some x) in it) r ∙ answer-is state (Ok (Some step)) e

@@ -8,6 +8,7 @@ mod end;
 mod faults;
 mod globals;
 mod laws;
+mod outline;
 mod pending;
 mod read_all;
 mod receive;
@@ -15,7 +16,6 @@ mod registry;
 mod report;
 mod send;
 mod server;
-mod transport;
 
 pub use globals::GlobalError;
 pub use laws::{any_cut_reads, one_reading, own_messages_are_spelled, whole_messages_are_read};
