@@ -179,4 +179,4 @@ lent_got (refs.Fd token) = Fd token
 
 -- the arguments that are left to go through
 abbrev pub seen_args : Args → List Reported
-seen_args a = reported_in a.body.now a.birth a.tokens.now (take a.left (drop a.from a.items))
+seen_args a = reported_in a.body.now a.birth a.tokens.now a.left.now

@@ -35,7 +35,7 @@ message_of read = record {
   target = read.target;
   entry = read.entry;
   signature = read.signature.now;
-  values = spelled_in read.body.now read.args;
+  values = spelled_in read.body.now read.args.now;
 }
 
 abbrev pub received_in : Result Read Fault → Result Received Fault
