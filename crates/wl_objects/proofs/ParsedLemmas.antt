@@ -109,15 +109,6 @@ pub parsed-end : (r q : Reader) (i end place birth : ℕ) (ks : List Kind) (body
     → Ok (all_parsed body birth (take i items), drop end body) ≡ behind_those (all_parsed body birth (take i items)) (made_of r place (arguments_at q i (drop i ks) (drop end body)))
 parsed-end r q i end place birth ks body items b = rw (drop_all i ks b, append-nil) refl
 
--- ---- what is left to go through
-
-pub left-next : {X Y : Type 0} (f : X → Y) (items : List X) (from left : ℕ) (x : X) → from < length items → x ≡ get_or items from x → (left ≡ 0 → ⊥)
-    → map f (take left (drop from items)) ≡ f x ∷ map f (take (left - 1) (drop (from + 1) items))
-left-next f items from zero x p e z = absurd (z refl)
-left-next f items from (suc left) x p e z =
-    let n : suc left - 1 ≡ left = omega arith in
-    rw (n, add-one, drop-cons items from x p) (ap (λ y. f y ∷ map f (take left (drop (suc from) items))) (sym e))
-
 pub behind-least : (p : ParsedArg) (place i : ℕ) → place ≤ i → place_behind p place ≤ i + 1
 behind-least p place i h = by (is_fd p)
   where

@@ -28,12 +28,7 @@ pub struct Args<'a> {
 impl<'a> Args<'a> {
     /// The arguments of a message with this body and these tokens, where an object that it makes
     /// has this birth.
-    pub fn new(
-        args: &'a ParsedArgs,
-        body: &'a [u8],
-        tokens: &'a [u32],
-        birth: u64,
-    ) -> Args<'a>
+    pub fn new(args: &'a ParsedArgs, body: &'a [u8], tokens: &'a [u32], birth: u64) -> Args<'a>
         ensures { seen_args result ≡ reported_in body.now birth tokens.now args.now }
     {
         Args {
@@ -148,7 +143,8 @@ fn got_of<'a>(body: &'a [u8], birth: u64, tokens: &[u32], parsed: ParsedArg) -> 
     }
 }
 
-fn in_state(state: State, object: Object) -> Named
+/// An object, live or dead as its entry is.
+pub(crate) fn in_state(state: State, object: Object) -> Named
     ensures { result ≡ in_state state object }
 {
     match state {

@@ -6,16 +6,18 @@ ghost use Rattle.wl_wire.specs.Reading.{reading};
 ghost use Rattle.wl_objects.specs.Reading.{arguments_at, forgiving, judged, kind_at, named};
 ghost use Rattle.wl_objects.specs.Reading.{object_fault, value_fault};
 ghost use Rattle.wl_objects.specs.Parsed.{AreParsed, Lies, argument_of, made_of, made_of_one};
-ghost use Rattle.wl_objects.specs.Parsed.{made_unless, one_in, parsed_in, parsed_one, part};
+ghost use Rattle.wl_objects.specs.Parsed.{made_unless, object_in, one_in, parsed_in, parsed_one, part};
 ghost use Rattle.wl_objects.specs.Parsed.{place_behind, placed_of, spelled_in, whole_in};
 
+use crate::args::in_state;
+use crate::argument::Named;
 use crate::error::Fault;
 use crate::lookup::Lookup;
 use crate::reading::{iface_of, new_fault, object_fault};
 use std::fmt::{self, Debug, Formatter};
 use std::marker::Model;
 use std::mem::size_of;
-use wl_table::{Entry, State};
+use wl_table::{Entry, Object, State};
 use wl_wire::{Fixed, Kind, ValueRef, read_ref};
 
 /// The most arguments that a message has.
@@ -116,6 +118,23 @@ impl ParsedArgs {
     {
         let parsed = self.as_slice().get(place)?;
         Some(value_of(body, *parsed))
+    }
+
+    /// The object that the argument at a place names, counted from 0, as it was when the message
+    /// was read; null where it names none.
+    pub fn object(&self, place: usize) -> Named
+        ensures { result ≡ object_in (slice_get self.now place) }
+    {
+        match self.as_slice().get(place) {
+            Some(ParsedArg::Object { id, birth, state }) => in_state(
+                *state,
+                Object {
+                    id: *id,
+                    birth: *birth,
+                },
+            ),
+            _ => Named::Null,
+        }
     }
 }
 
