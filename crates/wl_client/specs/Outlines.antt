@@ -6,9 +6,9 @@ use Rattle.std.specs.declared.result.Result.{Result}
 use Rattle.std.specs.declared.result.Result.TheVariants.{Ok, Err}
 use Rattle.std.specs.declared.alloc.Allocator as allocator
 use Rattle.std.specs.declared.clone.Clone as clone
-use Rattle.wl_message.specs.Arrived.{Arrived}
 use Rattle.wl_table.specs.declared.table.Table as table
 use Rattle.wl_objects.specs.declared.error.NextError.{NextError}
+use Rattle.wl_objects.specs.declared.parsed.ParsedArg.{ParsedArg}
 use Rattle.wl_objects.specs.Parsed.{reported_in, spelled_in, seen_args}
 use Rattle.wl_client.specs.declared.report.Incoming.{Incoming}
 use Rattle.wl_client.specs.declared.report.Incoming.TheVariants as incoming
@@ -32,23 +32,16 @@ lent_in (Err why) = Err why
 lent_in (Ok None) = Ok None
 lent_in (Ok (Some read)) = Ok (Some (lent_report read))
 
--- what an outline is with a message's body and tokens
-abbrev pub outlined : List ℕ → List ℕ → Outline → Report
-outlined body tokens (outlines.Event target opcode args birth) =
+-- what an outline is with a message's body, its arguments as they were parsed, and its tokens
+abbrev pub outlined : List ℕ → List ParsedArg → List ℕ → Outline → Report
+outlined body args tokens (outlines.Event target opcode birth) =
     Event target opcode (reported_in body birth tokens args)
-outlined body tokens (outlines.Discarded target opcode count) =
+outlined body args tokens (outlines.Discarded target opcode count) =
     Discarded target opcode (take count tokens)
-outlined body tokens (outlines.Deleted object) = Deleted object
-outlined body tokens (outlines.Stray id) = Stray id
-outlined body tokens (outlines.Error id object code args) =
+outlined body args tokens (outlines.Deleted object) = Deleted object
+outlined body args tokens (outlines.Stray id) = Stray id
+outlined body args tokens (outlines.Error id object code) =
     Error id object code (text_in (argument (spelled_in body args) 2))
-
--- what an outline is with the message that was taken out of an inbox last
-abbrev pub outline_in : Arrived → Result (Option Outline) NextError
-    → Result (Option Report) NextError
-outline_in inbox (Err why) = Err why
-outline_in inbox (Ok None) = Ok None
-outline_in inbox (Ok (Some outline)) = Ok (Some (outlined inbox.last inbox.last_tokens outline))
 
 -- The client's type as the logic holds it: `named 0` is the place of its lifetime in a signature.
 abbrev pub client_row : (T : RattleType) (A : RattleType) → table.Ghosts T.Denot A.Denot

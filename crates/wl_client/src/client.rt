@@ -9,7 +9,7 @@ ghost use Rattle.wl_client.specs.State.{new_state, with_core};
 use crate::globals::Remembered;
 use std::alloc::AllocError;
 use std::marker::Model;
-use wl_end::Core;
+use wl_end::{Core, Endpoint};
 use wl_message::{Fed, Sizes, Taken};
 use wl_objects::{Object, Table};
 use wl_sigs::Tables;
@@ -19,7 +19,7 @@ use wl_wire::Iface;
 /// that it was told.
 #[derive(Drop)]
 pub struct Client<'t, T: Table> {
-    pub(crate) core: Core<'t, T>,
+    pub(crate) end: Endpoint<'t, T>,
     pub(crate) globals: Remembered<T::Alloc>,
     /// Allocates owned reports.
     pub(crate) alloc: T::Alloc,
@@ -34,7 +34,7 @@ impl<'t, T: Table> Model for Client<'t, T> {
 
     ghost coded = { Prim.hlevel (codes, view_code) };
 
-    ghost view = { λ c. record { core = c.core; globals = c.globals } };
+    ghost view = { λ c. record { core = c.end.core; globals = c.globals } };
 }
 
 impl<'t, T: Table> Client<'t, T> {
@@ -47,7 +47,7 @@ impl<'t, T: Table> Client<'t, T> {
         let own = alloc.clone()?;
         let core = Core::new(alloc, tables, sizes)?;
         Ok(Client {
-            core,
+            end: Endpoint::new(core),
             globals,
             alloc: own,
         })
@@ -57,35 +57,35 @@ impl<'t, T: Table> Client<'t, T> {
     pub fn display(&self) -> Object
         ensures { result ≡ display_object }
     {
-        self.core.display()
+        self.end.core.display()
     }
 
     /// The interface and version of an object that is live. At a failed client too.
     pub fn live(&self, object: Object) -> Option<(Iface, u32)>
         ensures { result ≡ live self.now.core object }
     {
-        self.core.live(object)
+        self.end.core.live(object)
     }
 
     /// The free bytes and tokens of the inbox; zeros at a failed client.
     pub fn in_room(&self) -> Fed
         ensures { result ≡ in_room self.now.core }
     {
-        self.core.in_room()
+        self.end.core.in_room()
     }
 
     /// Whether nothing waits in either box.
     pub fn is_drained(&self) -> bool
         ensures { result ≡ is_drained self.now.core }
     {
-        self.core.is_drained()
+        self.end.core.is_drained()
     }
 
     /// The objects.
     pub fn table(&self) -> &T
         ensures { T.view result.now ≡ self.now.core.view }
     {
-        &self.core.table
+        &self.end.core.table
     }
 
     /// Takes in what comes: as many tokens as fit, and where these are all, as many bytes as fit.
@@ -98,14 +98,14 @@ impl<'t, T: Table> Client<'t, T> {
             (take result.tokens tokens.now)) }
         ensures holds { self.old.core.inbox.limit.bytes ≤ self.old.core.inbox.capacity }
     {
-        self.core.feed(bytes, tokens)
+        self.end.core.feed(bytes, tokens)
     }
 
     /// How much `take` into slices of these lengths would take.
     pub fn goes(&self, bytes: usize, tokens: usize) -> Taken
         ensures { result ≡ goes self.now.core.outbox bytes tokens }
     {
-        self.core.outbox.goes(bytes, tokens)
+        self.end.core.outbox.goes(bytes, tokens)
     }
 
     /// Moves out what waits to be sent, as much as the slices hold. The tokens of a message go with
@@ -118,6 +118,6 @@ impl<'t, T: Table> Client<'t, T> {
             ++ drop result.tokens tokens.old }
         ensures state { self.new ≡ with_core self.old (with_gone self.old.core result.bytes) }
     {
-        self.core.outbox.take(bytes, tokens)
+        self.end.core.outbox.take(bytes, tokens)
     }
 }

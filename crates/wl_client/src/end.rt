@@ -1,6 +1,6 @@
 //! The client as seen by whoever carries its bytes.
 use crate::client::Client;
-use crate::pending::find_event;
+use crate::pending::find;
 use crate::report::OwnedIncoming;
 use wl_end::{End, Receiver};
 use wl_message::{Fed, Taken};
@@ -55,11 +55,11 @@ impl<'t, T: Table> Receiver for Client<'t, T> {
     ghost is_last = { is_last };
 
     fn has_failed(&self) -> bool {
-        self.core.failed
+        self.end.core.failed
     }
 
     fn has_report(&mut self) -> bool {
-        match find_event(&mut self.core) {
+        match find(&mut self.end) {
             Ok(Some(_)) => true,
             _ => false,
         }

@@ -12,7 +12,7 @@ use Rattle.wl_wire.proofs.Canonicals.{header_at-bytes}
 use Rattle.wl_sigs.specs.declared.signature.Side.{Side}
 use Rattle.wl_message.specs.declared.inbox.Frame.{Frame}
 use Rattle.wl_message.specs.Arrived.{Tells, in_front}
-use Rattle.wl_message.specs.Cut.{Whole}
+use Rattle.wl_message.specs.Cut.{Whole, front}
 use Rattle.wl_objects.specs.Reading.{descriptors, is_descriptor_kind}
 use Rattle.wl_objects.specs.Messages.{received, reader_of}
 use Rattle.wl_end.specs.Core.{Core}
@@ -44,3 +44,10 @@ framed core o f e t h = let k = rw e at t in record { header = h; whole = k.0; p
 -- a message takes no more tokens than it has arguments
 pub descriptors-le : (ks : List Kind) → descriptors ks ≤ length ks
 descriptors-le ks = count_by-le-length is_descriptor_kind ks
+
+-- the body of the message in front
+pub body-front : (limit : ℕ) (bytes body : List ℕ) (n : ℕ) (h : Header) → front limit bytes ≡ Whole n → front limit bytes ≡ Whole h.size → take h.size bytes ≡ header_bytes h ++ body → body ≡ drop 8 (take n bytes)
+body-front limit bytes body n h f g t =
+    let both = sym f ∙ g in
+    let same : n ≡ h.size = cc both in
+    sym (ap (λ (k : ℕ). drop 8 (take k bytes)) same ∙ ap (drop 8) t)

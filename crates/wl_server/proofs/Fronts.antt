@@ -224,7 +224,7 @@ tokens_enough core f e =
     ∙ ap (λ (l : List ℕ). reports_of (reader_of core.view) l f.message.values) (take-append-drop n tokens)
 
 same_step : (core : Core) (h : Header) (body : List ℕ) (waiting : ℕ) (m : Received) (args : List ParsedArg) (ended : Option Object) → IsFrame core h body waiting → Ok m ≡ read_by core h body waiting
-    → AreParsed (reader_of core.view) body args m.values → IsEndedBy m args ended → pending_in core (pending_of core.tables core.view.births ended h m args) ≡ step_of core (the_found h m)
+    → AreParsed (reader_of core.view) body args m.values → IsEndedBy m args ended → pending_in core args (pending_of core.tables core.view.births ended h m) ≡ step_of core (the_found h m)
 same_step core h body waiting m args ended s e a k =
     let rest : drop 8 (take h.size core.inbox.bytes) ≡ body = ap (drop 8) s.parts in
     let tokens = take (takes m) core.inbox.tokens in
@@ -237,13 +237,13 @@ same_step core h body waiting m args ended s e a k =
 
 pub can_take : (core : Core) (h : Header) (body : List ℕ) (waiting : ℕ) (m : Received) (args : List ParsedArg) (ended : Option Object) → Valid core.tables → HasDisplay core.view → IsFrame core h body waiting → Ok m ≡ read_by core h body waiting
     → AreParsed (reader_of core.view) body args m.values → IsEndedBy m args ended → (is_some ended && nat_lt (room_of core.outbox) delete_id_len) ≡ false
-    → CanTake core (pending_in core (pending_of core.tables core.view.births ended h m args))
+    → CanTake core (pending_in core args (pending_of core.tables core.view.births ended h m))
 can_take core h body waiting m args ended v d s e a k f =
     subst (CanTake core) (sym (same_step core h body waiting m args ended s e a k)) (can_take_found core h body waiting m v d s e (full_by core m args ended false k f))
 
 pub answers_ok : (core : Core) (globals : List Global) (h : Header) (body : List ℕ) (waiting : ℕ) (m : Received) (args : List ParsedArg) (ended : Option Object) → IsFrame core h body waiting → Ok m ≡ read_by core h body waiting
     → is_bad core.tables globals h.opcode m ≡ false → (is_some ended && nat_lt (room_of core.outbox) delete_id_len) ≡ false → AreParsed (reader_of core.view) body args m.values → IsEndedBy m args ended
-    → Answers core globals (Ok (Some (pending_in core (pending_of core.tables core.view.births ended h m args))))
+    → Answers core globals (Ok (Some (pending_in core args (pending_of core.tables core.view.births ended h m))))
 answers_ok core globals h body waiting m args ended s e b f a k =
     ap (λ (x : Step). let it : Result (Option Step) NextError = Ok (Some x) in it) (same_step core h body waiting m args ended s e a k)
     ∙ sym (front_ok core globals h body waiting m s e b (full_by core m args ended false k f))

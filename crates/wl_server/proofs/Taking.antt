@@ -15,11 +15,9 @@ use Rattle.wl_objects.specs.declared.error.NextError.TheVariants as errors
 use Rattle.wl_table.specs.declared.object.Object.{Object}
 use Rattle.wl_table.specs.View.{View, is_held, look}
 use Rattle.wl_table.specs.Views.{look-opened_at}
+use Rattle.wl_objects.specs.declared.parsed.ParsedArg.{ParsedArg}
 use Rattle.wl_objects.specs.Messages.{NewObject, made, opens, same_iface, reader_of}
 use Rattle.wl_sigs.specs.Fixed.{registry}
-use Rattle.wl_wire.specs.Word.{header_bytes}
-use Rattle.wl_wire.specs.declared.header.Header.{Header}
-use Rattle.wl_message.specs.Cut.{front, Whole}
 use Rattle.wl_message.specs.Arrived.{Arrived, without_first}
 use Rattle.wl_end.specs.Core.{Core, past, with_view}
 use Rattle.wl_end.specs.Receiving.{Found, is_none}
@@ -29,7 +27,7 @@ use Rattle.wl_server.specs.State.{State, Global, Registry, RiseFrom, with_core, 
 use Rattle.wl_server.specs.Requests.{Report, report, request, made_in, is_out_full, next_answer, after_next, answer_found, state_found, state_past, registries_after, needs_memory, opens_object, IsNext, IsLentNext}
 use Rattle.wl_server.specs.Registries.{without_registry, registry_birth}
 use Rattle.wl_server.specs.declared.pending.PendingRequest.{PendingRequest}
-use Rattle.wl_server.specs.Steps.{Step, ended_by, pending_in, report_over, taken_report, step_of, step_found, front_step, checked_front, after_front, after_step, report_by, core_by, core_told, core_without, state_of}
+use Rattle.wl_server.specs.Steps.{Step, ended_by, CanTake, pending_in, outlined, taken_report, step_of, step_found, front_step, checked_front, after_front, after_step, report_by, core_by, core_told, core_without, state_of}
 use Rattle.wl_server.proofs.Risings.{rise-below, rise-new}
 
 -- ---- the registries
@@ -204,25 +202,11 @@ inbox-without (Some object) core = refl
 pub inbox-taken : (core : Core) (step : Step) → (core_by core step).inbox ≡ without_first core.inbox step.size step.tokens
 inbox-taken core step = inbox-without step.ended (past (with_view core (opens core.view step.made)) step.size step.tokens)
 
--- ---- the tokens of a request in front
-
-pub first-taken : (n : ℕ) (a b : List ℕ) → n ≤ length a → n ≤ length b → ((k : ℕ) → k < n → get_or a k 0 ≡ get_or b k 0) → take n a ≡ take n b
-first-taken zero a b p q f = refl
-first-taken (suc n) [] b p q f = absurd (omega (arith, p))
-first-taken (suc n) (x ∷ a) [] p q f = absurd (omega (arith, q))
-first-taken (suc n) (x ∷ a) (y ∷ b) p q f =
-    let one : x ≡ y = f 0 (omega arith) in
-    let more = first-taken n a b (omega (arith, p)) (omega (arith, q)) (λ k l. f (suc k) (omega (arith, l))) in
-    λ i. one i ∷ more i
-
--- the body of the message in front
-pub body-front : (limit : ℕ) (bytes body : List ℕ) (n : ℕ) (h : Header) → front limit bytes ≡ Whole n → front limit bytes ≡ Whole h.size → take h.size bytes ≡ header_bytes h ++ body → body ≡ drop 8 (take n bytes)
-body-front limit bytes body n h f g t =
-    let both = sym f ∙ g in
-    let same : n ≡ h.size = cc both in
-    sym (ap (λ (k : ℕ). drop 8 (take k bytes)) same ∙ ap (drop 8) t)
-
 -- ---- the report that is lent
 
-pub taken-is : (core now : Core) (p : PendingRequest) → now ≡ core_by core (pending_in core p) → taken_report now p ≡ (pending_in core p).report
-taken-is core now p e = ap (λ (k : Core). taken_report k p) e ∙ ap (λ (b : Arrived). report_over b.last b.last_tokens p) (inbox-taken core (pending_in core p))
+pub taken-is : (core now : Core) (args : List ParsedArg) (p : PendingRequest) → now ≡ core_by core (pending_in core args p) → taken_report now args p ≡ (pending_in core args p).report
+taken-is core now args p e = ap (λ (k : Core). taken_report k args p) e ∙ ap (λ (b : Arrived). outlined b.last args b.last_tokens p.outline) (inbox-taken core (pending_in core args p))
+
+-- the arguments matter for the report alone
+pub can-always : (core : Core) (args others : List ParsedArg) (p : PendingRequest) → CanTake core (pending_in core args p) → CanTake core (pending_in core others p)
+can-always core args others p h = record { whole = h.whole; tokens = h.tokens; few = h.few; birth = h.birth; ended = h.ended }

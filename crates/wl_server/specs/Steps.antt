@@ -23,6 +23,7 @@ use Rattle.wl_objects.specs.Messages.{NewObject, Received, made, opens}
 use Rattle.wl_end.specs.Core.{Core, past, with_view}
 use Rattle.wl_end.specs.Receiving.{Found, takes}
 use Rattle.wl_end.specs.Sending.{with_delete_id, with_error_event, fits, delete_id_len}
+use Rattle.wl_server.specs.declared.outline.Outline.{Outline}
 use Rattle.wl_server.specs.declared.pending.PendingRequest.{PendingRequest}
 use Rattle.wl_server.specs.State.{State, Global, Registry, with_core}
 use Rattle.wl_server.specs.Requests.{Report, request, report, made_in, is_out_full}
@@ -60,45 +61,45 @@ step_of core f = record {
 
 -- ---- a request that was read and not yet taken
 
--- its report, over a message's body and tokens
-abbrev pub report_over : List ℕ → List ℕ → PendingRequest → Report
-report_over body tokens p = report_with p.target p.opcode (reported_in body p.birth tokens p.args)
+-- what an outline is with a message's body, its arguments as they were parsed, and its tokens
+abbrev pub outlined : List ℕ → List ParsedArg → List ℕ → Outline → Report
+outlined body args tokens outline =
+    report_with outline.target outline.opcode (reported_in body outline.birth tokens args)
 
--- what it is and does, over the message in front of an end
-abbrev pub pending_in : Core → PendingRequest → Step
-pending_in core p = record {
-  report = report_over (drop 8 (take p.size core.inbox.bytes)) (take p.tokens core.inbox.tokens) p;
+-- what it is and does, over the message in front of an end, by its arguments as they were parsed
+abbrev pub pending_in : Core → List ParsedArg → PendingRequest → Step
+pending_in core args p = record {
+  report =
+      outlined (drop 8 (take p.size core.inbox.bytes)) args (take p.tokens core.inbox.tokens)
+      p.outline;
   size = p.size;
   tokens = p.tokens;
-  birth = p.birth;
-  made = p.made;
-  ended = p.ended;
+  birth = p.outline.birth;
+  made = p.change.made;
+  ended = p.change.ended;
 }
 
--- what a message is and does, where these are its arguments, it destroys this object and a new one
--- gets this birth
-abbrev pub pending_of : List Interface → ℕ → Option Object → Header → Received → List ParsedArg
-    → PendingRequest
-pending_of tables birth ended header message args = record {
-  target = message.target;
-  opcode = header.opcode;
-  args = args;
-  birth = birth;
+-- what a message is and does, where it destroys this object and a new one gets this birth
+abbrev pub pending_of : List Interface → ℕ → Option Object → Header → Received → PendingRequest
+pending_of tables birth ended header message = record {
+  outline = record { target = message.target; opcode = header.opcode; birth = birth };
+  change = record {
+    made = made tables message.entry.version message.signature.kinds message.values;
+    ended = ended;
+  };
   size = header.size;
   tokens = descriptors message.signature.kinds;
-  made = made tables message.entry.version message.signature.kinds message.values;
-  ended = ended;
 }
 
-abbrev pub pendings_in : Core → Result (Option PendingRequest) NextError
+abbrev pub pendings_in : Core → List ParsedArg → Result (Option PendingRequest) NextError
     → Result (Option Step) NextError
-pendings_in core (Err why) = Err why
-pendings_in core (Ok None) = Ok None
-pendings_in core (Ok (Some p)) = Ok (Some (pending_in core p))
+pendings_in core args (Err why) = Err why
+pendings_in core args (Ok None) = Ok None
+pendings_in core args (Ok (Some p)) = Ok (Some (pending_in core args p))
 
 -- its report, over the message that an end took last
-abbrev pub taken_report : Core → PendingRequest → Report
-taken_report core p = report_over core.inbox.last core.inbox.last_tokens p
+abbrev pub taken_report : Core → List ParsedArg → PendingRequest → Report
+taken_report core args p = outlined core.inbox.last args core.inbox.last_tokens p.outline
 
 -- ---- what stands in front
 
@@ -195,10 +196,3 @@ abbrev pub report_by : Result (Option Step) NextError → Result (Option Report)
 report_by (Ok None) = Ok None
 report_by (Ok (Some step)) = Ok (Some step.report)
 report_by (Err why) = Err why
-
--- what a read returns, by the request that was taken
-abbrev pub taken_in : Core → Result (Option PendingRequest) NextError
-    → Result (Option Report) NextError
-taken_in core (Err why) = Err why
-taken_in core (Ok None) = Ok None
-taken_in core (Ok (Some p)) = Ok (Some (taken_report core p))

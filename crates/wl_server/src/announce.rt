@@ -133,10 +133,10 @@ impl<'t, T: Table> Server<'t, T> {
             (λ why. (why ≡ refusals.Failed) × (self.old.core.failed ≡ true)
             × (self.new ≡ self.old)) }
     {
-        if self.core.failed {
+        if self.end.core.failed {
             return Err(SendError::Failed);
         }
-        let told = announce_to_all(&mut self.core, &self.globals, &mut self.registries);
+        let told = announce_to_all(&mut self.end.core, &self.globals, &mut self.registries);
         Ok(told.count)
     }
 }

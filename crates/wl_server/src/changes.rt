@@ -13,6 +13,15 @@ use std::alloc::{AllocError, Allocator};
 use wl_end::Core;
 use wl_objects::{NewObject, Object, REGISTRY, Table};
 
+/// What a request changes at a server.
+#[derive(Clone, Copy, Debug)]
+pub(crate) struct Change {
+    /// The object that it opens.
+    pub(crate) made: Option<NewObject>,
+    /// The object that it destroys.
+    pub(crate) ended: Option<Object>,
+}
+
 /// Opens the object that a request makes, if it makes one, with this birth.
 pub(crate) fn open_new_object<T: Table>(
     core: &mut Core<'_, T>,

@@ -1,5 +1,5 @@
 //! The server as seen by whoever carries its bytes.
-use crate::pending::find_request;
+use crate::pending::find;
 use crate::report::OwnedRequest;
 use crate::server::Server;
 use wl_end::{End, Receiver};
@@ -55,11 +55,11 @@ impl<'t, T: Table> Receiver for Server<'t, T> {
     ghost is_last = { is_last };
 
     fn has_failed(&self) -> bool {
-        self.core.failed
+        self.end.core.failed
     }
 
     fn has_report(&mut self) -> bool {
-        match find_request(&mut self.core, &self.globals) {
+        match find(&mut self.end, &self.globals) {
             Ok(Some(_)) => true,
             _ => false,
         }

@@ -8,32 +8,27 @@ ghost use Rattle.wl_server.specs.Steps.{CanTake, ended_by, front_step, pending_i
 ghost use Rattle.wl_server.specs.Steps.{pendings_in, report_with, state_of};
 
 use crate::bind::is_bad_bind;
+use crate::changes::Change;
 use crate::globals::Advertised;
-use wl_end::{Core, DELETE_ID_LEN};
+use crate::outline::Outline;
+use wl_end::{DELETE_ID_LEN, Endpoint};
 use wl_objects::{
-    Fault, NewObject, NextError, Object, ParsedArg, ParsedArgs, Received, Table, TableLookup,
+    Fault, NextError, Object, ParsedArg, ParsedArgs, Received, Table, TableLookup,
     made_by_message, receive,
 };
 use wl_sigs::{Destroys, Side, Tables};
 use wl_wire::Header;
 
-/// A request that was read and not yet taken. It lends nothing, so that the server can change while
-/// it is there.
-#[derive(Drop)]
+/// A request that was read and not yet taken: what is reported of it, and what it changes. It lends
+/// nothing; its arguments lie at the end that read it.
+#[derive(Clone, Copy, Debug)]
 pub(crate) struct PendingRequest {
-    pub(crate) target: Object,
-    pub(crate) opcode: u16,
-    pub(crate) args: ParsedArgs,
-    /// The birth of the object that the request opens.
-    pub(crate) birth: u64,
-    /// How many bytes it has.
+    pub(crate) outline: Outline,
+    pub(crate) change: Change,
+    /// How many bytes the message has.
     pub(crate) size: u16,
-    /// How many descriptors it has.
+    /// How many tokens it takes.
     pub(crate) tokens: usize,
-    /// The object that it opens.
-    pub(crate) made: Option<NewObject>,
-    /// The object that it destroys.
-    pub(crate) ended: Option<Object>,
 }
 
 /// The object that a request destroys, if it destroys one: its target, or the object that an
@@ -56,20 +51,22 @@ fn ended_by(destroys: Destroys, target: Object, args: &ParsedArgs) -> Option<Obj
     }
 }
 
-/// The request in front, once it is whole and if it can be taken. Nothing changes.
-pub(crate) fn find_request<T: Table>(
-    core: &mut Core<'_, T>,
+/// The request in front, once it is whole and if it can be taken. Nothing changes but the arguments
+/// that were parsed last.
+pub(crate) fn find<T: Table>(
+    end: &mut Endpoint<'_, T>,
     globals: &[Advertised],
 ) -> Result<Option<PendingRequest>, NextError>
-    ensures answer { pendings_in core.old result ≡ front_step (state_of core.old globals.now) }
-    ensures can { IfOk result
-        (λ found. IfSome found (λ request. CanTake core.old (pending_in core.old request))) }
-    ensures same { core.new ≡ core.old }
+    ensures answer { pendings_in end.old.core end.new.args result
+        ≡ front_step (state_of end.old.core globals.now) }
+    ensures can { IfOk result (λ found. IfSome found
+        (λ request. CanTake end.old.core (pending_in end.old.core end.new.args request))) }
+    ensures same { end.new.core ≡ end.old.core }
 {
-    let offset = core.read;
-    let birth = core.table.births();
-    let room = core.outbox.room();
-    let frame = match core.inbox.frame() {
+    let offset = end.core.read;
+    let birth = end.core.table.births();
+    let room = end.core.outbox.room();
+    let frame = match end.core.inbox.frame() {
         Ok(Some(frame)) => frame,
         Ok(None) => return Ok(None),
         Err(_) => return Err(NextError::Fault {
@@ -78,9 +75,12 @@ pub(crate) fn find_request<T: Table>(
         }),
     };
     let header = frame.header;
-    let lookup = TableLookup { table: &core.table };
+    let lookup = TableLookup {
+        table: &end.core.table,
+    };
     let received = match receive(
-        core.tables,
+        &mut end.args,
+        end.core.tables,
         Side::Request,
         &lookup,
         header,
@@ -90,7 +90,7 @@ pub(crate) fn find_request<T: Table>(
         Ok(received) => received,
         Err(fault) => return Err(NextError::Fault { fault, offset }),
     };
-    if is_bad_bind(core.tables, globals, header.opcode, &received) {
+    if is_bad_bind(end.core.tables, globals, header.opcode, &received) {
         return Err(NextError::Fault {
             fault: Fault::BadBind,
             offset,
@@ -99,12 +99,18 @@ pub(crate) fn find_request<T: Table>(
     let ended = ended_by(
         received.signature.destroys(),
         received.target,
-        &received.args,
+        received.args,
     );
     if lacks_room(room, ended) {
         return Err(NextError::OutFull);
     }
-    Ok(Some(pending_of(core.tables, birth, ended, header, received)))
+    Ok(Some(pending_of(
+        end.core.tables,
+        birth,
+        ended,
+        header,
+        &received,
+    )))
 }
 
 /// Whether an object is destroyed whose delete_id needs more room than there is.
@@ -115,28 +121,28 @@ fn lacks_room(room: usize, ended: Option<Object>) -> bool
 }
 
 /// What a message is and does, where it destroys this object and the next one gets this birth.
-/// Compiled into its caller, it copies the arguments once less.
-#[inline(always)]
 fn pending_of(
     tables: &Tables,
     birth: u64,
     ended: Option<Object>,
     header: Header,
-    message: Received<'_, '_>,
+    message: &Received<'_, '_>,
 ) -> PendingRequest
-    requires tokens { message.tokens ≡ descriptors message.signature.now.kinds }
-    ensures { result ≡ pending_of tables.now birth ended header (message_of message.entry)
-        message.entry.args }
+    requires tokens { message.now.tokens ≡ descriptors message.now.signature.now.kinds }
+    ensures { result ≡ pending_of tables.now birth ended header (message_of message.now) }
 {
     let kinds = message.signature.kinds();
     PendingRequest {
-        target: message.target,
-        opcode: header.opcode,
-        birth,
+        outline: Outline {
+            target: message.target,
+            opcode: header.opcode,
+            birth,
+        },
+        change: Change {
+            made: made_by_message(tables, message.entry.version, kinds, &message.values()),
+            ended,
+        },
         size: header.size,
         tokens: message.tokens,
-        made: made_by_message(tables, message.entry.version, kinds, &message.values()),
-        ended,
-        args: message.args,
     }
 }

@@ -1,23 +1,24 @@
 //! How a server reads the requests that come in.
-ghost use Rattle.std.specs.Prelude.{◌≡◌, ◌≢◌, None, [], OnOk, IfOk, IfSome, OnErr};
+ghost use Rattle.std.specs.Prelude.{◌≡◌, ◌≢◌, List, None, [], OnOk, IfOk, IfSome, OnErr};
 ghost use Rattle.std.specs.Borrow.{sem};
 ghost use Rattle.std.specs.Io.BufRead.{Rests};
+ghost use Rattle.wl_objects.specs.declared.parsed.ParsedArg.{ParsedArg};
 ghost use Rattle.wl_end.specs.Outcomes.{left};
-ghost use Rattle.wl_server.specs.State.{with_core};
 ghost use Rattle.wl_server.specs.Requests.{after_next, IsLentNext, IsNext};
 ghost use Rattle.wl_server.specs.Seen.{lent_in, lent_report, report_in, report_of};
 ghost use Rattle.wl_server.specs.Steps.{CanTake, after_step, checked_front, core_unless};
-ghost use Rattle.wl_server.specs.Steps.{pending_in, pendings_in, report_over, taken_in};
-ghost use Rattle.wl_server.specs.Steps.{taken_report};
+ghost use Rattle.wl_server.specs.Steps.{pending_in, pendings_in, state_of, taken_report};
 ghost use Rattle.wl_server.specs.Lent.{server_row};
 
 use crate::changes::{close_object, open_new_object};
 use crate::faults::report_fault;
-use crate::pending::{PendingRequest, find_request};
+use crate::globals::Advertised;
+use crate::pending::{PendingRequest, find};
 use crate::report::{OwnedRequest, Request};
 use crate::server::Server;
-use std::alloc::{AllocError, Allocator};
-use wl_objects::{Args, NextError, Table};
+use std::alloc::AllocError;
+use wl_end::Endpoint;
+use wl_objects::{NextError, Table};
 
 impl<'t, T: Table> Server<'t, T> {
     /// Reads the next request once it is whole, and lends its report: strings, arrays and tokens
@@ -34,9 +35,12 @@ impl<'t, T: Table> Server<'t, T> {
             (λ server. server ≡ left self.old (after_next self.old) (lent_in result))) }
         ensures answer { IsLentNext self.old (lent_in result) }
     {
-        match self.read_request()? {
-            Some(request) => Ok(Some(self.lend(request))),
+        match find_or_fail(&mut self.end, &self.globals)? {
             None => Ok(None),
+            Some(request) => match self.take_request(&request) {
+                Err(_) => Err(NextError::Memory),
+                Ok(()) => Ok(Some(lend(&self.end, request))),
+            },
         }
     }
 
@@ -47,12 +51,11 @@ impl<'t, T: Table> Server<'t, T> {
         ensures answer { IsNext self.old (report_in result) }
         ensures state { self.new ≡ left self.old (after_next self.old) (report_in result) }
     {
-        let request = match self.request_unless_fault() {
-            Ok(Some(request)) => request,
-            Ok(None) => return Ok(None),
-            Err(why) => return Err(why),
+        let request = match find_or_fail(&mut self.end, &self.globals)? {
+            None => return Ok(None),
+            Some(request) => request,
         };
-        let report = match self.copy_report(&request) {
+        let report = match copy(&mut self.end, &self.alloc, &request) {
             Ok(report) => report,
             Err(_) => return Err(NextError::Memory),
         };
@@ -62,119 +65,88 @@ impl<'t, T: Table> Server<'t, T> {
         }
     }
 
-    /// Reads the next request and takes it. Its report lies in the message that was taken last.
-    fn read_request(&mut self) -> Result<Option<PendingRequest>, NextError>
-        ensures answer { IsLentNext self.old (taken_in self.new.core result) }
-        ensures state { self.new
-            ≡ left self.old (after_next self.old) (taken_in self.new.core result) }
-    {
-        let request = match self.request_unless_fault() {
-            Ok(Some(request)) => request,
-            Ok(None) => return Ok(None),
-            Err(why) => return Err(why),
-        };
-        match self.take_request(&request) {
-            Ok(()) => Ok(Some(request)),
-            Err(_) => Err(NextError::Memory),
-        }
-    }
-
-    /// The request in front, once it is whole. The client is told of a fault; else nothing changes.
-    fn request_unless_fault(&mut self) -> Result<Option<PendingRequest>, NextError>
-        ensures answer { pendings_in self.old.core result ≡ checked_front self.old }
-        ensures state { self.new ≡ with_core self.old (core_unless self.old.core result) }
-        ensures can { IfOk result
-            (λ found. IfSome found
-            (λ request. CanTake self.old.core (pending_in self.old.core request))) }
-    {
-        if self.core.failed {
-            return Err(NextError::Failed);
-        }
-        match find_request(&mut self.core, &self.globals) {
-            Ok(request) => Ok(request),
-            Err(why) => {
-                report_fault(&mut self.core, why);
-                Err(why)
-            }
-        }
-    }
-
     /// Takes the request in front out, opens the object that it makes and closes the one that it
     /// destroys. If there is no memory for the object that it makes, nothing changes.
     fn take_request(&mut self, request: &PendingRequest) -> Result<(), AllocError>
-        requires { CanTake self.old.core (pending_in self.old.core request.now) }
-        ensures ok { OnOk result
-            (self.new ≡ after_step self.old (pending_in self.old.core request.now)) }
+        // Whatever its arguments are: they matter for the report alone.
+        requires { (args : List ParsedArg)
+            → CanTake self.old.core (pending_in self.old.core args request.now) }
+        ensures ok { OnOk result ((args : List ParsedArg)
+            → self.new ≡ after_step self.old (pending_in self.old.core args request.now)) }
         ensures err { OnErr result (self.new ≡ self.old) }
-        ensures wants { OnErr result (request.now.made ≢ None) }
+        ensures wants { OnErr result (request.now.change.made ≢ None) }
     {
         open_new_object(
-            &mut self.core,
+            &mut self.end.core,
             &mut self.registries,
             &self.alloc,
-            request.made,
-            request.birth,
+            request.change.made,
+            request.outline.birth,
         )?;
         // Nothing is allocated from here on.
-        self.core.pass(request.size, request.tokens);
-        if let Some(object) = request.ended {
-            close_object(&mut self.core, &mut self.registries, object);
+        self.end.core.pass(request.size, request.tokens);
+        if let Some(object) = request.change.ended {
+            close_object(&mut self.end.core, &mut self.registries, object);
         }
         Ok(())
     }
+}
 
-    /// Copies the report of a request that stands in front. Nothing changes.
-    fn copy_report(
-        &mut self,
-        request: &PendingRequest,
-    ) -> Result<OwnedRequest<T::Alloc>, AllocError>
-        requires { CanTake self.old.core (pending_in self.old.core request.now) }
-        ensures same { self.new ≡ self.old }
-        ensures ok { IfOk result
-            (λ report. report_of report ≡ (pending_in self.old.core request.now).report) }
-        ensures err { OnErr result (request.now.args ≢ []) }
-    {
-        let tokens = self.core.first_tokens();
-        match self.core.inbox.frame() {
-            Ok(Some(frame)) => copy_of(request, &self.alloc, frame.body, &tokens[..request.tokens]),
-            _ => Err(AllocError),
-        }
+/// The request in front, once it is whole. The client is told of a fault, after which the end has
+/// failed; else nothing changes.
+fn find_or_fail<T: Table>(
+    end: &mut Endpoint<'_, T>,
+    globals: &[Advertised],
+) -> Result<Option<PendingRequest>, NextError>
+    ensures answer { pendings_in end.old.core end.new.args result
+        ≡ checked_front (state_of end.old.core globals.now) }
+    ensures core { end.new.core ≡ core_unless end.old.core result }
+    ensures can { IfOk result (λ found. IfSome found
+        (λ request. CanTake end.old.core (pending_in end.old.core end.new.args request))) }
+{
+    if end.core.failed {
+        return Err(NextError::Failed);
     }
-
-    /// The report of the request that was taken last.
-    fn lend(&self, request: PendingRequest) -> Request<'_>
-        ensures { lent_report result ≡ taken_report self.now.core request }
-    {
-        Request {
-            target: request.target,
-            opcode: request.opcode,
-            args: Args::new(
-                &request.args,
-                self.core.inbox.last(),
-                self.core.inbox.last_tokens(),
-                request.birth,
-            ),
+    match find(end, globals) {
+        Ok(request) => Ok(request),
+        Err(why) => {
+            report_fault(&mut end.core, why);
+            Err(why)
         }
     }
 }
 
-/// A copy of a request's report, where these are its body and its tokens.
-fn copy_of<A: Allocator + Clone + Drop>(
+/// Copies the report of a request that stands in front. Nothing changes.
+fn copy<T: Table>(
+    end: &mut Endpoint<'_, T>,
+    alloc: &T::Alloc,
     request: &PendingRequest,
-    alloc: &A,
-    body: &[u8],
-    tokens: &[u32],
-) -> Result<OwnedRequest<A>, AllocError>
-    ensures ok { IfOk result
-        (λ report. report_of report ≡ report_over body.now tokens.now request.now) }
-    ensures err { OnErr result (request.now.args ≢ []) }
+) -> Result<OwnedRequest<T::Alloc>, AllocError>
+    requires { CanTake end.old.core (pending_in end.old.core end.old.args request.now) }
+    ensures core { end.new.core ≡ end.old.core }
+    ensures ok { IfOk result (λ report. report_of report
+        ≡ (pending_in end.old.core end.old.args request.now).report) }
+    ensures err { OnErr result (end.old.args ≢ []) }
 {
-    match Args::new(&request.args, body, tokens, request.birth).to_owned(alloc) {
-        Ok(args) => Ok(OwnedRequest {
-            target: request.target,
-            opcode: request.opcode,
-            args,
-        }),
-        Err(error) => Err(error),
+    let tokens = end.core.first_tokens(request.tokens);
+    match end.core.inbox.frame() {
+        Ok(Some(frame)) => request.outline.to_owned(
+            alloc,
+            &end.args,
+            frame.body,
+            &tokens[..request.tokens],
+        ),
+        _ => Err(AllocError),
     }
+}
+
+/// The report of the request that was taken last.
+fn lend<'a, T: Table>(end: &'a Endpoint<'_, T>, request: PendingRequest) -> Request<'a>
+    ensures { lent_report result ≡ taken_report end.now.core end.now.args request }
+{
+    request.outline.lend(
+        &end.args,
+        end.core.inbox.last(),
+        end.core.inbox.last_tokens(),
+    )
 }

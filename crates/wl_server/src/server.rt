@@ -10,7 +10,7 @@ use crate::globals::Advertised;
 use crate::registry::OpenRegistry;
 use std::alloc::AllocError;
 use std::marker::Model;
-use wl_end::Core;
+use wl_end::{Core, Endpoint};
 use wl_message::{Fed, Sizes, Taken};
 use wl_objects::{Object, Table};
 use wl_sigs::Tables;
@@ -20,7 +20,7 @@ use wl_wire::Iface;
 /// advertises, and what each open registry was told of them.
 #[derive(Drop)]
 pub struct Server<'t, T: Table> {
-    pub(crate) core: Core<'t, T>,
+    pub(crate) end: Endpoint<'t, T>,
     /// Allocates owned reports and the marks of registries.
     pub(crate) alloc: T::Alloc,
     /// In the order of their names.
@@ -41,15 +41,15 @@ impl<'t, T: Table> Model for Server<'t, T> {
     ghost coded = { Prim.hlevel (codes, view_code) };
 
     ghost view = { λ s. record {
-      core = s.core;
+      core = s.end.core;
       globals = s.globals.items;
       registries = s.registries.items;
     } };
 
     ghost invariant = { λ s. record {
       few : length s.globals.items ≤ 1024;
-      registries : HasRegistries s.core.view s.registries.items;
-      births : BirthsAreOnce s.core.view;
+      registries : HasRegistries s.end.core.view s.registries.items;
+      births : BirthsAreOnce s.end.core.view;
     } };
 }
 
@@ -63,7 +63,7 @@ impl<'t, T: Table> Server<'t, T> {
         let registries = Vec::new(alloc.clone()?);
         let core = Core::new(alloc.clone()?, tables, sizes)?;
         Ok(Server {
-            core,
+            end: Endpoint::new(core),
             alloc,
             globals,
             registries,
@@ -74,35 +74,35 @@ impl<'t, T: Table> Server<'t, T> {
     pub fn display(&self) -> Object
         ensures { result ≡ display_object }
     {
-        self.core.display()
+        self.end.core.display()
     }
 
     /// The interface and version of an object that is live, at a failed server too.
     pub fn live(&self, object: Object) -> Option<(Iface, u32)>
         ensures { result ≡ live self.now.core object }
     {
-        self.core.live(object)
+        self.end.core.live(object)
     }
 
     /// The free bytes and tokens of the inbox; zeros at a failed server.
     pub fn in_room(&self) -> Fed
         ensures { result ≡ in_room self.now.core }
     {
-        self.core.in_room()
+        self.end.core.in_room()
     }
 
     /// Whether nothing waits in either box.
     pub fn is_drained(&self) -> bool
         ensures { result ≡ is_drained self.now.core }
     {
-        self.core.is_drained()
+        self.end.core.is_drained()
     }
 
     /// The objects.
     pub fn table(&self) -> &T
         ensures { T.view result.now ≡ self.now.core.view }
     {
-        &self.core.table
+        &self.end.core.table
     }
 
     /// Takes in what was received: as many tokens as fit, and if these are all, as many bytes as
@@ -115,14 +115,14 @@ impl<'t, T: Table> Server<'t, T> {
             (take result.tokens tokens.now)) }
         ensures holds { self.old.core.inbox.limit.bytes ≤ self.old.core.inbox.capacity }
     {
-        self.core.feed(bytes, tokens)
+        self.end.core.feed(bytes, tokens)
     }
 
     /// How much `take` into slices of these lengths would take.
     pub fn goes(&self, bytes: usize, tokens: usize) -> Taken
         ensures { result ≡ goes self.now.core.outbox bytes tokens }
     {
-        self.core.outbox.goes(bytes, tokens)
+        self.end.core.outbox.goes(bytes, tokens)
     }
 
     /// Moves out what waits to be sent, as much as the slices hold. The tokens of a message go with
@@ -135,6 +135,6 @@ impl<'t, T: Table> Server<'t, T> {
             ++ drop result.tokens tokens.old }
         ensures state { self.new ≡ with_core self.old (with_gone self.old.core result.bytes) }
     {
-        self.core.outbox.take(bytes, tokens)
+        self.end.core.outbox.take(bytes, tokens)
     }
 }

@@ -25,7 +25,7 @@ impl<'t, T: Table> Server<'t, T> {
         ensures unread { (self.old.core.failed ≡ true) ⊎ (result ≡ Err NoRoom)
             → reader.new ≡ reader.old }
     {
-        self.core.fill(reader)
+        self.end.core.fill(reader)
     }
 
     /// Writes the bytes that wait to go, and returns their number. What was written is gone from
@@ -40,6 +40,6 @@ impl<'t, T: Table> Server<'t, T> {
         ensures others { self.new
             ≡ with_core self.old (with_gone self.old.core (written_of result)) }
     {
-        self.core.flush(writer)
+        self.end.core.flush(writer)
     }
 }

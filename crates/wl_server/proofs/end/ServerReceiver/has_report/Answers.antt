@@ -11,11 +11,11 @@ use Rattle.wl_server.proofs.end.ServerReceiver.has_report.Goals as goal
 
 pub returns-clause-yes : goal.returns-clause-yes
 returns-clause-yes g c t =
-    let state : State = record { core = c.self.inside.core; globals = c.self.inside.globals.items; registries = c.self.inside.registries.items } in
+    let state : State = record { core = c.self.inside.end.core; globals = c.self.inside.globals.items; registries = c.self.inside.registries.items } in
     let lives : state.core.failed ≡ false = ap (λ (s : State). s.core.failed) c.self.view_is ∙ c.requires in
-    elim c.match-find_request.branch [
+    elim c.match-find.branch [
       | in-Ok-Some w ↦
-          let step = pending_in state.core w.in-Ok-Some.field-0-0 in
+          let step = pending_in state.core c.find.new.end.args w.in-Ok-Some.field-0-0 in
           let answer = seen-by state c.deref.result.now (ok (Some step)) lives c.deref.ensures.value (rw w.in-Ok-Some.field-0-is at w.in-Ok-Some.ensures.answer) in
           subst (HasReport reading) c.self.view_is (step.report, sym (answer-is state (ok (Some step)) answer))
       | in_default w ↦ absurd (let r = w.result-is in cc)

@@ -13,17 +13,17 @@ pub invariant_of-self : goal.invariant_of-self
 invariant_of-self g c =
     let len : length c.announce_to_all-told.new.registries ≡ c.self.inside.registries.len = omega (arith, c.announce_to_all-told.auto.registries, c.deref_mut.ensures.len, c.self.inside.registries.ok.0) in
     let all : take c.self.inside.registries.len (c.announce_to_all-told.new.registries ++ drop (length c.announce_to_all-told.new.registries) c.self.inside.registries.items) ≡ c.announce_to_all-told.new.registries = take_at _ _ _ len in
-    let told = subst (λ (rs : List Registry). IsTold c.self.inside.core rs (owed_in c.deref.result.now rs) c.announce_to_all-told.result c.announce_to_all-told.new.core c.announce_to_all-told.new.registries) c.deref_mut.ensures.value c.announce_to_all-told.ensures in
-    let has = has_told c.self.inside.core c.self.inside.registries.items _ _ c.announce_to_all-told.new.core c.announce_to_all-told.new.registries told c.self.invariant.registries in
+    let told = subst (λ (rs : List Registry). IsTold c.self.inside.end.core rs (owed_in c.deref.result.now rs) c.announce_to_all-told.result c.announce_to_all-told.new.core c.announce_to_all-told.new.registries) c.deref_mut.ensures.value c.announce_to_all-told.ensures in
+    let has = has_told c.self.inside.end.core c.self.inside.registries.items _ _ c.announce_to_all-told.new.core c.announce_to_all-told.new.registries told c.self.invariant.registries in
     record {
       few = c.self.invariant.few;
       registries = subst (HasRegistries c.announce_to_all-told.new.core.view) (sym all) has;
-      births = births_told c.self.inside.core _ _ _ c.announce_to_all-told.new.core c.announce_to_all-told.new.registries told c.self.invariant.births;
+      births = births_told c.self.inside.end.core _ _ _ c.announce_to_all-told.new.core c.announce_to_all-told.new.registries told c.self.invariant.births;
     }
 
 pub returns : goal.returns
 returns g c =
-    let state : State = record { core = c.self.inside.core; globals = c.self.inside.globals.items; registries = c.self.inside.registries.items } in
+    let state : State = record { core = c.self.inside.end.core; globals = c.self.inside.globals.items; registries = c.self.inside.registries.items } in
     let len : length c.announce_to_all-told.new.registries ≡ c.self.inside.registries.len = omega (arith, c.announce_to_all-told.auto.registries, c.deref_mut.ensures.len, c.self.inside.registries.ok.0) in
     let all : take c.self.inside.registries.len (c.announce_to_all-told.new.registries ++ drop (length c.announce_to_all-told.new.registries) c.self.inside.registries.items) ≡ c.announce_to_all-told.new.registries = take_at _ _ _ len in
     let ordinary : IsOrdinary state.core.outbox = subst (λ (core : Core). IsOrdinary core.outbox) (λ i. (c.self-inside.view_is i).core) (c.self-inside.invariant.no_error c.if-self.false) in

@@ -19,7 +19,7 @@ by_result P (Err why) before now sent ok err v f h = subst P (sym err) h
 pub invariant_of-self : goal.invariant_of-self
 invariant_of-self g c =
     let list = given c.args.args.now in
-    let core = c.self.inside.core in
+    let core = c.self.inside.end.core in
     let now = c.send.new.self in
     let sent = after_send core Event c.args.target c.args.opcode list in
     let e = c.send.ensures in

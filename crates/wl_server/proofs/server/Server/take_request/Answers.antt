@@ -13,7 +13,7 @@ use Rattle.wl_server.proofs.server.Server.take_request.Goals as goal
 
 pub close_object-requires-clause-held : goal.close_object-requires-clause-held
 close_object-requires-clause-held g c =
-    let core = c.self.inside.core in
+    let core = c.self.inside.end.core in
     let made = c.args.request.now.made in
     let can = subst (λ (s : State). CanTake s.core (pending_in s.core c.args.request.now)) (sym c.self.view_is) c.requires in
     let object = c.in-Some.object in
@@ -30,13 +30,13 @@ close_object-requires-clause-not_display g c =
 pub close_object-requires-clause-room : goal.close_object-requires-clause-room
 close_object-requires-clause-room g c =
     let can = subst (λ (s : State). CanTake s.core (pending_in s.core c.args.request.now)) (sym c.self.view_is) c.requires in
-    let outbox : c.pass.new.self.outbox ≡ c.self.inside.core.outbox =
+    let outbox : c.pass.new.self.outbox ≡ c.self.inside.end.core.outbox =
     ap (λ (k : Core). k.outbox) c.pass.ensures ∙ ap (λ (k : Core). k.outbox) c.in_ok-open_new_object.ensures.core in
     subst (λ (o : Outgoing). IsTrue (fits o delete_id_len 0)) (sym outbox) (can.ended c.in-Some.object c.in-Some.is).room
 
 pub invariant_of-self-in-Some : goal.invariant_of-self-in-Some
 invariant_of-self-in-Some g c =
-    let core = c.self.inside.core in
+    let core = c.self.inside.end.core in
     let registries = c.self.inside.registries.items in
     let request = c.args.request.now in
     let step = pending_in core request in
@@ -54,7 +54,7 @@ invariant_of-self-in-Some g c =
 
 pub invariant_of-self-in_default : goal.invariant_of-self-in_default
 invariant_of-self-in_default g c =
-    let core = c.self.inside.core in
+    let core = c.self.inside.end.core in
     let registries = c.self.inside.registries.items in
     let request = c.args.request.now in
     let step = pending_in core request in
@@ -72,7 +72,7 @@ invariant_of-self-in_default g c =
 
 pub returns-in-Some-clause-ok : goal.returns-in-Some-clause-ok
 returns-in-Some-clause-ok g c =
-    let core = c.self.inside.core in
+    let core = c.self.inside.end.core in
     let registries = c.self.inside.registries.items in
     let request = c.args.request.now in
     let step = pending_in core request in
