@@ -19,7 +19,8 @@ use std::alloc::{AllocError, Allocator};
 use wl_lines::write_line;
 use wl_message::Limit;
 use wl_objects::{
-    Fault, NewObject, REGISTRY, Received, Values, is_bind, is_delete_id, made_by_message, receive,
+    Fault, NewObject, ParsedArgs, REGISTRY, Received, Values, is_bind, is_delete_id,
+    made_by_message, receive,
 };
 use wl_recording::Direction;
 use wl_sigs::event::wl_registry::GLOBAL;
@@ -95,17 +96,25 @@ fn judge_as<A: Allocator>(
     let side = side_of(direction);
     let lookup = ReaderLookup { known, direction };
     let waiting = frame.tokens.saturating_sub(known.taken(direction));
-    // It is large, so it is lent and not moved.
-    let received = receive(tables, side, &lookup, header, body, count(waiting));
-    let message = match &received {
+    let mut args = ParsedArgs::new();
+    let received = receive(
+        &mut args,
+        tables,
+        side,
+        &lookup,
+        header,
+        body,
+        count(waiting),
+    );
+    let message = match received {
         Ok(message) => message,
-        Err(fault) => return Ok(Err(*fault)),
+        Err(fault) => return Ok(Err(fault)),
     };
-    if is_bad_bind(tables, known, side, header.opcode, message) {
+    if is_bad_bind(tables, known, side, header.opcode, &message) {
         return Ok(Err(Fault::BadBind));
     }
-    write(text, tables, known, direction, message, output)?;
-    Ok(Ok(effect_of(tables, direction, header.opcode, message)))
+    write(text, tables, known, direction, &message, output)?;
+    Ok(Ok(effect_of(tables, direction, header.opcode, &message)))
 }
 
 /// Appends what is wanted of a message, before the message changes what is known.
