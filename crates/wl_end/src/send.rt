@@ -6,8 +6,9 @@ ghost use Rattle.wl_sigs.specs.Tables.{destroys_one, makes};
 ghost use Rattle.wl_sigs.specs.Valid.{Valid};
 ghost use Rattle.wl_objects.specs.Messages.{checked, destroys, ended_id, id_named, opens};
 ghost use Rattle.wl_table.specs.View.{Sound, closed, is_held, is_live, look, next_id, opened};
-ghost use Rattle.wl_objects.specs.Writing.{EachFits, bind_values, given, given_of, wired};
+ghost use Rattle.wl_objects.specs.Writing.{EachFits, bind_values, call_makes, given, given_of};
 ghost use Rattle.wl_objects.specs.Writing.{has_no_nul, id_of, message_len, on_wire, tokens_of};
+ghost use Rattle.wl_objects.specs.Writing.{wired};
 ghost use Rattle.wl_end.specs.Core.{HasDisplay, with_view};
 ghost use Rattle.wl_end.specs.Outcomes.{AnswersOrMemory, new_in};
 ghost use Rattle.wl_end.specs.Sending.{IsSendAnswer, OpensNothing, after_send, answer_of, delete_id_len, fits};
@@ -18,8 +19,8 @@ ghost use Rattle.wl_end.specs.Sending.{with_following, with_sent, writer};
 use crate::receive::MAX_TOKENS;
 use crate::shared::Core;
 use wl_objects::{
-    Arg, CheckedCall, Object, SendError, Table, TableError, call_makes, check_call, encode_bind,
-    encode_call, encode_error, encode_number, tokens_of,
+    Arg, CheckedCall, Object, SendError, Table, TableError, check_call, encode_bind, encode_call,
+    encode_error, encode_number,
 };
 use wl_sigs::event::wl_display::DELETE_ID;
 use wl_sigs::{Destroys, Side};
@@ -166,21 +167,23 @@ impl<'t, T: Table> Core<'t, T> {
         target: u32,
         opcode: u16,
         args: &[Arg<'_>],
-        tokens: &[u32],
         new: Option<Object>,
         len: usize,
     )
         requires fits { EachFits (on_wire (id_of new) args.now) }
+        requires few { length args.now ≤ 20 }
         requires len { len ≡ message_len (on_wire (id_of new) args.now) }
         requires short { len ≤ self.old.outbox.limit.bytes }
         requires room { IsTrue
             (fits self.old.outbox (message_len (on_wire (id_of new) args.now))
-            (length tokens.now)) }
+            (length (tokens_of (given args.now)))) }
         ensures { self.new ≡ with_sent self.old target opcode
-            (on_wire (id_of new) args.now) tokens.now }
+            (on_wire (id_of new) args.now) (tokens_of (given args.now)) }
     {
-        encode_call(&mut self.store, target, opcode, args, id_of(new), len);
-        self.outbox.push_fitting(&self.store, tokens);
+        let mut tokens = [0; MAX_TOKENS];
+        let new_id = id_of(new);
+        let count = encode_call(&mut self.store, &mut tokens, target, opcode, args, new_id, len);
+        self.outbox.push_fitting(&self.store, &tokens[..count]);
     }
 
     /// Ends the object that a message destroys, if it destroys one: at a client it is a zombie, at
@@ -214,6 +217,8 @@ impl<'t, T: Table> Core<'t, T> {
             ≡ Ok call.signature.now }
         requires entry { look self.old.view target.id ≡ Some call.entry }
         requires len { (id : ℕ) → call.len ≡ message_len (on_wire id args.now) }
+        requires tokens { call.tokens ≡ length (tokens_of (given args.now)) }
+        requires makes { call.makes ≡ call_makes call.signature.now.kinds }
         requires fits { (id : ℕ) → EachFits (on_wire id args.now)
             × (message_len (on_wire id args.now) ≤ self.old.outbox.limit.bytes) }
         requires few { length args.now ≤ 20 }
@@ -227,19 +232,12 @@ impl<'t, T: Table> Core<'t, T> {
             ≡ sent self.old side target opcode (given args.now) call.entry.signature.now) }
         ensures err { OnErr result (self.new ≡ self.old) }
     {
-        let CheckedCall {
-            entry,
-            signature,
-            len,
-        } = call;
-        let mut tokens = [0; MAX_TOKENS];
-        let count = tokens_of(args, &mut tokens);
-        let what = signature.destroys();
-        if !self.fits(len + following_len(side, what), count) {
+        let what = call.signature.destroys();
+        if !self.fits(call.len + following_len(side, what), call.tokens) {
             return Err(SendError::Full);
         }
-        let new = self.open_new(call_makes(signature.kinds()), entry.version)?;
-        self.write_call(target.id, opcode, args, &tokens[..count], new, len);
+        let new = self.open_new(call.makes, call.entry.version)?;
+        self.write_call(target.id, opcode, args, new, call.len);
         self.end_object(side, what, ended_id(what, target.id, args));
         Ok(new)
     }
@@ -270,10 +268,7 @@ impl<'t, T: Table> Core<'t, T> {
             return Err(SendError::Failed);
         }
         let limit = self.outbox.limit().bytes;
-        let call = match check_call(self.tables, side, &self.table, target, opcode, args, limit) {
-            Ok(call) => call,
-            Err(refusal) => return Err(refusal),
-        };
+        let call = check_call(self.tables, side, &self.table, target, opcode, args, limit)?;
         self.write_checked(side, target, opcode, args, call)
     }
 }

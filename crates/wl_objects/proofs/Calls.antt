@@ -2,14 +2,15 @@
 use Rattle.std.proofs.Common.{◌≡◌, ℕ, ◌+◌, ◌<◌, ◌≤◌, true, false, List, [], ◌∷◌, length, get_or, drop, Some, None, refl, arith, add-one, drop-cons}
 use Rattle.std.specs.Prelude.{Option, map}
 use Rattle.std.proofs.lemmas.List.{drop_all}
-use Rattle.std.proofs.lemmas.Bool.{lt-ltb}
+use Rattle.std.specs.Option.{option_or}
 use Rattle.wl_wire.specs.declared.kind.Kind.{Kind}
+use Rattle.wl_wire.specs.declared.kind.Kind.TheVariants as kinds
 use Rattle.wl_objects.specs.declared.argument.Arg.{Arg}
 use Rattle.wl_objects.specs.declared.argument.Arg.TheVariants as args
 use Rattle.wl_table.specs.declared.object.Entry.{Entry}
 use Rattle.wl_wire.specs.Argument.{Argument, Int, Uint, Fixed, Str, Obj, New, NewNamed, Array, Fd}
 use Rattle.wl_wire.specs.Spelling.{spelled_len}
-use Rattle.wl_objects.specs.Writing.{Given, wired, on_wire, message_len, len_in_limit, given, given_of, can_name, wrong_place, lost_place}
+use Rattle.wl_objects.specs.Writing.{Given, wired, on_wire, message_len, given, given_of, can_name, wrong_place, lost_place, tokens_of, call_makes}
 
 pub wrong-missing : (i : ℕ) (ks : List Kind) (list : List Arg) (k : Kind) → i < length ks → length list ≤ i
     → wrong_place i (drop i ks) (given (drop i list)) ≡ Some i
@@ -41,16 +42,34 @@ pub len-least : (values : List Argument) → 8 ≤ message_len values
 len-least [] = omega arith
 len-least (value ∷ values) = let more : 8 ≤ message_len values = len-least values in omega arith
 
-pub too_long : (limit : ℕ) (values : List Argument) → limit < message_len values → len_in_limit limit values ≡ None
-too_long limit values h = rw (lt-ltb limit (message_len values) h) refl
+tokens-one : (x : Given) (list : List Given) → length (tokens_of (x ∷ list)) ≡ length (tokens_of (x ∷ [])) + length (tokens_of list)
+tokens-one (Int z) list = refl
+tokens-one (Uint n) list = refl
+tokens-one (Fixed z) list = refl
+tokens-one (Str text) list = refl
+tokens-one (Obj object) list = refl
+tokens-one (New x) list = refl
+tokens-one (NewNamed iface version x) list = refl
+tokens-one (Array bytes) list = refl
+tokens-one (Fd token) list = omega arith
 
-pub too_long_there : (limit i len : ℕ) (list : List Arg) (a : Arg) → i < length list
-    → len + message_len (on_wire 0 (drop i list)) ≡ message_len (on_wire 0 list) + 8
-    → limit < len + spelled_len (wired 0 (given_of (get_or list i a))) → len_in_limit limit (on_wire 0 list) ≡ None
-too_long_there limit i len list a q e h =
-    let at : message_len (on_wire 0 (drop i list)) ≡ spelled_len (wired 0 (given_of (get_or list i a))) + message_len (on_wire 0 (drop (i + 1) list)) = len-at 0 i list a q in
-    let least : 8 ≤ message_len (on_wire 0 (drop (i + 1) list)) = len-least (on_wire 0 (drop (i + 1) list)) in
-    too_long limit (on_wire 0 list) (omega arith)
+makes-one : (k : Kind) (ks : List Kind) → call_makes (k ∷ ks) ≡ option_or (call_makes (k ∷ [])) (call_makes ks)
+makes-one kinds.Int ks = refl
+makes-one kinds.Uint ks = refl
+makes-one kinds.Fixed ks = refl
+makes-one (kinds.Str null) ks = refl
+makes-one (kinds.Obj null iface) ks = refl
+makes-one (kinds.New (Some iface)) ks = refl
+makes-one (kinds.New None) ks = refl
+makes-one kinds.Array ks = refl
+makes-one kinds.Fd ks = refl
+
+pub tokens-at : (i : ℕ) (list : List Arg) (a : Arg) → i < length list
+    → length (tokens_of (given (drop i list))) ≡ length (tokens_of (given_of (get_or list i a) ∷ [])) + length (tokens_of (given (drop (i + 1) list)))
+tokens-at i list a q = rw (add-one, drop-cons list i a q) (tokens-one (given_of (get_or list i a)) (given (drop (i + 1) list)))
+
+pub makes-at : (i : ℕ) (ks : List Kind) (k : Kind) → i < length ks → call_makes (drop i ks) ≡ option_or (call_makes (get_or ks i k ∷ [])) (call_makes (drop (i + 1) ks))
+makes-at i ks k q = rw (add-one, drop-cons ks i k q) (makes-one (get_or ks i k) (drop (i + 1) ks))
 
 -- the length of an argument is the same whatever the new object's id
 len-one : (id : ℕ) (x : Given) → spelled_len (wired id x) ≡ spelled_len (wired 0 x)

@@ -1,7 +1,6 @@
 -- What a call that passed its checks gives the writer of its message.
 use Rattle.std.proofs.Common.{◌≡◌, ℕ, suc, ◌<◌, ◌≤◌, Bool, true, false, List, [], ◌∷◌, length, map, Some, None, refl, sym, ◌∙◌, subst, arith}
-use Rattle.std.specs.Prelude.{option_map, nat_lt, if◌then◌else◌}
-use Rattle.std.proofs.lemmas.Bool.{ltb-false}
+use Rattle.std.specs.Prelude.{option_map}
 use Rattle.std.proofs.lemmas.List.{length-map}
 use Rattle.wl_wire.specs.declared.kind.Kind.{Kind}
 use Rattle.wl_wire.specs.declared.kind.Kind.TheVariants as kinds
@@ -10,7 +9,8 @@ use Rattle.wl_wire.specs.Spelling.{Fits, spelled_len}
 use Rattle.wl_sigs.specs.Tables.{Interface}
 use Rattle.wl_objects.specs.declared.argument.Arg.{Arg}
 use Rattle.wl_objects.specs.declared.argument.Arg.TheVariants as args
-use Rattle.wl_objects.specs.Writing.{Given, given, given_of, wired, on_wire, suits, wrong_place, message_len, len_in_limit, EachFits, call_makes}
+use Rattle.wl_objects.specs.declared.calling.Measured.{Measured}
+use Rattle.wl_objects.specs.Writing.{Given, given, given_of, wired, on_wire, suits, wrong_place, message_len, EachFits, IsMeasured, call_makes}
 use Rattle.wl_objects.specs.Messages.{made}
 use Rattle.wl_objects.proofs.Calls.{len-least, len-any}
 use Rattle.wl_objects.proofs.Carrying.{if-none, text_is}
@@ -84,24 +84,15 @@ call-makes tables version id place (kind ∷ ks) (x ∷ list) w =
     (λ (e : kind ≡ kinds.New None). not_named x (subst (λ (k : Kind). suits k (given_of x) ≡ true) e suit.0))
     (call-makes tables version id (suc place) ks list suit.1)
 
-in-limit : (limit : ℕ) (values : List Argument) (n : ℕ) (b : Bool) → nat_lt limit (message_len values) ≡ b → Some n ≡ (if b then None else Some (message_len values)) → (n ≡ message_len values) × (message_len values ≤ limit)
-in-limit limit values n true e h = absurd (cc)
-in-limit limit values n false e h = (cc, ltb-false limit (message_len values) e)
-
--- a length that was found is that of the message
-pub within : (limit : ℕ) (values : List Argument) (n : ℕ) → Some n ≡ len_in_limit limit values → (n ≡ message_len values) × (message_len values ≤ limit)
-within limit values n e = in-limit limit values n (nat_lt limit (message_len values)) refl e
-
--- what a call's checks tell the writer of its message
-pub checked-fits : (limit : ℕ) (ks : List Kind) (list : List Arg) (n : ℕ) → limit < 65536 → None ≡ wrong_place 0 ks (given list) → Some n ≡ len_in_limit limit (on_wire 0 list)
-    → (id : ℕ) → EachFits (on_wire id list) × (message_len (on_wire id list) ≤ limit)
-checked-fits limit ks list n most w f id =
-    let len : message_len (on_wire id list) ≤ limit = omega (arith, (within limit (on_wire 0 list) n f).1, len-any id (given list)) in
-    (each-fits id 0 ks (given list) (sym w) (omega arith), len)
+-- what a call's arguments come to tells the writer of its message that each has a spelling
+pub measured-fits : (limit : ℕ) (ks : List Kind) (list : List Arg) (m : Measured) → limit < 65536 → IsMeasured ks list limit m → (id : ℕ) → EachFits (on_wire id list) × (message_len (on_wire id list) ≤ limit)
+measured-fits limit ks list m most is id =
+    let len : message_len (on_wire id list) ≤ limit = omega (arith, is.len, is.short, len-any id (given list)) in
+    (each-fits id 0 ks (given list) is.right (omega arith), len)
 
 -- the length is the same whatever the new object's id
-pub checked-len : (limit : ℕ) (list : List Arg) (n : ℕ) → Some n ≡ len_in_limit limit (on_wire 0 list) → (id : ℕ) → n ≡ message_len (on_wire id list)
-checked-len limit list n f id = (within limit (on_wire 0 list) n f).0 ∙ sym (len-any id (given list))
+pub measured-len : (limit : ℕ) (ks : List Kind) (list : List Arg) (m : Measured) → IsMeasured ks list limit m → (id : ℕ) → m.len ≡ message_len (on_wire id list)
+measured-len limit ks list m is id = is.len ∙ sym (len-any id (given list))
 
-pub few : (ks : List Kind) (list : List Arg) → length ks ≤ 20 → None ≡ wrong_place 0 ks (given list) → length list ≤ 20
-few ks list h w = omega (arith, h, same-number 0 ks (given list) (sym w), length-map list given_of)
+pub few : (ks : List Kind) (list : List Arg) → length ks ≤ 20 → wrong_place 0 ks (given list) ≡ None → length list ≤ 20
+few ks list h w = omega (arith, h, same-number 0 ks (given list) w, length-map list given_of)

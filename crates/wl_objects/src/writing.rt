@@ -1,13 +1,11 @@
 //! Messages made of a call's arguments.
-ghost use Rattle.std.specs.Prelude.{◌≡◌, ◌<◌, ◌≤◌, ◌+◌, ◌++◌, ◌∷◌, [], ℕ, MatchOption, length};
-ghost use Rattle.std.specs.Prelude.{IfSome, take, vec_len, vec_capacity};
-ghost use Rattle.std.specs.List.{All};
+ghost use Rattle.std.specs.Prelude.{◌≡◌, ◌≤◌, ◌+◌, ◌++◌, ◌∷◌, [], length, take, vec_len};
+ghost use Rattle.std.specs.Prelude.{vec_capacity};
 ghost use Rattle.wl_wire.specs.Argument.{lent, Uint};
-ghost use Rattle.wl_wire.specs.Spelling.{canonical, spelled_len, padded, Fits, IsText};
+ghost use Rattle.wl_wire.specs.Spelling.{canonical, spelled_len, Fits, IsText};
 ghost use Rattle.wl_wire.specs.Word.{header_bytes};
-ghost use Rattle.wl_objects.specs.Carried.{InRange};
 ghost use Rattle.wl_objects.specs.Writing.{given, given_of, wired, on_wire, message_len};
-ghost use Rattle.wl_objects.specs.Writing.{len_in_limit, tokens_of, message_bytes, bind_values};
+ghost use Rattle.wl_objects.specs.Writing.{tokens_of, message_bytes, bind_values};
 ghost use Rattle.wl_objects.specs.Writing.{error_values, global_values, EachFits};
 
 use crate::argument::Arg;
@@ -35,87 +33,38 @@ pub(crate) fn wired<'a>(arg: &Arg<'a>, new_id: u32) -> ValueRef<'a>
     }
 }
 
-/// How many bytes spell the argument; none where these are more than the limit.
-fn len_of(arg: Arg<'_>, limit: u16) -> Option<usize>
-    ensures len { MatchOption result (limit < spelled_len (wired 0 (given_of arg.entry)))
-        (λ n. (n ≡ spelled_len (wired 0 (given_of arg.entry))) × (n ≤ 131072)) }
-    ensures in_range { IfSome result (λ _. InRange (given_of arg.entry)) }
-{
-    match arg {
-        Arg::Str(Some(text)) => counted_len(text.len(), 1, limit),
-        Arg::Array(bytes) => counted_len(bytes.len(), 0, limit),
-        Arg::Fd(_) => Some(0),
-        _ => Some(4),
-    }
-}
-
-/// How many bytes a length, `len` bytes with `more` behind them, and their padding have; none where
-/// the bytes alone are more than the limit.
-fn counted_len(len: usize, more: usize, limit: u16) -> Option<usize>
-    requires { more ≤ 1 }
-    ensures { MatchOption result (limit < len)
-        (λ n. (n ≡ 4 + padded (len + more)) × (n ≤ 131072)) }
-{
-    if len > limit as usize {
-        return None;
-    }
-    Some(4 + (len + more + 3) / 4 * 4)
-}
-
-/// How many bytes a message with these arguments has; none where it would be longer than the limit,
-/// which leaves room for a header.
-pub fn message_len(args: &[Arg<'_>], limit: u16) -> Option<usize>
-    requires { 8 ≤ limit }
-    ensures len { result ≡ len_in_limit limit (on_wire 0 args.now) }
-    ensures in_range { IfSome result (λ _. All InRange (given args.now)) }
-{
-    let mut len = 8;
-    'arguments: for arg in args {
-        match len_of(*arg, limit) {
-            Some(more) if len + more <= limit as usize => len += more,
-            _ => return None,
-        }
-    }
-    Some(len)
-}
-
-/// Writes the tokens of a call's arguments, in order, and returns how many there are.
-pub fn tokens_of(args: &[Arg<'_>], tokens: &mut [u32; 20]) -> usize
-    requires { length args.now ≤ 20 }
+/// Writes the message of this length that a call becomes, where the new object gets this id, and
+/// the call's tokens, and returns how many tokens there are. The message is the whole contents of
+/// the store afterwards. Allocates nothing.
+pub fn encode_call<A: Allocator>(
+    store: &mut Vec<u8, A>,
+    tokens: &mut [u32; 20],
+    object: u32,
+    opcode: u16,
+    args: &[Arg<'_>],
+    new_id: u32,
+    len: usize,
+) -> usize
+    requires fits { EachFits (on_wire new_id args.now) }
+    requires few { length args.now ≤ 20 }
+    requires len { len ≡ message_len (on_wire new_id args.now) }
+    requires short { len ≤ 65535 }
+    requires room { len ≤ vec_capacity store.old }
+    ensures message { store.new.items ≡ message_bytes object opcode (on_wire new_id args.now) }
     ensures tokens { take result tokens.new ≡ tokens_of (given args.now) }
     ensures few { result ≤ length args.now }
+    ensures capacity { vec_capacity store.old ≤ vec_capacity store.new }
 {
+    start(store, object, len, opcode);
     let mut count = 0;
     'arguments: for arg in args {
+        append(store, wired(arg, new_id));
         if let Arg::Fd(token) = arg {
             tokens[count] = *token;
             count += 1;
         }
     }
     count
-}
-
-/// Writes the message of this length that a call becomes, where the new object gets this id. It is
-/// the whole contents of the store afterwards. Allocates nothing.
-pub fn encode_call<A: Allocator>(
-    store: &mut Vec<u8, A>,
-    object: u32,
-    opcode: u16,
-    args: &[Arg<'_>],
-    new_id: u32,
-    len: usize,
-)
-    requires fits { EachFits (on_wire new_id args.now) }
-    requires len { len ≡ message_len (on_wire new_id args.now) }
-    requires short { len ≤ 65535 }
-    requires room { len ≤ vec_capacity store.old }
-    ensures message { store.new.items ≡ message_bytes object opcode (on_wire new_id args.now) }
-    ensures capacity { vec_capacity store.old ≤ vec_capacity store.new }
-{
-    start(store, object, len, opcode);
-    'arguments: for arg in args {
-        append(store, wired(arg, new_id));
-    }
 }
 
 /// Writes wl_registry.bind, as `encode_call` does any other message.
