@@ -3,3 +3,5 @@ pub mod Lending
 pub mod Statuses
 pub mod Values
 pub mod Inspecting
+pub mod Calls
+pub mod Reports

@@ -15,6 +15,7 @@ mod making;
 mod parts;
 mod reading;
 mod reports;
+mod sending;
 mod server;
 mod server_handle;
 mod statuses;

@@ -1,6 +1,10 @@
 //! Values as C has them: objects, arguments, numbers of bytes and tokens.
-ghost use Rattle.std.specs.Prelude.{◌≡◌, ◌≤◌, length, IfSome};
+ghost use Rattle.std.specs.Prelude.{◌≡◌, ◌≤◌, length, take, option_map, IfSome, None, Some, MatchOption};
 ghost use Rattle.wl_message.specs.Arrived.{AreSizes};
+ghost use Rattle.wl_objects.specs.Writing.{given, given_of};
+ghost use Rattle.wl_objects.specs.Parsed.{lent_got};
+ghost use Rattle.waywire_c.specs.Values.{all_given, given_by, object_of};
+ghost use Rattle.waywire_c.specs.Reports.{arg_named, arg_of_kind, arg_told, arg_told_by};
 
 use std::ptr;
 use wl_message::{Fed, Limit, Sizes, Taken};
@@ -92,10 +96,12 @@ pub struct CAmounts {
 }
 
 impl CObject {
-    ghost use Rattle.waywire_c.specs.Values.{object_of};
+    ghost use Rattle.waywire_c.specs.Values.{made_object, object_of};
 
     /// What stands where there is no object.
-    pub const fn none() -> CObject {
+    pub const fn none() -> CObject
+        ensures { object_of result ≡ made_object None }
+    {
         CObject { birth: 0, id: 0 }
     }
 
@@ -179,7 +185,9 @@ pub fn start_of_tokens(tokens: &[u32]) -> *const u32 {
 
 /// The argument of a call, where its kind is one of those that a call takes.
 #[inline(always)]
-fn arg_of<'a>(arg: &CallArg<'a>) -> Option<Arg<'a>> {
+fn arg_of<'a>(arg: &CallArg<'a>) -> Option<Arg<'a>>
+    ensures { option_map given_of result ≡ given_by arg.now }
+{
     match arg.kind {
         INT => Some(Arg::Int(arg.int)),
         UINT => Some(Arg::Uint(arg.uint)),
@@ -211,7 +219,9 @@ pub fn put_args<'a>(args: &[CallArg<'a>], slots: &mut [Arg<'a>]) -> Option<usize
 
 /// An argument of this kind and no more.
 #[inline(always)]
-fn plain(kind: u32) -> ReportArg {
+fn plain(kind: u32) -> ReportArg
+    ensures { arg_told_by result ≡ arg_of_kind kind }
+{
     ReportArg {
         kind,
         int: 0,
@@ -223,7 +233,9 @@ fn plain(kind: u32) -> ReportArg {
 }
 
 #[inline(always)]
-fn with_bytes(kind: u32, bytes: &[u8]) -> ReportArg {
+fn with_bytes(kind: u32, bytes: &[u8]) -> ReportArg
+    ensures { arg_told_by result ≡ record (arg_of_kind kind) { length = length bytes.now } }
+{
     ReportArg {
         bytes: start_of(bytes),
         length: bytes.len(),
@@ -232,7 +244,9 @@ fn with_bytes(kind: u32, bytes: &[u8]) -> ReportArg {
 }
 
 #[inline(always)]
-fn with_object(kind: u32, object: Object) -> ReportArg {
+fn with_object(kind: u32, object: Object) -> ReportArg
+    ensures { arg_told_by result ≡ record (arg_of_kind kind) { object = object } }
+{
     ReportArg {
         object: CObject::of(object),
         ..plain(kind)
@@ -240,7 +254,9 @@ fn with_object(kind: u32, object: Object) -> ReportArg {
 }
 
 #[inline(always)]
-fn with_uint(kind: u32, uint: u32) -> ReportArg {
+fn with_uint(kind: u32, uint: u32) -> ReportArg
+    ensures { arg_told_by result ≡ record (arg_of_kind kind) { uint = uint } }
+{
     ReportArg {
         uint,
         ..plain(kind)
@@ -248,12 +264,16 @@ fn with_uint(kind: u32, uint: u32) -> ReportArg {
 }
 
 #[inline(always)]
-fn with_int(kind: u32, int: i32) -> ReportArg {
+fn with_int(kind: u32, int: i32) -> ReportArg
+    ensures { arg_told_by result ≡ record (arg_of_kind kind) { int = int } }
+{
     ReportArg { int, ..plain(kind) }
 }
 
 /// An object that is named, as an argument.
-pub fn named(named: Named) -> ReportArg {
+pub fn named(named: Named) -> ReportArg
+    ensures { arg_told_by result ≡ arg_named named }
+{
     match named {
         Named::Null => plain(NULL_OBJECT),
         Named::Live(object) => with_object(OBJECT, object),
@@ -263,7 +283,9 @@ pub fn named(named: Named) -> ReportArg {
 
 /// The argument of a report as C sees it.
 #[inline(always)]
-pub fn shown(got: GotRef<'_>) -> ReportArg {
+pub fn shown(got: GotRef<'_>) -> ReportArg
+    ensures { arg_told_by result ≡ arg_told (lent_got got.entry) }
+{
     match got {
         GotRef::Int(number) => with_int(INT, number),
         GotRef::Uint(number) => with_uint(UINT, number),
