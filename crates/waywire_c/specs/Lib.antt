@@ -5,3 +5,5 @@ pub mod Values
 pub mod Inspecting
 pub mod Calls
 pub mod Reports
+pub mod Sizes
+pub mod Messages

@@ -1,5 +1,5 @@
 //! What C calls of a client.
-ghost use Rattle.std.specs.Prelude.{◌≡◌, ◌≢◌, ◌++◌, length, take, drop, true, Some, Ok, IfSome, MatchOption};
+ghost use Rattle.std.specs.Prelude.{◌≡◌, ◌≢◌, ◌↔◌, ◌++◌, length, take, drop, true, Some, Ok, IfSome, MatchOption};
 ghost use Rattle.wl_sigs.specs.declared.signature.Side.TheVariants.{Request as request_side};
 ghost use Rattle.wl_message.specs.Outgoing.{goes, waiting_bytes, waiting_tokens};
 ghost use Rattle.wl_end.specs.Core.{in_room, is_drained, live, display_object, feeds, with_arrived, with_gone};
@@ -10,6 +10,8 @@ ghost use Rattle.wl_client.specs.Reports.{after_next, next_answer};
 ghost use Rattle.waywire_c.specs.Statuses.{find_outcome, made_outcome, read_outcome, OrMemory};
 ghost use Rattle.waywire_c.specs.Values.{fed_of, given_in, iface_at, object_of, taken_of};
 ghost use Rattle.waywire_c.specs.Calls.{SendTells};
+ghost use Rattle.waywire_c.specs.Inspecting.{IsTried};
+ghost use Rattle.waywire_c.specs.Sizes.{AreAllowed};
 ghost use Rattle.waywire_c.specs.Reports.{event_args, TellsArgs, told_by, told_event};
 
 use crate::client_handle::ClientHandle;
@@ -31,7 +33,11 @@ pub extern "C" fn waywire_c_client_new(
     tables: &mut TablesHandle,
     sizes: &CSizes,
     client: &mut *mut u8,
-) -> u32 {
+) -> u32
+    ensures sizes { (result ≢ 63) ↔ AreAllowed sizes.now }
+    ensures tried { result ≢ 63 → IsTried result }
+    ensures unchanged { tables.new.held ≡ tables.old.held }
+{
     let Some(sizes) = sizes.sizes() else {
         return BAD_SIZES;
     };

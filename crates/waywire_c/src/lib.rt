@@ -12,6 +12,7 @@ mod held;
 mod inspector;
 mod inspector_handle;
 mod making;
+mod messages;
 mod parts;
 mod reading;
 mod reports;

@@ -1,5 +1,5 @@
 //! What C calls of a server.
-ghost use Rattle.std.specs.Prelude.{◌≡◌, ◌≢◌, ◌++◌, length, take, drop, true, Ok, IfSome, MatchOption};
+ghost use Rattle.std.specs.Prelude.{◌≡◌, ◌≢◌, ◌↔◌, ◌++◌, length, take, drop, true, Ok, IfSome, MatchOption};
 ghost use Rattle.wl_sigs.specs.declared.signature.Side.TheVariants.{Event as event_side};
 ghost use Rattle.wl_message.specs.Outgoing.{goes, waiting_bytes, waiting_tokens};
 ghost use Rattle.wl_end.specs.Core.{in_room, is_drained, live, display_object, feeds, with_arrived, with_gone};
@@ -11,6 +11,8 @@ ghost use Rattle.wl_server.specs.Requests.{after_next, next_answer, opens_object
 ghost use Rattle.waywire_c.specs.Statuses.{failed_outcome, find_outcome, global_outcome, name_outcome, read_outcome, send_outcome, OrMemory};
 ghost use Rattle.waywire_c.specs.Values.{fed_of, given_in, iface_at, object_of, taken_of};
 ghost use Rattle.waywire_c.specs.Calls.{SendTells};
+ghost use Rattle.waywire_c.specs.Inspecting.{IsTried};
+ghost use Rattle.waywire_c.specs.Sizes.{AreAllowed};
 ghost use Rattle.waywire_c.specs.Reports.{of_kind, request_args, TellsArgs, told_by, told_request};
 
 use crate::making;
@@ -35,7 +37,11 @@ pub extern "C" fn waywire_c_server_new(
     tables: &mut TablesHandle,
     sizes: &CSizes,
     server: &mut *mut u8,
-) -> u32 {
+) -> u32
+    ensures sizes { (result ≢ 63) ↔ AreAllowed sizes.now }
+    ensures tried { result ≢ 63 → IsTried result }
+    ensures unchanged { tables.new.held ≡ tables.old.held }
+{
     let Some(sizes) = sizes.sizes() else {
         return BAD_SIZES;
     };

@@ -77,7 +77,7 @@ pub struct ReportArg {
     pub length: usize,
 }
 
-/// How large the boxes of an end are.
+/// How large the boxes of an end are, and the limit of its messages: 0 is the usual one.
 #[repr(C)]
 #[derive(Clone, Copy)]
 pub struct CSizes {
@@ -85,6 +85,7 @@ pub struct CSizes {
     pub out_tokens: usize,
     pub in_bytes: usize,
     pub in_tokens: usize,
+    pub limit: u32,
 }
 
 /// Numbers of bytes and of tokens.
@@ -125,22 +126,40 @@ impl CObject {
 }
 
 impl CSizes {
+    ghost use Rattle.std.specs.Prelude.{◌↔◌, IsSome};
+    ghost use Rattle.wl_message.specs.Cut.{IsLimit};
+    ghost use Rattle.waywire_c.specs.Sizes.{limit_of, AreAllowed, AreOf};
+
     /// The sizes, where an end can have them.
     pub fn sizes(&self) -> Option<Sizes>
-        ensures { IfSome result (λ sizes. AreSizes sizes) }
+        ensures some { IsSome result ↔ AreAllowed self.now }
+        ensures same { IfSome result (λ sizes. AreOf self.now sizes) }
+        ensures allowed { IfSome result (λ sizes. AreSizes sizes) }
     {
         let sizes = Sizes {
             out_bytes: self.out_bytes,
             out_tokens: self.out_tokens,
             in_bytes: self.in_bytes,
             in_tokens: self.in_tokens,
-            limit: Limit::USUAL,
+            limit: self.limit()?,
         };
         if sizes.is_allowed() {
             Some(sizes)
         } else {
             None
         }
+    }
+}
+
+impl CSizes {
+    fn limit(&self) -> Option<Limit>
+        ensures some { IsSome result ↔ IsLimit (limit_of self.now) }
+        ensures same { IfSome result (λ limit. limit.bytes ≡ limit_of self.now) }
+    {
+        if self.limit == 0 {
+            return Some(Limit::USUAL);
+        }
+        Limit::new(self.limit)
     }
 }
 
@@ -207,6 +226,9 @@ fn arg_of<'a>(arg: &CallArg<'a>) -> Option<Arg<'a>>
 /// number. None where one is of a kind that no call takes.
 #[inline(always)]
 pub fn put_args<'a>(args: &[CallArg<'a>], slots: &mut [Arg<'a>]) -> Option<usize>
+    ensures given { MatchOption result (all_given (take (length slots.old) args.now) ≡ None)
+        (λ count. all_given (take (length slots.old) args.now)
+        ≡ Some (given (take count slots.new))) }
     ensures within { IfSome result (λ count. count ≤ length slots.new) }
     ensures as_many { IfSome result (λ _. length slots.new ≡ length slots.old) }
 {
