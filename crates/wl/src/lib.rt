@@ -97,7 +97,7 @@
 //! use anyhow::{Context, Result, bail};
 //! use std::io::Write;
 //! use wl::{
-//!     Arg, Direction, Got, GotRef, Incoming, Limit, Object, OwnedArgs, OwnedIncoming, Recording,
+//!     Arg, Direction, End, Got, GotRef, Incoming, Limit, Object, OwnedArgs, OwnedIncoming, Recording,
 //!     Sizes, SlotTable, Tables, event, request, trace,
 //! };
 //!
@@ -263,7 +263,7 @@
 
 pub use wl_check::Inspector;
 pub use wl_client::{Client, Incoming, OwnedIncoming, Tokens};
-pub use wl_end::ReadAll;
+pub use wl_end::{End, ReadAll};
 pub use wl_message::{Fed, FillError, FlushError, Limit, Piece, Sizes, Taken};
 pub use wl_objects::{
     Arg, Args, Entry, Fault, Got, GotRef, MapTable, Named, NextError, Object, OwnedArgs, SendError,

@@ -16,7 +16,6 @@ mod receive;
 mod report;
 mod send;
 mod tokens;
-mod transport;
 
 pub use client::Client;
 pub use laws::{any_cut_reads, binds_are_spelled, one_reading, whole_messages_are_read};

@@ -76,6 +76,13 @@ pub trait End {
 
     ghost laws: { IsCoreOf core with_core };
 
+    /// Whether the end has failed.
+    final fn has_failed(&self) -> bool
+        ensures { result ≡ (core self.now).failed }
+    {
+        self.core().failed
+    }
+
     /// wl_display, id 1 and birth 0 at each end.
     final fn display(&self) -> Object
         ensures { result ≡ display_object }

@@ -1,7 +1,7 @@
 //! What both ends of a connection have: tables, objects and two boxes.
 ghost use Rattle.std.specs.Prelude.{◌≡◌, ◌≤◌, ◌↔◌, IfOk, IsTrue, length, take};
 ghost use Rattle.wl_message.specs.Arrived.{AreSizes};
-ghost use Rattle.wl_end.specs.Core.{new_core, display_object, live, in_room, feeds, with_arrived};
+ghost use Rattle.wl_end.specs.Core.{new_core, live, in_room, feeds, with_arrived};
 ghost use Rattle.wl_end.specs.Core.{is_drained};
 
 use std::alloc::AllocError;
@@ -9,7 +9,6 @@ use std::marker::Model;
 use wl_message::{Fed, Inbox, Outbox, Sizes};
 use wl_objects::{DISPLAY, Object, State, Table};
 use wl_sigs::Tables;
-use wl_table::DISPLAY_ID;
 use wl_wire::Iface;
 
 /// The most globals that a server advertises in its life, and the most that a client remembers.
@@ -81,16 +80,6 @@ impl<'t, T: Table> Core<'t, T> {
             failed: false,
             read: 0,
         })
-    }
-
-    /// wl_display, id 1 and birth 0 at each end.
-    pub fn display(&self) -> Object
-        ensures { result ≡ display_object }
-    {
-        Object {
-            id: DISPLAY_ID,
-            birth: 0,
-        }
     }
 
     /// The interface and version of an object that is live. At a failed end too.

@@ -12,7 +12,7 @@ use wl_client::Client;
 use wl_message::{Limit, Sizes};
 use wl_objects::Table;
 use wl_recording::Recording;
-use wl_scenes::{Actor, End, Line, Row, Scene, Trouble, Words};
+use wl_scenes::{Actor, Line, Playable, Row, Scene, Trouble, Words};
 use wl_server::Server;
 use wl_session::Pair;
 
@@ -167,7 +167,7 @@ fn at_server(
 }
 
 /// Plays a scene at an end.
-fn at_end<T: Table<Alloc = RefusingAllocator>, E: End<Table = T> + Drop>(
+fn at_end<T: Table<Alloc = RefusingAllocator>, E: Playable<Table = T> + Drop>(
     props: Props<'_>,
     end: E,
     scene: &Scene<'_>,

@@ -15,7 +15,6 @@ mod registry;
 mod report;
 mod send;
 mod server;
-mod transport;
 
 pub use globals::GlobalError;
 pub use laws::{any_cut_reads, one_reading, own_messages_are_spelled, whole_messages_are_read};

@@ -14,6 +14,7 @@ ghost use Rattle.wl_link.specs.Linked.{Linked, limit_of, up_to};
 use std::alloc::{AllocError, Allocator};
 use std::marker::Model;
 use wl_client::Client;
+use wl_end::End;
 use wl_message::Sizes;
 use wl_objects::{DISPLAY, Table};
 use wl_recording::Recording;

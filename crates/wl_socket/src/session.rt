@@ -13,6 +13,7 @@ use std::alloc::Allocator;
 use std::io::{Read, Write};
 use wl_client::Client;
 use wl_demo_session::SIZES;
+use wl_end::End;
 use wl_objects::{SlotTable, Table};
 use wl_server::Server;
 use wl_session::{Direction, Recording, same_rows};
