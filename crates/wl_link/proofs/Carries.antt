@@ -58,11 +58,11 @@ carry_to_server_links p w asked told most l s =
     let client = client_rows p.client.core.view in
     let F = Asking tables p.server.globals l.told_seen client p.client.globals in
     let brings = carry_brings limit tables ToServer ps bytes taken.tokens in
-    let fits = each_rest (AsksFitly tables p.server.globals) l.asked_seen l.asked_later (subst (Each (AsksFitly tables p.server.globals)) l.asked_is l.stands.asked_fit) in
+    let fits = each_rest (AsksFitly tables p.server.globals) l.asked_seen l.asked_later (subst (Each (AsksFitly tables p.server.globals)) l.asked_is l.stands.requests.fit) in
     let there = (carry_fits p.client.core p.server.core most).tokens_there in
-    let flight = subst (λ (ms : List (Message Known)). InFlight next.client.core.outbox next.server.core.inbox (map spelled ms)) l.asked_is s.to_server in
+    let flight = subst (λ (ms : List (Message Known)). InFlight next.client.core.outbox next.server.core.inbox (map spelled ms)) l.asked_is s.requests.in_boxes in
     let c = carry_recorded spelled limit tables ToServer ps qs bytes taken.tokens F next.client.core.outbox p.server.core.inbox next.server.core.inbox l.asked_seen l.asked_later brings
-    (asking_one limit tables p.server.globals l.told_seen client p.client.globals (λ x. stream_of x qs) (tokens_of ToServer ps + taken.tokens) l.stands.valid l.stands.globals)
+    (asking_one limit tables p.server.globals l.told_seen client p.client.globals (λ x. stream_of x qs) (tokens_of ToServer ps + taken.tokens) l.stands.terms.valid l.stands.globals.globals)
     l.to_server (l.follows, fits) flight refl (omega (arith, there, length-append p.server.core.inbox.tokens (carried_tokens p.client.core taken))) refl in
     record {
       stands = s;
@@ -99,7 +99,7 @@ whereabouts p w asked told l =
     record {
       meet = subst (λ (qs : List Ask). Meets (by_event p.server.core.tables) (all_tells told) qs (client_rows p.client.core.view) (server_rows p.server.core.view)) parts l.stands.meet;
       counted = l.counted;
-      display = ap (option_map flight.row) l.stands.client_display;
+      display = ap (option_map flight.row) l.stands.client.display;
     }
 
 pub carry_to_client_links : (p : PairState) (w : World) (asked : List (Message Known)) (told : List (Coming Known)) (most : ℕ) → LinkedBy p w asked told
@@ -116,11 +116,11 @@ carry_to_client_links p w asked told most l s =
     let client = client_rows p.client.core.view in
     let F = Telling tables p.server.globals l.asked_later told client p.client.globals in
     let brings = carry_brings limit tables ToClient ps bytes taken.tokens in
-    let fits = each_rest (ComesFitly tables p.server.globals) l.told_seen l.told_later (subst (Each (ComesFitly tables p.server.globals)) l.told_is l.stands.told_fit) in
+    let fits = each_rest (ComesFitly tables p.server.globals) l.told_seen l.told_later (subst (Each (ComesFitly tables p.server.globals)) l.told_is l.stands.events.fit) in
     let there = (carry_fits p.server.core p.client.core most).tokens_there in
-    let flight = subst (λ (cs : List (Coming Known)). InFlight next.server.core.outbox next.client.core.inbox (map spelled_coming cs)) l.told_is s.to_client in
+    let flight = subst (λ (cs : List (Coming Known)). InFlight next.server.core.outbox next.client.core.inbox (map spelled_coming cs)) l.told_is s.events.in_boxes in
     let c = carry_recorded spelled_coming limit tables ToClient ps qs bytes taken.tokens F next.server.core.outbox p.client.core.inbox next.client.core.inbox l.told_seen l.told_later brings
-    (telling_one limit tables p.server.globals l.asked_seen l.asked_later told client (server_rows p.server.core.view) p.client.globals (λ x. stream_of x qs) (tokens_of ToClient ps + taken.tokens) l.stands.valid
+    (telling_one limit tables p.server.globals l.asked_seen l.asked_later told client (server_rows p.server.core.view) p.client.globals (λ x. stream_of x qs) (tokens_of ToClient ps + taken.tokens) l.stands.terms.valid
     (whereabouts p w asked told l))
     l.to_client (l.follows, l.told_is, fits) flight refl (omega (arith, there, length-append p.client.core.inbox.tokens (carried_tokens p.server.core taken))) refl in
     record {

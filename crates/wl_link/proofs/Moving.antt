@@ -185,7 +185,7 @@ pub request_links : (p : PairState) (w w' : World) (m : Message Known) (ms : Lis
     → StandsBy (with_server p (left_state p.server m n)) w' ms (told ++ delete m.ends)
     → LinkedBy (with_server p (left_state p.server m n)) w' ms (told ++ delete m.ends)
 request_links p w w' m ms told n whole there l s =
-    let q = pops p.client.core.outbox p.server.core.inbox (map spelled (m ∷ ms)) n l.stands.to_server whole in
+    let q = pops p.client.core.outbox p.server.core.inbox (map spelled (m ∷ ms)) n l.stands.requests.in_boxes whole in
     let first : q.first ≡ spelled m = cc q.is in
     let size : n ≡ length (spelled m).bytes = q.size ∙ ap (λ (x : boxes.Message). length x.bytes) first in
     let enough : length (tokens m.args) ≤ length p.server.core.inbox.tokens = subst (λ (x : boxes.Message). length x.tokens ≤ length p.server.core.inbox.tokens) first q.enough in
@@ -258,7 +258,7 @@ event_links p w w' asked m cs n entry whole l s =
     let tables = p.server.core.tables in
     let inbox = p.client.core.inbox in
     let taken = (knows p).taken ToClient in
-    let q = pops p.server.core.outbox inbox (map spelled_coming (Event m ∷ cs)) n l.stands.to_client whole in
+    let q = pops p.server.core.outbox inbox (map spelled_coming (Event m ∷ cs)) n l.stands.events.in_boxes whole in
     let first : q.first ≡ spelled m = cc q.is in
     let size : n ≡ length (spelled m).bytes = q.size ∙ ap (λ (x : boxes.Message). length x.bytes) first in
     let enough : length (tokens m.args) ≤ length inbox.tokens = subst (λ (x : boxes.Message). length x.tokens ≤ length inbox.tokens) first q.enough in
@@ -281,8 +281,8 @@ event_links p w w' asked m cs n entry whole l s =
         passed = f.passed;
         here = f.here;
         known_as = f.known_as;
-        joins = event_joins (by_event tables) m l.asked_later seen.rest f.here p.client.core.view tables l.stands.told_fit.0.fits joins;
-        remembers = learns (knows p) tables p.client.core.tables p.server.globals p.client.globals m l.stands.same_tables l.stands.told_fit.0 told.0 f.remembers (teaches m entry) (λ h. (and_parts (is_registry m.target.born) _ h).0);
+        joins = event_joins (by_event tables) m l.asked_later seen.rest f.here p.client.core.view tables l.stands.events.fit.0.fits joins;
+        remembers = learns (knows p) tables p.client.core.tables p.server.globals p.client.globals m l.stands.terms.same_tables l.stands.events.fit.0 told.0 f.remembers (teaches m entry) (λ h. (and_parts (is_registry m.target.born) _ h).0);
         tells = told.1;
         binds = f.binds;
       };
@@ -302,7 +302,7 @@ delete_links p w w' asked x cs n whole l s =
     let tables = p.server.core.tables in
     let inbox = p.client.core.inbox in
     let taken = (knows p).taken ToClient in
-    let q = pops p.server.core.outbox inbox (map spelled_coming (Delete x ∷ cs)) n l.stands.to_client whole in
+    let q = pops p.server.core.outbox inbox (map spelled_coming (Delete x ∷ cs)) n l.stands.events.in_boxes whole in
     let first : q.first ≡ spelled_coming (Delete x) = cc q.is in
     let size : n ≡ length (spelled_coming (Delete x)).bytes = q.size ∙ ap (λ (y : boxes.Message). length y.bytes) first in
     let seen = seen_first spelled_coming (limit_of p) ToClient p.recording inbox taken n (Delete x) cs l.told_seen l.told_later l.told_is l.to_client whole in
