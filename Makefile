@@ -15,7 +15,7 @@ OBJCOPY ?= objcopy
 # The folder of the toolchain: its C part gives the exports their memory.
 KIT ?= $(patsubst %/,%,$(dir $(shell rt doc)))
 # The one place of the version's number is the program's.
-numbered = crates/wl_command/src/job.rt
+numbered = crates/program_arguments/src/job.rt
 VERSION := $(shell sed -n 's/^const VERSION: &str = "\(.*\)";/\1/p' $(numbered))
 numbers := $(subst ., ,$(VERSION))
 MAJOR := $(word 1,$(numbers))

@@ -1,10 +1,10 @@
 //! Recorded sessions of Wayland clients, as text.
 #![tactic(auto)]
 
+use program_jobs::{BoundSocket, ExitStatus, run};
 use std::fs::{self, File};
 use std::os::unix::net::{SocketAddr, UnixListener, UnixStream};
 use std::{env, io};
-use wl_jobs::{Bound, Ending, run};
 
 /// A Unix socket that is bound at the path of its address.
 struct Socket<'a> {
@@ -13,7 +13,7 @@ struct Socket<'a> {
     listener: UnixListener,
 }
 
-impl Bound for Socket<'_> {
+impl BoundSocket for Socket<'_> {
     type Stream = UnixStream;
 
     fn connect(&self) -> io::Result<UnixStream> {
@@ -54,7 +54,7 @@ fn words(rt: &HostRuntime) -> io::Result<Vec<String>> {
     Ok(env::args(rt)?.collect(rt.alloc())?)
 }
 
-fn main(rt: HostRuntime) -> Ending {
+fn main(rt: HostRuntime) -> ExitStatus {
     run(
         rt.alloc(),
         words(&rt),

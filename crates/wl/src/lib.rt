@@ -80,10 +80,10 @@
 //! # Beyond one end
 //!
 //! A [`Pair`] is a client and a server with nothing between, for tests; it plays a list of
-//! [`Move`]s. A [`Recording`] is what passed at one point of a connection; a [`Tee`] records what is
-//! read from a stream. [`trace`] prints a recording message by message, and [`check`] says whether it
-//! is lawful, and where not. An [`Inspector`] does both while a session goes on, piece by piece as it
-//! passes. [`same_rows`] says whether a client and a server have the same objects.
+//! [`Move`]s. A [`Recording`] is what passed at one point of a connection; a [`Tee`] records what
+//! is read from a stream. [`trace`] prints a recording message by message, and [`check`] says
+//! whether it is lawful, and where not. An [`Inspector`] does both while a session goes on, piece
+//! by piece as it passes. [`same_rows`] says whether a client and a server have the same objects.
 //!
 //! # A client and a server
 //!
@@ -263,7 +263,7 @@
 
 pub use wl_check::Inspector;
 pub use wl_client::{Client, Incoming, OwnedIncoming, Tokens};
-pub use wl_end::ReadAll;
+pub use wl_connection::ReadAll;
 pub use wl_message::{Fed, FillError, FlushError, Limit, Piece, Sizes, Taken};
 pub use wl_objects::{
     Arg, Args, Entry, Fault, Got, GotRef, MapTable, Named, NextError, Object, OwnedArgs, SendError,

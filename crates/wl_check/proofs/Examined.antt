@@ -12,8 +12,8 @@ use Rattle.std.proofs.lemmas.Bool.Decides.{nat_tests}
 use Rattle.wl_sigs.specs.Tables.{Interface}
 use Rattle.wl_sigs.specs.Fixed.{display}
 use Rattle.wl_objects.specs.declared.error.Fault.{Fault}
-use Rattle.wl_table.specs.declared.object.Entry.{Entry}
-use Rattle.wl_table.specs.declared.object.State.TheVariants.{Live}
+use Rattle.wl_object_map.specs.declared.object.Entry.{Entry}
+use Rattle.wl_object_map.specs.declared.object.State.TheVariants.{Live}
 use Rattle.wl_recording.specs.declared.piece.Direction.{Direction}
 use Rattle.wl_recording.specs.declared.piece.Direction.TheVariants.{ToServer, ToClient}
 use Rattle.wl_check.specs.declared.effect.Effect.{Effect}

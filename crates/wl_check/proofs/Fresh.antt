@@ -16,12 +16,12 @@ use Rattle.wl_message.specs.Cut.{is_size}
 use Rattle.wl_wire.specs.Reading.{reading as value_at}
 use Rattle.wl_sigs.specs.declared.signature.Side.{Side}
 use Rattle.wl_sigs.specs.Tables.{Message, Interface, signature_at, place_of}
-use Rattle.wl_table.specs.declared.object.Entry.{Entry}
+use Rattle.wl_object_map.specs.declared.object.Entry.{Entry}
 use Rattle.wl_objects.specs.declared.lookup.NewId.{NewId}
 use Rattle.wl_objects.specs.declared.lookup.NewId.TheVariants.{Free, Wrong, TooMany}
 use Rattle.wl_objects.specs.declared.error.Fault.{Fault}
 use Rattle.wl_objects.specs.declared.error.Fault.TheVariants.{BadSize, TrailingBytes, MissingDescriptor, UnknownMessage}
-use Rattle.wl_table.specs.View.{max_ids}
+use Rattle.wl_object_map.specs.View.{max_ids}
 use Rattle.wl_objects.specs.Reading.{Reader, kind_at, forgiving, new_fault, value_fault, unless, judged as judged_value, before, and_those, arguments_at, descriptors}
 use Rattle.wl_objects.specs.Messages.{Received, NewObject, made, made_by, or_else, is_empty, is_error, received_whole, received_as, received_by, received, new_id_of}
 use Rattle.wl_recording.specs.declared.piece.Direction.{Direction}

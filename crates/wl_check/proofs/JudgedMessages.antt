@@ -11,7 +11,7 @@ use Rattle.wl_wire.specs.Argument.{Argument}
 use Rattle.wl_sigs.specs.declared.signature.Side.{Side}
 use Rattle.wl_sigs.specs.Tables.{Message, Interface, signature_at}
 use Rattle.wl_sigs.specs.Valid.{Valid}
-use Rattle.wl_table.specs.declared.object.Entry.{Entry}
+use Rattle.wl_object_map.specs.declared.object.Entry.{Entry}
 use Rattle.wl_objects.specs.declared.error.Fault.{Fault}
 use Rattle.wl_objects.specs.declared.error.Fault.TheVariants.{BadBind, BadSize}
 use Rattle.wl_objects.specs.Reading.{Reader, descriptors, is_descriptor_kind, arguments_at, forgiving}

@@ -10,10 +10,10 @@ use Rattle.wl_wire.specs.Word.{header_at}
 use Rattle.wl_sigs.specs.declared.signature.Side.{Side}
 use Rattle.wl_sigs.specs.Tables.{Interface, interface_at}
 use Rattle.wl_message.specs.Cut.{is_size}
-use Rattle.wl_table.specs.declared.object.Entry.{Entry}
+use Rattle.wl_object_map.specs.declared.object.Entry.{Entry}
 use Rattle.wl_objects.specs.declared.error.Fault.{Fault}
 use Rattle.wl_objects.specs.declared.error.Fault.TheVariants.{BadSize, BadBind}
-use Rattle.wl_table.specs.View.{lives, max_ids}
+use Rattle.wl_object_map.specs.View.{lives, max_ids}
 use Rattle.wl_objects.specs.Reading.{Reader}
 use Rattle.wl_objects.specs.Messages.{Received, NewObject, made, received, is_bind, new_id_of}
 use Rattle.wl_recording.specs.declared.piece.Direction.{Direction}

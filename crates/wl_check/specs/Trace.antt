@@ -3,7 +3,7 @@ use Rattle.std.specs.Prelude.{ℕ, zero, suc, List, [], ◌∷◌, ◌++◌, sli
 use Rattle.std.specs.Prelude.{Some}
 use Rattle.std.specs.declared.result.Result.TheVariants.{Ok, Err}
 use Rattle.wl_sigs.specs.Tables.{Interface}
-use Rattle.wl_lines.specs.Line.{line}
+use Rattle.wl_trace_line.specs.Line.{line}
 use Rattle.wl_check.specs.declared.course.Output.{Output}
 use Rattle.wl_check.specs.declared.course.Output.TheVariants.{Nothing, Lines}
 use Rattle.wl_check.specs.Effects.{Call, side_of}

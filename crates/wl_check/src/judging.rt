@@ -6,7 +6,7 @@ ghost use Rattle.wl_objects.specs.Messages.{is_error};
 ghost use Rattle.wl_objects.specs.Reading.{descriptors};
 ghost use Rattle.wl_objects.specs.Seen.{message_of};
 ghost use Rattle.wl_check.specs.Effects.{advertised, effect, first_number, is_global, side_of};
-ghost use Rattle.wl_lines.specs.Line.{line};
+ghost use Rattle.wl_trace_line.specs.Line.{line};
 ghost use Rattle.wl_check.specs.Rules.{can_bind, is_bad_bind, judged_as, judged_front, reader};
 ghost use Rattle.wl_check.specs.Seen.{call_of, effect_in, known_in, taken_in};
 ghost use Rattle.wl_check.specs.Trace.{judged_line, wanted};
@@ -16,7 +16,6 @@ use crate::effect::{Advertised, Effect};
 use crate::frames::Frame;
 use crate::known::{Knowledge, ReaderLookup};
 use std::alloc::{AllocError, Allocator};
-use wl_lines::write_line;
 use wl_message::Limit;
 use wl_objects::{
     Fault, NewObject, REGISTRY, Received, Values, is_bind, is_delete_id, made_by_message, receive,
@@ -24,6 +23,7 @@ use wl_objects::{
 use wl_recording::Direction;
 use wl_sigs::event::wl_registry::GLOBAL;
 use wl_sigs::{Destroys, Side, Tables};
+use wl_trace_line::write_line;
 use wl_wire::{Header, Iface, ValueRef};
 
 /// Requests go to the server, events to the client.

@@ -11,17 +11,17 @@ use Rattle.wl_sigs.specs.declared.signature.Side.TheVariants.{Request}
 use Rattle.wl_sigs.specs.Tables.{Interface, Message, interface_at, message_of}
 use Rattle.wl_sigs.specs.Fixed.{uint, new, registry}
 use Rattle.wl_sigs.specs.Valid.{Valid}
-use Rattle.wl_table.specs.declared.object.Object.{Object}
-use Rattle.wl_table.specs.declared.object.Entry.{Entry}
-use Rattle.wl_table.specs.View.{next_id}
-use Rattle.wl_table.specs.Views.{free_is, free_or_next-next_id}
+use Rattle.wl_object_map.specs.declared.object.Object.{Object}
+use Rattle.wl_object_map.specs.declared.object.Entry.{Entry}
+use Rattle.wl_object_map.specs.View.{next_id}
+use Rattle.wl_object_map.specs.Views.{free_is, free_or_next-next_id}
 use Rattle.wl_objects.specs.declared.error.SendError.{SendError}
 use Rattle.wl_objects.specs.declared.error.SendError.TheVariants as refusals
 use Rattle.wl_objects.specs.Writing.{bind_values, message_bytes}
 use Rattle.wl_objects.specs.Messages.{live_row, same_iface}
 use Rattle.wl_message.specs.Cut.{usual_limit}
-use Rattle.wl_end.specs.Spelled.{MessageSpells}
-use Rattle.wl_end.proofs.Spelled.{own-spelled}
+use Rattle.wl_connection.specs.Spelled.{MessageSpells}
+use Rattle.wl_connection.proofs.Spelled.{own-spelled}
 use Rattle.wl_client.specs.State.{State, Global, global_of}
 use Rattle.wl_client.specs.Calls.{can_bind, version_fits, bind_at, bind_answer}
 use Rattle.wl_client.specs.Binding.{FitsBind, BindSpells}

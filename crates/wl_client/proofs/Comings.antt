@@ -5,18 +5,18 @@ use Rattle.std.specs.declared.option.Option.TheVariants.{None, Some}
 use Rattle.std.specs.declared.result.Result.{Result}
 use Rattle.std.specs.declared.result.Result.TheVariants.{Ok, Err}
 use Rattle.wl_sigs.specs.declared.signature.Side.TheVariants.{Event as event_side}
-use Rattle.wl_table.specs.declared.object.State.{State as ObjectState}
-use Rattle.wl_table.specs.declared.object.State.TheVariants.{Live, Zombie}
+use Rattle.wl_object_map.specs.declared.object.State.{State as ObjectState}
+use Rattle.wl_object_map.specs.declared.object.State.TheVariants.{Live, Zombie}
 use Rattle.wl_objects.specs.declared.error.Fault.{Fault}
 use Rattle.wl_objects.specs.declared.error.NextError.TheVariants as errors
-use Rattle.wl_end.specs.Core.{Core, with_arrived, with_view}
-use Rattle.wl_end.specs.Receiving.{Found, found}
-use Rattle.wl_end.specs.Streams.{waiting}
-use Rattle.wl_end.proofs.AnyCut.{IsOfMessage, IsFaultAgain, IsFault, comes, IsReading}
-use Rattle.wl_end.proofs.Coming.{IsFound, is_found, reported_stays, own_stay, past_stays}
+use Rattle.wl_connection.specs.Core.{Core, with_arrived, with_view}
+use Rattle.wl_connection.specs.Receiving.{Found, found}
+use Rattle.wl_connection.specs.Streams.{waiting}
+use Rattle.wl_connection.proofs.AnyCut.{IsOfMessage, IsFaultAgain, IsFault, comes, IsReading}
+use Rattle.wl_connection.proofs.Coming.{IsFound, is_found, reported_stays, own_stay, past_stays}
 use Rattle.wl_client.specs.State.{State}
 use Rattle.wl_client.specs.Reports.{Report, Event, Discarded, report, plain_report, error_report, delete_report, deleted_id, is_error_event, is_delete_event, view_after, globals_after, state_past, answer_found, next_answer, state_found, after_next}
-use Rattle.wl_end.specs.Reads.{arrived}
+use Rattle.wl_connection.specs.Reads.{arrived}
 use Rattle.wl_client.specs.Streams.{reading}
 
 -- ---- one message

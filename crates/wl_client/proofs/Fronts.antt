@@ -11,23 +11,23 @@ use Rattle.wl_sigs.specs.declared.signature.Side.TheVariants.{Event as event_sid
 use Rattle.wl_sigs.specs.Valid.{Valid}
 use Rattle.wl_message.specs.declared.inbox.Frame.{Frame}
 use Rattle.wl_message.specs.Arrived.{Tells}
-use Rattle.wl_table.specs.declared.object.State.{State as ObjectState}
-use Rattle.wl_table.specs.declared.object.State.TheVariants.{Live, Zombie}
+use Rattle.wl_object_map.specs.declared.object.State.{State as ObjectState}
+use Rattle.wl_object_map.specs.declared.object.State.TheVariants.{Live, Zombie}
 use Rattle.wl_objects.specs.declared.error.Fault.{Fault}
 use Rattle.wl_objects.specs.Messages.{Received, received, reader_of}
-use Rattle.wl_end.specs.Core.{Core}
-use Rattle.wl_end.specs.Receiving.{Found, found, found_in, takes, own_tokens}
+use Rattle.wl_connection.specs.Core.{Core}
+use Rattle.wl_connection.specs.Receiving.{Found, found, found_in, takes, own_tokens}
 use Rattle.wl_client.specs.declared.pending.PendingEvent.{PendingEvent}
 use Rattle.wl_client.specs.declared.pending.Stop.TheVariants as stops
 use Rattle.wl_client.specs.Reports.{Report, report, Event, Discarded, needs_memory, is_error_event, is_delete_event, deleted_id, error_report, delete_report, plain_report}
 use Rattle.wl_client.specs.Steps.{end_with, report_by}
-use Rattle.wl_end.proofs.Receivings.{is_received}
+use Rattle.wl_connection.proofs.Receivings.{is_received}
 use Rattle.wl_client.specs.Reading.{IsPending, IsPendingOf, IsAhead, IsFront, IsOwnedFront, body_of, headed}
 use Rattle.wl_client.specs.Outlines.{outlined}
 use Rattle.wl_client.specs.Seen.{report_of}
 use Rattle.wl_client.specs.declared.pending.OwnedPendingEvent.{OwnedPendingEvent}
-use Rattle.wl_end.proofs.Coming.{IsFound, is_found, reported_own}
-use Rattle.wl_end.proofs.Frames.{IsFrame, descriptors-le, found_frame, framed}
+use Rattle.wl_connection.proofs.Coming.{IsFound, is_found, reported_own}
+use Rattle.wl_connection.proofs.Frames.{IsFrame, descriptors-le, found_frame, framed}
 
 -- ---- what comes of a frame
 

@@ -5,10 +5,10 @@ use Rattle.std.specs.declared.option.Option.TheVariants.{Some}
 use Rattle.std.specs.declared.result.Result.TheVariants.{Ok}
 use Rattle.wl_sigs.specs.declared.signature.Side.TheVariants.{Event as event_side}
 use Rattle.wl_objects.specs.Reading.{Reported}
-use Rattle.wl_end.specs.Receiving.{Found, found, is_none}
+use Rattle.wl_connection.specs.Receiving.{Found, found, is_none}
 use Rattle.wl_client.specs.State.{State}
 use Rattle.wl_client.specs.Reports.{report, answer_found}
-use Rattle.wl_end.specs.Reads.{HasReport}
+use Rattle.wl_connection.specs.Reads.{HasReport}
 use Rattle.wl_client.specs.Streams.{reading}
 use Rattle.wl_client.proofs.Comings.{answers}
 

@@ -5,8 +5,8 @@ use Rattle.std.specs.declared.option.Option.TheVariants.{None, Some}
 use Rattle.std.specs.declared.result.Result.{Result}
 use Rattle.std.specs.declared.result.Result.TheVariants.{Ok}
 use Rattle.wl_objects.specs.declared.error.NextError.{NextError}
-use Rattle.wl_end.specs.Core.{Core}
-use Rattle.wl_end.specs.Outcomes.{left}
+use Rattle.wl_connection.specs.Core.{Core}
+use Rattle.wl_connection.specs.Outcomes.{left}
 use Rattle.wl_client.specs.State.{Global}
 use Rattle.wl_client.specs.Reports.{after_next}
 use Rattle.wl_client.specs.Steps.{state_of, with_global_change}

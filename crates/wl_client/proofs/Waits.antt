@@ -5,23 +5,23 @@ use Rattle.std.specs.declared.option.Option.TheVariants.{None, Some}
 use Rattle.std.specs.declared.result.Result.{Result}
 use Rattle.std.specs.declared.result.Result.TheVariants.{Ok, Err}
 use Rattle.wl_sigs.specs.declared.signature.Side.TheVariants.{Event as event_side}
-use Rattle.wl_table.specs.declared.object.Entry.{Entry}
-use Rattle.wl_table.specs.declared.object.State.{State as ObjectState}
-use Rattle.wl_table.specs.declared.object.State.TheVariants.{Live, Zombie}
+use Rattle.wl_object_map.specs.declared.object.Entry.{Entry}
+use Rattle.wl_object_map.specs.declared.object.State.{State as ObjectState}
+use Rattle.wl_object_map.specs.declared.object.State.TheVariants.{Live, Zombie}
 use Rattle.wl_objects.specs.declared.error.Fault.{Fault}
 use Rattle.wl_objects.specs.declared.error.NextError.{NextError}
 use Rattle.wl_objects.specs.declared.error.NextError.TheVariants as errors
-use Rattle.wl_table.specs.View.{look}
-use Rattle.wl_end.specs.Core.{Core}
-use Rattle.wl_end.specs.Receiving.{Found, found}
-use Rattle.wl_end.specs.Outcomes.{AnswersOrMemory, left}
-use Rattle.wl_end.proofs.Coming.{is_found, past_shorter, none_short}
-use Rattle.wl_end.proofs.Receivings.{some_report}
+use Rattle.wl_object_map.specs.View.{look}
+use Rattle.wl_connection.specs.Core.{Core}
+use Rattle.wl_connection.specs.Receiving.{Found, found}
+use Rattle.wl_connection.specs.Outcomes.{AnswersOrMemory, left}
+use Rattle.wl_connection.proofs.Coming.{is_found, past_shorter, none_short}
+use Rattle.wl_connection.proofs.Receivings.{some_report}
 use Rattle.wl_client.specs.declared.report.OwnedIncoming.{OwnedIncoming}
 use Rattle.wl_client.specs.Seen.{report_of, report_in}
 use Rattle.wl_client.specs.State.{State}
 use Rattle.wl_client.specs.Reports.{Report, IsNext, needs_memory, Stray, plain_report, error_report, delete_report, deleted, deleted_id, is_error_event, is_delete_event, answer_found, next_answer, state_found, after_next}
-use Rattle.wl_end.specs.Reads.{arrived, Reads, fault, nothing, ReadsUntil, ReadsReport, ReadsNothing, ReadsNext}
+use Rattle.wl_connection.specs.Reads.{arrived, Reads, fault, nothing, ReadsUntil, ReadsReport, ReadsNothing, ReadsNext}
 use Rattle.wl_client.specs.Streams.{is_last, reading}
 use Rattle.wl_client.proofs.Comings.{read, answers, leaves, not_failed, answer_stays, after_stays}
 

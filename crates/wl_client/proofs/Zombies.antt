@@ -9,10 +9,10 @@ use Rattle.wl_sigs.specs.declared.signature.Destroys.{Destroys}
 use Rattle.wl_sigs.specs.declared.signature.Destroys.TheVariants.{Nothing, Target, Arg}
 use Rattle.wl_sigs.specs.Tables.{destroys_argument}
 use Rattle.wl_wire.specs.Argument.{Argument}
-use Rattle.wl_table.specs.declared.object.Entry.{Entry}
-use Rattle.wl_table.specs.declared.object.State.TheVariants.{Zombie}
-use Rattle.wl_table.specs.View.{View, look, zombie, with_zombie, zombied}
-use Rattle.wl_table.specs.Views.{get_put}
+use Rattle.wl_object_map.specs.declared.object.Entry.{Entry}
+use Rattle.wl_object_map.specs.declared.object.State.TheVariants.{Zombie}
+use Rattle.wl_object_map.specs.View.{View, look, zombie, with_zombie, zombied}
+use Rattle.wl_object_map.specs.Views.{get_put}
 use Rattle.wl_objects.specs.Messages.{Client as client, after, ended_id}
 
 at_key : (rows : FinMap nat_cmp Entry) (id q : ℕ) (e : Entry) (b : Bool) → eqb q id ≡ b → get rows id ≡ Some e → cond b (Some e) (get rows q) ≡ get rows q

@@ -5,10 +5,10 @@ use Rattle.wl_sigs.specs.declared.signature.Side.TheVariants.{Request}
 use Rattle.wl_sigs.specs.Tables.{Message, signature_at}
 use Rattle.wl_sigs.specs.Valid.{Valid}
 use Rattle.wl_message.specs.Cut.{usual_limit}
-use Rattle.wl_table.specs.declared.object.Object.{Object}
-use Rattle.wl_table.specs.View.{Sound, next_id}
+use Rattle.wl_object_map.specs.declared.object.Object.{Object}
+use Rattle.wl_object_map.specs.View.{Sound, next_id}
 use Rattle.wl_objects.specs.Writing.{EachFits, bind_values, message_bytes, message_len}
-use Rattle.wl_end.specs.Spelled.{MessageSpells}
+use Rattle.wl_connection.specs.Spelled.{MessageSpells}
 use Rattle.wl_client.specs.State.{State}
 use Rattle.wl_client.specs.Calls.{bind_answer}
 

@@ -6,15 +6,15 @@ use Rattle.std.specs.declared.result.Result.TheVariants.{Err}
 use Rattle.wl_wire.specs.declared.kind.Iface.{Iface}
 use Rattle.wl_sigs.specs.Tables.{Interface, interface_at}
 use Rattle.wl_sigs.specs.Fixed.{registry}
-use Rattle.wl_table.specs.declared.object.Object.{Object}
-use Rattle.wl_table.specs.declared.object.Entry.{Entry}
+use Rattle.wl_object_map.specs.declared.object.Object.{Object}
+use Rattle.wl_object_map.specs.declared.object.Entry.{Entry}
 use Rattle.wl_objects.specs.declared.error.SendError.{SendError}
 use Rattle.wl_objects.specs.declared.error.SendError.TheVariants as refusals
-use Rattle.wl_table.specs.View.{next_id, opened}
+use Rattle.wl_object_map.specs.View.{next_id, opened}
 use Rattle.wl_objects.specs.Writing.{bind_values, message_len}
 use Rattle.wl_objects.specs.Messages.{NewObject, live_row, same_iface}
-use Rattle.wl_end.specs.Core.{with_view}
-use Rattle.wl_end.specs.Sending.{fits, with_sent, opening_answer}
+use Rattle.wl_connection.specs.Core.{with_view}
+use Rattle.wl_connection.specs.Sending.{fits, with_sent, opening_answer}
 use Rattle.wl_client.specs.State.{State, Global, global_of}
 
 abbrev pub version_fits : ℕ → ℕ → Option Interface → List ℕ → Bool

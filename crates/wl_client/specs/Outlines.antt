@@ -7,7 +7,7 @@ use Rattle.std.specs.declared.result.Result.TheVariants.{Ok, Err}
 use Rattle.std.specs.declared.alloc.Allocator as allocator
 use Rattle.std.specs.declared.clone.Clone as clone
 use Rattle.wl_message.specs.Arrived.{Arrived}
-use Rattle.wl_table.specs.declared.table.Table as table
+use Rattle.wl_object_map.specs.declared.table.Table as table
 use Rattle.wl_objects.specs.declared.error.NextError.{NextError}
 use Rattle.wl_objects.specs.Parsed.{reported_in, spelled_in, seen_args}
 use Rattle.wl_client.specs.declared.report.Incoming.{Incoming}

@@ -6,13 +6,13 @@ use Rattle.wl_wire.specs.declared.header.Header.{Header}
 use Rattle.wl_sigs.specs.Tables.{Interface}
 use Rattle.wl_objects.specs.declared.error.Fault.{Fault}
 use Rattle.wl_objects.specs.declared.error.NextError.{NextError}
-use Rattle.wl_table.specs.View.{View}
+use Rattle.wl_object_map.specs.View.{View}
 use Rattle.wl_objects.specs.Messages.{Received}
 use Rattle.wl_message.specs.Arrived.{Arrived}
 use Rattle.wl_message.specs.Arrived.{in_front}
 use Rattle.wl_message.specs.Cut.{Whole}
-use Rattle.wl_end.specs.Core.{Core}
-use Rattle.wl_end.specs.Receiving.{Found, takes}
+use Rattle.wl_connection.specs.Core.{Core}
+use Rattle.wl_connection.specs.Receiving.{Found, takes}
 use Rattle.wl_client.specs.declared.pending.PendingEvent.{PendingEvent}
 use Rattle.wl_client.specs.declared.pending.OwnedPendingEvent.{OwnedPendingEvent}
 use Rattle.wl_client.specs.declared.pending.Stop.{Stop}

@@ -9,22 +9,22 @@ use Rattle.wl_wire.specs.Argument.{Argument, Uint, Str, Obj}
 use Rattle.wl_sigs.specs.declared.signature.Side.TheVariants.{Event as event_side}
 use Rattle.wl_sigs.specs.Tables.{Interface, place_of}
 use Rattle.wl_sigs.specs.Fixed.{registry}
-use Rattle.wl_table.specs.declared.object.Object.{Object}
-use Rattle.wl_table.specs.declared.object.State.{State as ObjectState}
-use Rattle.wl_table.specs.declared.object.State.TheVariants.{Live, Zombie}
+use Rattle.wl_object_map.specs.declared.object.Object.{Object}
+use Rattle.wl_object_map.specs.declared.object.State.{State as ObjectState}
+use Rattle.wl_object_map.specs.declared.object.State.TheVariants.{Live, Zombie}
 use Rattle.wl_objects.specs.declared.argument.Named.{Named}
 use Rattle.wl_objects.specs.declared.error.Fault.{Fault}
 use Rattle.wl_objects.specs.declared.error.NextError.{NextError}
 use Rattle.wl_objects.specs.declared.error.NextError.TheVariants as errors
-use Rattle.wl_table.specs.declared.object.Entry.{Entry}
-use Rattle.wl_table.specs.View.{View, look, is_held}
+use Rattle.wl_object_map.specs.declared.object.Entry.{Entry}
+use Rattle.wl_object_map.specs.View.{View, look, is_held}
 use Rattle.wl_objects.specs.Writing.{is_live}
 use Rattle.wl_objects.specs.Reading.{Reported, named_at}
 use Rattle.wl_objects.specs.Messages.{Received, reader_of, is_error, is_delete_id, same_iface}
 use Rattle.wl_objects.specs.Messages.{Client as client, after, after_delete_id, ended_id}
-use Rattle.wl_end.specs.Core.{Core, with_view, with_failure}
-use Rattle.wl_end.specs.Outcomes.{AnswersOrMemory, answers_with}
-use Rattle.wl_end.specs.Receiving.{Found, found, reported, own_tokens, past_found, is_none}
+use Rattle.wl_connection.specs.Core.{Core, with_view, with_failure}
+use Rattle.wl_connection.specs.Outcomes.{AnswersOrMemory, answers_with}
+use Rattle.wl_connection.specs.Receiving.{Found, found, reported, own_tokens, past_found, is_none}
 use Rattle.wl_client.specs.State.{State, Global, max_globals, is_named, global_of, with_core}
 
 -- What a client reports.

@@ -3,7 +3,7 @@ use Rattle.std.specs.Prelude.{ℕ, Bool, nat_eq, List, [], Option}
 use Rattle.std.specs.List.{find}
 use Rattle.wl_sigs.specs.Tables.{Interface}
 use Rattle.wl_message.specs.declared.amounts.Sizes.{Sizes}
-use Rattle.wl_end.specs.Core.{Core, new_core}
+use Rattle.wl_connection.specs.Core.{Core, new_core}
 pub use Rattle.wl_client.specs.declared.globals.Global.{Global}
 
 -- The globals that the client remembers, no name twice, in the order in which their names were

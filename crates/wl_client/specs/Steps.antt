@@ -4,10 +4,10 @@ use Rattle.wl_sigs.specs.Tables.{Interface}
 use Rattle.wl_message.specs.Outgoing.{no_messages}
 use Rattle.wl_objects.specs.declared.reading.Received.{Received as Read}
 use Rattle.wl_sigs.specs.Fixed.{display}
-use Rattle.wl_table.specs.View.{View, opening, is_held, is_live, closed, zombied}
+use Rattle.wl_object_map.specs.View.{View, opening, is_held, is_live, closed, zombied}
 use Rattle.wl_objects.specs.Seen.{message_of}
-use Rattle.wl_end.specs.Core.{Core, past, with_view}
-use Rattle.wl_end.specs.Receiving.{Found}
+use Rattle.wl_connection.specs.Core.{Core, past, with_view}
+use Rattle.wl_connection.specs.Receiving.{Found}
 use Rattle.wl_client.specs.declared.changes.ObjectChange.{ObjectChange}
 use Rattle.wl_client.specs.declared.changes.ObjectChange.TheVariants as object_changes
 use Rattle.wl_client.specs.declared.changes.GlobalChange.{GlobalChange}

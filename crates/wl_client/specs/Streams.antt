@@ -1,6 +1,6 @@
 -- How a client reads a stream.
 use Rattle.std.specs.Prelude.{Bool, true, false}
-use Rattle.wl_end.specs.Reads.{Reading}
+use Rattle.wl_connection.specs.Reads.{Reading}
 use Rattle.wl_client.specs.State.{State, with_core}
 use Rattle.wl_client.specs.Reports.{Report, Error, next_answer, after_next}
 

@@ -1,6 +1,6 @@
 //! How a client binds a global.
 ghost use Rattle.std.specs.Prelude.{◌≡◌, Some, true, OnErr, OnOk};
-ghost use Rattle.wl_end.specs.Outcomes.{AnswersOrMemory, new_in};
+ghost use Rattle.wl_connection.specs.Outcomes.{AnswersOrMemory, new_in};
 ghost use Rattle.wl_client.specs.Calls.{after_bind, bind_answer, can_bind};
 ghost use Rattle.wl_client.specs.Binding.{FitsBind};
 

@@ -1,14 +1,14 @@
 //! The changes that a message makes at a client: among its objects, and of the globals that it
 //! remembers.
 ghost use Rattle.std.specs.Prelude.{◌≡◌, List};
-ghost use Rattle.wl_end.specs.Core.{with_view};
+ghost use Rattle.wl_connection.specs.Core.{with_view};
 ghost use Rattle.wl_client.specs.State.{Global as Told};
 ghost use Rattle.wl_client.specs.Steps.{CanChange, changed, found_as, globals_by};
 ghost use Rattle.wl_client.specs.Steps.{with_global_change};
 
 use crate::arguments::{number_at, text_at};
 use crate::globals::Global;
-use wl_end::Core;
+use wl_connection::Core;
 use wl_objects::{REGISTRY, Received, State, Table};
 use wl_sigs::Tables;
 use wl_sigs::event::wl_registry::{GLOBAL, GLOBAL_REMOVE};

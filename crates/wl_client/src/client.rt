@@ -2,14 +2,15 @@
 ghost use Rattle.std.specs.Prelude.{◌≡◌, ◌≤◌, ◌++◌, IfOk, length, take, drop};
 ghost use Rattle.wl_message.specs.Arrived.{AreSizes};
 ghost use Rattle.wl_message.specs.Outgoing.{goes, waiting_bytes, waiting_tokens};
-ghost use Rattle.wl_end.specs.Core.{display_object, live, in_room, is_drained, feeds, with_arrived};
-ghost use Rattle.wl_end.specs.Core.{with_gone};
+ghost use Rattle.wl_connection.specs.Core.{display_object, live, in_room, is_drained, feeds};
+ghost use Rattle.wl_connection.specs.Core.{with_arrived};
+ghost use Rattle.wl_connection.specs.Core.{with_gone};
 ghost use Rattle.wl_client.specs.State.{new_state, with_core};
 
 use crate::globals::Remembered;
 use std::alloc::AllocError;
 use std::marker::Model;
-use wl_end::Core;
+use wl_connection::Core;
 use wl_message::{Fed, Sizes, Taken};
 use wl_objects::{Object, Table};
 use wl_sigs::Tables;
@@ -27,7 +28,7 @@ pub struct Client<'t, T: Table> {
 
 impl<'t, T: Table> Model for Client<'t, T> {
     ghost use Rattle.std.specs.Coded.{codes};
-    ghost use Rattle.wl_table.specs.View.{view_code};
+    ghost use Rattle.wl_object_map.specs.View.{view_code};
     ghost use Rattle.wl_client.specs.State.{State};
 
     ghost Value = { State };

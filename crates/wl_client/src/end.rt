@@ -2,7 +2,7 @@
 use crate::client::Client;
 use crate::pending::find_event;
 use crate::report::OwnedIncoming;
-use wl_end::{End, Receiver};
+use wl_connection::{End, Receiver};
 use wl_message::{Fed, Taken};
 use wl_objects::{NextError, Table};
 

@@ -7,7 +7,7 @@ ghost use Rattle.wl_client.specs.Steps.{with_global_change};
 use crate::changes::GlobalChange;
 use std::alloc::{AllocError, Allocator};
 use std::marker::Model;
-use wl_end::MAX_GLOBALS;
+use wl_connection::MAX_GLOBALS;
 use wl_wire::Iface;
 
 /// A global as it was advertised.

@@ -2,8 +2,8 @@
 //! ensures.
 ghost use Rattle.std.specs.Prelude.{ℕ, List};
 ghost use Rattle.wl_sigs.specs.declared.signature.Side.TheVariants.{Event as event_side};
-ghost use Rattle.wl_end.specs.Reads.{AnyCutReads, HasOneReading, ReadsWhole};
-ghost use Rattle.wl_table.specs.declared.object.Object.{Object};
+ghost use Rattle.wl_connection.specs.Reads.{AnyCutReads, HasOneReading, ReadsWhole};
+ghost use Rattle.wl_object_map.specs.declared.object.Object.{Object};
 ghost use Rattle.wl_client.specs.Binding.{BindSpells};
 ghost use Rattle.wl_client.specs.State.{State};
 ghost use Rattle.wl_client.specs.Streams.{reading};

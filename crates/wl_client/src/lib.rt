@@ -22,4 +22,4 @@ pub use client::Client;
 pub use laws::{any_cut_reads, binds_are_spelled, one_reading, whole_messages_are_read};
 pub use report::{Incoming, OwnedIncoming};
 pub use tokens::Tokens;
-pub use wl_end::ReadAll;
+pub use wl_connection::ReadAll;

@@ -2,8 +2,8 @@
 ghost use Rattle.std.specs.Prelude.{◌≡◌, ◌≢◌, ℕ, List, [], Some, false};
 ghost use Rattle.wl_sigs.specs.declared.signature.Side.TheVariants.{Event};
 ghost use Rattle.wl_sigs.specs.Tables.{destroys_argument};
-ghost use Rattle.wl_table.specs.View.{look};
-ghost use Rattle.wl_end.specs.Core.{HasDisplay};
+ghost use Rattle.wl_object_map.specs.View.{look};
+ghost use Rattle.wl_connection.specs.Core.{HasDisplay};
 ghost use Rattle.wl_client.specs.Outlines.{outlined};
 ghost use Rattle.wl_client.specs.Reports.{delete_report, error_report, is_error_event};
 ghost use Rattle.wl_client.specs.Steps.{CanChange, changed, end_with, found_as, report_by, view_by};

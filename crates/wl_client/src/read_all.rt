@@ -1,14 +1,14 @@
 //! Whole streams at a client, in pieces.
 ghost use Rattle.std.specs.Prelude.{◌≡◌, true, false, length, map, take, Some};
 ghost use Rattle.wl_message.specs.InStep.{part};
-ghost use Rattle.wl_end.specs.Core.{no_room};
-ghost use Rattle.wl_end.specs.Reads.{appended, ReadsAll};
+ghost use Rattle.wl_connection.specs.Core.{no_room};
+ghost use Rattle.wl_connection.specs.Reads.{appended, ReadsAll};
 ghost use Rattle.wl_client.specs.Seen.{report_of};
 ghost use Rattle.wl_client.specs.Streams.{reading};
 
 use crate::client::Client;
 use crate::report::OwnedIncoming;
-use wl_end::ReadAll;
+use wl_connection::ReadAll;
 use wl_message::Piece;
 use wl_objects::{NextError, Table};
 
@@ -37,6 +37,6 @@ impl<'t, T: Table> Client<'t, T> {
         ensures failed { self.old.core.failed ≡ true → self.new ≡ self.old }
         ensures nothing { self.old.core.failed ≡ true → reports.new.items ≡ reports.old.items }
     {
-        wl_end::read_all(self, pieces, reports)
+        wl_connection::read_all(self, pieces, reports)
     }
 }

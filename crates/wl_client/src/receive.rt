@@ -4,8 +4,8 @@ ghost use Rattle.std.specs.Borrow.{sem};
 ghost use Rattle.std.specs.Io.BufRead.{Rests};
 ghost use Rattle.wl_message.specs.Arrived.{in_front};
 ghost use Rattle.wl_message.specs.Cut.{Whole};
-ghost use Rattle.wl_end.specs.Core.{with_failure};
-ghost use Rattle.wl_end.specs.Outcomes.{left};
+ghost use Rattle.wl_connection.specs.Core.{with_failure};
+ghost use Rattle.wl_connection.specs.Outcomes.{left};
 ghost use Rattle.wl_client.specs.State.{Global as Told};
 ghost use Rattle.wl_client.specs.Reports.{IsNext, after_next, next_answer};
 ghost use Rattle.wl_client.specs.Outlines.{client_row, lent_in, lent_report, outline_in, outlined};
@@ -19,7 +19,7 @@ use crate::client::Client;
 use crate::outline::Outline;
 use crate::pending::{OwnedPendingEvent, PendingEvent, Stop, find_event, find_owned_event};
 use crate::report::{Incoming, OwnedIncoming};
-use wl_end::Core;
+use wl_connection::Core;
 use wl_objects::{Fault, NextError, Table};
 
 impl<'t, T: Table> Client<'t, T> {

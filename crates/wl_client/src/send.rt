@@ -2,7 +2,7 @@
 ghost use Rattle.std.specs.Prelude.{◌≡◌, OnErr, OnOk};
 ghost use Rattle.wl_sigs.specs.declared.signature.Side.TheVariants.{Request as request_side};
 ghost use Rattle.wl_objects.specs.Writing.{given};
-ghost use Rattle.wl_end.specs.Sending.{IsSendAnswer, after_send};
+ghost use Rattle.wl_connection.specs.Sending.{IsSendAnswer, after_send};
 ghost use Rattle.wl_client.specs.State.{with_core};
 
 use crate::client::Client;

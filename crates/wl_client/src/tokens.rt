@@ -3,7 +3,7 @@ ghost use Rattle.std.specs.Prelude.{◌≡◌, ◌≤◌, length};
 
 use std::fmt::{self, Debug, Formatter};
 use std::marker::Model;
-use wl_end::MAX_TOKENS;
+use wl_connection::MAX_TOKENS;
 
 /// Tokens of a message, in order. They take no memory.
 #[derive(Drop)]

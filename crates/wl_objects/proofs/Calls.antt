@@ -6,7 +6,7 @@ use Rattle.std.proofs.lemmas.Bool.{lt-ltb}
 use Rattle.wl_wire.specs.declared.kind.Kind.{Kind}
 use Rattle.wl_objects.specs.declared.argument.Arg.{Arg}
 use Rattle.wl_objects.specs.declared.argument.Arg.TheVariants as args
-use Rattle.wl_table.specs.declared.object.Entry.{Entry}
+use Rattle.wl_object_map.specs.declared.object.Entry.{Entry}
 use Rattle.wl_wire.specs.Argument.{Argument, Int, Uint, Fixed, Str, Obj, New, NewNamed, Array, Fd}
 use Rattle.wl_wire.specs.Spelling.{spelled_len}
 use Rattle.wl_objects.specs.Writing.{Given, wired, on_wire, message_len, len_in_limit, given, given_of, can_name, wrong_place, lost_place}

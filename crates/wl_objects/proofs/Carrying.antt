@@ -14,8 +14,8 @@ use Rattle.wl_wire.specs.declared.kind.Iface.{Iface}
 use Rattle.wl_wire.specs.Argument.{Int, Uint, Fixed, Str, Obj, New, NewNamed, Array, Fd}
 use Rattle.wl_wire.specs.Spelling.{Suits, canonical, spelled_len, IsText}
 use Rattle.wl_wire.proofs.Canonicals.{canonical-spells, spelled-len, reading-canonical}
-use Rattle.wl_table.specs.declared.object.Object.{Object}
-use Rattle.wl_table.specs.declared.object.Entry.{Entry}
+use Rattle.wl_object_map.specs.declared.object.Object.{Object}
+use Rattle.wl_object_map.specs.declared.object.Entry.{Entry}
 use Rattle.wl_objects.specs.Reading.{Reader, kind_at, is_of, iface_of, value_fault, arguments_at, report_of, reports_of, first_or, tokens_after, descriptors, is_descriptor_kind}
 use Rattle.wl_objects.specs.Writing.{Given, wired, spelled, suits, has_no_nul, can_name, names_one, wrong_place, lost_place, tokens_of}
 use Rattle.wl_objects.specs.Carried.{InRange, IsHeld, IsExpected, arrived, Arrive}

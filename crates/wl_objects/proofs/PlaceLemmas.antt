@@ -8,9 +8,9 @@ use Rattle.wl_wire.specs.declared.kind.Kind.{Kind}
 use Rattle.wl_wire.specs.Argument.{Int, Uint, Fixed, Str, Obj, New, NewNamed, Array, Fd}
 use Rattle.wl_sigs.specs.declared.signature.Side.{Side}
 use Rattle.wl_sigs.specs.Tables.{Message, Interface, signature_at}
-use Rattle.wl_table.specs.declared.object.Object.{Object}
-use Rattle.wl_table.specs.declared.object.Entry.{Entry}
-use Rattle.wl_table.specs.View.{View, look}
+use Rattle.wl_object_map.specs.declared.object.Object.{Object}
+use Rattle.wl_object_map.specs.declared.object.Entry.{Entry}
+use Rattle.wl_object_map.specs.View.{View, look}
 use Rattle.wl_objects.specs.declared.error.SendError.{SendError}
 use Rattle.wl_objects.specs.declared.error.SendError.TheVariants as refusals
 use Rattle.wl_objects.specs.Writing.{Given, wired, suits, can_name, wrong_place, lost_place, message_len}

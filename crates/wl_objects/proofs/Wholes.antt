@@ -16,10 +16,10 @@ use Rattle.wl_sigs.specs.declared.signature.Side.{Side}
 use Rattle.wl_sigs.specs.declared.signature.Side.TheVariants.{Request, Event}
 use Rattle.wl_sigs.specs.Fixed.{display, registry}
 use Rattle.wl_sigs.specs.Tables.{Message, Interface, signature_at}
-use Rattle.wl_table.specs.declared.object.Object.{Object}
-use Rattle.wl_table.specs.declared.object.Entry.{Entry}
+use Rattle.wl_object_map.specs.declared.object.Object.{Object}
+use Rattle.wl_object_map.specs.declared.object.Entry.{Entry}
 use Rattle.wl_objects.specs.declared.error.SendError.TheVariants as refusals
-use Rattle.wl_table.specs.View.{View, look}
+use Rattle.wl_object_map.specs.View.{View, look}
 use Rattle.wl_objects.specs.Reading.{Reader, kind_at, forgiving, arguments_at, descriptors}
 use Rattle.wl_objects.specs.Spelling.{SpellsAll, Meets}
 use Rattle.wl_objects.specs.Spelling as spelling

@@ -9,14 +9,14 @@ use Rattle.wl_wire.specs.Argument.{Argument, reshaped, Int, Uint, Fixed, Str, Ob
 use Rattle.wl_wire.specs.Argument.{Array, Fd}
 use Rattle.wl_sigs.specs.declared.signature.Side.{Side}
 use Rattle.wl_sigs.specs.Tables.{Message, Interface, signature_at}
-use Rattle.wl_table.specs.declared.object.Object.{Object}
-use Rattle.wl_table.specs.declared.object.Entry.{Entry}
+use Rattle.wl_object_map.specs.declared.object.Object.{Object}
+use Rattle.wl_object_map.specs.declared.object.Entry.{Entry}
 use Rattle.wl_objects.specs.declared.argument.Named.{Named}
 use Rattle.wl_objects.specs.declared.argument.Named.TheVariants as named_as
 use Rattle.wl_objects.specs.declared.lookup.NewId.TheVariants.{Free}
 use Rattle.wl_objects.specs.Reading.{Reader, Reported, in_state, arguments_at, reports_of}
 use Rattle.wl_objects.specs.Reading.{descriptors}
-use Rattle.wl_table.specs.View.{View, look}
+use Rattle.wl_object_map.specs.View.{View, look}
 use Rattle.wl_objects.specs.Writing.{Given, wired, spelled, message_len, tokens_of, wrong_place}
 use Rattle.wl_objects.specs.Writing.{lost_place, is_live}
 use Rattle.wl_objects.specs.Messages.{Received, is_hidden}

@@ -15,14 +15,14 @@ use Rattle.wl_sigs.specs.declared.signature.Destroys.{Destroys}
 use Rattle.wl_sigs.specs.declared.signature.Destroys.TheVariants.{Nothing, Target, Arg}
 use Rattle.wl_sigs.specs.Tables.{Message, Interface, signature_at, place_of}
 use Rattle.wl_sigs.specs.Fixed.{display, registry}
-use Rattle.wl_table.specs.declared.object.Object.{Object}
-use Rattle.wl_table.specs.declared.object.Entry.{Entry}
+use Rattle.wl_object_map.specs.declared.object.Object.{Object}
+use Rattle.wl_object_map.specs.declared.object.Entry.{Entry}
 use Rattle.wl_objects.specs.declared.error.Fault.{Fault}
 use Rattle.wl_objects.specs.declared.error.Fault.TheVariants as faults
 use Rattle.wl_objects.specs.declared.error.SendError.{SendError}
 use Rattle.wl_objects.specs.declared.error.SendError.TheVariants as refusals
-use Rattle.wl_table.specs.View.{View, look, free_or_next, has_room, opened_at, closed, zombied}
-use Rattle.wl_table.specs.View.{is_held}
+use Rattle.wl_object_map.specs.View.{View, look, free_or_next, has_room, opened_at, closed, zombied}
+use Rattle.wl_object_map.specs.View.{is_held}
 use Rattle.wl_objects.specs.declared.lookup.NewId.{NewId}
 use Rattle.wl_objects.specs.declared.lookup.NewId.TheVariants.{Free, Wrong, TooMany}
 use Rattle.wl_objects.specs.Reading.{Reader, forgiving, arguments_at, descriptors}

@@ -4,9 +4,9 @@ use Rattle.wl_wire.specs.declared.kind.Kind.{Kind}
 use Rattle.wl_wire.specs.Argument.{Obj}
 use Rattle.wl_sigs.specs.declared.signature.Side.{Side}
 use Rattle.wl_sigs.specs.Tables.{Message, Interface, signature_at}
-use Rattle.wl_table.specs.declared.object.Object.{Object}
-use Rattle.wl_table.specs.declared.object.Entry.{Entry}
-use Rattle.wl_table.specs.View.{View, look}
+use Rattle.wl_object_map.specs.declared.object.Object.{Object}
+use Rattle.wl_object_map.specs.declared.object.Entry.{Entry}
+use Rattle.wl_object_map.specs.View.{View, look}
 use Rattle.wl_objects.specs.Reading.{iface_of}
 use Rattle.wl_objects.specs.Writing.{Given, suits, can_name, names_one, is_live}
 use Rattle.wl_objects.specs.Messages.{is_hidden}

@@ -8,8 +8,8 @@ use Rattle.wl_wire.specs.Argument.{Argument}
 use Rattle.wl_sigs.specs.declared.signature.Side.TheVariants.{Request}
 use Rattle.wl_sigs.specs.Core.{core_tables}
 use Rattle.wl_sigs.specs.Fixed.{display, registry, callback}
-use Rattle.wl_table.specs.declared.object.Entry.{Entry}
-use Rattle.wl_table.specs.declared.object.State.TheVariants.{Live}
+use Rattle.wl_object_map.specs.declared.object.Entry.{Entry}
+use Rattle.wl_object_map.specs.declared.object.State.TheVariants.{Live}
 use Rattle.wl_objects.specs.declared.error.Fault.{Fault}
 use Rattle.wl_objects.specs.Reading.{Reader}
 use Rattle.wl_objects.specs.Messages.{Received, received, new_id_of}

@@ -9,7 +9,7 @@ use crate::argument::{Got, GotRef, Named};
 use crate::parsed::{MAX_ARGS, ParsedArg, ParsedArgs, part};
 use crate::reporting::OwnedArgs;
 use std::alloc::{AllocError, Allocator};
-use wl_table::{Object, State};
+use wl_object_map::{Object, State};
 use wl_wire::Bytes;
 
 /// The arguments of a message that are left to go through, in order. Strings and arrays are lent

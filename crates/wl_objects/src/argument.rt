@@ -1,7 +1,7 @@
 //! The arguments of a message, as a caller gives them and as a reader reports them.
 
 use std::alloc::{Allocator, Global};
-use wl_table::Object;
+use wl_object_map::Object;
 use wl_wire::{Bytes, Fixed};
 
 /// One argument of a message that is to be written, in the order of the message's signature.

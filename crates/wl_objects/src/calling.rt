@@ -2,7 +2,7 @@
 ghost use Rattle.std.specs.Prelude.{◌≡◌, ◌≤◌, ℕ, IfOk, IfSome, length, Some};
 ghost use Rattle.std.specs.List.{All};
 ghost use Rattle.wl_sigs.specs.Valid.{Valid};
-ghost use Rattle.wl_table.specs.View.{look, Sound};
+ghost use Rattle.wl_object_map.specs.View.{look, Sound};
 ghost use Rattle.wl_objects.specs.Reading.{is_of, iface_of};
 ghost use Rattle.wl_objects.specs.Messages.{checked, live_row};
 ghost use Rattle.wl_objects.specs.Carried.{InRange};
@@ -14,8 +14,8 @@ use crate::argument::Arg;
 use crate::error::SendError;
 use crate::messages::is_hidden;
 use crate::writing::message_len;
+use wl_object_map::{Entry, Object, State, Table};
 use wl_sigs::{Side, Signature, Tables};
-use wl_table::{Entry, Object, State, Table};
 use wl_wire::{Iface, Kind, has_nul};
 
 /// A call that passed its checks.

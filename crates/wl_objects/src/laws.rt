@@ -9,9 +9,9 @@ ghost use Rattle.wl_sigs.specs.Tables.{Interface, Message};
 ghost use Rattle.wl_objects.specs.declared.argument.Arg.{Arg as SpecArg};
 ghost use Rattle.wl_objects.specs.declared.error.Fault.{Fault as SpecFault};
 ghost use Rattle.wl_objects.specs.declared.error.SendError.TheVariants.{BadObject, WrongArgs};
-ghost use Rattle.wl_table.specs.declared.object.Entry.{Entry as SpecEntry};
-ghost use Rattle.wl_table.specs.declared.object.Object.{Object as SpecObject};
-ghost use Rattle.wl_table.specs.View.{View, look};
+ghost use Rattle.wl_object_map.specs.declared.object.Entry.{Entry as SpecEntry};
+ghost use Rattle.wl_object_map.specs.declared.object.Object.{Object as SpecObject};
+ghost use Rattle.wl_object_map.specs.View.{View, look};
 ghost use Rattle.wl_objects.specs.Reading.{Reader, arguments_at, kind_at};
 ghost use Rattle.wl_objects.specs.Spelling.{Meets, FirstFault, SpellsAll};
 ghost use Rattle.wl_objects.specs.Writing.{Given, call_makes, given, message_bytes, message_len};
@@ -70,8 +70,8 @@ pub fn a_call_passes()
 {}
 
 /// Of arguments that do not suit, a call names the first: all before it suit, and it does not, or
-/// is missing, or is one too many; so where the numbers differ and all before suit, the place is the
-/// smaller number. It names none exactly where there is an argument for each kind and all suit.
+/// is missing, or is one too many; so where the numbers differ and all before suit, the place is
+/// the smaller number. It names none exactly where there is an argument for each kind and all suit.
 pub fn first_wrong_argument()
     ensures place { (kinds : List SpecKind) (list : List Given) (place : ℕ)
         → (wrong_place 0 kinds list ≡ Some place) ↔ IsFirstWrong kinds list place }

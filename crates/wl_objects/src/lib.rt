@@ -2,7 +2,7 @@
 //! written against the objects of one end. (Chapter "Wayland Protocol and Model of Operation",
 //! sections "Wire Format" and "Creating Objects".)
 //!
-//! The table of objects is in `wl_table`, whose public items are re-exported here.
+//! The table of objects is in `wl_object_map`, whose public items are re-exported here.
 #![tactic(auto)]
 
 mod args;
@@ -31,7 +31,7 @@ pub use parsed::{MAX_ARGS, ParsedArg, ParsedArgs};
 pub use reading::{Received, descriptors, receive};
 pub use reporting::{OwnedArgs, named};
 pub use values::Values;
-pub use wl_table::{Entry, MapTable, Object, SlotTable, State, Table, TableError};
+pub use wl_object_map::{Entry, MapTable, Object, SlotTable, State, Table, TableError};
 pub use writing::{
     encode_bind, encode_call, encode_error, encode_global, encode_number, message_len, tokens_of,
 };

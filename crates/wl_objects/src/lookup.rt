@@ -3,7 +3,7 @@ ghost use Rattle.std.specs.Prelude.{◌≡◌};
 ghost use Rattle.wl_objects.specs.Reading.{Reader};
 ghost use Rattle.wl_objects.specs.Messages.{reader_of};
 
-use wl_table::{Entry, Table};
+use wl_object_map::{Entry, Table};
 
 /// What an id is to a reader that finds it as a new object's.
 #[derive(Clone, Copy, Debug, PartialEq, Eq)]

@@ -15,7 +15,7 @@ use crate::reading::{iface_of, new_fault, object_fault};
 use std::fmt::{self, Debug, Formatter};
 use std::marker::Model;
 use std::mem::size_of;
-use wl_table::{Entry, State};
+use wl_object_map::{Entry, State};
 use wl_wire::{Fixed, Kind, ValueRef, read_ref};
 
 /// The most arguments that a message has.

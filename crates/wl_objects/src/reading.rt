@@ -12,8 +12,8 @@ use crate::lookup::{Lookup, NewId};
 use crate::messages::is_error;
 use crate::parsed::{MAX_ARGS, ParsedArg, ParsedArgs, parse_body};
 use crate::values::Values;
+use wl_object_map::{Entry, Object};
 use wl_sigs::{Side, Signature, Tables};
-use wl_table::{Entry, Object};
 use wl_wire::{Header, Iface, Kind};
 
 /// A message that was read: nothing is wrong with it, and nothing has changed yet.

@@ -8,7 +8,7 @@ ghost use Rattle.wl_objects.specs.Seen.{got_values};
 use crate::argument::{Got, Named};
 use std::alloc::{Allocator, Global};
 use std::marker::Model;
-use wl_table::{Object, State, Table};
+use wl_object_map::{Object, State, Table};
 
 /// The arguments of a report, in memory of their own.
 #[derive(Debug, Drop)]

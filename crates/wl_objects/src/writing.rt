@@ -12,10 +12,10 @@ ghost use Rattle.wl_objects.specs.Writing.{error_values, global_values, EachFits
 
 use crate::argument::Arg;
 use std::alloc::Allocator;
+use wl_object_map::DISPLAY_ID;
 use wl_sigs::event::wl_display::ERROR;
 use wl_sigs::event::wl_registry::GLOBAL;
 use wl_sigs::request::wl_registry::BIND;
-use wl_table::DISPLAY_ID;
 use wl_wire::{Header, ValueRef, encode_value};
 
 /// The argument as it stands on the wire, where the new object gets this id.

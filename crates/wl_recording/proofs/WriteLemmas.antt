@@ -16,7 +16,7 @@ use Rattle.wl_recording.specs.declared.piece.Direction.TheVariants.{ToServer, To
 use Rattle.wl_recording.specs.Piece.{Piece, IsTellable}
 use Rattle.wl_recording.specs.Line.{sign, IsPiece, SpellsBytes, no_bytes, some_bytes, SpellsTokens, no_tokens, some_tokens, bytes_text, tokens_text, line_of}
 use Rattle.wl_recording.specs.Text.{ends, tells, Recorded, text_of}
-use Rattle.wl_text.proofs.Cuts.{lines_ended}
+use Rattle.wl_line_text.proofs.Cuts.{lines_ended}
 
 -- a byte that is no line feed and no carriage return
 abbrev pub IsInk : ℕ → Type 0

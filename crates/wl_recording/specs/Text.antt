@@ -3,7 +3,7 @@ use Rattle.std.specs.Prelude.{◌≡◌, ℕ, ◌+◌, ◌≤◌, ◌⊎◌, Lis
 use Rattle.std.specs.List.{All}
 use Rattle.std.specs.Str.Lines.{lines}
 use Rattle.wl_recording.specs.Piece.{Piece}
-use Rattle.wl_text.specs.Lines.{IsSkipped}
+use Rattle.wl_line_text.specs.Lines.{IsSkipped}
 use Rattle.wl_recording.specs.Line.{IsPiece, line_of}
 
 -- Those of the lines that are not skipped tell these pieces, one each, in their order.

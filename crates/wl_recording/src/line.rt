@@ -7,7 +7,7 @@ ghost use Rattle.wl_recording.specs.Line.{IsPiece, SpellsBytes, SpellsTokens, si
 use crate::piece::{Direction, Passed};
 use hex::FromHexError;
 use std::alloc::{AllocError, Allocator};
-use wl_text::{decimal_number, split_before};
+use wl_line_text::{decimal_number, split_before};
 use wl_wire::Bytes;
 
 /// The most tokens that one piece can count.

@@ -9,7 +9,7 @@ use crate::line::read_piece;
 use crate::piece::Passed;
 use crate::recording::RecordingError;
 use std::alloc::Allocator;
-use wl_text::{first_line, is_skipped};
+use wl_line_text::{first_line, is_skipped};
 
 /// A text that is read piece by piece, so that no more than one of them is kept at a time.
 #[derive(Clone, Copy, Debug)]

@@ -10,18 +10,18 @@ use Rattle.wl_objects.specs.declared.error.Fault.{Fault}
 use Rattle.wl_objects.specs.declared.error.Fault.TheVariants as faults
 use Rattle.wl_objects.specs.declared.error.NextError.{NextError}
 use Rattle.wl_objects.specs.declared.error.NextError.TheVariants as errors
-use Rattle.wl_table.specs.declared.object.Object.{Object}
-use Rattle.wl_table.specs.View.{View}
+use Rattle.wl_object_map.specs.declared.object.Object.{Object}
+use Rattle.wl_object_map.specs.View.{View}
 use Rattle.wl_objects.specs.Messages.{Server as server, after, is_bind}
-use Rattle.wl_end.specs.Core.{Core, with_arrived, with_view}
-use Rattle.wl_end.specs.Receiving.{Found, found, past_found}
-use Rattle.wl_end.specs.Sending.{with_following}
-use Rattle.wl_end.specs.Streams.{waiting}
-use Rattle.wl_end.proofs.AnyCut.{IsOfMessage, IsFaultAgain, IsFault, stays, comes as found_first, IsReading}
-use Rattle.wl_end.proofs.Coming.{IsFound, is_found, reported_stays, past_stays}
+use Rattle.wl_connection.specs.Core.{Core, with_arrived, with_view}
+use Rattle.wl_connection.specs.Receiving.{Found, found, past_found}
+use Rattle.wl_connection.specs.Sending.{with_following}
+use Rattle.wl_connection.specs.Streams.{waiting}
+use Rattle.wl_connection.proofs.AnyCut.{IsOfMessage, IsFaultAgain, IsFault, stays, comes as found_first, IsReading}
+use Rattle.wl_connection.proofs.Coming.{IsFound, is_found, reported_stays, past_stays}
 use Rattle.wl_server.specs.State.{State}
 use Rattle.wl_server.specs.Requests.{Report, report, judged, request, is_good_bind, made_in, destroys_it, ended, ended_object, registries_after, core_after, state_past, is_out_full, answer_found, next_answer, state_found, after_next}
-use Rattle.wl_end.specs.Reads.{arrived}
+use Rattle.wl_connection.specs.Reads.{arrived}
 use Rattle.wl_server.specs.Streams.{reading}
 use Rattle.wl_server.specs.Registries.{without_registry, registry_birth}
 

@@ -8,12 +8,12 @@ use Rattle.std.proofs.lemmas.List.{get_or-set_same, length-set, set-get_or, set-
 use Rattle.wl_sigs.specs.Tables.{Interface}
 use Rattle.wl_message.specs.Outgoing.{Outgoing, all_bytes, message, room_of, with_message}
 use Rattle.wl_message.proofs.Passing.{bytes_append}
-use Rattle.wl_table.specs.declared.object.Object.{Object}
+use Rattle.wl_object_map.specs.declared.object.Object.{Object}
 use Rattle.wl_objects.specs.Writing.{message_len, message_bytes}
 use Rattle.wl_objects.proofs.Calls.{len-least}
 use Rattle.wl_objects.proofs.Wholes.{length-message}
-use Rattle.wl_end.specs.Core.{Core, IsOrdinary}
-use Rattle.wl_end.specs.Sending.{with_sent}
+use Rattle.wl_connection.specs.Core.{Core, IsOrdinary}
+use Rattle.wl_connection.specs.Sending.{with_sent}
 use Rattle.wl_server.specs.State.{Registry, RiseFrom}
 use Rattle.wl_server.specs.Tellings.{dues_for}
 use Rattle.wl_server.specs.Announcing.{Due, Owing, Removal, Telling, due_len, opcode_of, values_of, with_dues, marked, marked_in, all_marked}

@@ -20,24 +20,24 @@ use Rattle.wl_objects.specs.declared.error.Fault.{Fault}
 use Rattle.wl_objects.specs.declared.error.Fault.TheVariants as faults
 use Rattle.wl_objects.specs.declared.error.NextError.{NextError}
 use Rattle.wl_objects.specs.declared.error.NextError.TheVariants as errors
-use Rattle.wl_table.specs.declared.object.Entry.{Entry}
-use Rattle.wl_table.specs.declared.object.Object.{Object}
-use Rattle.wl_table.specs.declared.object.State.{State}
-use Rattle.wl_table.specs.declared.object.State.TheVariants.{Live, Zombie}
+use Rattle.wl_object_map.specs.declared.object.Entry.{Entry}
+use Rattle.wl_object_map.specs.declared.object.Object.{Object}
+use Rattle.wl_object_map.specs.declared.object.State.{State}
+use Rattle.wl_object_map.specs.declared.object.State.TheVariants.{Live, Zombie}
 use Rattle.wl_wire.specs.Argument.{Obj}
-use Rattle.wl_table.specs.View.{View, look}
+use Rattle.wl_object_map.specs.View.{View, look}
 use Rattle.wl_objects.specs.declared.parsed.ParsedArg.{ParsedArg}
 use Rattle.wl_objects.specs.Parsed.{AreParsed, reported_in}
 use Rattle.wl_objects.specs.Reading.{Reader, in_state, reports_of, Reported}
 use Rattle.wl_objects.specs.Messages.{Received, received, reader_of, is_bind}
-use Rattle.wl_end.specs.Core.{Core, HasDisplay}
-use Rattle.wl_end.specs.Receiving.{Found, found, reported, found_in, takes}
-use Rattle.wl_end.specs.Sending.{delete_id_len, fits}
-use Rattle.wl_end.proofs.Receivings.{is_received}
-use Rattle.wl_end.proofs.Coming.{is_found}
-use Rattle.wl_end.proofs.Frames.{IsFrame, descriptors-le, found_frame}
-use Rattle.wl_end.proofs.Ends.{argument_received}
-use Rattle.wl_end.proofs.Descriptors.{fds, reports_stay}
+use Rattle.wl_connection.specs.Core.{Core, HasDisplay}
+use Rattle.wl_connection.specs.Receiving.{Found, found, reported, found_in, takes}
+use Rattle.wl_connection.specs.Sending.{delete_id_len, fits}
+use Rattle.wl_connection.proofs.Receivings.{is_received}
+use Rattle.wl_connection.proofs.Coming.{is_found}
+use Rattle.wl_connection.proofs.Frames.{IsFrame, descriptors-le, found_frame}
+use Rattle.wl_connection.proofs.Ends.{argument_received}
+use Rattle.wl_connection.proofs.Descriptors.{fds, reports_stay}
 use Rattle.wl_server.specs.State.{Global}
 use Rattle.wl_server.specs.Requests.{Report, report, request, judged, is_good_bind_of, object_in}
 use Rattle.wl_server.specs.Steps.{Step, step_of, step_found, front_step, state_of, pending_in, pending_of, ended_by, report_with, HasRow, CanTake}

@@ -5,10 +5,10 @@ use Rattle.std.proofs.Common.{inl, inr}
 use Rattle.std.proofs.lemmas.Bool.{cases_lt}
 use Rattle.std.proofs.lemmas.List.{drop_all, drop-set-lt, take_at}
 use Rattle.wl_message.specs.Outgoing.{room_of}
-use Rattle.wl_table.specs.View.{View}
+use Rattle.wl_object_map.specs.View.{View}
 use Rattle.wl_objects.specs.Writing.{message_len}
-use Rattle.wl_end.specs.Core.{Core, IsOrdinary}
-use Rattle.wl_end.specs.Sending.{with_sent}
+use Rattle.wl_connection.specs.Core.{Core, IsOrdinary}
+use Rattle.wl_connection.specs.Sending.{with_sent}
 use Rattle.wl_server.specs.declared.announce.Announced.{Announced}
 use Rattle.wl_server.specs.State.{State, Global, Registry, RiseFrom}
 use Rattle.wl_server.specs.Announcing.{Due, Fitting, due_len, due_to, owed, owed_in, opcode_of, values_of, with_dues, marked, all_marked, after_announce}

@@ -14,26 +14,26 @@ use Rattle.wl_sigs.specs.declared.signature.Destroys.TheVariants.{Nothing, Targe
 use Rattle.wl_sigs.specs.Tables.{Interface, Message, interface_at, new_objects}
 use Rattle.wl_sigs.specs.Fixed.{display, registry}
 use Rattle.wl_sigs.specs.Valid.{Valid}
-use Rattle.wl_table.specs.declared.object.Object.{Object}
-use Rattle.wl_table.specs.declared.object.Entry.{Entry}
-use Rattle.wl_table.specs.declared.object.State.TheVariants.{Live}
-use Rattle.wl_table.specs.View.{View, Sound, look, opening, closed}
-use Rattle.wl_table.specs.Views.{row-opened_at, row-closed, look-opening, look-opened_at, look-closed, eqb_is, cases_row, some_is}
+use Rattle.wl_object_map.specs.declared.object.Object.{Object}
+use Rattle.wl_object_map.specs.declared.object.Entry.{Entry}
+use Rattle.wl_object_map.specs.declared.object.State.TheVariants.{Live}
+use Rattle.wl_object_map.specs.View.{View, Sound, look, opening, closed}
+use Rattle.wl_object_map.specs.Views.{row-opened_at, row-closed, look-opening, look-opened_at, look-closed, eqb_is, cases_row, some_is}
 use Rattle.wl_objects.specs.declared.error.SendError.{SendError}
 use Rattle.wl_objects.specs.declared.error.SendError.TheVariants as refusals
 use Rattle.wl_objects.specs.Writing.{Given}
 use Rattle.wl_objects.specs.Messages.{NewObject, made, opens, same_iface, checked, is_hidden, live_row, Server, after}
 use Rattle.wl_objects.specs.Writing.{is_live_as}
 use Rattle.wl_objects.proofs.Wholes.{passes}
-use Rattle.wl_end.specs.Core.{Core, past, with_view}
-use Rattle.wl_end.specs.Sending.{after_send, after_checked, made_at, version_at, fits, delete_id_len}
+use Rattle.wl_connection.specs.Core.{Core, past, with_view}
+use Rattle.wl_connection.specs.Sending.{after_send, after_checked, made_at, version_at, fits, delete_id_len}
 use Rattle.wl_server.specs.State.{Registry, untold}
 use Rattle.wl_server.specs.Registries.{without_registry, registry_birth, IsAmong, IsRegistry, IsFresh, HasRegistries, BirthsAreOnce}
 use Rattle.wl_server.specs.Requests.{registries_after}
 use Rattle.wl_sigs.specs.Rules.{is_ended_by_event}
 use Rattle.wl_server.specs.Calls.{drop_at, drop_refusal, after_drop}
 use Rattle.wl_server.specs.Announcing.{Due, marked_in, all_marked}
-use Rattle.wl_end.proofs.Ends.{no_event}
+use Rattle.wl_connection.proofs.Ends.{no_event}
 use Rattle.wl_server.specs.Steps.{Step, CanEnd, core_without, core_by, registries_by, registries_without, CanTake}
 use Rattle.wl_server.specs.Tellings.{IsTold}
 use Rattle.wl_server.specs.declared.announce.Announced.{Announced}

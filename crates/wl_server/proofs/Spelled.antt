@@ -17,8 +17,8 @@ use Rattle.wl_objects.specs.declared.error.Fault.{Fault}
 use Rattle.wl_objects.specs.declared.error.Fault.TheVariants as faults
 use Rattle.wl_objects.specs.Writing.{error_values, message_bytes}
 use Rattle.wl_message.specs.Cut.{usual_limit}
-use Rattle.wl_end.specs.Spelled.{MessageSpells}
-use Rattle.wl_end.proofs.Spelled.{own-spelled}
+use Rattle.wl_connection.specs.Spelled.{MessageSpells}
+use Rattle.wl_connection.proofs.Spelled.{own-spelled}
 use Rattle.wl_server.specs.Calls.{is_error_text}
 use Rattle.wl_server.specs.Requests.{fault_message}
 use Rattle.wl_server.specs.Announcing.{Due, Owing, Removal, Telling, name_at}

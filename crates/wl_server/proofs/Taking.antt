@@ -8,23 +8,23 @@ use Rattle.wl_sigs.specs.declared.signature.Destroys.{Destroys}
 use Rattle.wl_sigs.specs.declared.signature.Destroys.TheVariants.{Nothing, Target, Arg}
 use Rattle.wl_sigs.specs.Tables.{Interface}
 use Rattle.wl_wire.specs.declared.kind.Kind.{Kind}
-use Rattle.wl_table.specs.declared.object.Entry.{Entry}
+use Rattle.wl_object_map.specs.declared.object.Entry.{Entry}
 use Rattle.wl_objects.specs.declared.error.Fault.{Fault}
 use Rattle.wl_objects.specs.declared.error.NextError.{NextError}
 use Rattle.wl_objects.specs.declared.error.NextError.TheVariants as errors
-use Rattle.wl_table.specs.declared.object.Object.{Object}
-use Rattle.wl_table.specs.View.{View, is_held, look}
-use Rattle.wl_table.specs.Views.{look-opened_at}
+use Rattle.wl_object_map.specs.declared.object.Object.{Object}
+use Rattle.wl_object_map.specs.View.{View, is_held, look}
+use Rattle.wl_object_map.specs.Views.{look-opened_at}
 use Rattle.wl_objects.specs.Messages.{NewObject, made, opens, same_iface, reader_of}
 use Rattle.wl_sigs.specs.Fixed.{registry}
 use Rattle.wl_wire.specs.Word.{header_bytes}
 use Rattle.wl_wire.specs.declared.header.Header.{Header}
 use Rattle.wl_message.specs.Cut.{front, Whole}
 use Rattle.wl_message.specs.Arrived.{Arrived, without_first}
-use Rattle.wl_end.specs.Core.{Core, past, with_view}
-use Rattle.wl_end.specs.Receiving.{Found, is_none}
-use Rattle.wl_end.specs.Outcomes.{answers_with, left}
-use Rattle.wl_end.proofs.Receivings.{some_reported}
+use Rattle.wl_connection.specs.Core.{Core, past, with_view}
+use Rattle.wl_connection.specs.Receiving.{Found, is_none}
+use Rattle.wl_connection.specs.Outcomes.{answers_with, left}
+use Rattle.wl_connection.proofs.Receivings.{some_reported}
 use Rattle.wl_server.specs.State.{State, Global, Registry, RiseFrom, with_core, untold}
 use Rattle.wl_server.specs.Requests.{Report, report, request, made_in, is_out_full, next_answer, after_next, answer_found, state_found, state_past, registries_after, needs_memory, opens_object, IsNext, IsLentNext}
 use Rattle.wl_server.specs.Registries.{without_registry, registry_birth}

@@ -4,10 +4,10 @@ use Rattle.std.specs.Prelude.{Result, ◌↔◌, ◌⊎◌, IsErr, OnErr, OnOk, 
 use Rattle.std.specs.declared.result.Result.TheVariants.{Ok, Err}
 use Rattle.std.proofs.lemmas.Bool.{cases_lt}
 use Rattle.wl_message.specs.Outgoing.{Outgoing, room_of, token_room_of, with_message}
-use Rattle.wl_table.specs.declared.object.Object.{Object}
+use Rattle.wl_object_map.specs.declared.object.Object.{Object}
 use Rattle.wl_objects.specs.Writing.{message_len, message_bytes}
 use Rattle.wl_objects.proofs.Wholes.{length-message}
-use Rattle.wl_end.specs.Core.{Core, IsOrdinary}
+use Rattle.wl_connection.specs.Core.{Core, IsOrdinary}
 use Rattle.wl_server.specs.State.{Global, Registry}
 use Rattle.wl_server.specs.Announcing.{Due, Owing, Removal, Telling, opcode_of, owings, owes_removal, owes_telling, marked, values_of}
 use Rattle.wl_server.specs.Tellings.{Progress, IsTold, IsWritten, dues_for}

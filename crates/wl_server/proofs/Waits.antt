@@ -11,18 +11,18 @@ use Rattle.wl_objects.specs.declared.error.Fault.TheVariants as faults
 use Rattle.wl_objects.specs.declared.error.NextError.{NextError}
 use Rattle.wl_objects.specs.declared.error.NextError.TheVariants as errors
 use Rattle.wl_objects.specs.Messages.{Server as server, after}
-use Rattle.wl_end.specs.Core.{Core, with_view}
-use Rattle.wl_end.specs.Receiving.{Found, found, past_found}
-use Rattle.wl_end.specs.Sending.{with_following}
-use Rattle.wl_end.specs.Streams.{waiting}
-use Rattle.wl_end.specs.Outcomes.{AnswersOrMemory, left}
-use Rattle.wl_end.proofs.Coming.{is_found, past_shorter, none_short}
-use Rattle.wl_end.proofs.Receivings.{some_report}
+use Rattle.wl_connection.specs.Core.{Core, with_view}
+use Rattle.wl_connection.specs.Receiving.{Found, found, past_found}
+use Rattle.wl_connection.specs.Sending.{with_following}
+use Rattle.wl_connection.specs.Streams.{waiting}
+use Rattle.wl_connection.specs.Outcomes.{AnswersOrMemory, left}
+use Rattle.wl_connection.proofs.Coming.{is_found, past_shorter, none_short}
+use Rattle.wl_connection.proofs.Receivings.{some_report}
 use Rattle.wl_server.specs.declared.report.OwnedRequest.{OwnedRequest}
 use Rattle.wl_server.specs.Seen.{report_of, report_in}
 use Rattle.wl_server.specs.State.{State}
 use Rattle.wl_server.specs.Requests.{Report, IsNext, needs_memory, report, judged, request, destroys_it, ended, made_in, is_out_full, state_past, answer_found, next_answer, state_found, after_next}
-use Rattle.wl_end.specs.Reads.{arrived, Reads, none, fault, full, last, next, nothing, ReadsUntil, ReadsReport, ReadsNothing, ReadsNext}
+use Rattle.wl_connection.specs.Reads.{arrived, Reads, none, fault, full, last, next, nothing, ReadsUntil, ReadsReport, ReadsNothing, ReadsNext}
 use Rattle.wl_server.specs.Streams.{reading}
 use Rattle.wl_server.proofs.Comings.{read, answers, leaves, not_failed, waits_past, answer_stays, after_stays}
 

@@ -5,11 +5,11 @@ use Rattle.std.specs.Option.{option_map_or}
 use Rattle.wl_wire.specs.declared.kind.Iface.{Iface}
 use Rattle.wl_wire.specs.Argument.{Argument, Uint, Str}
 use Rattle.wl_sigs.specs.Tables.{Interface, interface_at}
-use Rattle.wl_table.specs.declared.object.Object.{Object}
+use Rattle.wl_object_map.specs.declared.object.Object.{Object}
 use Rattle.wl_objects.specs.Writing.{message_len}
 use Rattle.wl_message.specs.Outgoing.{room_of}
-use Rattle.wl_end.specs.Core.{Core}
-use Rattle.wl_end.specs.Sending.{with_sent}
+use Rattle.wl_connection.specs.Core.{Core}
+use Rattle.wl_connection.specs.Sending.{with_sent}
 use Rattle.wl_server.specs.State.{State, Global, Registry, mark_of, with_mark}
 
 -- an event that a registry is owed

@@ -9,14 +9,14 @@ use Rattle.wl_wire.specs.declared.kind.Iface.{Iface}
 use Rattle.wl_sigs.specs.Tables.{Interface, interface_at}
 use Rattle.wl_sigs.specs.Rules.{is_ended_by_event}
 use Rattle.wl_sigs.specs.Fixed.{display, registry}
-use Rattle.wl_table.specs.declared.object.Object.{Object}
-use Rattle.wl_table.specs.declared.object.Entry.{Entry}
+use Rattle.wl_object_map.specs.declared.object.Object.{Object}
+use Rattle.wl_object_map.specs.declared.object.Entry.{Entry}
 use Rattle.wl_objects.specs.declared.error.SendError.{SendError}
 use Rattle.wl_objects.specs.declared.error.SendError.TheVariants as refusals
-use Rattle.wl_table.specs.View.{closed}
+use Rattle.wl_object_map.specs.View.{closed}
 use Rattle.wl_objects.specs.Messages.{live_row, same_iface}
-use Rattle.wl_end.specs.Core.{Core, with_view}
-use Rattle.wl_end.specs.Sending.{fits, with_delete_id, delete_id_len, with_error_event}
+use Rattle.wl_connection.specs.Core.{Core, with_view}
+use Rattle.wl_connection.specs.Sending.{fits, with_delete_id, delete_id_len, with_error_event}
 use Rattle.wl_server.specs.declared.globals.GlobalError.{GlobalError}
 use Rattle.wl_server.specs.declared.globals.GlobalError.TheVariants as global_errors
 use Rattle.wl_server.specs.State.{State, Global, global_of, max_globals}

@@ -4,7 +4,7 @@ use Rattle.std.specs.Borrow.{RattleType}
 use mir.Syntax.{named}
 use Rattle.std.specs.declared.alloc.Allocator as allocator
 use Rattle.std.specs.declared.clone.Clone as clone
-use Rattle.wl_table.specs.declared.table.Table as table
+use Rattle.wl_object_map.specs.declared.table.Table as table
 use Rattle.wl_server.specs.contracts.server.Server.{the_row}
 
 -- `named 0` is the place of the server's lifetime in the signature

@@ -3,9 +3,9 @@ use Rattle.std.specs.Prelude.{◌≡◌, ◌⊎◌, ℕ, ◌<◌, Bool, true, fa
 use Rattle.std.specs.Prelude.{◌∷◌, ◌++◌, Option, Some, None}
 use Rattle.wl_wire.specs.declared.kind.Iface.{Iface}
 use Rattle.wl_sigs.specs.Fixed.{registry}
-use Rattle.wl_table.specs.declared.object.Object.{Object}
-use Rattle.wl_table.specs.declared.object.Entry.{Entry}
-use Rattle.wl_table.specs.View.{View, look}
+use Rattle.wl_object_map.specs.declared.object.Object.{Object}
+use Rattle.wl_object_map.specs.declared.object.Entry.{Entry}
+use Rattle.wl_object_map.specs.View.{View, look}
 use Rattle.wl_objects.specs.Messages.{NewObject, same_iface}
 use Rattle.wl_server.specs.State.{Registry, RiseFrom}
 

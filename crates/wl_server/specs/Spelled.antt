@@ -6,7 +6,7 @@ use Rattle.wl_sigs.specs.Tables.{Interface, Message, signature_at}
 use Rattle.wl_sigs.specs.Valid.{Valid}
 use Rattle.wl_objects.specs.Writing.{error_values, message_bytes}
 use Rattle.wl_message.specs.Cut.{usual_limit}
-use Rattle.wl_end.specs.Spelled.{MessageSpells}
+use Rattle.wl_connection.specs.Spelled.{MessageSpells}
 use Rattle.wl_server.specs.Calls.{is_error_text}
 use Rattle.wl_server.specs.Announcing.{Due, Owing, Removal, Telling, opcode_of, values_of}
 

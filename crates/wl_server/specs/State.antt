@@ -4,8 +4,8 @@ use Rattle.std.specs.Prelude.{slice_set, unwrap_or, replicate, Option, None}
 use Rattle.wl_wire.specs.declared.kind.Iface.{Iface}
 use Rattle.wl_sigs.specs.Tables.{Interface}
 use Rattle.wl_message.specs.declared.amounts.Sizes.{Sizes}
-use Rattle.wl_table.specs.declared.object.Object.{Object}
-use Rattle.wl_end.specs.Core.{Core, new_core}
+use Rattle.wl_object_map.specs.declared.object.Object.{Object}
+use Rattle.wl_connection.specs.Core.{Core, new_core}
 
 -- a global: what is advertised, and whether it is still there or was withdrawn
 pub record Global : Type 0 where

@@ -9,20 +9,20 @@ use Rattle.wl_sigs.specs.declared.signature.Destroys.TheVariants.{Nothing, Targe
 use Rattle.wl_sigs.specs.Tables.{Interface}
 use Rattle.wl_message.specs.Arrived.{in_front}
 use Rattle.wl_message.specs.Cut.{Whole}
-use Rattle.wl_table.specs.declared.object.Entry.{Entry}
+use Rattle.wl_object_map.specs.declared.object.Entry.{Entry}
 use Rattle.wl_objects.specs.declared.error.Fault.{Fault}
 use Rattle.wl_objects.specs.declared.error.NextError.{NextError}
 use Rattle.wl_objects.specs.declared.error.NextError.TheVariants as errors
-use Rattle.wl_table.specs.declared.object.Object.{Object}
-use Rattle.wl_table.specs.View.{View, look, closed}
+use Rattle.wl_object_map.specs.declared.object.Object.{Object}
+use Rattle.wl_object_map.specs.View.{View, look, closed}
 use Rattle.wl_wire.specs.declared.header.Header.{Header}
 use Rattle.wl_objects.specs.Reading.{Reported, descriptors}
 use Rattle.wl_objects.specs.declared.parsed.ParsedArg.{ParsedArg}
 use Rattle.wl_objects.specs.Parsed.{reported_in}
 use Rattle.wl_objects.specs.Messages.{NewObject, Received, made, opens}
-use Rattle.wl_end.specs.Core.{Core, past, with_view}
-use Rattle.wl_end.specs.Receiving.{Found, takes}
-use Rattle.wl_end.specs.Sending.{with_delete_id, with_error_event, fits, delete_id_len}
+use Rattle.wl_connection.specs.Core.{Core, past, with_view}
+use Rattle.wl_connection.specs.Receiving.{Found, takes}
+use Rattle.wl_connection.specs.Sending.{with_delete_id, with_error_event, fits, delete_id_len}
 use Rattle.wl_server.specs.declared.pending.PendingRequest.{PendingRequest}
 use Rattle.wl_server.specs.State.{State, Global, Registry, with_core}
 use Rattle.wl_server.specs.Requests.{Report, request, report, made_in, is_out_full}

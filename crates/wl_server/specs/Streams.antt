@@ -1,6 +1,6 @@
 -- How a server reads a stream.
 use Rattle.std.specs.Prelude.{Bool, false}
-use Rattle.wl_end.specs.Reads.{Reading}
+use Rattle.wl_connection.specs.Reads.{Reading}
 use Rattle.wl_server.specs.State.{State, with_core}
 use Rattle.wl_server.specs.Requests.{Report, next_answer, after_next}
 

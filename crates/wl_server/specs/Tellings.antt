@@ -2,10 +2,10 @@
 use Rattle.std.specs.Prelude.{◌≡◌, ℕ, ◌≤◌, ◌<◌, Bool, List, [], ◌∷◌, ◌++◌, length, map}
 use Rattle.std.specs.Bool.{MatchBool}
 use Rattle.wl_message.specs.Outgoing.{room_of}
-use Rattle.wl_table.specs.declared.object.Object.{Object}
+use Rattle.wl_object_map.specs.declared.object.Object.{Object}
 use Rattle.wl_objects.specs.Writing.{message_len}
-use Rattle.wl_end.specs.Core.{Core}
-use Rattle.wl_end.specs.Sending.{with_sent}
+use Rattle.wl_connection.specs.Core.{Core}
+use Rattle.wl_connection.specs.Sending.{with_sent}
 use Rattle.wl_server.specs.declared.announce.Announced.{Announced}
 use Rattle.wl_server.specs.State.{Registry}
 use Rattle.wl_server.specs.Announcing.{Due, Owing, due_len, opcode_of, values_of, with_dues}

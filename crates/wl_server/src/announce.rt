@@ -2,7 +2,7 @@
 ghost use Rattle.std.specs.Prelude.{◌≡◌, ◌≤◌, ◌∷◌, [], false, true, IfErr, IfOk, length};
 ghost use Rattle.wl_wire.specs.Spelling.{IsText};
 ghost use Rattle.wl_objects.specs.declared.error.SendError.TheVariants as refusals;
-ghost use Rattle.wl_end.specs.Core.{IsOrdinary};
+ghost use Rattle.wl_connection.specs.Core.{IsOrdinary};
 ghost use Rattle.wl_server.specs.State.{RiseFrom};
 ghost use Rattle.wl_server.specs.Registries.{HasRegistries};
 ghost use Rattle.wl_server.specs.Announcing.{Fitting, Removal, Telling, after_announce, due_to};
@@ -12,7 +12,7 @@ ghost use Rattle.wl_server.specs.Tellings.{IsTold, IsWritten};
 use crate::globals::Advertised;
 use crate::registry::OpenRegistry;
 use crate::server::Server;
-use wl_end::Core;
+use wl_connection::Core;
 use wl_objects::{SendError, Table, encode_global, encode_number};
 use wl_sigs::Tables;
 use wl_sigs::event::wl_registry::GLOBAL_REMOVE;

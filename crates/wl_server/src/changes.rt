@@ -1,16 +1,16 @@
 //! The changes that a request makes at a server: among its objects, and its open registries.
 ghost use Rattle.std.specs.Prelude.{◌≡◌, ◌≢◌, Some, None, IsTrue, OnOk, true, OnErr};
 ghost use Rattle.wl_objects.specs.Messages.{opens};
-ghost use Rattle.wl_table.specs.View.{is_held};
-ghost use Rattle.wl_end.specs.Core.{with_view};
-ghost use Rattle.wl_end.specs.Sending.{delete_id_len, fits};
+ghost use Rattle.wl_object_map.specs.View.{is_held};
+ghost use Rattle.wl_connection.specs.Core.{with_view};
+ghost use Rattle.wl_connection.specs.Sending.{delete_id_len, fits};
 ghost use Rattle.wl_server.specs.Requests.{registries_after};
 ghost use Rattle.wl_server.specs.Registries.{IsFresh, without_registry, registry_birth};
 ghost use Rattle.wl_server.specs.Steps.{core_without, registries_without};
 
 use crate::registry::OpenRegistry;
 use std::alloc::{AllocError, Allocator};
-use wl_end::Core;
+use wl_connection::Core;
 use wl_objects::{NewObject, Object, REGISTRY, Table};
 
 /// Opens the object that a request makes, if it makes one, with this birth.

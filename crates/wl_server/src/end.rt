@@ -2,7 +2,7 @@
 use crate::pending::find_request;
 use crate::report::OwnedRequest;
 use crate::server::Server;
-use wl_end::{End, Receiver};
+use wl_connection::{End, Receiver};
 use wl_message::{Fed, Taken};
 use wl_objects::{NextError, Table};
 

@@ -4,9 +4,9 @@ ghost use Rattle.wl_objects.specs.Writing.{has_no_nul};
 ghost use Rattle.wl_server.specs.Requests.{fault_code, fault_message};
 ghost use Rattle.wl_server.specs.Steps.{core_told};
 
-use wl_end::Core;
+use wl_connection::Core;
+use wl_object_map::DISPLAY_ID;
 use wl_objects::{Fault, NextError, Table};
-use wl_table::DISPLAY_ID;
 
 /// Writes the error event of a fault, which is the end of the connection.
 pub(crate) fn report_fault<T: Table>(core: &mut Core<'_, T>, why: NextError)

@@ -1,6 +1,6 @@
 //! The globals that a server advertises.
 ghost use Rattle.std.specs.Prelude.{◌≡◌, OnOk, OnErr, true};
-ghost use Rattle.wl_end.specs.Outcomes.{AnswersOrMemory, refusal_in};
+ghost use Rattle.wl_connection.specs.Outcomes.{AnswersOrMemory, refusal_in};
 ghost use Rattle.wl_server.specs.State.{global_of};
 ghost use Rattle.wl_server.specs.Calls.{add_answer, after_withdraw, can_be_global, version_in};
 ghost use Rattle.wl_server.specs.Calls.{with_global, withdraw_refusal};
@@ -9,7 +9,7 @@ use crate::server::Server;
 use std::error::Error;
 use std::fmt::{self, Display, Formatter};
 use std::marker::Model;
-use wl_end::MAX_GLOBALS;
+use wl_connection::MAX_GLOBALS;
 use wl_objects::{DISPLAY, REGISTRY, Table};
 use wl_sigs::Tables;
 use wl_wire::Iface;

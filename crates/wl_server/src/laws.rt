@@ -2,7 +2,7 @@
 //! ensures.
 ghost use Rattle.std.specs.Prelude.{◌≡◌, ℕ, true, List};
 ghost use Rattle.wl_sigs.specs.declared.signature.Side.TheVariants.{Request as request_side};
-ghost use Rattle.wl_end.specs.Reads.{AnyCutReads, HasOneReading, ReadsWhole};
+ghost use Rattle.wl_connection.specs.Reads.{AnyCutReads, HasOneReading, ReadsWhole};
 ghost use Rattle.wl_sigs.specs.Tables.{Interface};
 ghost use Rattle.wl_objects.specs.declared.error.Fault.{Fault};
 ghost use Rattle.wl_server.specs.Announcing.{Due};

@@ -21,4 +21,4 @@ pub use globals::GlobalError;
 pub use laws::{any_cut_reads, one_reading, own_messages_are_spelled, whole_messages_are_read};
 pub use report::{OwnedRequest, Request};
 pub use server::Server;
-pub use wl_end::ReadAll;
+pub use wl_connection::ReadAll;

@@ -3,13 +3,13 @@ ghost use Rattle.std.specs.Prelude.{◌≡◌, ◌&&◌, ℕ, List, IfOk, IfSome
 ghost use Rattle.wl_objects.specs.Parsed.{reported_in};
 ghost use Rattle.wl_objects.specs.Reading.{descriptors};
 ghost use Rattle.wl_objects.specs.Seen.{message_of};
-ghost use Rattle.wl_end.specs.Sending.{delete_id_len};
+ghost use Rattle.wl_connection.specs.Sending.{delete_id_len};
 ghost use Rattle.wl_server.specs.Steps.{CanTake, ended_by, front_step, pending_in, pending_of};
 ghost use Rattle.wl_server.specs.Steps.{pendings_in, report_with, state_of};
 
 use crate::bind::is_bad_bind;
 use crate::globals::Advertised;
-use wl_end::{Core, DELETE_ID_LEN};
+use wl_connection::{Core, DELETE_ID_LEN};
 use wl_objects::{
     Fault, NewObject, NextError, Object, ParsedArg, ParsedArgs, Received, Table, TableLookup,
     made_by_message, receive,

@@ -2,7 +2,7 @@
 ghost use Rattle.std.specs.Prelude.{◌≡◌, ◌≢◌, None, [], OnOk, IfOk, IfSome, OnErr};
 ghost use Rattle.std.specs.Borrow.{sem};
 ghost use Rattle.std.specs.Io.BufRead.{Rests};
-ghost use Rattle.wl_end.specs.Outcomes.{left};
+ghost use Rattle.wl_connection.specs.Outcomes.{left};
 ghost use Rattle.wl_server.specs.State.{with_core};
 ghost use Rattle.wl_server.specs.Requests.{after_next, IsLentNext, IsNext};
 ghost use Rattle.wl_server.specs.Seen.{lent_in, lent_report, report_in, report_of};

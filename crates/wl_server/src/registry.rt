@@ -6,7 +6,7 @@ ghost use Rattle.wl_server.specs.Announcing.{owes_removal, owes_telling};
 use crate::globals::Advertised;
 use std::alloc::{AllocError, Allocator, Global};
 use std::marker::Model;
-use wl_end::MAX_GLOBALS;
+use wl_connection::MAX_GLOBALS;
 use wl_objects::Object;
 
 /// An open registry, with a mark for each name that it was told, and for each whose removal it was

@@ -3,14 +3,14 @@ ghost use Rattle.std.specs.Prelude.{◌≡◌, IfOk, OnOk, OnErr};
 ghost use Rattle.wl_sigs.specs.declared.signature.Side.TheVariants.{Event as event_side};
 ghost use Rattle.wl_sigs.specs.Valid.{Valid};
 ghost use Rattle.wl_objects.specs.Writing.{given};
-ghost use Rattle.wl_end.specs.Outcomes.{refusal_in};
-ghost use Rattle.wl_end.specs.Sending.{IsSendAnswer, OpensNothing, after_send};
+ghost use Rattle.wl_connection.specs.Outcomes.{refusal_in};
+ghost use Rattle.wl_connection.specs.Sending.{IsSendAnswer, OpensNothing, after_send};
 ghost use Rattle.wl_server.specs.State.{with_core};
 ghost use Rattle.wl_server.specs.Calls.{after_drop, after_error, drop_refusal, error_refusal};
 ghost use Rattle.wl_server.specs.Calls.{is_error_text};
 
 use crate::server::Server;
-use wl_end::{Core, DELETE_ID_LEN};
+use wl_connection::{Core, DELETE_ID_LEN};
 use wl_objects::{Arg, Object, SendError, Table};
 use wl_sigs::Side;
 

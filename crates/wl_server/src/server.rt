@@ -2,15 +2,16 @@
 ghost use Rattle.std.specs.Prelude.{◌≡◌, ◌≤◌, IfOk, length, take, drop, ◌++◌};
 ghost use Rattle.wl_message.specs.Arrived.{AreSizes};
 ghost use Rattle.wl_message.specs.Outgoing.{goes, waiting_bytes, waiting_tokens};
-ghost use Rattle.wl_end.specs.Core.{display_object, live, in_room, feeds, with_arrived, with_gone};
-ghost use Rattle.wl_end.specs.Core.{is_drained};
+ghost use Rattle.wl_connection.specs.Core.{display_object, live, in_room, feeds, with_arrived};
+ghost use Rattle.wl_connection.specs.Core.{with_gone};
+ghost use Rattle.wl_connection.specs.Core.{is_drained};
 ghost use Rattle.wl_server.specs.State.{new_state, with_core};
 
 use crate::globals::Advertised;
 use crate::registry::OpenRegistry;
 use std::alloc::AllocError;
 use std::marker::Model;
-use wl_end::Core;
+use wl_connection::Core;
 use wl_message::{Fed, Sizes, Taken};
 use wl_objects::{Object, Table};
 use wl_sigs::Tables;
@@ -32,7 +33,7 @@ pub struct Server<'t, T: Table> {
 impl<'t, T: Table> Model for Server<'t, T> {
     ghost use Rattle.std.specs.Prelude.{◌≤◌, length};
     ghost use Rattle.std.specs.Coded.{codes};
-    ghost use Rattle.wl_table.specs.View.{view_code};
+    ghost use Rattle.wl_object_map.specs.View.{view_code};
     ghost use Rattle.wl_server.specs.State.{State};
     ghost use Rattle.wl_server.specs.Registries.{HasRegistries, BirthsAreOnce};
 

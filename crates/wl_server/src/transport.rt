@@ -2,8 +2,8 @@
 ghost use Rattle.std.specs.Prelude.{◌≡◌, ◌⊎◌, true, Err};
 ghost use Rattle.wl_message.specs.declared.streams.FillError.TheVariants.{NoRoom};
 ghost use Rattle.wl_message.specs.Streams.{Flushes, written_of};
-ghost use Rattle.wl_end.specs.Core.{with_gone};
-ghost use Rattle.wl_end.specs.Transport.{EndFills};
+ghost use Rattle.wl_connection.specs.Core.{with_gone};
+ghost use Rattle.wl_connection.specs.Transport.{EndFills};
 ghost use Rattle.wl_server.specs.State.{with_core};
 
 use crate::server::Server;

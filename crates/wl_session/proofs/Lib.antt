@@ -1,5 +1,5 @@
-pub mod Outcomes
-pub mod Boxes
-pub mod Moving
-pub mod Lists
-pub mod Same
+pub mod CallOutcomes
+pub mod InboxSizes
+pub mod CarriedPieces
+pub mod MoveLists
+pub mod SameObjects

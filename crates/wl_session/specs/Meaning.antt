@@ -2,10 +2,10 @@
 use Rattle.std.specs.Prelude.{ℕ, List, map, length, Some, None}
 use Rattle.wl_wire.specs.Argument.{Int, Uint, Fixed, Str, Obj, New, Array, Fd, units}
 use Rattle.wl_objects.specs.Writing.{Given}
-use Rattle.wl_end.specs.Outcomes.{new_in}
+use Rattle.wl_connection.specs.Outcomes.{new_in}
 use Rattle.wl_client.specs.Seen as client
 use Rattle.wl_server.specs.Seen as server
-use Rattle.wl_world.specs.Pair as world
+use Rattle.theory_connection.specs.Pair as world
 use Rattle.wl_session.specs.declared.moves.SendArg.{SendArg}
 use Rattle.wl_session.specs.declared.moves.SendArg.TheVariants as args
 use Rattle.wl_session.specs.declared.moves.Move.{Move}

@@ -1,7 +1,7 @@
 -- How much a pair can carry at once.
 use Rattle.std.specs.Prelude.{◌≡◌, ℕ, ◌≤◌, List, [], ◌∷◌, Option, Some}
-use Rattle.wl_table.specs.declared.object.Entry.{Entry}
-use Rattle.wl_table.specs.declared.object.State.TheVariants as states
+use Rattle.wl_object_map.specs.declared.object.Entry.{Entry}
+use Rattle.wl_object_map.specs.declared.object.State.TheVariants as states
 use Rattle.wl_recording.specs.Piece.{Piece, with_last_bytes}
 use Rattle.wl_message.specs.Arrived.{Arrived}
 

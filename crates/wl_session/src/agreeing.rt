@@ -1,10 +1,10 @@
 //! Whether both ends have the same objects.
 ghost use Rattle.std.specs.Prelude.{◌≡◌, ◌↔◌, false, IsTrue};
-ghost use Rattle.wl_table.specs.View.{Sound};
-ghost use Rattle.wl_world.specs.World.{World};
-ghost use Rattle.wl_world.specs.Pair.{drained};
-ghost use Rattle.wl_world.specs.Stands.{Stands};
-ghost use Rattle.wl_world.specs.Runs.{Agree};
+ghost use Rattle.wl_object_map.specs.View.{Sound};
+ghost use Rattle.theory_connection.specs.World.{World};
+ghost use Rattle.theory_connection.specs.Pair.{drained};
+ghost use Rattle.theory_connection.specs.Stands.{Stands};
+ghost use Rattle.theory_connection.specs.Runs.{Agree};
 ghost use Rattle.wl_session.specs.Room.{AreSame};
 
 use crate::pair::Pair;

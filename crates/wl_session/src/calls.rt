@@ -1,10 +1,12 @@
 //! The calls of the two ends, as the pair does them: what each does to both ends and to the
 //! recording.
 ghost use Rattle.wl_objects.specs.Writing.{given};
-ghost use Rattle.wl_end.specs.Outcomes.{new_in};
+ghost use Rattle.wl_connection.specs.Outcomes.{new_in};
 ghost use Rattle.wl_client.specs.Seen as client_seen;
 ghost use Rattle.wl_server.specs.Seen as server_seen;
-ghost use Rattle.wl_world.specs.Pair.{Does, ClientSend, ClientBind, ServerSend, ServerDrop, PostError, AddGlobal, Withdraw, Announce, ClientNext, ServerNext};
+ghost use Rattle.theory_connection.specs.Pair.{Does, ClientSend, ClientBind, ServerSend};
+ghost use Rattle.theory_connection.specs.Pair.{ServerDrop, PostError, AddGlobal, Withdraw};
+ghost use Rattle.theory_connection.specs.Pair.{Announce, ClientNext, ServerNext};
 
 use crate::pair::Pair;
 use wl_client::OwnedIncoming;

@@ -1,16 +1,17 @@
 //! Carrying from one end to the other.
 ghost use Rattle.std.specs.Prelude.{◌≡◌, ◌≤◌, ◌<◌, ◌++◌, length, replicate, OnOk, OnErr};
 ghost use Rattle.wl_message.specs.Outgoing.{goes};
-ghost use Rattle.wl_end.specs.Core.{feeds, with_gone, with_arrived};
+ghost use Rattle.wl_connection.specs.Core.{feeds, with_gone, with_arrived};
 ghost use Rattle.wl_recording.specs.Piece.{passed, last_len};
 ghost use Rattle.wl_session.specs.Room.{filled};
-ghost use Rattle.wl_world.specs.Pair.{Does, CarryToServer, CarryToClient, carried_bytes, carried_tokens, all_of};
+ghost use Rattle.theory_connection.specs.Pair.{Does, CarryToServer, CarryToClient, carried_bytes};
+ghost use Rattle.theory_connection.specs.Pair.{carried_tokens, all_of};
 ghost use Rattle.wl_session.specs.Meaning.{carried_of};
 
 use crate::moves::Carried;
 use crate::pair::Pair;
 use std::alloc::{AllocError, Allocator};
-use wl_end::End;
+use wl_connection::End;
 use wl_message::{Fed, Taken};
 use wl_objects::Table;
 use wl_recording::{Direction, Recording};

@@ -1,8 +1,8 @@
 //! Lending the arguments of a move to the call that it makes.
 ghost use Rattle.std.specs.Prelude.{◌≡◌, ◌≤◌, length, vec_capacity};
 ghost use Rattle.wl_objects.specs.Writing.{given, given_of};
-ghost use Rattle.wl_world.specs.World.{Each};
-ghost use Rattle.wl_world.specs.Runs.{IsGiven};
+ghost use Rattle.theory_connection.specs.World.{Each};
+ghost use Rattle.theory_connection.specs.Runs.{IsGiven};
 ghost use Rattle.wl_session.specs.Meaning.{arg_of, args_of};
 
 use crate::moves::SendArg;

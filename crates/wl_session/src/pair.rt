@@ -6,10 +6,10 @@ ghost use Rattle.wl_message.specs.Arrived.{AreSizes};
 ghost use Rattle.wl_client.specs.State.{new_state as new_client};
 ghost use Rattle.wl_server.specs.State.{new_state as new_server};
 ghost use Rattle.wl_check.specs.Session.{IsLawful, session_of};
-ghost use Rattle.wl_world.specs.World.{World, opening};
-ghost use Rattle.wl_world.specs.Pair.{new_pair, drained};
-ghost use Rattle.wl_world.specs.Stands.{Stands};
-ghost use Rattle.wl_link.specs.Linked.{Linked, limit_of, up_to};
+ghost use Rattle.theory_connection.specs.World.{World, opening};
+ghost use Rattle.theory_connection.specs.Pair.{new_pair, drained};
+ghost use Rattle.theory_connection.specs.Stands.{Stands};
+ghost use Rattle.theory_recording.specs.Linked.{Linked, limit_of, up_to};
 
 use std::alloc::{AllocError, Allocator};
 use std::marker::Model;
@@ -40,8 +40,8 @@ pub struct Pair<'t, T: Table> {
 impl<'t, T: Table> Model for Pair<'t, T> {
     ghost use Rattle.std.specs.Prelude.{◌≤◌, length};
     ghost use Rattle.std.specs.Coded.{codes};
-    ghost use Rattle.wl_table.specs.View.{view_code};
-    ghost use Rattle.wl_world.specs.Pair.{PairState};
+    ghost use Rattle.wl_object_map.specs.View.{view_code};
+    ghost use Rattle.theory_connection.specs.Pair.{PairState};
     ghost use Rattle.wl_session.specs.Room.{Holds};
 
     ghost Value = { PairState };

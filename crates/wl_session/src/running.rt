@@ -1,11 +1,11 @@
 //! Lists of moves.
 ghost use Rattle.std.specs.Prelude.{◌≡◌, ◌≤◌, IfOk, OnErr, vec_capacity};
 ghost use Rattle.std.specs.List.{All};
-ghost use Rattle.wl_world.specs.World.{World};
-ghost use Rattle.wl_world.specs.Pair.{Does};
-ghost use Rattle.wl_world.specs.Stands.{Stands};
-ghost use Rattle.wl_world.specs.Runs.{DoesAll, Runs, IsMove};
-ghost use Rattle.wl_link.specs.Linked.{Linked, RunsLinked};
+ghost use Rattle.theory_connection.specs.World.{World};
+ghost use Rattle.theory_connection.specs.Pair.{Does};
+ghost use Rattle.theory_connection.specs.Stands.{Stands};
+ghost use Rattle.theory_connection.specs.Runs.{DoesAll, Runs, IsMove};
+ghost use Rattle.theory_recording.specs.Linked.{Linked, RunsLinked};
 ghost use Rattle.wl_session.specs.Meaning.{move_of, moves_of, reply_of, replies_of, arguments};
 
 use crate::lending::lend;

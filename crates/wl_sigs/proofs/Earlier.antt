@@ -3,7 +3,7 @@ use Rattle.std.proofs.Common.{◌≡◌, ℕ, zero, suc, ◌+◌, ◌<◌, true,
 use Rattle.std.specs.Prelude.{nat_lt}
 use Rattle.std.proofs.lemmas.List.{take_more, length-take-le}
 use Rattle.std.proofs.lemmas.Bool.Decides.{nat_tests}
-use Rattle.wl_written.specs.Text.{WrittenMessage, WrittenInterface}
+use Rattle.wl_interface_text.specs.Text.{WrittenMessage, WrittenInterface}
 use Rattle.wl_sigs.specs.Broken.{Broken, earlier, broken_at, messages_broken, interface_broken, interfaces_broken}
 
 pub earlier_none : (a b : Option Broken) → earlier a b ≡ None → (a ≡ None) × (b ≡ None)

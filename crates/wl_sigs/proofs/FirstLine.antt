@@ -6,7 +6,7 @@ use Rattle.wl_sigs.specs.declared.signature.Side.TheVariants.{Request, Event}
 use Rattle.std.specs.List.{list_all, count_by}
 use Rattle.wl_sigs.specs.Rules.{is_name}
 use Rattle.wl_sigs.specs.Tables.{Interface}
-use Rattle.wl_written.specs.Text.{WrittenMessage, WrittenInterface}
+use Rattle.wl_interface_text.specs.Text.{WrittenMessage, WrittenInterface}
 use Rattle.wl_sigs.specs.Joined.{all_names, first_place}
 use Rattle.wl_sigs.specs.Broken.{Broken, is_first, makes_object, makes_unnamed, names_missing, names_objects, is_race_free, most_new, earlier, broken_at, interface_rule, message_rule, messages_broken, interface_broken, interfaces_broken, ended_of, first_broken}
 use Rattle.wl_sigs.specs.FirstBroken.{written_of}

@@ -2,8 +2,8 @@
 use Rattle.std.proofs.Common.{◌≡◌, ℕ, ◌+◌, List, [], length, map, refl, sym, ap, ◌∙◌, subst, Some, None, Option, slice_get, arith}
 use Rattle.std.specs.Prelude.{option_map, option_and_then, ◌↔◌}
 use Rattle.wl_sigs.specs.Tables.{Message, Interface, interface_at, message_of}
-use Rattle.wl_written.specs.Text.{WrittenInterface}
-use Rattle.wl_written.specs.TableText.{TableText}
+use Rattle.wl_interface_text.specs.Text.{WrittenInterface}
+use Rattle.wl_interface_text.specs.TableText.{TableText}
 use Rattle.wl_sigs.specs.Joined.{all_names, first_place, joined}
 use Rattle.wl_sigs.specs.Broken.{Broken, ended_of, first_broken}
 use Rattle.wl_sigs.specs.FirstBroken.{written_of, InterfaceBreaks, MessageBreaks, BreaksRule, by_interface, by_message, IsFirstBroken}

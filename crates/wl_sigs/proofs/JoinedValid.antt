@@ -18,7 +18,7 @@ use Rattle.wl_sigs.specs.declared.signature.Side.TheVariants.{Request, Event}
 use Rattle.wl_sigs.specs.Rules.{is_empty}
 use Rattle.wl_sigs.specs.Tables.{Message, Interface, interface_at, messages_of, signature_at, new_objects, named_interface, has_destroying_event, destroys_target, destroys_argument}
 use Rattle.wl_sigs.specs.Valid.{IsName, NamesAreDistinct, HasFixedFour, AreSmall, MakeFewObjects, UnnamedNewInBindAlone, NoAnyInRequests, SincesAreInRange, DestroyingEventsAreRaceFree, NamedInterfacesAreThere, ArgumentEndsInFixesAlone, Valid}
-use Rattle.wl_written.specs.Text.{WrittenMessage, WrittenInterface}
+use Rattle.wl_interface_text.specs.Text.{WrittenMessage, WrittenInterface}
 use Rattle.wl_sigs.specs.Joined.{all_names, first_place, kind_placed, destroys_of, interface_placed, joined}
 use Rattle.wl_sigs.specs.Broken.{is_first, ended_of, first_broken}
 use Rattle.wl_sigs.proofs.RulesDecide.{decides_name}

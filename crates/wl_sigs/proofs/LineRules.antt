@@ -8,7 +8,7 @@ use Rattle.wl_wire.specs.declared.kind.Kind.{Kind}
 use Rattle.wl_wire.specs.declared.kind.Kind.TheVariants as kinds
 use Rattle.wl_wire.specs.declared.kind.Iface.{Iface}
 use Rattle.wl_sigs.specs.Tables.{Interface, interface_at, named_interface, has_destroying_event}
-use Rattle.wl_written.specs.Text.{WrittenKind, takes_interface}
+use Rattle.wl_interface_text.specs.Text.{WrittenKind, takes_interface}
 use Rattle.wl_sigs.specs.Joined.{first_place, iface_named, with_iface}
 use Rattle.wl_sigs.specs.Broken.{is_first, is_new, is_object, is_ended}
 use Rattle.wl_sigs.proofs.FirstPlaces.{first_place-of, first_place-le}

@@ -3,8 +3,8 @@ use Rattle.std.proofs.Common.{◌≡◌, ℕ, zero, suc, ◌+◌, ◌≤◌, ◌
 use Rattle.std.specs.Prelude.{option_map, option_and_then}
 use Rattle.wl_sigs.specs.declared.signature.Side.{Side}
 use Rattle.wl_sigs.specs.declared.signature.Side.TheVariants.{Request, Event}
-use Rattle.wl_written.specs.Text.{WrittenMessage, WrittenInterface}
-use Rattle.wl_written.specs.TableText.{Say, nothing, skipped, request, event, interface, TableText}
+use Rattle.wl_interface_text.specs.Text.{WrittenMessage, WrittenInterface}
+use Rattle.wl_interface_text.specs.TableText.{Say, nothing, skipped, request, event, interface, TableText}
 use Rattle.wl_sigs.specs.FirstBroken.{written_of}
 
 -- a message that stands above the first interface, an interface, or a message of an interface

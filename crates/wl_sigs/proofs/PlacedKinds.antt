@@ -9,7 +9,7 @@ use Rattle.wl_wire.specs.declared.kind.Kind.{Kind}
 use Rattle.wl_wire.specs.declared.kind.Kind.TheVariants as kinds
 use Rattle.wl_wire.specs.declared.kind.Iface.{Iface}
 use Rattle.wl_sigs.specs.Tables.{Interface, interface_at, new_objects, named_interface, has_destroying_event}
-use Rattle.wl_written.specs.Text.{WrittenKind, takes_interface}
+use Rattle.wl_interface_text.specs.Text.{WrittenKind, takes_interface}
 use Rattle.wl_sigs.specs.Joined.{iface_named, with_iface, kind_placed}
 use Rattle.wl_sigs.specs.Broken.{is_new, is_object, makes_object, is_ended}
 

@@ -13,7 +13,7 @@ use Rattle.wl_sigs.specs.declared.signature.Side.TheVariants.{Request, Event}
 use Rattle.wl_sigs.specs.Rules.{is_name, is_empty}
 use Rattle.wl_sigs.specs.Tables.{Message, Interface, interface_at, new_objects, named_interface, destroys_target}
 use Rattle.wl_sigs.specs.Valid.{IsName}
-use Rattle.wl_written.specs.Text.{WrittenKind, WrittenMessage, WrittenInterface}
+use Rattle.wl_interface_text.specs.Text.{WrittenKind, WrittenMessage, WrittenInterface}
 use Rattle.wl_sigs.specs.Joined.{all_names, first_place, kind_placed, destroys_of, joined}
 use Rattle.wl_sigs.specs.Broken.{is_first, makes_object, makes_unnamed, takes_any, takes_ended, names_missing, most_new, names_objects, is_race_free, ended_of}
 use Rattle.wl_sigs.specs.FirstBroken.{written_of, InterfaceBreaks, interface_misnamed, interface_named_again, interface_beyond, version_below_one, MessageBreaks, message_misnamed, message_named_again, message_beyond, too_many_arguments, event_makes, request_makes_two, new_without_interface, object_of_any, event_destroys, object_of_ended, since_below_one, since_above_version, interface_missing}

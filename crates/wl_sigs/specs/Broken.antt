@@ -10,7 +10,7 @@ use Rattle.wl_sigs.specs.declared.signature.Side.{Side}
 use Rattle.wl_sigs.specs.declared.signature.Side.TheVariants.{Request, Event}
 use Rattle.wl_sigs.specs.Tables.{Interface, has_destroying_event}
 use Rattle.wl_sigs.specs.Rules.{is_name, is_empty}
-use Rattle.wl_written.specs.Text.{WrittenKind, WrittenMessage, WrittenInterface, takes_interface}
+use Rattle.wl_interface_text.specs.Text.{WrittenKind, WrittenMessage, WrittenInterface, takes_interface}
 use Rattle.wl_sigs.specs.Joined.{all_names, first_place}
 
 -- a line that breaks a rule, and the least rule that it breaks

@@ -11,7 +11,7 @@ use Rattle.wl_sigs.specs.declared.signature.Side.TheVariants.{Request, Event}
 use Rattle.wl_sigs.specs.Tables.{Message, Interface, interface_at, message_of, new_objects}
 use Rattle.wl_sigs.specs.Tables.{has_destroying_event, destroys_target, named_interface}
 use Rattle.wl_sigs.specs.Valid.{IsName}
-use Rattle.wl_written.specs.Text.{WrittenMessage, WrittenInterface}
+use Rattle.wl_interface_text.specs.Text.{WrittenMessage, WrittenInterface}
 use Rattle.wl_sigs.specs.Joined.{joined}
 use Rattle.wl_sigs.specs.Broken.{Broken}
 

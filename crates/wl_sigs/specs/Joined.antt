@@ -7,7 +7,7 @@ use Rattle.wl_wire.specs.declared.kind.Iface.{Iface}
 use Rattle.wl_sigs.specs.declared.signature.Destroys.{Destroys}
 use Rattle.wl_sigs.specs.declared.signature.Destroys.TheVariants.{Nothing, Target}
 use Rattle.wl_sigs.specs.Tables.{Message, Interface}
-use Rattle.wl_written.specs.Text.{WrittenKind, WrittenMessage, WrittenInterface}
+use Rattle.wl_interface_text.specs.Text.{WrittenKind, WrittenMessage, WrittenInterface}
 
 -- the names of the interfaces of the tables, then those of the text
 abbrev pub all_names : List Interface → List WrittenInterface → List (List ℕ)

@@ -1,10 +1,10 @@
 -- What reading tables from a text gives.
 use Rattle.std.specs.Prelude.{ℕ, List, [], Option, Some, None, Result, Ok, Err}
 use Rattle.std.specs.Str.Lines.{lines}
-use Rattle.wl_written.specs.declared.fault.TableFault.{TableFault}
-use Rattle.wl_written.specs.declared.fault.TableFault.TheVariants.{BadLine, BadTable}
+use Rattle.wl_interface_text.specs.declared.fault.TableFault.{TableFault}
+use Rattle.wl_interface_text.specs.declared.fault.TableFault.TheVariants.{BadLine, BadTable}
 use Rattle.wl_sigs.specs.Tables.{Interface}
-use Rattle.wl_written.specs.Text.{WrittenInterface, listed}
+use Rattle.wl_interface_text.specs.Text.{WrittenInterface, listed}
 use Rattle.wl_sigs.specs.Joined.{joined}
 use Rattle.wl_sigs.specs.Broken.{Broken, first_broken}
 

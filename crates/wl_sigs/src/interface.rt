@@ -11,7 +11,7 @@ use crate::signature::{Destroys, Side, Signature};
 use std::alloc::{AllocError, Allocator, Global};
 use std::collections::BTreeMap;
 use std::marker::Model;
-use wl_written::{WrittenInterface, WrittenMessage};
+use wl_interface_text::{WrittenInterface, WrittenMessage};
 
 /// One interface of the tables.
 #[derive(Debug, Drop)]

@@ -10,9 +10,9 @@ ghost use Rattle.wl_sigs.specs.Outcome.{outcome};
 ghost use Rattle.wl_sigs.specs.Rules.{keep_rules};
 ghost use Rattle.wl_sigs.specs.Tables.{Interface, interface_at, place_of};
 ghost use Rattle.wl_sigs.specs.Valid.{Valid, HasFixedFour};
-ghost use Rattle.wl_written.specs.TableText.{IsFirstBadLine, TableText};
-ghost use Rattle.wl_written.specs.Text.{WrittenInterface};
-ghost use Rattle.wl_written.specs.declared.fault.TableFault.TheVariants.{BadLine, BadTable};
+ghost use Rattle.wl_interface_text.specs.TableText.{IsFirstBadLine, TableText};
+ghost use Rattle.wl_interface_text.specs.Text.{WrittenInterface};
+ghost use Rattle.wl_interface_text.specs.declared.fault.TableFault.TheVariants.{BadLine, BadTable};
 
 /// Tables are valid exactly where wl_display, wl_registry and wl_callback stand in front, wl_fixes
 /// behind the other core interfaces, and the tests of the other rules pass.
@@ -51,8 +51,9 @@ pub fn first_broken_is_first()
 
 /// A text is read behind valid tables, as the tables joined with those that it lists, exactly where
 /// it lists interfaces and the joined tables are valid. It has a bad line exactly where some line
-/// may not stand in it: the first such line. It has a line that breaks a rule exactly where it lists
-/// interfaces, some of which break one: the first such line, and the least rule that it breaks.
+/// may not stand in it: the first such line. It has a line that breaks a rule exactly where it
+/// lists interfaces, some of which break one: the first such line, and the least rule that it
+/// breaks.
 pub fn texts_are_told()
     ensures told { (tables all : List Interface) (text : List ℕ) → Valid tables
         → (outcome tables text ≡ Ok all) ↔ ((written : List WrittenInterface)

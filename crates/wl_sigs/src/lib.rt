@@ -21,4 +21,4 @@ pub use laws::{
 };
 pub use signature::{Destroys, Side, Signature};
 pub use tables::Tables;
-pub use wl_written::TableFault;
+pub use wl_interface_text::TableFault;

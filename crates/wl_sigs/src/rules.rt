@@ -15,8 +15,8 @@ use crate::places::{place_in, places_of};
 use crate::signature::Side;
 use std::alloc::{AllocError, Allocator};
 use std::collections::BTreeMap;
+use wl_interface_text::{WrittenInterface, WrittenKind, WrittenMessage, takes_interface};
 use wl_wire::Kind;
-use wl_written::{WrittenInterface, WrittenKind, WrittenMessage, takes_interface};
 
 /// A line that breaks a rule, and the least rule that it breaks.
 #[derive(Clone, Copy)]

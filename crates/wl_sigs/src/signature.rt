@@ -10,8 +10,8 @@ use crate::places::place_in;
 use std::alloc::{AllocError, Allocator, Global};
 use std::collections::BTreeMap;
 use std::marker::Model;
+use wl_interface_text::{WrittenKind, WrittenMessage};
 use wl_wire::{Iface, Kind};
-use wl_written::{WrittenKind, WrittenMessage};
 
 /// What a message destroys.
 #[derive(Clone, Copy, Debug, PartialEq, Eq)]

@@ -1,5 +1,6 @@
 //! Interfaces in their order.
-ghost use Rattle.std.specs.Prelude.{◌≡◌, ◌⊎◌, ◌↔◌, ℕ, Err, Some, None, IfOk, map, slice_get, option_copied};
+ghost use Rattle.std.specs.Prelude.{◌≡◌, ◌⊎◌, ◌↔◌, ℕ, Err, Some, None, IfOk, map, slice_get};
+ghost use Rattle.std.specs.Prelude.{option_copied};
 ghost use Rattle.std.specs.Prelude.{option_map, position, bytes_eq, length, IfSome, ◌<◌};
 ghost use Rattle.wl_sigs.specs.Core.{core_tables};
 ghost use Rattle.wl_sigs.specs.ByName.{opcode_of};
@@ -12,7 +13,7 @@ ghost use Rattle.wl_sigs.specs.Broken.{ended_of, first_broken};
 ghost use Rattle.wl_sigs.specs.BrokenLines.{broken};
 ghost use Rattle.wl_sigs.specs.Places.{place_in, ArePlaces};
 ghost use Rattle.wl_sigs.specs.Outcome.{outcome};
-ghost use Rattle.wl_written.specs.declared.fault.TableFault.TheVariants.{Memory};
+ghost use Rattle.wl_interface_text.specs.declared.fault.TableFault.TheVariants.{Memory};
 
 use crate::core_interfaces::{CORE, CoreInterface};
 use crate::interface::Entry;
@@ -22,8 +23,8 @@ use crate::signature::{Side, Signature};
 use std::alloc::{AllocError, Allocator, Global};
 use std::collections::BTreeMap;
 use std::marker::Model;
+use wl_interface_text::{TableFault, WrittenInterface, read_interfaces};
 use wl_wire::Iface;
-use wl_written::{TableFault, WrittenInterface, read_interfaces};
 
 /// Signature tables: interfaces, each at its place, with the signatures of their messages.
 ///

@@ -1,5 +1,5 @@
 use Rattle.wl_sigs.specs.declared.signature.Side.TheVariants.{Event as event_side}
-use Rattle.wl_end.proofs.AnyCut.{any_cut}
+use Rattle.wl_connection.proofs.AnyCut.{any_cut}
 use Rattle.wl_client.specs.Streams.{reading}
 use Rattle.wl_client.proofs.Comings.{is_reading}
 use Rattle.wl_client.proofs.laws.any_cut_reads.Goals as goal

@@ -1,4 +1,4 @@
-use Rattle.wl_end.specs.Core.{Core}
+use Rattle.wl_connection.specs.Core.{Core}
 use Rattle.wl_client.proofs.Fronts.{pending_told, fault_told}
 use Rattle.wl_client.proofs.pending.find_event.Goals.{in-Ok, in-Err-pending_of}
 use Rattle.wl_client.proofs.pending.find_event.Goals as goal

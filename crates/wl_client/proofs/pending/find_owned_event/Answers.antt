@@ -1,6 +1,6 @@
 use Rattle.std.proofs.Common.{◌≡◌, take, length, ap, sym, ◌∙◌, arith, get_or}
-use Rattle.wl_end.specs.Core.{Core}
-use Rattle.wl_end.proofs.Receivings.{first-tokens}
+use Rattle.wl_connection.specs.Core.{Core}
+use Rattle.wl_connection.proofs.Receivings.{first-tokens}
 use Rattle.wl_client.proofs.Fronts.{fault_told, owned_told, memory_told, pending_tokens}
 use Rattle.wl_client.proofs.pending.find_owned_event.Goals.{in-Ok-to_owned, in-Err-to_owned}
 use Rattle.wl_client.proofs.pending.find_owned_event.Goals as goal

@@ -1,9 +1,9 @@
 use Rattle.std.proofs.Common.{sym, ◌∙◌}
 use Rattle.wl_sigs.specs.declared.signature.Side.TheVariants.{Event as event_side}
 use Rattle.wl_objects.specs.Messages.{reader_of}
-use Rattle.wl_end.proofs.Displays.{ends-another}
-use Rattle.wl_end.proofs.Ends.{ends_no_argument}
-use Rattle.wl_end.proofs.Receivings.{is_received}
+use Rattle.wl_connection.proofs.Displays.{ends-another}
+use Rattle.wl_connection.proofs.Ends.{ends_no_argument}
+use Rattle.wl_connection.proofs.Receivings.{is_received}
 use Rattle.wl_objects.specs.Seen.{message_of}
 use Rattle.wl_client.proofs.pending.pending_of.Goals as goal
 

@@ -1,5 +1,5 @@
 use Rattle.std.proofs.Common.{◌≡◌, ◌≤◌, length, drop}
-use Rattle.wl_table.specs.View.{look}
+use Rattle.wl_object_map.specs.View.{look}
 use Rattle.wl_objects.specs.Writing.{given, lost_place}
 use Rattle.wl_objects.proofs.calling.lost_place.Given as goal
 

@@ -1,6 +1,6 @@
 use Rattle.std.proofs.Common.{◌≡◌, ◌+◌, ℕ, true, List, [], ◌∷◌, ◌++◌, refl, sym, subst, ap, ◌∙◌, arith}
-use Rattle.wl_table.specs.declared.object.Object.{Object}
-use Rattle.wl_end.specs.Core.{Core}
+use Rattle.wl_object_map.specs.declared.object.Object.{Object}
+use Rattle.wl_connection.specs.Core.{Core}
 use Rattle.wl_server.specs.State.{Registry}
 use Rattle.wl_server.specs.Announcing.{Owing, marked, Removal, Telling, due_to, owings, owes_removal, owes_telling}
 use Rattle.wl_server.specs.Tellings.{IsWritten, Progress, dues_for}

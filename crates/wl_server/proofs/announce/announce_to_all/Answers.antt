@@ -1,5 +1,5 @@
 use Rattle.std.proofs.Common.{◌≡◌, Bool, true, false, not, refl, ◌<◌, ◌≤◌, [], ◌∷◌, length, sym, subst, arith}
-use Rattle.wl_end.specs.Core.{Core, IsOrdinary}
+use Rattle.wl_connection.specs.Core.{Core, IsOrdinary}
 use Rattle.wl_server.specs.State.{Registry}
 use Rattle.wl_server.specs.Announcing.{due_to, owed_in}
 use Rattle.wl_server.specs.Tellings.{IsTold}

@@ -1,7 +1,7 @@
 use Rattle.std.proofs.Common.{ℕ, List, subst, ap, ◌∙◌, arith}
 use Rattle.wl_objects.specs.Writing.{global_values, message_bytes}
-use Rattle.wl_end.specs.Core.{Core}
-use Rattle.wl_end.proofs.Messages.{whole}
+use Rattle.wl_connection.specs.Core.{Core}
+use Rattle.wl_connection.proofs.Messages.{whole}
 use Rattle.wl_server.specs.State.{Global}
 use Rattle.wl_server.specs.Announcing.{Telling}
 use Rattle.wl_server.specs.Tellings.{IsWritten}

@@ -1,7 +1,7 @@
 use Rattle.std.proofs.Common.{[], ◌∷◌, subst, ◌∙◌, arith}
 use Rattle.wl_wire.specs.Argument.{Uint}
-use Rattle.wl_end.specs.Core.{Core}
-use Rattle.wl_end.proofs.Messages.{whole}
+use Rattle.wl_connection.specs.Core.{Core}
+use Rattle.wl_connection.proofs.Messages.{whole}
 use Rattle.wl_server.specs.Announcing.{Removal}
 use Rattle.wl_server.specs.Tellings.{IsWritten}
 use Rattle.wl_server.proofs.Tells.{push-written}

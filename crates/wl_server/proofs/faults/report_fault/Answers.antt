@@ -1,5 +1,5 @@
 use Rattle.std.proofs.Common.{sym, ap, ◌∙◌}
-use Rattle.wl_end.specs.Sending.{with_error_event}
+use Rattle.wl_connection.specs.Sending.{with_error_event}
 use Rattle.wl_server.specs.Steps.{core_told}
 use Rattle.wl_server.proofs.faults.report_fault.Goals as goal
 

@@ -4,11 +4,11 @@ use Rattle.wl_objects.specs.declared.error.NextError.TheVariants.{Fault, OutFull
 use Rattle.wl_objects.specs.declared.error.Fault.TheVariants.{BadBind}
 use Rattle.wl_objects.specs.Messages.{reader_of}
 use Rattle.wl_objects.specs.Parsed.{AreParsed}
-use Rattle.wl_end.specs.Core.{Core}
-use Rattle.wl_end.specs.Sending.{delete_id_len}
+use Rattle.wl_connection.specs.Core.{Core}
+use Rattle.wl_connection.specs.Sending.{delete_id_len}
 use Rattle.wl_objects.specs.Seen.{message_of}
 use Rattle.wl_server.specs.Steps.{pending_in, pending_of, CanTake}
-use Rattle.wl_end.proofs.Frames.{framed}
+use Rattle.wl_connection.proofs.Frames.{framed}
 use Rattle.wl_server.proofs.Fronts.{Answers, answers_fault, answers_bad, answers_full, answers_ok, can_take, ended_told, full_by}
 use Rattle.wl_server.proofs.pending.find_request.Goals as goal
 

@@ -1,5 +1,5 @@
 use Rattle.std.proofs.Common.{ℕ, ◌<◌}
-use Rattle.wl_table.specs.View.{look}
+use Rattle.wl_object_map.specs.View.{look}
 use Rattle.wl_session.specs.Room.{AreSame}
 use Rattle.wl_session.proofs.agreeing.same_rows.Given as goal
 

@@ -1,10 +1,10 @@
 use Rattle.std.proofs.Common.{◌∙◌, ap, sym, subst, ◌≡◌}
 use Rattle.wl_message.specs.Outgoing.{waiting_bytes, waiting_tokens}
 use Rattle.wl_message.specs.declared.amounts.Taken.{Taken}
-use Rattle.wl_end.specs.Core.{feeds, with_arrived}
-use Rattle.wl_world.specs.Pair.{carried_bytes, carried_tokens, all_of}
+use Rattle.wl_connection.specs.Core.{feeds, with_arrived}
+use Rattle.theory_connection.specs.Pair.{carried_bytes, carried_tokens, all_of}
 use Rattle.wl_session.specs.Room.{filled}
-use Rattle.wl_session.proofs.Moving.{lengths_are, written, arrived_is}
+use Rattle.wl_session.proofs.CarriedPieces.{lengths_are, written, arrived_is}
 use Rattle.wl_session.proofs.carrying.hand_over.Goals as goal
 
 pub returns-clause-to : goal.returns-clause-to

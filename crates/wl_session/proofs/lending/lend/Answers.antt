@@ -1,8 +1,8 @@
 use Rattle.std.proofs.Common.{◌≡◌, subst}
 use Rattle.std.proofs.lemmas.List.{take_all}
 use Rattle.wl_objects.specs.Writing.{given}
-use Rattle.wl_world.specs.World.{Each}
-use Rattle.wl_world.specs.Runs.{IsGiven}
+use Rattle.theory_connection.specs.World.{Each}
+use Rattle.theory_connection.specs.Runs.{IsGiven}
 use Rattle.wl_session.specs.Meaning.{args_of}
 use Rattle.wl_session.proofs.lending.lend.Goals as goal
 

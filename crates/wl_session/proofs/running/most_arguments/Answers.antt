@@ -2,7 +2,7 @@ use Rattle.std.proofs.Common.{rules, ◌≤◌, subst}
 use Rattle.std.proofs.lemmas.List.{take_all}
 use Rattle.std.specs.List.{All}
 use Rattle.wl_session.specs.Meaning.{arguments}
-use Rattle.wl_session.proofs.Lists.{most_more}
+use Rattle.wl_session.proofs.MoveLists.{most_more}
 use Rattle.wl_session.proofs.running.most_arguments.Goals as goal
 
 pub moves-preserved : goal.moves-preserved

@@ -2,7 +2,7 @@ use Rattle.std.proofs.Common.{◌≡◌, ℕ, List, length, map, take, refl, sym
 use Rattle.std.proofs.Math.Path.{fun_ext, ap₂}
 use denote.Ref.{Bor}
 use Rattle.std.proofs.Math.Seq.{take-length}
-use Rattle.wl_written.specs.Text.{WrittenMessage}
+use Rattle.wl_interface_text.specs.Text.{WrittenMessage}
 use Rattle.wl_sigs.specs.Joined.{first_place}
 use Rattle.wl_sigs.specs.Broken.{message_rule, messages_broken}
 use Rattle.wl_sigs.specs.Places.{place_in}

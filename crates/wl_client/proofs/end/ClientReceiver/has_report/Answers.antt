@@ -1,6 +1,6 @@
 use Rattle.std.proofs.Common.{ap, subst, ◌∙◌}
 use Rattle.wl_client.specs.State.{State}
-use Rattle.wl_end.specs.Reads.{HasReport}
+use Rattle.wl_connection.specs.Reads.{HasReport}
 use Rattle.wl_client.specs.Streams.{reading}
 use Rattle.wl_client.proofs.Needs.{has_one}
 use Rattle.wl_client.proofs.end.ClientReceiver.has_report.Goals.{in-Ok-Some, in_default, in_default-2}

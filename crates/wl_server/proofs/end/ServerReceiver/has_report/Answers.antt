@@ -1,7 +1,7 @@
 use Rattle.std.proofs.Common.{◌≡◌, false, ap, sym, subst, ◌∙◌}
 use Rattle.std.specs.declared.option.Option.TheVariants.{Some}
 use Rattle.std.specs.declared.result.Result.TheVariants.{Ok as ok}
-use Rattle.wl_end.specs.Reads.{HasReport}
+use Rattle.wl_connection.specs.Reads.{HasReport}
 use Rattle.wl_server.specs.State.{State}
 use Rattle.wl_server.specs.Steps.{pending_in}
 use Rattle.wl_server.specs.Streams.{reading}

@@ -1,6 +1,6 @@
 use Rattle.std.proofs.Common.{◌≡◌, List, length, take, drop, ◌++◌, sym, subst, ap, ◌∙◌, arith}
 use Rattle.std.proofs.lemmas.List.{take_at}
-use Rattle.wl_end.specs.Core.{Core, IsOrdinary}
+use Rattle.wl_connection.specs.Core.{Core, IsOrdinary}
 use Rattle.wl_server.specs.State.{Global, Registry, State}
 use Rattle.wl_server.specs.Registries.{HasRegistries}
 use Rattle.wl_server.specs.Announcing.{Fitting, after_announce, owed_in}

@@ -3,9 +3,9 @@ use Rattle.std.specs.Prelude.{Result, IfOk, OnOk, OnErr}
 use Rattle.std.specs.declared.result.Result.TheVariants.{Ok, Err}
 use Rattle.wl_sigs.specs.Valid.{Valid}
 use Rattle.wl_objects.specs.declared.error.SendError.{SendError}
-use Rattle.wl_table.specs.declared.object.Object.{Object}
-use Rattle.wl_end.specs.Core.{Core}
-use Rattle.wl_end.specs.Outcomes.{refusal_in}
+use Rattle.wl_object_map.specs.declared.object.Object.{Object}
+use Rattle.wl_connection.specs.Core.{Core}
+use Rattle.wl_connection.specs.Outcomes.{refusal_in}
 use Rattle.wl_server.specs.Calls.{after_drop, drop_refusal}
 use Rattle.wl_server.specs.State.{Registry}
 use Rattle.wl_server.specs.Registries.{HasRegistries, BirthsAreOnce}

@@ -1,8 +1,8 @@
 use Rattle.std.proofs.Common.{rules, sym, ap, subst, arith, []}
 use Rattle.wl_sigs.specs.Fixed.{display}
-use Rattle.wl_table.specs.View.{View, opening}
-use Rattle.wl_table.specs.Sounds.{Sound-opening}
-use Rattle.wl_end.specs.Core.{Core}
+use Rattle.wl_object_map.specs.View.{View, opening}
+use Rattle.wl_object_map.specs.Sounds.{Sound-opening}
+use Rattle.wl_connection.specs.Core.{Core}
 use Rattle.wl_server.specs.Registries.{HasRegistries, BirthsAreOnce}
 use Rattle.wl_server.proofs.Registries.{has_none, births_of_sound}
 use Rattle.wl_server.proofs.server.Server.new.Goals as goal

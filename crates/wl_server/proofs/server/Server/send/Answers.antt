@@ -4,8 +4,8 @@ use Rattle.std.specs.declared.result.Result.TheVariants.{Ok, Err}
 use Rattle.wl_sigs.specs.Valid.{Valid}
 use Rattle.wl_sigs.specs.declared.signature.Side.TheVariants.{Event}
 use Rattle.wl_objects.specs.Writing.{given}
-use Rattle.wl_end.specs.Core.{Core}
-use Rattle.wl_end.specs.Sending.{after_send}
+use Rattle.wl_connection.specs.Core.{Core}
+use Rattle.wl_connection.specs.Sending.{after_send}
 use Rattle.wl_server.specs.Registries.{HasRegistries, BirthsAreOnce}
 use Rattle.wl_server.proofs.Registries.{has_sent, births_sent}
 use Rattle.wl_server.proofs.server.Server.send.Goals as goal

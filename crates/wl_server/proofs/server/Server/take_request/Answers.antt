@@ -1,10 +1,10 @@
 use Rattle.std.proofs.Common.{◌≡◌, sym, ap, subst, ◌∙◌, rules}
 use Rattle.std.specs.Prelude.{IsTrue, is_some}
-use Rattle.wl_table.specs.View.{View, is_held}
+use Rattle.wl_object_map.specs.View.{View, is_held}
 use Rattle.wl_objects.specs.Messages.{opens}
 use Rattle.wl_message.specs.Outgoing.{Outgoing}
-use Rattle.wl_end.specs.Core.{Core, past, with_view}
-use Rattle.wl_end.specs.Sending.{delete_id_len, fits}
+use Rattle.wl_connection.specs.Core.{Core, past, with_view}
+use Rattle.wl_connection.specs.Sending.{delete_id_len, fits}
 use Rattle.wl_server.specs.State.{State}
 use Rattle.wl_server.specs.Steps.{CanTake, after_step, core_by, core_without, pending_in, registries_by, registries_without}
 use Rattle.wl_server.proofs.Taking.{held-opened}

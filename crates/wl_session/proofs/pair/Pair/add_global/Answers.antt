@@ -1,4 +1,4 @@
-use Rattle.wl_session.proofs.Outcomes.{adds}
+use Rattle.wl_session.proofs.CallOutcomes.{adds}
 use Rattle.wl_session.proofs.pair.Pair.add_global.Goals as goal
 
 pub returns : goal.returns

@@ -1,4 +1,4 @@
-use Rattle.wl_world.proofs.Opening.{agree_drained}
+use Rattle.theory_connection.proofs.PairAtOpening.{agree_drained}
 use Rattle.wl_session.proofs.pair.Pair.agree.Goals as goal
 
 pub returns-clause-drained : goal.returns-clause-drained

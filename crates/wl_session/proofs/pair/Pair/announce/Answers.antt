@@ -1,5 +1,5 @@
-use Rattle.wl_session.proofs.Boxes.{holds, announced_box}
-use Rattle.wl_session.proofs.Outcomes.{announces}
+use Rattle.wl_session.proofs.InboxSizes.{holds, announced_box}
+use Rattle.wl_session.proofs.CallOutcomes.{announces}
 use Rattle.wl_session.proofs.pair.Pair.announce.Goals as goal
 
 pub invariant_of-self : goal.invariant_of-self

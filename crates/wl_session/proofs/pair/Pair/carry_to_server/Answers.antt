@@ -1,5 +1,5 @@
 use Rattle.std.proofs.Common.{refl, ◌∙◌}
-use Rattle.wl_session.proofs.Moving.{goes_is, few_tokens, together, fed_whole, refused_memory, last_is, recorded, moved_to_server, on_ok}
+use Rattle.wl_session.proofs.CarriedPieces.{goes_is, few_tokens, together, fed_whole, refused_memory, last_is, recorded, moved_to_server, on_ok}
 use Rattle.wl_session.proofs.pair.Pair.carry_to_server.Goals as goal
 
 pub prepare-requires-clause-few : goal.prepare-requires-clause-few

@@ -1,4 +1,4 @@
-use Rattle.wl_session.proofs.Outcomes.{binds}
+use Rattle.wl_session.proofs.CallOutcomes.{binds}
 use Rattle.wl_session.proofs.pair.Pair.client_bind.Goals as goal
 
 pub returns : goal.returns

@@ -1,4 +1,4 @@
-use Rattle.wl_session.proofs.Outcomes.{nexts, client_never}
+use Rattle.wl_session.proofs.CallOutcomes.{nexts, client_never}
 use Rattle.wl_session.proofs.pair.Pair.client_next.Goals as goal
 
 pub returns : goal.returns

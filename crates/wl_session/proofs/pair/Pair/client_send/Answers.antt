@@ -1,4 +1,4 @@
-use Rattle.wl_session.proofs.Outcomes.{writes}
+use Rattle.wl_session.proofs.CallOutcomes.{writes}
 use Rattle.wl_session.proofs.pair.Pair.client_send.Goals as goal
 
 pub returns : goal.returns

@@ -1,5 +1,5 @@
-use Rattle.wl_world.proofs.Opening.{new_stands}
-use Rattle.wl_link.proofs.Beginning.{new_linked}
+use Rattle.theory_connection.proofs.PairAtOpening.{new_stands}
+use Rattle.theory_recording.proofs.LinkedAtOpening.{new_linked}
 use Rattle.wl_session.proofs.pair.Pair.new.Goals as goal
 
 pub returns-clause-stands : goal.returns-clause-stands

@@ -1,7 +1,7 @@
 use Rattle.std.proofs.Common.{ap, sym, ◌∙◌, length, Some}
 use Rattle.std.proofs.lemmas.List.{length-map}
 use Rattle.wl_recording.specs.Piece.{plain}
-use Rattle.wl_session.proofs.Outcomes.{posts, fails, marks_first, marks_no_more}
+use Rattle.wl_session.proofs.CallOutcomes.{posts, fails, marks_first, marks_no_more}
 use Rattle.wl_session.proofs.pair.Pair.post_error.Goals as goal
 
 pub returns-in_err-post_error : goal.returns-in_err-post_error

@@ -1,4 +1,4 @@
-use Rattle.wl_link.proofs.Lawful.{linked_lawful}
+use Rattle.theory_recording.proofs.LinkedIsLawful.{linked_lawful}
 use Rattle.wl_session.proofs.pair.Pair.recording.Goals as goal
 
 pub returns-clause-lawful : goal.returns-clause-lawful

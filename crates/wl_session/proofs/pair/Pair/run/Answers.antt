@@ -1,11 +1,11 @@
 use Rattle.std.proofs.Common.{◌≤◌, subst, vec_capacity, arith}
 use Rattle.std.proofs.lemmas.List.{take_all}
-use Rattle.wl_world.specs.World.{Each}
-use Rattle.wl_world.specs.Runs.{DoesAll, IsMove}
-use Rattle.wl_world.proofs.Steps.{run_keeps}
-use Rattle.wl_link.proofs.Linking.{run_links}
+use Rattle.theory_connection.specs.World.{Each}
+use Rattle.theory_connection.specs.Runs.{DoesAll, IsMove}
+use Rattle.theory_connection.proofs.Steps.{run_keeps}
+use Rattle.theory_recording.proofs.LinkedMove.{run_links}
 use Rattle.wl_session.specs.Meaning.{move_of, moves_of, reply_of, replies_of, arguments}
-use Rattle.wl_session.proofs.Lists.{at_index, done_more, each_next}
+use Rattle.wl_session.proofs.MoveLists.{at_index, done_more, each_next}
 use Rattle.wl_session.proofs.pair.Pair.run.Goals as goal
 
 pub step-reply-requires : goal.step-reply-requires

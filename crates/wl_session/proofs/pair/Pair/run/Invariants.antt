@@ -1,7 +1,7 @@
 use Rattle.std.proofs.Common.{◌≡◌, ◌≤◌, length, take, vec_capacity, vec_len}
 use Rattle.std.specs.List.{All}
-use Rattle.wl_world.specs.World.{Each}
-use Rattle.wl_world.specs.Runs.{DoesAll, IsMove}
+use Rattle.theory_connection.specs.World.{Each}
+use Rattle.theory_connection.specs.Runs.{DoesAll, IsMove}
 use Rattle.wl_session.specs.Meaning.{moves_of, replies_of, arguments}
 use Rattle.wl_session.proofs.pair.Pair.run.Given as goal
 

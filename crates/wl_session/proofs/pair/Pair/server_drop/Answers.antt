@@ -1,4 +1,4 @@
-use Rattle.wl_session.proofs.Outcomes.{calls}
+use Rattle.wl_session.proofs.CallOutcomes.{calls}
 use Rattle.wl_session.proofs.pair.Pair.server_drop.Goals as goal
 
 pub returns : goal.returns

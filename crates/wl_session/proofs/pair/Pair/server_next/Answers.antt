@@ -1,6 +1,6 @@
 use Rattle.wl_server.specs.Seen.{report_in}
-use Rattle.wl_session.proofs.Boxes.{holds, read_leaves_box}
-use Rattle.wl_session.proofs.Outcomes.{nexts, server_never}
+use Rattle.wl_session.proofs.InboxSizes.{holds, read_leaves_box}
+use Rattle.wl_session.proofs.CallOutcomes.{nexts, server_never}
 use Rattle.wl_session.proofs.pair.Pair.server_next.Goals as goal
 
 pub invariant_of-self : goal.invariant_of-self

@@ -1,0 +1,197 @@
+-- The command line of the program, and what its words ask for.
+use Rattle.std.specs.Prelude.{◌≡◌, ◌≢◌, ◌⊎◌, ◌<◌, ◌^◌, ℕ, List, [], ◌∷◌, Option, Some, None, String}
+use Rattle.std.specs.Prelude.{codes, map, option_map, true, pos, string_bytes, IsErrAnd}
+use Rattle.std.specs.declared.result.Result.{Result}
+use Rattle.std.specs.declared.result.Result.TheVariants.{Ok, Err}
+use Rattle.std.specs.Cow.{cow_str_bytes}
+use Rattle.std.specs.Str.Parse.{IsNumeral, digits_value, without_leading_plus}
+use Rattle.clap.specs.Words.{App, IsAmong, Row, Rule, Shape, Text, fault_of, first_of, kind_of}
+use Rattle.clap.specs.Words.{new_app, new_rule, one_of, subcommand_of, with_rule, with_subcommand}
+use Rattle.clap.specs.Simple.{on_top}
+use Rattle.clap.specs.declared.builder.value_parser.ValueParser.TheVariants as parser
+use Rattle.clap.specs.declared.error.Error.{Error}
+use Rattle.clap.specs.declared.error.kind.ErrorKind.{ErrorKind}
+use Rattle.clap.specs.declared.error.kind.ErrorKind.TheVariants.{DisplayHelp, DisplayVersion}
+use Rattle.clap.specs.declared.error.kind.ErrorKind.TheVariants.{OutOfMemory}
+use Rattle.wl_message.specs.declared.limit.Limit.{Limit}
+use Rattle.program_arguments.specs.declared.job.Job.{Job}
+use Rattle.program_arguments.specs.declared.job.Job.TheVariants.{Trace, Check, Demo, Socket}
+use Rattle.program_arguments.specs.declared.job.Stop.{Stop}
+
+-- `--tables FILE`, which may be missing
+abbrev pub tables_argument : Rule
+tables_argument = record (new_rule (codes "tables")) {
+  long = Some (codes "tables");
+  value_names = 1;
+}
+
+-- `--limit N`, a number from 4096 to 65532, and 4096 where it is not given
+abbrev pub limit_argument : Rule
+limit_argument = record (new_rule (codes "limit")) {
+  long = Some (codes "limit");
+  value_names = 1;
+  defaults = codes "4096" ∷ [];
+  parser = Some (parser.Signed (pos 4096) (pos 65532));
+}
+
+-- the argument that names a recording: one word, which has to be there
+abbrev pub file_argument : Rule
+file_argument = record (new_rule (codes "FILE")) { required = true }
+
+-- the argument that says where the socket is bound: one word, which has to be there
+abbrev pub path_argument : Rule
+path_argument = record (new_rule (codes "PATH")) { required = true }
+
+-- `--piece N`, a number from 1 to 4096, and 4096 where it is not given
+abbrev pub piece_argument : Rule
+piece_argument = record (new_rule (codes "piece")) {
+  long = Some (codes "piece");
+  value_names = 1;
+  defaults = codes "4096" ∷ [];
+  parser = Some (parser.Signed (pos 1) (pos 4096));
+}
+
+-- the commands `trace`, `check`, `demo` and `socket`
+abbrev pub trace_command : App
+trace_command =
+    with_rule (with_rule (with_rule (new_app (codes "trace")) tables_argument) limit_argument)
+    file_argument
+
+abbrev pub check_command : App
+check_command =
+    with_rule (with_rule (with_rule (new_app (codes "check")) tables_argument) limit_argument)
+    file_argument
+
+abbrev pub demo_command : App
+demo_command = with_rule (new_app (codes "demo")) piece_argument
+
+abbrev pub socket_command : App
+socket_command = with_rule (new_app (codes "socket")) path_argument
+
+-- the program, which has to be given one of them, or be asked for its version
+abbrev pub program : App
+program =
+    on_top
+    (λ (s : Shape). record s { has_version = true; subcommand_required = true })
+    (new_app (codes "waywire"))
+
+abbrev pub command_line : App
+command_line =
+    with_subcommand (with_subcommand (with_subcommand (with_subcommand program
+    trace_command.top) check_command.top) demo_command.top) socket_command.top
+
+-- the texts of words
+abbrev pub texts_of : {A : Type 0} → List (String A) → List Text
+texts_of = map string_bytes
+
+-- the digits spell the number, of 32 bits; a plus may stand in front of them
+abbrev pub Spells : Text → ℕ → Type 0
+Spells digits n =
+    IsNumeral 10 (without_leading_plus digits)
+    × (n ≡ digits_value 10 (without_leading_plus digits)) × (n < 2 ^ 32)
+
+-- the number that was given for the argument of this name, or none
+abbrev pub IsNumber : Text → List Row → Option ℕ → Type 0
+IsNumber name arguments (Some n) =
+    (digits : Text) × (one_of name arguments ≡ Some digits) × Spells digits n
+IsNumber name arguments None =
+    (digits : Text) (n : ℕ) → one_of name arguments ≡ Some digits → Spells digits n → ⊥
+
+-- the limit of the number that was given, or none where there is no limit of that number
+abbrev pub IsLimitOf : List Row → Option Limit → Type 0
+IsLimitOf arguments (Some limit) = IsNumber (codes "limit") arguments (Some limit.bytes)
+IsLimitOf arguments None =
+    (limit : Limit) → IsNumber (codes "limit") arguments (Some limit.bytes) → ⊥
+
+-- the words that were given for the file of tables, if any was, and for the recording, unchanged
+abbrev pub NamesFiles : {A : Type 0} → List Row → Option (String A) → String A → Type 0
+NamesFiles arguments tables file =
+    (first_of (codes "tables") arguments ≡ option_map string_bytes tables)
+    × (first_of (codes "FILE") arguments ≡ Some (string_bytes file))
+
+-- What a command and its arguments ask for. A file has the name of the word that was given for it,
+-- unchanged, and so has a path; a number is the one that was given, and a limit has that number.
+abbrev pub IsGiven : Text → List Row → Job → Type 0
+IsGiven name arguments (Trace tables limit file) =
+    (name ≡ codes "trace") × NamesFiles arguments tables file × IsLimitOf arguments (Some limit)
+IsGiven name arguments (Check tables limit file) =
+    (name ≡ codes "check") × NamesFiles arguments tables file × IsLimitOf arguments (Some limit)
+IsGiven name arguments (Demo piece) =
+    (name ≡ codes "demo") × IsNumber (codes "piece") arguments (Some piece)
+IsGiven name arguments (Socket path) =
+    (name ≡ codes "socket") × (first_of (codes "PATH") arguments ≡ Some (string_bytes path))
+
+-- the job that a command and its arguments ask for, or none where they ask for none
+abbrev pub IsJobFor : Text → List Row → Option Job → Type 0
+IsJobFor name arguments (Some job) = IsGiven name arguments job
+IsJobFor name arguments None = (job : Job) → IsGiven name arguments job → ⊥
+
+-- the same of the command that was named, if any was
+abbrev pub Names : Option (Text × List Row) → Option Job → Type 0
+Names found (Some job) =
+    (name : Text) × (arguments : List Row) × (found ≡ Some (name, arguments))
+    × IsGiven name arguments job
+Names found None =
+    (name : Text) (arguments : List Row) (job : Job)
+    → found ≡ Some (name, arguments) → IsGiven name arguments job → ⊥
+
+-- What the words of a command line ask for, the program's name first: they have no fault, and name
+-- a command with its arguments.
+pub record Asks (words : List Text) (job : Job) : Type 0 where
+  pub faultless : fault_of command_line words ≡ []
+  pub named : Names (subcommand_of command_line words) (Some job)
+
+-- what is said to one who asked for it: help, or the version
+abbrev pub IsHelp : ErrorKind → Type 0
+IsHelp DisplayHelp = Unit {0}
+IsHelp DisplayVersion = Unit {0}
+IsHelp _ = ⊥
+
+-- The words ask for help or the version. Behind the word `help` a name that is no command's may be
+-- refused too, so that some words both ask for help and have a fault.
+abbrev pub AsksHelp : List Text → Type 0
+AsksHelp words =
+    (kind : ErrorKind) × IsAmong kind (fault_of command_line words) × IsHelp kind
+
+-- the words have a fault, as a command that is not known, a word too many or too few
+abbrev pub HasFault : List Text → Type 0
+HasFault words =
+    (kind : ErrorKind) × IsAmong kind (fault_of command_line words) × (IsHelp kind → ⊥)
+
+-- they have none, and yet name no job, as with a limit that is no multiple of 4
+abbrev pub NamesNone : List Text → Type 0
+NamesNone words =
+    (fault_of command_line words ≡ []) × Names (subcommand_of command_line words) None
+
+-- a stop of this status, with a text
+abbrev pub Says : ℕ → Stop → Type 0
+Says status stop = (stop.status ≡ status) × (cow_str_bytes stop.text ≢ [])
+
+-- one for lack of memory, which has none
+abbrev pub IsOutOfMemory : Stop → Type 0
+IsOutOfMemory stop = (stop.status ≡ 4) × (cow_str_bytes stop.text ≡ [])
+
+-- Why there is no job: help was asked for; or the words have a fault; or they name no job; or there
+-- is no memory. The text is empty for lack of memory alone.
+pub data Stops (words : List Text) (stop : Stop) : Type 0 where
+  helps : AsksHelp words → Says 0 stop → Stops words stop
+  faulty : HasFault words → Says 2 stop → Stops words stop
+  names_none : NamesNone words → Says 2 stop → Stops words stop
+  no_memory : IsOutOfMemory stop → Stops words stop
+
+-- there is no job, but a stop of this status or one for lack of memory
+abbrev pub StopsWith : ℕ → Result Job Stop → Type 0
+StopsWith status = λ result. IsErrAnd result (λ stop. Says status stop ⊎ IsOutOfMemory stop)
+
+-- the stop for an error of this kind
+abbrev pub StopsFor : ErrorKind → Stop → Type 0
+StopsFor DisplayHelp stop = Says 0 stop ⊎ IsOutOfMemory stop
+StopsFor DisplayVersion stop = Says 0 stop ⊎ IsOutOfMemory stop
+StopsFor OutOfMemory stop = IsOutOfMemory stop
+StopsFor _ stop = Says 2 stop ⊎ IsOutOfMemory stop
+
+-- what is answered where the words were parsed, or could not be
+abbrev pub IsAnswer : Result (Option Job) Error → Result Job Stop → Type 0
+IsAnswer (Ok (Some job)) result = result ≡ Ok job
+IsAnswer (Ok None) result = IsErrAnd result (Says 2)
+IsAnswer (Err error) result = IsErrAnd result (StopsFor (kind_of error))

@@ -1,0 +1,346 @@
+//! What the words of a command line ask for.
+ghost use Rattle.std.specs.Prelude.{◌≡◌, ◌≢◌, List, [], IfOk, IfErr, false, option_map};
+ghost use Rattle.std.specs.Prelude.{string_bytes};
+ghost use Rattle.clap.specs.Words.{HasKind, app_of, fault_of, first_of, found_of, kind_of};
+ghost use Rattle.clap.specs.Words.{rows_of, rule_of, subcommand_of, subcommand_rows_of};
+ghost use Rattle.std.specs.Cow.{cow_str_bytes};
+ghost use Rattle.program_arguments.specs.Asking.{Asks, AsksHelp, HasFault, IsAnswer, IsJobFor};
+ghost use Rattle.program_arguments.specs.Asking.{IsLimitOf};
+ghost use Rattle.program_arguments.specs.Asking.{IsNumber, IsOutOfMemory, Names, NamesNone, Says};
+ghost use Rattle.program_arguments.specs.Asking.{Stops, StopsFor, StopsWith, check_command};
+ghost use Rattle.program_arguments.specs.Asking.{command_line, demo_command, file_argument};
+ghost use Rattle.program_arguments.specs.Asking.{limit_argument, path_argument, piece_argument};
+ghost use Rattle.program_arguments.specs.Asking.{socket_command, tables_argument, texts_of};
+ghost use Rattle.program_arguments.specs.Asking.{trace_command};
+
+use clap::error::ErrorKind;
+use clap::{Arg, ArgMatches, Command, Error};
+use std::alloc::{AllocError, Global};
+use std::borrow::CowStr;
+use wl_message::Limit;
+
+/// The most bytes that the demonstration carries at once, unless it is told otherwise.
+const MOST_PIECE: &str = "4096";
+
+/// The most bytes that a message has, unless it is told otherwise.
+const USUAL_LIMIT: &str = "4096";
+
+/// The version of this program and of the library, which `make` puts into the header too.
+const VERSION: &str = "0.1.0";
+
+/// What is said of a command line where the parser has no words for it: it takes each number in
+/// range for a limit.
+const USAGE: &str = "error: no command of this program, or a limit that is no multiple of 4\n\n\
+     Usage: waywire <COMMAND>\n";
+
+/// One run of the program.
+#[derive(Debug, Drop)]
+pub enum Job {
+    /// Print each message of the recording in the file of this name, and where a rule is broken
+    /// which. A file of tables, where one is named, is read before and adds its interfaces to the
+    /// core ones. Messages may be as long as the limit says.
+    Trace {
+        tables: Option<String>,
+        limit: Limit,
+        file: String,
+    },
+    /// Print whether the recording in the file of this name is lawful, by the same tables and
+    /// limit.
+    Check {
+        tables: Option<String>,
+        limit: Limit,
+        file: String,
+    },
+    /// Print a session of both ends, in which at most this many bytes are carried at once: 1 to
+    /// 4096.
+    Demo {
+        piece: u32,
+    },
+    /// Print the same session, played over a Unix socket that is bound at this path and removed at
+    /// the end.
+    Socket {
+        path: String,
+    },
+}
+
+/// Why there is no job.
+#[derive(Debug, Drop)]
+pub struct Stop {
+    /// The exit status: 0 where help or the version was asked for, 2 for a command line that is
+    /// none of this program's, 4 for lack of memory.
+    pub status: u8,
+    /// What to print: help and the version to standard output, a fault to standard error. It is
+    /// empty for lack of memory alone.
+    pub text: CowStr<'static, Global>,
+}
+
+fn command<'a>(alloc: Global) -> Result<Command<'a>, AllocError>
+    ensures { IfOk result (λ c. app_of c ≡ command_line) }
+{
+    Command::new(alloc, "waywire")
+        .bin_name("waywire")?
+        .about("Recorded sessions of Wayland clients, as text")
+        .version(VERSION)
+        .subcommand_required(true)
+        .subcommand(trace(alloc)?)?
+        .subcommand(check(alloc)?)?
+        .subcommand(demo(alloc)?)?
+        .subcommand(socket(alloc)?)
+}
+
+fn trace<'a>(alloc: Global) -> Result<Command<'a>, AllocError>
+    ensures { IfOk result (λ c. app_of c ≡ trace_command) }
+{
+    Command::new(alloc, "trace")
+        .about("Prints each message of a recording, one a line")
+        .arg(tables(alloc))?
+        .arg(limit(alloc))?
+        .arg(file(alloc))
+}
+
+fn check<'a>(alloc: Global) -> Result<Command<'a>, AllocError>
+    ensures { IfOk result (λ c. app_of c ≡ check_command) }
+{
+    Command::new(alloc, "check")
+        .about("Prints whether a recording is a lawful session")
+        .arg(tables(alloc))?
+        .arg(limit(alloc))?
+        .arg(file(alloc))
+}
+
+fn demo<'a>(alloc: Global) -> Result<Command<'a>, AllocError>
+    ensures { IfOk result (λ c. app_of c ≡ demo_command) }
+{
+    Command::new(alloc, "demo")
+        .about("Runs a client against a server and prints their session")
+        .arg(piece(alloc))
+}
+
+fn socket<'a>(alloc: Global) -> Result<Command<'a>, AllocError>
+    ensures { IfOk result (λ c. app_of c ≡ socket_command) }
+{
+    Command::new(alloc, "socket")
+        .about("Prints the same session, played over a Unix socket")
+        .arg(path(alloc))
+}
+
+/// The argument that names a text of tables.
+fn tables<'a>(alloc: Global) -> Arg<'a>
+    ensures rule { rule_of result ≡ tables_argument }
+    ensures local { result.global ≡ false }
+{
+    Arg::new(alloc, "tables")
+        .long("tables")
+        .value_name("FILE")
+        .help("A text of tables: further interfaces, with their messages")
+}
+
+/// The argument that says how long a message may be.
+fn limit<'a>(alloc: Global) -> Arg<'a>
+    ensures rule { rule_of result ≡ limit_argument }
+    ensures local { result.global ≡ false }
+{
+    Arg::new(alloc, "limit")
+        .long("limit")
+        .value_name("N")
+        .value_parser(clap::value_parser!(u32).range(4096..=65532))
+        .default_value(USUAL_LIMIT)
+        .help("The most bytes of a message, a multiple of 4 from 4096 to 65532")
+}
+
+/// The argument that names a recording.
+fn file<'a>(alloc: Global) -> Arg<'a>
+    ensures rule { rule_of result ≡ file_argument }
+    ensures local { result.global ≡ false }
+{
+    Arg::new(alloc, "FILE")
+        .required(true)
+        .help("The recording: one piece a line, `> HEX` or `< HEX`")
+}
+
+/// The argument that says how much is carried at once.
+fn piece<'a>(alloc: Global) -> Arg<'a>
+    ensures rule { rule_of result ≡ piece_argument }
+    ensures local { result.global ≡ false }
+{
+    Arg::new(alloc, "piece")
+        .long("piece")
+        .value_name("N")
+        .value_parser(clap::value_parser!(u32).range(1..=4096))
+        .default_value(MOST_PIECE)
+        .help("The most bytes carried at once, 1 to 4096")
+}
+
+/// The argument that says where the socket is bound.
+fn path<'a>(alloc: Global) -> Arg<'a>
+    ensures rule { rule_of result ≡ path_argument }
+    ensures local { result.global ≡ false }
+{
+    Arg::new(alloc, "PATH")
+        .required(true)
+        .help("Where the socket is bound; nothing may be there")
+}
+
+/// The word that a command was given for the argument of this name, or none.
+fn word_of(
+    alloc: Global,
+    matches: &ArgMatches<'_>,
+    name: &str,
+) -> Result<Option<String>, AllocError>
+    ensures { IfOk result (λ r. option_map string_bytes r
+        ≡ first_of name.now (rows_of (found_of matches.now))) }
+{
+    match matches.get_str(name) {
+        Some(word) => Ok(Some(String::from_str(alloc, word)?)),
+        None => Ok(None),
+    }
+}
+
+/// The number that a command was given for the argument of this name, or none.
+fn number_of(matches: &ArgMatches<'_>, name: &str) -> Option<u32>
+    ensures { IsNumber name.now (rows_of (found_of matches.now)) result }
+{
+    matches.get_one(name)
+}
+
+/// The limit of the number that a command was given for it, or none.
+fn limit_of(matches: &ArgMatches<'_>) -> Option<Limit>
+    ensures { IsLimitOf (rows_of (found_of matches.now)) result }
+{
+    match number_of(matches, "limit") {
+        Some(bytes) => Limit::new(bytes),
+        None => None,
+    }
+}
+
+/// The job that a command of this name asks for with what it was given, or none.
+fn named(alloc: Global, name: &str, given: &ArgMatches<'_>) -> Result<Option<Job>, AllocError>
+    ensures { IfOk result (IsJobFor name.now (rows_of (found_of given.now))) }
+{
+    match name {
+        "trace" => {
+            let Some(limit) = limit_of(given) else {
+                return Ok(None);
+            };
+            let tables = word_of(alloc, given, "tables")?;
+            Ok(word_of(alloc, given, "FILE")?.map(|file| Job::Trace {
+                tables,
+                limit,
+                file,
+            }))
+        }
+        "check" => {
+            let Some(limit) = limit_of(given) else {
+                return Ok(None);
+            };
+            let tables = word_of(alloc, given, "tables")?;
+            Ok(word_of(alloc, given, "FILE")?.map(|file| Job::Check {
+                tables,
+                limit,
+                file,
+            }))
+        }
+        "demo" => Ok(number_of(given, "piece").map(|piece| Job::Demo { piece })),
+        "socket" => Ok(word_of(alloc, given, "PATH")?.map(|path| Job::Socket { path })),
+        _ => Ok(None),
+    }
+}
+
+/// The job that a parsed command line asks for, or none.
+fn chosen(alloc: Global, matches: &ArgMatches<'_>) -> Result<Option<Job>, AllocError>
+    ensures { IfOk result (Names (subcommand_rows_of matches.now)) }
+{
+    match matches.subcommand() {
+        Some((name, given)) => named(alloc, name, given),
+        None => Ok(None),
+    }
+}
+
+/// The job that the words ask for, or none where they were parsed and name no job.
+fn parsed(alloc: Global, words: &[String]) -> Result<Option<Job>, Error>
+    ensures asked { IfOk result (λ r. (fault_of command_line (texts_of words.now) ≡ [])
+        × Names (subcommand_of command_line (texts_of words.now)) r) }
+    ensures fault { IfErr result (HasKind (fault_of command_line (texts_of words.now))) }
+{
+    let matches = command(alloc)?.try_get_matches_from(words)?;
+    Ok(chosen(alloc, &matches)?)
+}
+
+fn no_memory() -> Stop
+    ensures { IsOutOfMemory result }
+{
+    Stop {
+        status: 4,
+        text: CowStr::Borrowed(""),
+    }
+}
+
+/// A stop for words that name no job, though the parser takes them.
+fn no_job() -> Stop
+    ensures { Says 2 result }
+{
+    Stop {
+        status: 2,
+        text: CowStr::Borrowed(USAGE),
+    }
+}
+
+/// A stop with what the parser says, or with what is always said where that is nothing.
+fn stopped(status: u8, text: String) -> Stop
+    ensures says { Says status result }
+    ensures kept { string_bytes text ≢ [] → cow_str_bytes result.text ≡ string_bytes text }
+{
+    if text.is_empty() {
+        return Stop {
+            status,
+            text: CowStr::Borrowed(USAGE),
+        };
+    }
+    Stop {
+        status,
+        text: CowStr::Owned(text),
+    }
+}
+
+fn stop_of(alloc: Global, error: &Error) -> Stop
+    ensures { StopsFor (kind_of error.now) result }
+{
+    if matches!(error.kind(), ErrorKind::OutOfMemory) {
+        return no_memory();
+    }
+    let status = if error.use_stderr() { 2 } else { 0 };
+    match error.to_string(alloc) {
+        Ok(text) => stopped(status, text),
+        Err(_) => no_memory(),
+    }
+}
+
+/// The job that was parsed, or why there is none.
+fn answer(alloc: Global, parsed: Result<Option<Job>, Error>) -> Result<Job, Stop>
+    ensures { IsAnswer parsed result }
+{
+    match parsed {
+        Ok(Some(job)) => Ok(job),
+        Ok(None) => Err(no_job()),
+        Err(error) => Err(stop_of(alloc, &error)),
+    }
+}
+
+/// The job that a command line asks for. The first word is the program's name.
+///
+/// Help and the version are no job: they stop with the status 0. A command that is not known, a
+/// word too many and a word too few are faults of usage: they stop with the status 2.
+pub fn job_of(alloc: Global, words: &[String]) -> Result<Job, Stop>
+    ensures asked { IfOk result (Asks (texts_of words.now)) }
+    ensures stopped { IfErr result (Stops (texts_of words.now)) }
+
+    // and each cause has its status, but for want of memory
+    ensures helped { AsksHelp (texts_of words.now) → (HasFault (texts_of words.now) → ⊥)
+        → StopsWith 0 result }
+    ensures faulty { HasFault (texts_of words.now) → (AsksHelp (texts_of words.now) → ⊥)
+        → StopsWith 2 result }
+    ensures none { NamesNone (texts_of words.now) → StopsWith 2 result }
+    ensures job { (job : Job) → Asks (texts_of words.now) job → IfErr result IsOutOfMemory }
+{
+    answer(alloc, parsed(alloc, words))
+}

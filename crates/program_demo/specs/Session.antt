@@ -1,0 +1,33 @@
+-- The session of the demonstration in parts. What the two ends write is carried in pieces.
+use Rattle.std.specs.Prelude.{ℕ, List, [], ◌∷◌, ◌++◌, map}
+use Rattle.wl_sigs.specs.Tables.{Interface}
+use Rattle.theory_connection.specs.Pair.{Move, CarryToServer, CarryToClient, ClientNext, ServerNext}
+use Rattle.program_session.specs.Session.{adding_globals, getting_registry, announcing_globals}
+use Rattle.program_session.specs.Session.{binding_globals, finishing_callback, drawing_surface}
+
+-- A part of a session: a move once, or again and again until it does nothing more.
+pub data Part : Type 0 where
+  Once : Move → Part
+  Until : Move → Part
+
+abbrev pub each_once : List Move → List Part
+each_once moves = map Once moves
+
+-- all that waits is carried to the server, at most `piece` bytes at once, and read there; and
+-- likewise to the client
+abbrev pub to_server : ℕ → List Part
+to_server piece = Until (CarryToServer piece) ∷ Until ServerNext ∷ []
+
+abbrev pub to_client : ℕ → List Part
+to_client piece = Until (CarryToClient piece) ∷ Until ClientNext ∷ []
+
+-- the whole session
+abbrev pub session : List Interface → ℕ → List Part
+session tables piece =
+    each_once (adding_globals tables)
+    ++ each_once getting_registry ++ to_server piece
+    ++ each_once announcing_globals ++ to_client piece
+    ++ each_once binding_globals ++ to_server piece
+    ++ each_once finishing_callback ++ to_client piece
+    ++ each_once drawing_surface ++ to_server piece
+    ++ to_client piece

@@ -1,0 +1,92 @@
+-- The program's failures.
+use Rattle.std.specs.Prelude.{◌≡◌, ◌≢◌, ℕ, ◌<◌, List, ◌++◌, length, codes, Option, IfSome}
+use Rattle.std.specs.Fmt.{decimal}
+use Rattle.wl_recording.specs.declared.recording.RecordingError.{RecordingError}
+use Rattle.wl_recording.specs.declared.recording.RecordingError.TheVariants as recordings
+use Rattle.wl_recording.specs.Text.{IsFirstBad}
+use Rattle.std.specs.declared.io.ErrorKind.{ErrorKind}
+use Rattle.std.specs.declared.io.ErrorKind.TheVariants.{OutOfMemory}
+use Rattle.wl_interface_text.specs.declared.fault.TableFault.{TableFault}
+use Rattle.wl_interface_text.specs.declared.fault.TableFault.TheVariants as texts
+use Rattle.program_socket.specs.declared.error.SocketError.{SocketError}
+use Rattle.program_socket.specs.declared.error.SocketError.TheVariants as sockets
+use Rattle.program_jobs.specs.declared.failure.Failure.{Failure}
+use Rattle.program_jobs.specs.declared.failure.Failure.TheVariants.{CannotRead, TooLong, BadLine}
+use Rattle.program_jobs.specs.declared.failure.Failure.TheVariants.{BadTablesLine, BreaksRule}
+use Rattle.program_jobs.specs.declared.failure.Failure.TheVariants.{CannotWrite, SocketFailed, Memory}
+
+-- what the faults of a recording are to the program
+abbrev pub recording_failure : RecordingError → Failure
+recording_failure (recordings.BadLine line) = BadLine line
+recording_failure recordings.Memory = Memory
+
+-- what those of a text of tables are
+abbrev pub tables_failure : TableFault → Failure
+tables_failure (texts.BadLine line) = BadTablesLine line
+tables_failure (texts.BadTable line rule) = BreaksRule line rule
+tables_failure texts.Memory = Memory
+
+-- and what those of a session over a socket are
+abbrev pub socket_failure : SocketError → Failure
+socket_failure sockets.Failed = SocketFailed
+socket_failure sockets.Memory = Memory
+
+-- why a call of the socket failed
+abbrev pub IsSocketFailure : ErrorKind → Failure → Type 0
+IsSocketFailure kind SocketFailed = kind ≢ OutOfMemory
+IsSocketFailure kind Memory = kind ≡ OutOfMemory
+IsSocketFailure kind (CannotRead name) = ⊥
+IsSocketFailure kind TooLong = ⊥
+IsSocketFailure kind (BadLine line) = ⊥
+IsSocketFailure kind (BadTablesLine line) = ⊥
+IsSocketFailure kind (BreaksRule line rule) = ⊥
+IsSocketFailure kind CannotWrite = ⊥
+
+-- the exit status
+abbrev pub status_of : Failure → ℕ
+status_of Memory = 4
+status_of (CannotRead name) = 3
+status_of TooLong = 3
+status_of (BadLine line) = 3
+status_of (BadTablesLine line) = 3
+status_of (BreaksRule line rule) = 3
+status_of CannotWrite = 3
+status_of SocketFailed = 3
+
+-- what is printed of a failure
+abbrev pub failure_text : Failure → List ℕ
+failure_text (CannotRead name) = codes "cannot read " ++ name.now
+failure_text TooLong = codes "file too long"
+failure_text (BadLine line) = codes "line " ++ decimal line ++ codes ": bad line"
+failure_text (BadTablesLine line) = codes "tables line " ++ decimal line ++ codes ": bad line"
+failure_text (BreaksRule line rule) =
+    codes "tables line " ++ decimal line ++ codes ": breaks V" ++ decimal rule
+failure_text CannotWrite = codes "cannot write"
+failure_text SocketFailed = codes "socket failed"
+failure_text Memory = codes "out of memory"
+
+-- the line on standard error
+abbrev pub failure_line : Failure → List ℕ
+failure_line failure = codes "waywire: " ++ failure_text failure ++ codes "\n"
+
+-- a failure of reading the file of this name, of which all bytes may be known
+abbrev pub IsReadFailure : List ℕ → Option (List ℕ) → Failure → Type 0
+IsReadFailure file known (CannotRead name) = name.now ≡ file
+IsReadFailure file known TooLong = IfSome known (λ all. 16777216 < length all)
+IsReadFailure file known Memory = Unit {0}
+IsReadFailure file known (BadLine line) = ⊥
+IsReadFailure file known (BadTablesLine line) = ⊥
+IsReadFailure file known (BreaksRule line rule) = ⊥
+IsReadFailure file known CannotWrite = ⊥
+IsReadFailure file known SocketFailed = ⊥
+
+-- why a text that was read has no output
+abbrev pub IsRefusal : List ℕ → Failure → Type 0
+IsRefusal text (BadLine n) = IsFirstBad text n
+IsRefusal text Memory = Unit {0}
+IsRefusal text (CannotRead name) = ⊥
+IsRefusal text TooLong = ⊥
+IsRefusal text (BadTablesLine line) = ⊥
+IsRefusal text (BreaksRule line rule) = ⊥
+IsRefusal text CannotWrite = ⊥
+IsRefusal text SocketFailed = ⊥

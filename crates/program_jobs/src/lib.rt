@@ -1,0 +1,18 @@
+//! The jobs of the command `waywire`: what each prints, and a run of the whole program.
+//!
+//! A job is done over any reader and any writers. What it prints is whole before any of it is
+//! written. What the words of a command line ask for is in `program_arguments`.
+#![tactic(auto)]
+
+mod acting;
+mod failure;
+mod running;
+mod socket;
+mod verdict;
+mod writing;
+
+pub use acting::act;
+pub use failure::Failure;
+pub use program_arguments::{Job, Stop, job_of};
+pub use running::{ExitStatus, run};
+pub use socket::BoundSocket;

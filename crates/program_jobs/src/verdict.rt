@@ -1,0 +1,28 @@
+//! What a command makes of a verdict.
+ghost use Rattle.std.specs.Prelude.{◌≡◌, ◌≤◌, ◌++◌, OnOk};
+ghost use Rattle.program_jobs.specs.Verdict.{last_line, verdict_status};
+
+use std::alloc::{AllocError, Allocator};
+use wl_check::Verdict;
+use wl_verdict::write_verdict;
+
+/// Appends the line of a verdict where a rule is broken, and else nothing.
+pub fn write_broken<A: Allocator>(out: &mut Vec<u8, A>, verdict: &Verdict) -> Result<(), AllocError>
+    ensures { OnOk result (out.new.items ≡ out.old.items ++ last_line verdict.now) }
+{
+    match verdict {
+        Verdict::Lawful { .. } => Ok(()),
+        Verdict::Broken { .. } => write_verdict(out, verdict),
+    }
+}
+
+/// The exit status: 0 for a lawful session, 1 for a broken one.
+pub fn status_of(verdict: &Verdict) -> u8
+    ensures status { result ≡ verdict_status verdict.now }
+    ensures known { result ≤ 1 }
+{
+    match verdict {
+        Verdict::Lawful { .. } => 0,
+        Verdict::Broken { .. } => 1,
+    }
+}

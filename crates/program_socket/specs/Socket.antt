@@ -1,0 +1,55 @@
+-- How a session over two streams ends, and what is shown of it.
+use Rattle.std.specs.Prelude.{◌≡◌, ◌↔◌, ℕ, Bool, true, IsTrue, List, ◌++◌, Option}
+use Rattle.std.specs.Prelude.{codes}
+use Rattle.std.specs.FinMap.{len as row_count}
+use Rattle.wl_sigs.specs.Tables.{Interface}
+use Rattle.wl_recording.specs.Piece.{Piece}
+use Rattle.wl_message.specs.Cut.{usual_limit}
+use Rattle.wl_check.specs.Session.{session_of}
+use Rattle.wl_check.specs.Trace.{trace_of}
+use Rattle.theory_connection.specs.Runs.{Agree}
+use Rattle.program_session.specs.Agreement.{agreement_line}
+use Rattle.program_socket.specs.Streams.{Known, Connected}
+use Rattle.program_socket.specs.Playing.{PlaysOver, session, begin}
+use Rattle.program_socket.specs.declared.error.SocketError.{SocketError}
+use Rattle.program_socket.specs.declared.error.SocketError.TheVariants as socket_error
+
+-- how the errors print
+abbrev pub socket_error_text : SocketError → List ℕ
+socket_error_text socket_error.Failed = codes "socket failed"
+socket_error_text socket_error.Memory = codes "out of memory"
+
+-- The session was played over these two streams, from new ends on. These pieces passed; `agree`
+-- says whether the two ends that are left have the same objects, all live, and `objects` how many
+-- the client has.
+pub record Ends {C S : Type 0} (c : Known C) (s : Known S) (tables : List Interface)
+    (client_stream : C) (server_stream : S) (pieces : List Piece) (agree : Bool) (objects : ℕ)
+    : Type 0 where
+  pub last : Connected C S
+  pub played : PlaysOver c s (session tables) (begin tables client_stream server_stream) last
+  pub passed : pieces ≡ last.pair.recording
+  pub exact : IsTrue agree ↔ Agree last.pair.client.core.view last.pair.server.core.view
+  pub counted : objects ≡ row_count last.pair.client.core.view.rows
+
+-- The text is the trace of what passed in the session over these two streams, and a last line,
+-- which says that both ends have the same objects then, all live, and how many.
+pub record Shows {C S : Type 0} (c : Known C) (s : Known S) (tables : List Interface)
+    (client_stream : C) (server_stream : S) (text : List ℕ) : Type 0 where
+  pub pieces : List Piece
+  pub objects : ℕ
+  pub ends : Ends c s tables client_stream server_stream pieces true objects
+  pub whole : text ≡ trace_of tables (session_of usual_limit pieces) ++ agreement_line true objects
+
+-- what is known of a stream at one time
+pub record Told : Type 0 where
+  pub left : Option (List ℕ)
+  pub taken : Option (List ℕ)
+
+abbrev pub by_itself : Known Told
+by_itself = record { left = λ told. told.left; taken = λ told. told.taken }
+
+-- The text is what is shown of the session over some two streams, of which this is known.
+abbrev pub IsShownOverStreams : List Interface → List ℕ → Type 0
+IsShownOverStreams tables text =
+    (client_stream : Told) × ((server_stream : Told)
+    × Shows by_itself by_itself tables client_stream server_stream text)

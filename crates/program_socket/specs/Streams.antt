@@ -1,0 +1,40 @@
+-- Two ends, and the stream of each.
+use Rattle.std.specs.Prelude.{◌≡◌, ℕ, List, [], length, Option, None}
+use Rattle.std.specs.Io.KnownBytes.{Appends, Consumes}
+use Rattle.wl_message.specs.Outgoing.{all_tokens, newly_begun, waiting_bytes}
+use Rattle.wl_connection.specs.Core.{Core, with_gone}
+use Rattle.wl_connection.specs.Reads.{Reading, Reads, arrived}
+use Rattle.theory_connection.specs.Pair.{PairState}
+
+-- What is known of a stream: the bytes that it has left to give, and those that it was given, each
+-- as far as that is known.
+pub record Known (X : Type 0) : Type 0 where
+  pub left : X → Option (List ℕ)
+  pub taken : X → Option (List ℕ)
+
+abbrev pub known : {X : Type 0} → (X → Option (List ℕ)) → (X → Option (List ℕ)) → Known X
+known left taken = record { left = left; taken = taken }
+
+-- a client and a server with what has passed, and the stream of each
+pub record Connected (C S : Type 0) : Type 0 where
+  pub pair : PairState
+  pub client_stream : C
+  pub server_stream : S
+
+-- All bytes that wait at an end are given to its stream, which held one thing and holds another
+-- then. No token goes with them.
+pub record Sends (core : Core) (held : Option (List ℕ)) (core' : Core) (holds : Option (List ℕ))
+    : Type 0 where
+  pub without_tokens : all_tokens (newly_begun core.outbox (length (waiting_bytes core.outbox)))
+      ≡ []
+  pub taken : Appends held holds (waiting_bytes core.outbox)
+  pub gone : core' ≡ with_gone core (length (waiting_bytes core.outbox))
+
+-- A stream gives these bytes, which are so many. Its end takes them in behind what waits there, and
+-- reads all of it: nothing stops it before.
+pub record Receives {E R : Type 0} (reading : Reading E R) (count : ℕ) (bytes : List ℕ) (end : E)
+    (had : Option (List ℕ)) (end' : E) (has : Option (List ℕ)) : Type 0 where
+  pub as_many : length bytes ≡ count
+  pub given : Consumes had has bytes
+  pub reports : List R
+  pub read : Reads reading (arrived reading end bytes []) reports None end'

@@ -1,0 +1,109 @@
+//! Output that is interrupted, and output that is flushed.
+use program_arguments::Job;
+use program_jobs::act;
+use std::alloc::{AllocError, Global};
+use std::io::{self, Error, ErrorKind, Write};
+use std::test::Fail;
+use wl_message::{Limit, ScriptWriter, Step};
+
+/// Two writes in the middle are interrupted, and one is short.
+const INTERRUPTED: &[Step] = &[
+    Step::Fail(ErrorKind::Interrupted),
+    Step::Pass(3),
+    Step::Fail(ErrorKind::Interrupted),
+    Step::Fail(ErrorKind::Interrupted),
+];
+
+const LAWFUL: &[u8] = b"lawful: 0 requests, 0 events, 0 and 0 bytes left\n";
+
+/// A writer that passes on what it was given when it is flushed, unless it is broken.
+#[derive(Drop)]
+struct Buffered {
+    waiting: Vec<u8>,
+    passed: Vec<u8>,
+    is_broken: bool,
+}
+
+impl Buffered {
+    fn new(alloc: Global, is_broken: bool) -> Buffered {
+        Buffered {
+            waiting: Vec::new(alloc),
+            passed: Vec::new(alloc),
+            is_broken,
+        }
+    }
+}
+
+impl Write for Buffered {
+    fn write(&mut self, buf: &[u8]) -> io::Result<usize> {
+        self.waiting.extend_from_slice(buf)?;
+        Ok(buf.len())
+    }
+
+    fn flush(&mut self) -> io::Result<()> {
+        if self.is_broken {
+            return Err(Error::from(ErrorKind::BrokenPipe));
+        }
+        self.passed.extend_from_slice(&self.waiting)?;
+        self.waiting.clear();
+        Ok(())
+    }
+}
+
+/// The job that checks a recording.
+fn check(alloc: Global) -> Result<Job, AllocError> {
+    Ok(Job::Check {
+        tables: None,
+        limit: Limit::USUAL,
+        file: String::from_str(alloc, "a.rec")?,
+    })
+}
+
+/// Does the job over a recording of this text and these two writers, and returns the status.
+fn status_over<O: Write, E: Write>(
+    alloc: Global,
+    text: &[u8],
+    out: &mut O,
+    err: &mut E,
+) -> Result<u8, AllocError> {
+    let mut file = text;
+    let job = check(alloc)?;
+    Ok(act(alloc, alloc, &job, &mut io::empty(), &mut file, out, err))
+}
+
+/// An interrupted write is made again, of the output as of what is said of a failure.
+#[test]
+fn writes_on_after_an_interruption(rt: HostRuntime) -> Result<(), Fail> {
+    let alloc = rt.alloc();
+    let mut out = ScriptWriter::new(alloc, INTERRUPTED);
+    let mut err = ScriptWriter::new(alloc, INTERRUPTED);
+    assert!(rt; status_over(alloc, b"", &mut out, &mut err)? == 0);
+    assert!(rt; out.written() == LAWFUL && err.written().is_empty());
+    let mut out = ScriptWriter::new(alloc, INTERRUPTED);
+    assert!(rt; status_over(alloc, b"> 0", &mut out, &mut err)? == 3);
+    assert!(rt; out.written().is_empty());
+    assert!(rt; err.written() == b"waywire: line 1: bad line\n".as_slice());
+    Ok(())
+}
+
+/// The output is flushed, so that all of it has passed where the status is that of the verdict.
+#[test]
+fn flushes_the_output(rt: HostRuntime) -> Result<(), Fail> {
+    let alloc = rt.alloc();
+    let mut out = Buffered::new(alloc, false);
+    let mut err = Vec::new(alloc);
+    assert!(rt; status_over(alloc, b"", &mut out, &mut err)? == 0);
+    assert!(rt; out.passed.as_slice() == LAWFUL && err.is_empty());
+    Ok(())
+}
+
+#[test]
+fn says_that_flushing_failed(rt: HostRuntime) -> Result<(), Fail> {
+    let alloc = rt.alloc();
+    let mut out = Buffered::new(alloc, true);
+    let mut err = Vec::new(alloc);
+    assert!(rt; status_over(alloc, b"", &mut out, &mut err)? == 3);
+    assert!(rt; out.passed.is_empty());
+    assert!(rt; err.as_slice() == b"waywire: cannot write\n".as_slice());
+    Ok(())
+}

@@ -1,0 +1,17 @@
+//! The tests of `wl_wire`, `wl_sigs`, `wl_message` and `wl_object_map`, over their public calls.
+#![tactic(auto)]
+
+#[cfg(test)]
+mod message;
+#[cfg(test)]
+mod rings;
+#[cfg(test)]
+mod sigs;
+#[cfg(test)]
+mod sigs_text;
+#[cfg(test)]
+mod streams;
+#[cfg(test)]
+mod table;
+#[cfg(test)]
+mod wire;

@@ -1,0 +1,222 @@
+//! Tables that are read from texts, behind the core tables.
+
+use crate::sigs::has_row;
+use std::alloc::{AllocError, Allocator, Global};
+use std::fmt::Write;
+use std::test::Fail;
+use test_allocator::RefusingAllocator;
+use wl_sigs::{Side, TableFault, Tables};
+use wl_wire::Iface;
+
+const VIEWPORTER: &str =
+    "interface wp_viewporter 1\nrequest destroy D\nrequest get_viewport n(wp_viewport) o(wl_surface)\ninterface wp_viewport 1\nrequest destroy D\nrequest set_source f f f f\nrequest set_destination i i\n";
+
+const VIEWPORTER_ROWS: [&str; 2] = [
+    "wp_viewporter 1 | destroy D; get_viewport n(wp_viewport) o(wl_surface) | none",
+    "wp_viewport 1 | destroy D; set_source f f f f; set_destination i i | none",
+];
+
+// Each kind and each ending, skipped lines, a carriage return, a name that stands further down, a
+// name of the core, and a last line without a line feed.
+const EVERY_FORM: &str =
+    "# every form\r\n\ninterface first 4294967295\nrequest all i u f s ?s a h o(wl_output) ?o(first) n(second)\nrequest later D @2\nevent plain o ?o @4294967295\r\ninterface second 007\nevent gone o(first) D\n#";
+
+const EVERY_FORM_ROWS: [&str; 2] = [
+    "first 4294967295 | all i u f s ?s a h o(wl_output) ?o(first) n(second); later D @2 | plain o(any) ?o(any) @4294967295",
+    "second 7 | none | gone o(first) D",
+];
+
+// Texts of which each line has a form, with the first line that breaks a rule, and the least rule
+// there.
+static BROKEN: [(&str, usize, u8); 24] = [
+    // V1: a name of the core, of the same text, and names with other bytes.
+    ("interface wl_seat 9", 1, 1),
+    ("interface wl_fixes 1", 1, 1),
+    ("interface a 1\ninterface a 1", 2, 1),
+    ("interface a 1\nrequest r\nrequest r", 3, 1),
+    ("interface a 1\nrequest D", 2, 1),
+    ("interface A 1", 1, 1),
+    ("interface a\r 1", 1, 1),
+    // V3
+    (
+        "interface a 1\nrequest r i i i i i i i i i i i i i i i i i i i i i",
+        2,
+        3,
+    ),
+    // V4
+    ("interface x 1\nevent made n(x)", 2, 4),
+    ("interface x 1\nrequest r n(x) n(x)", 2, 4),
+    // V5
+    ("interface a 1\nrequest r n", 2, 5),
+    // V6
+    ("interface a 1\nrequest r o", 2, 6),
+    ("interface a 1\nrequest r ?o", 2, 6),
+    // V7: a request above or below, and arguments of interfaces that end by an event.
+    ("interface note 1\nevent gone D\nrequest poke", 2, 7),
+    ("interface note 1\nrequest poke\nevent gone D", 3, 7),
+    (
+        "interface a 1\nrequest r o(b)\ninterface b 1\nevent gone D",
+        2,
+        7,
+    ),
+    ("interface a 1\nrequest r o(wl_callback)", 2, 7),
+    // V8
+    ("interface a 0", 1, 8),
+    ("interface a 1\nrequest r @2", 2, 8),
+    ("interface a 1\nrequest r @0", 2, 8),
+    // V9
+    ("interface a 1\nrequest r o(b)", 2, 9),
+    ("interface a 1\nevent e o(any)", 2, 9),
+    // The first line of several, and the least rule of one line.
+    ("interface a 1\nevent e o(b)\nrequest r n n", 2, 9),
+    ("interface a 1\nrequest r n o @2", 2, 5),
+];
+
+// Texts with a line that has no form, before or behind a broken rule, with the number of the first
+// such line.
+static BAD_LINES: [(&str, usize); 10] = [
+    ("request poke", 1),
+    ("interface wl_seat 9\n\n#\nrequest  poke", 4),
+    ("interface a 4294967296", 1),
+    ("interface a 00000000001", 1),
+    ("interface a 1 ", 1),
+    ("interface a 1\nrequest r @1 D", 2),
+    ("interface a 1\nrequest r D D", 2),
+    ("interface a 1\nrequest r ?n(a)", 2),
+    ("interface a 1\nrequest r s(a)", 2),
+    ("interface a 1\r", 1),
+];
+
+/// Whether a text declares these two interfaces behind the core tables, and no other.
+fn gives(alloc: Global, text: &[u8], rows: &[&str]) -> Result<bool, AllocError> {
+    let core = Tables::core(alloc)?;
+    let Ok(tables) = core.read_more(text) else {
+        return Ok(false);
+    };
+    Ok(
+        rows.len() == 2
+            && has_row(alloc, &tables, 19, rows[0])
+            && has_row(alloc, &tables, 20, rows[1])
+            && has_row(alloc, &tables, 2, "wl_callback 1 | none | done u D")
+            && tables.version(Iface(21)).is_none(),
+    )
+}
+
+#[test]
+fn a_text_adds_its_interfaces_in_order(rt: HostRuntime) -> Result<(), Fail> {
+    let alloc = rt.alloc();
+    assert!(rt; gives(alloc, VIEWPORTER.as_bytes(), &VIEWPORTER_ROWS)?);
+    assert!(rt; gives(alloc, EVERY_FORM.as_bytes(), &EVERY_FORM_ROWS)?);
+    Ok(())
+}
+
+// Names of an earlier text count as there already.
+#[test]
+fn texts_are_read_one_behind_the_other(rt: HostRuntime) -> Result<(), Fail> {
+    let core = Tables::core(rt.alloc())?;
+    let more = core
+        .read_more(b"interface a 1\nevent gone D")
+        .expect(&rt, "the text is read");
+    let again = more.read_more(b"interface a 1");
+    assert!(rt; matches!(again, Err(TableFault::BadTable { line: 1, rule: 1 })));
+    let named = more.read_more(b"interface b 1\nrequest r o(a)");
+    assert!(rt; matches!(named, Err(TableFault::BadTable { line: 2, rule: 7 })));
+    let most = more.read_more(b"").expect(&rt, "the text is read");
+    assert!(rt; most.interface(b"a") == Some(Iface(19)) && most.version(Iface(20)).is_none());
+    assert!(rt; most.opcode(Iface(19), Side::Event, b"gone") == Some(0));
+    Ok(())
+}
+
+fn is_refused_as(core: &Tables, text: &str, fault: TableFault) -> bool {
+    match core.read_more(text.as_bytes()) {
+        Ok(_) => false,
+        Err(found) => found == fault,
+    }
+}
+
+#[test]
+fn texts_are_refused_at_the_first_line_for_the_least_rule(rt: HostRuntime) -> Result<(), Fail> {
+    let core = Tables::core(rt.alloc())?;
+    for (text, line, rule) in &BROKEN {
+        let fault = TableFault::BadTable {
+            line: *line,
+            rule: *rule,
+        };
+        assert!(rt; is_refused_as(&core, text, fault));
+    }
+    for (text, line) in &BAD_LINES {
+        assert!(rt; is_refused_as(&core, text, TableFault::BadLine { line: *line }));
+    }
+    Ok(())
+}
+
+/// Adds interfaces of 256 requests each, up to this number.
+fn put_interfaces(text: &mut String, most: u32) -> Result<(), AllocError> {
+    for number in 0..most {
+        writeln!(text, "interface interface_{number} 1")?;
+        for request in 0u32..256 {
+            writeln!(text, "request request_{request} u o(interface_{number})")?;
+        }
+    }
+    Ok(())
+}
+
+// 1,024 interfaces with those of the core, of 256 messages each; with one interface or message more
+// it is V3.
+#[test]
+fn the_largest_text_is_read(rt: HostRuntime) -> Result<(), Fail> {
+    let core = Tables::core(rt.alloc())?;
+    let mut text = String::new(rt.alloc());
+    put_interfaces(&mut text, 1005)?;
+    let tables = core
+        .read_more(text.as_bytes())
+        .expect(&rt, "the text is read");
+    assert!(rt; tables.interface(b"interface_1004") == Some(Iface(1023)));
+    writeln!(&mut text, "request request_256")?;
+    let too_many = TableFault::BadTable {
+        line: 258_286,
+        rule: 3,
+    };
+    assert!(rt; is_refused_as(&core, text.as_str(), too_many));
+    let last = tables.read_more(b"\ninterface one_more 1");
+    assert!(rt; matches!(last, Err(TableFault::BadTable { line: 2, rule: 3 })));
+    Ok(())
+}
+
+/// Whether the reading is refused, where the allocation of this number is, for lack of memory, and
+/// the same call with memory returns the tables. Where it is not met the tables are read.
+fn is_read_at_last(
+    alloc: Global,
+    memory: &RefusingAllocator,
+    core: &Tables<RefusingAllocator>,
+    number: u64,
+) -> bool {
+    memory.refuse_nth(number);
+    match core.read_more(VIEWPORTER.as_bytes()) {
+        Ok(tables) => !memory.has_refused() && has_row(alloc, &tables, 20, VIEWPORTER_ROWS[1]),
+        Err(TableFault::Memory) => {
+            let is_refused = memory.has_refused() && memory.asked() == number.wrapping_add(1);
+            memory.refuse_none();
+            is_refused && core.read_more(VIEWPORTER.as_bytes()).is_ok()
+        }
+        Err(_) => false,
+    }
+}
+
+// Each allocation is refused in turn, until one is not met.
+#[test]
+fn a_reading_is_refused_each_allocation_in_turn(rt: HostRuntime) -> Result<(), Fail> {
+    let alloc = rt.alloc();
+    let memory = RefusingAllocator::new(alloc)?;
+    let core = Tables::core(memory.clone()?)?;
+    let mut met = 0u64;
+    for number in 0u64..1000 {
+        assert!(rt; is_read_at_last(alloc, &memory, &core, number));
+        if !memory.has_refused() && memory.asked() <= number {
+            met = number;
+            break;
+        }
+    }
+    assert!(rt; met > 229);
+    Ok(())
+}

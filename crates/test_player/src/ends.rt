@@ -1,0 +1,219 @@
+//! One end of a connection, played at.
+
+use crate::stage::Stage;
+use std::alloc::{AllocError, Global};
+use std::fmt::Write;
+use test_scene::{
+    Actor, Chunk, End, OUT_OF_MEMORY, Repeated, Trouble, Words, put_name, read_chunk, read_chunks,
+    write_chunk, write_stop,
+};
+use wl_connection::ReadAll;
+use wl_message::Piece;
+use wl_objects::{NextError, Object, State, Table};
+use wl_sigs::Tables;
+use wl_wire::Iface;
+
+/// An end, and what a scene has seen of it.
+#[derive(Drop)]
+pub struct AtEnd<'a, E: End + Drop> {
+    pub alloc: Global,
+    pub tables: &'a Tables,
+    pub end: E,
+    pub actor: Actor<'a>,
+    /// What was read of pieces.
+    pub reports: Vec<E::Report, <E::Table as Table>::Alloc>,
+    /// How many pieces were taken by a reading that was refused memory.
+    pub pieces: usize,
+}
+
+impl<'a, E: End + Drop> Stage for AtEnd<'a, E> {
+    fn play(&mut self, call: &str, reply: &mut String) -> Result<(), Trouble> {
+        let mut words = Words::of(call);
+        let verb = words.word()?;
+        let verb = if verb == "next" { E::NEXT } else { verb };
+        if self.actor.act(&mut self.end, verb, &mut words, reply)? {
+            return Ok(());
+        }
+        self.play_other(verb, &mut words, reply)
+    }
+
+    fn show(&self, text: &mut String) -> Result<(), AllocError> {
+        show_table(text, self.end.table())?;
+        let room = self.end.room();
+        let goes = self.end.goes(usize::MAX, usize::MAX);
+        write!(text, "in {} {}, ", room.bytes, room.tokens)?;
+        write!(text, "out {} {}", goes.bytes, goes.tokens)
+    }
+}
+
+impl<'a, E: End + Drop> AtEnd<'a, E> {
+    /// Makes a call that is no move.
+    fn play_other(
+        &mut self,
+        verb: &str,
+        words: &mut Words<'_>,
+        reply: &mut String,
+    ) -> Result<(), Trouble> {
+        match verb {
+            "next-lent" => Ok(self.end.next_lent(&mut self.actor, reply)?),
+            "feed" => self.feed(words.rest(), reply),
+            "take" => self.take(words, true, reply),
+            "go" => self.take(words, false, reply),
+            "read" => self.read(words.rest(), reply),
+            "reports" => Ok(self.write_reports(reply)?),
+            "live" => {
+                let object = words.object()?;
+                Ok(write_live(reply, self.tables, self.end.live(object))?)
+            }
+            "goes" => {
+                let goes = self.end.goes(words.size()?, words.size()?);
+                Ok(write_amount(reply, goes.bytes, goes.tokens)?)
+            }
+            _ => Ok(self.tell(verb, reply)?),
+        }
+    }
+
+    /// Appends what is asked for by one word.
+    fn tell(&self, verb: &str, reply: &mut String) -> Result<(), AllocError> {
+        match verb {
+            "room" => {
+                let room = self.end.room();
+                write_amount(reply, room.bytes, room.tokens)
+            }
+            "drained" => reply.push_str(yes_or_no(self.end.is_drained())),
+            "objects" => write!(reply, "{}", self.end.table().len()),
+            _ => reply.push_str("unreadable"),
+        }
+    }
+
+    fn feed(&mut self, words: &str, reply: &mut String) -> Result<(), Trouble> {
+        let chunk = read_chunk(self.alloc, words)?;
+        let fed = self.end.feed(&chunk.bytes, &chunk.tokens);
+        Ok(write_amount(reply, fed.bytes, fed.tokens)?)
+    }
+
+    /// Takes into slices of the lengths that the words give, and appends what was taken, or how
+    /// much.
+    fn take(
+        &mut self,
+        words: &mut Words<'_>,
+        shows: bool,
+        reply: &mut String,
+    ) -> Result<(), Trouble> {
+        let mut bytes = vec![in self.alloc; 0u8; words.size()?]?;
+        let mut tokens = vec![in self.alloc; 0u32; words.size()?]?;
+        let taken = self.end.take(&mut bytes, &mut tokens);
+        if !shows {
+            return Ok(write_amount(reply, taken.bytes, taken.tokens)?);
+        }
+        bytes.truncate(taken.bytes);
+        tokens.truncate(taken.tokens);
+        Ok(write_chunk(reply, &bytes, &tokens)?)
+    }
+
+    /// Reads pieces; where a reading of them was refused memory, those that are left.
+    fn read(&mut self, words: &str, reply: &mut String) -> Result<(), Trouble> {
+        let chunks = read_chunks(self.alloc, words)?;
+        let pieces = pieces_of(self.alloc, &chunks)?;
+        let left = pieces.get(self.pieces..).unwrap_or(&[]);
+        let before = self.reports.len();
+        let end = self.end.read_all(left, &mut self.reports);
+        for report in self.reports.get(before..).unwrap_or(&[]) {
+            E::learn(&mut self.actor.names, self.tables, report)?;
+        }
+        let taken = self.pieces.saturating_add(end.pieces);
+        self.pieces = 0;
+        if end.stop == Some(NextError::Memory) {
+            self.pieces = taken;
+            return Ok(reply.push_str(OUT_OF_MEMORY)?);
+        }
+        Ok(write_end(reply, taken, end)?)
+    }
+
+    /// Appends what was read of pieces, one a line; equal ones that follow one another are one
+    /// line.
+    fn write_reports(&self, reply: &mut String) -> Result<(), AllocError> {
+        write!(reply, "{} reports", self.reports.len())?;
+        let mut lines = Repeated::nothing(self.alloc);
+        for report in &self.reports {
+            self.write_report(report, &mut lines, reply)?;
+        }
+        lines.end(reply)
+    }
+
+    fn write_report(
+        &self,
+        report: &E::Report,
+        lines: &mut Repeated,
+        reply: &mut String,
+    ) -> Result<(), AllocError> {
+        let mut text = String::new(self.alloc);
+        E::write_report(self.actor.teller(), &mut text, report)?;
+        lines.put(reply, text)
+    }
+}
+
+/// The pieces of these chunks.
+fn pieces_of(alloc: Global, chunks: &[Chunk]) -> Result<Vec<Piece<'_>>, AllocError> {
+    let mut pieces = Vec::new(alloc);
+    for chunk in chunks {
+        pieces.push(Piece {
+            bytes: &chunk.bytes,
+            tokens: &chunk.tokens,
+        })?;
+    }
+    Ok(pieces)
+}
+
+/// Appends how far a reading came, and why it stopped.
+fn write_end(reply: &mut String, pieces: usize, end: ReadAll) -> Result<(), AllocError> {
+    write!(reply, "{pieces} pieces")?;
+    if end.part.bytes > 0 || end.part.tokens > 0 {
+        reply.push_str(" and ")?;
+        write_amount(reply, end.part.bytes, end.part.tokens)?;
+    }
+    match end.stop {
+        Some(why) => {
+            reply.push_str(", ")?;
+            write_stop(reply, why)
+        }
+        None => Ok(()),
+    }
+}
+
+/// Appends numbers of bytes and of tokens.
+pub fn write_amount(reply: &mut String, bytes: usize, tokens: usize) -> Result<(), AllocError> {
+    write!(reply, "{bytes} bytes, {tokens} tokens")
+}
+
+pub fn yes_or_no(yes: bool) -> &'static str {
+    if yes { "yes" } else { "no" }
+}
+
+/// Appends the interface and version of a live object.
+fn write_live(
+    reply: &mut String,
+    tables: &Tables,
+    live: Option<(Iface, u32)>,
+) -> Result<(), AllocError> {
+    let Some((iface, version)) = live else {
+        return reply.push_str("none");
+    };
+    put_name(reply, tables.name(iface).unwrap_or(b"unknown"))?;
+    write!(reply, " {version}")
+}
+
+/// Appends the objects of a table: of the first 200 ids, and how many there are.
+pub fn show_table<T: Table>(text: &mut String, table: &T) -> Result<(), AllocError> {
+    let (used, births, count) = (table.used(), table.births(), table.len());
+    write!(text, "used {used}, births {births}, objects {count}: ")?;
+    for id in 1..201u32 {
+        if let Some(entry) = table.look(id) {
+            write!(text, "{id}/{} {}, ", entry.birth, entry.iface.0)?;
+            if entry.state == State::Zombie {
+                text.push_str("zombie, ")?;
+            }
+        }
+    }
+    Ok(())
+}

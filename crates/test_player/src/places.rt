@@ -1,0 +1,252 @@
+//! Where a scene is played.
+ghost use Rattle.wl_message.specs.Arrived.{AreSizes};
+
+use crate::ends::AtEnd;
+use crate::pair::AtPair;
+use crate::playing::{Refusal, SceneOutcome, play};
+use crate::recording::AtRecording;
+use crate::stage::{Objects, Props};
+use std::alloc::AllocError;
+use test_allocator::RefusingAllocator;
+use test_scene::{Actor, End, Line, Row, Scene, Trouble, Words};
+use wl_client::Client;
+use wl_message::{Limit, Sizes};
+use wl_objects::Table;
+use wl_recording::Recording;
+use wl_server::Server;
+use wl_session::Pair;
+
+/// The sizes of an end's boxes where a scene names none.
+const USUAL: Sizes = Sizes {
+    out_bytes: 65_536,
+    out_tokens: 64,
+    in_bytes: 65_536,
+    in_tokens: 64,
+    limit: Limit::USUAL,
+};
+
+/// Sizes that boxes may have.
+#[derive(Clone, Copy)]
+struct Boxes {
+    sizes: Sizes,
+    ghost possible: { AreSizes sizes },
+}
+
+/// The usual boxes.
+fn usual() -> Boxes {
+    Boxes { sizes: USUAL }
+}
+
+/// Boxes of these sizes; none where no boxes have them.
+fn boxes_of(sizes: Sizes) -> Result<Boxes, Trouble> {
+    if sizes.is_allowed() {
+        Ok(Boxes { sizes })
+    } else {
+        Err(Trouble::Unreadable)
+    }
+}
+
+/// The limit that a word gives in bytes; none where it cannot be a limit.
+fn limit_of(words: &mut Words<'_>) -> Result<Limit, Trouble> {
+    match Limit::new(words.number()?) {
+        Some(limit) => Ok(limit),
+        None => Err(Trouble::Unreadable),
+    }
+}
+
+/// The boxes of some words: `out` and two numbers, `in` and two numbers, `limit` and a number, any
+/// of which may be missing.
+fn read_boxes(text: &str) -> Result<Boxes, Trouble> {
+    let mut sizes = USUAL;
+    for part in text.split(',') {
+        let mut words = Words::of(part);
+        match words.word() {
+            Ok("out") => {
+                sizes.out_bytes = words.size()?;
+                sizes.out_tokens = words.size()?;
+            }
+            Ok("in") => {
+                sizes.in_bytes = words.size()?;
+                sizes.in_tokens = words.size()?;
+            }
+            Ok("limit") => sizes.limit = limit_of(&mut words)?,
+            _ => {}
+        }
+    }
+    boxes_of(sizes)
+}
+
+/// Plays a scene at its place, with an allocation refused.
+pub fn play_at(
+    props: Props<'_>,
+    scene: &Scene<'_>,
+    refusal: Option<Refusal>,
+) -> Result<SceneOutcome, AllocError> {
+    let Some(number) = begins_refused(scene, refusal) else {
+        return at_place(props, scene, refusal);
+    };
+    props.memory.refuse_nth(number);
+    match at_place(props, scene, refusal) {
+        Err(_) if props.memory.has_refused() => {
+            props.memory.refuse_none();
+            let played = at_place(props, scene, None)?;
+            Ok(SceneOutcome {
+                met: true,
+                wrong: played.wrong,
+            })
+        }
+        outcome => outcome,
+    }
+}
+
+/// Which allocation is refused when the client, server or pair of a scene is made, which its first
+/// row `begin` stands for.
+fn begins_refused(scene: &Scene<'_>, refusal: Option<Refusal>) -> Option<u64> {
+    match refusal {
+        Some(refusal) if refusal.row == 0 && begins(&scene.rows) => Some(refusal.number),
+        _ => None,
+    }
+}
+
+fn begins(rows: &[Row<'_>]) -> bool {
+    match rows.first() {
+        Some(row) => Line::of(row.text).call == "begin",
+        None => false,
+    }
+}
+
+fn at_place(
+    props: Props<'_>,
+    scene: &Scene<'_>,
+    refusal: Option<Refusal>,
+) -> Result<SceneOutcome, AllocError> {
+    let mut words = Words::of(scene.place);
+    let _article = words.word();
+    let outcome = match words.word() {
+        Ok("client") => at_client(props, words.rest(), scene, refusal),
+        Ok("server") => at_server(props, words.rest(), scene, refusal),
+        Ok("pair") => at_pair(props, words.rest(), scene, refusal),
+        Ok("recording") => at_recording(props, scene, refusal),
+        _ => Err(Trouble::Unreadable),
+    };
+    match outcome {
+        Ok(played) => Ok(played),
+        Err(Trouble::Memory) => Err(AllocError),
+        Err(Trouble::Unreadable) => nowhere(props, scene),
+    }
+}
+
+/// A scene whose place cannot be read.
+fn nowhere(props: Props<'_>, scene: &Scene<'_>) -> Result<SceneOutcome, AllocError> {
+    Ok(SceneOutcome {
+        met: false,
+        wrong: format!(in props.alloc; "no such place: {}", scene.place)?,
+    })
+}
+
+fn at_client(
+    props: Props<'_>,
+    sizes: &str,
+    scene: &Scene<'_>,
+    refusal: Option<Refusal>,
+) -> Result<SceneOutcome, Trouble> {
+    let boxes = read_boxes(sizes)?;
+    let client = Client::<Objects>::new(props.memory.clone()?, props.tables, boxes.sizes)?;
+    Ok(at_end(props, client, scene, refusal)?)
+}
+
+fn at_server(
+    props: Props<'_>,
+    sizes: &str,
+    scene: &Scene<'_>,
+    refusal: Option<Refusal>,
+) -> Result<SceneOutcome, Trouble> {
+    let boxes = read_boxes(sizes)?;
+    let server = Server::<Objects>::new(props.memory.clone()?, props.tables, boxes.sizes)?;
+    Ok(at_end(props, server, scene, refusal)?)
+}
+
+/// Plays a scene at an end.
+fn at_end<T: Table<Alloc = RefusingAllocator>, E: End<Table = T> + Drop>(
+    props: Props<'_>,
+    end: E,
+    scene: &Scene<'_>,
+    refusal: Option<Refusal>,
+) -> Result<SceneOutcome, AllocError> {
+    let mut stage = AtEnd {
+        alloc: props.alloc,
+        tables: props.tables,
+        end,
+        actor: Actor::new(props.alloc, props.tables)?,
+        reports: Vec::new(props.memory.clone()?),
+        pieces: 0,
+    };
+    play(props, &mut stage, &scene.rows, refusal)
+}
+
+/// Plays a scene at a pair: the boxes of the client, and behind a bar those of the server.
+fn at_pair(
+    props: Props<'_>,
+    sizes: &str,
+    scene: &Scene<'_>,
+    refusal: Option<Refusal>,
+) -> Result<SceneOutcome, Trouble> {
+    let (client, server) = match sizes.split_once('|') {
+        Some((client, server)) => (read_boxes(client)?, read_boxes(server)?),
+        None => (read_boxes(sizes)?, read_boxes(sizes)?),
+    };
+    if client.sizes.limit.bytes != server.sizes.limit.bytes {
+        return Err(Trouble::Unreadable);
+    }
+    let memory = props.memory.clone()?;
+    let pair = Pair::<Objects>::new(memory, props.tables, client.sizes, server.sizes)?;
+    Ok(with_pair(props, pair, client.sizes.limit, scene, refusal)?)
+}
+
+fn with_pair<T: Table<Alloc = RefusingAllocator> + Drop>(
+    props: Props<'_>,
+    pair: Pair<'_, T>,
+    limit: Limit,
+    scene: &Scene<'_>,
+    refusal: Option<Refusal>,
+) -> Result<SceneOutcome, AllocError> {
+    let mut stage = AtPair {
+        alloc: props.alloc,
+        tables: props.tables,
+        pair,
+        limit,
+        actor: Actor::new(props.alloc, props.tables)?,
+        granting: RefusingAllocator::new(props.alloc)?,
+    };
+    play_and_judge(props, &mut stage, &scene.rows, refusal)
+}
+
+/// Plays these rows at a pair, and then checks what it recorded.
+fn play_and_judge<T: Table + Drop>(
+    props: Props<'_>,
+    stage: &mut AtPair<'_, '_, T>,
+    rows: &[Row<'_>],
+    refusal: Option<Refusal>,
+) -> Result<SceneOutcome, AllocError> {
+    let mut played = play(props, stage, rows, refusal)?;
+    if played.wrong.is_empty() {
+        stage.judge(&mut played.wrong)?;
+    }
+    Ok(played)
+}
+
+/// Plays a scene at a recording of nothing.
+fn at_recording(
+    props: Props<'_>,
+    scene: &Scene<'_>,
+    refusal: Option<Refusal>,
+) -> Result<SceneOutcome, Trouble> {
+    let mut stage = AtRecording {
+        alloc: props.alloc,
+        tables: props.tables,
+        memory: props.memory.clone()?,
+        recording: Recording::new(props.memory.clone()?),
+        limit: Limit::USUAL,
+    };
+    Ok(play(props, &mut stage, &scene.rows, refusal)?)
+}

@@ -1,0 +1,176 @@
+//! A recording, played at.
+
+use crate::stage::Stage;
+use std::alloc::{AllocError, Allocator, Global};
+use std::fmt::Write;
+use test_scene::{OUT_OF_MEMORY, Trouble, Words, put_name, read_chunk, write_verdict};
+use wl_message::Limit;
+use wl_recording::{Direction, Recording, RecordingError};
+use wl_session::{check, trace};
+use wl_sigs::Tables;
+
+/// A recording, and the memory of what is made of it.
+#[derive(Drop)]
+pub struct AtRecording<'a, A: Allocator + Clone + Drop> {
+    pub alloc: Global,
+    pub tables: &'a Tables,
+    pub memory: A,
+    pub recording: Recording<A>,
+    /// The limit by which it is judged.
+    pub limit: Limit,
+}
+
+impl<'a, A: Allocator + Clone + Drop> Stage for AtRecording<'a, A> {
+    fn play(&mut self, call: &str, reply: &mut String) -> Result<(), Trouble> {
+        let mut words = Words::of(call);
+        match words.word()? {
+            ">" => self.add(Direction::ToServer, words.rest(), reply),
+            "<" => self.add(Direction::ToClient, words.rest(), reply),
+            "anew" => self.begin(reply),
+            "parse" => self.parse(words.rest(), reply),
+            "limit" => self.go_by(&mut words, reply),
+            verb => self.tell(verb, reply),
+        }
+    }
+
+    fn show(&self, text: &mut String) -> Result<(), AllocError> {
+        write!(text, "{} pieces", self.recording.pieces().len())
+    }
+}
+
+impl<'a, A: Allocator + Clone + Drop> AtRecording<'a, A> {
+    /// Adds a piece: its bytes, and behind a `+` how many tokens came with it.
+    fn add(
+        &mut self,
+        direction: Direction,
+        words: &str,
+        reply: &mut String,
+    ) -> Result<(), Trouble> {
+        let chunk = read_chunk(self.alloc, words)?;
+        let tokens = chunk.tokens.first().copied().unwrap_or(0).min(65_536);
+        match self.recording.add(direction, &chunk.bytes, tokens) {
+            Ok(()) => Ok(reply.push_str("added")?),
+            Err(_) => Ok(reply.push_str(OUT_OF_MEMORY)?),
+        }
+    }
+
+    /// Begins a recording of nothing.
+    fn begin(&mut self, reply: &mut String) -> Result<(), Trouble> {
+        self.recording = Recording::new(self.memory.clone()?);
+        Ok(reply.push_str("nothing")?)
+    }
+
+    /// Sets the limit to this number of bytes, where that is a limit.
+    fn go_by(&mut self, words: &mut Words<'_>, reply: &mut String) -> Result<(), Trouble> {
+        match Limit::new(words.number()?) {
+            Some(limit) => {
+                self.limit = limit;
+                Ok(reply.push_str("taken")?)
+            }
+            None => Ok(reply.push_str("no limit")?),
+        }
+    }
+
+    /// Reads a text in the place of what there was.
+    fn parse(&mut self, text: &str, reply: &mut String) -> Result<(), Trouble> {
+        let text = unescaped(self.alloc, text)?;
+        match Recording::parse(self.memory.clone()?, text.as_bytes()) {
+            Ok(recording) => {
+                write!(reply, "{} pieces", recording.pieces().len())?;
+                self.recording = recording;
+                Ok(())
+            }
+            Err(RecordingError::BadLine { line }) => Ok(write!(reply, "bad line {line}")?),
+            Err(RecordingError::Memory) => Ok(reply.push_str(OUT_OF_MEMORY)?),
+        }
+    }
+
+    /// Appends what is asked for by one word.
+    fn tell(&self, verb: &str, reply: &mut String) -> Result<(), Trouble> {
+        match verb {
+            "pieces" => write!(reply, "{}", self.recording.pieces().len())?,
+            "text" => self.write_text(reply)?,
+            "check" => self.check(reply)?,
+            "trace" => self.trace(reply)?,
+            _ => return Err(Trouble::Unreadable),
+        }
+        Ok(())
+    }
+
+    /// Appends the text.
+    fn write_text(&self, reply: &mut String) -> Result<(), AllocError> {
+        match self.recording.to_text() {
+            Ok(text) => {
+                write!(reply, "{} bytes", text.len())?;
+                write_lines(reply, &text)
+            }
+            Err(_) => reply.push_str(OUT_OF_MEMORY),
+        }
+    }
+
+    /// Appends the verdict.
+    fn check(&self, reply: &mut String) -> Result<(), AllocError> {
+        match check(
+            self.memory.clone()?,
+            &self.recording,
+            self.tables,
+            self.limit,
+        ) {
+            Ok(verdict) => write_verdict(reply, &verdict),
+            Err(_) => reply.push_str(OUT_OF_MEMORY),
+        }
+    }
+
+    /// Appends the verdict, and the lines of the trace.
+    fn trace(&self, reply: &mut String) -> Result<(), AllocError> {
+        match trace(
+            self.memory.clone()?,
+            &self.recording,
+            self.tables,
+            self.limit,
+        ) {
+            Ok((lines, verdict)) => {
+                write_verdict(reply, &verdict)?;
+                write_lines(reply, &lines)
+            }
+            Err(_) => reply.push_str(OUT_OF_MEMORY),
+        }
+    }
+}
+
+/// Appends the lines of a text that a line feed ends, each on a line of its own.
+fn write_lines(reply: &mut String, text: &[u8]) -> Result<(), AllocError> {
+    match text.split_last() {
+        Some((_, lines)) => {
+            reply.push_str("\n")?;
+            put_name(reply, lines)
+        }
+        None => Ok(()),
+    }
+}
+
+/// A text in which `\n`, `\r`, `\t` and `\s` stand for a line feed, a carriage return, a tab and a
+/// space.
+fn unescaped(alloc: Global, text: &str) -> Result<String, AllocError> {
+    let mut out = String::new(alloc);
+    for (place, part) in text.split('\\').enumerate() {
+        if place == 0 {
+            out.push_str(part)?;
+        } else {
+            put_escaped(&mut out, part)?;
+        }
+    }
+    Ok(out)
+}
+
+/// Appends what a letter stands for, and the rest.
+fn put_escaped(out: &mut String, part: &str) -> Result<(), AllocError> {
+    let marks = [('n', "\n"), ('r', "\r"), ('t', "\t"), ('s', " ")];
+    for (letter, mark) in marks {
+        if let Some(rest) = part.strip_prefix(letter) {
+            out.push_str(mark)?;
+            return out.push_str(rest);
+        }
+    }
+    out.push_str(part)
+}

@@ -1,0 +1,27 @@
+//! What a scene is played at.
+
+use std::alloc::{AllocError, Global};
+use test_allocator::RefusingAllocator;
+use test_scene::Trouble;
+use wl_objects::SlotTable;
+use wl_sigs::Tables;
+
+/// The object tables of all that a scene plays at.
+pub type Objects = SlotTable<RefusingAllocator>;
+
+/// What a scene is played at.
+pub trait Stage {
+    /// Makes a call, and appends its reply.
+    fn play(&mut self, call: &str, reply: &mut String) -> Result<(), Trouble>;
+
+    /// Appends what can be seen of the value, which a call that is refused memory must not change.
+    fn show(&self, text: &mut String) -> Result<(), AllocError>;
+}
+
+/// What every scene is played with.
+#[derive(Clone, Copy)]
+pub struct Props<'a> {
+    pub alloc: Global,
+    pub tables: &'a Tables,
+    pub memory: &'a RefusingAllocator,
+}

@@ -1,0 +1,58 @@
+//! A scene, played once, or once for each allocation of a row that wants that.
+
+use crate::places::play_at;
+use crate::playing::{Refusal, SceneOutcome};
+use crate::stage::Props;
+use std::alloc::AllocError;
+use test_scene::{Line, Memory, Scene};
+
+/// The most allocations of one row.
+const MOST_ALLOCATIONS: u64 = 10_000;
+
+/// How a scene went: what is wrong, or nothing.
+pub fn play_scene(props: Props<'_>, scene: &Scene<'_>) -> Result<String, AllocError> {
+    let mut is_swept = false;
+    for (place, row) in scene.rows.iter().enumerate() {
+        if let Memory::Refused(count) = Line::of(row.text).memory {
+            is_swept = true;
+            let wrong = sweep(props, scene, place, count)?;
+            if !wrong.is_empty() {
+                return Ok(wrong);
+            }
+        }
+    }
+    if is_swept {
+        return Ok(String::new(props.alloc));
+    }
+    Ok(play_at(props, scene, None)?.wrong)
+}
+
+/// Plays a scene once for each allocation of one of its rows, with that one refused, and once more.
+fn sweep(
+    props: Props<'_>,
+    scene: &Scene<'_>,
+    row: usize,
+    count: Option<u64>,
+) -> Result<String, AllocError> {
+    for number in 0..MOST_ALLOCATIONS {
+        let SceneOutcome { met, wrong } = play_at(props, scene, Some(Refusal { row, number }))?;
+        if !wrong.is_empty() {
+            return Ok(wrong);
+        }
+        if !met {
+            return miscounted(props, number, count);
+        }
+    }
+    format!(in props.alloc; "there is no end of the allocations")
+}
+
+/// What is wrong where a row asks for this number of allocations.
+fn miscounted(props: Props<'_>, number: u64, count: Option<u64>) -> Result<String, AllocError> {
+    match count {
+        Some(count) if count != number => {
+            format!(in props.alloc; "{number} allocations, and not {count}")
+        }
+        None if number == 0 => format!(in props.alloc; "no allocation is asked for"),
+        _ => Ok(String::new(props.alloc)),
+    }
+}

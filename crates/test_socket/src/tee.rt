@@ -1,0 +1,59 @@
+// A reader that keeps a copy, with each allocation refused.
+use std::alloc::AllocError;
+use std::io::Read;
+use std::test::Fail;
+use test_allocator::RefusingAllocator;
+use wl_message::ScriptReader;
+use wl_session::{Direction, Recording, Tee};
+
+/// What passes.
+const BYTES: &[u8] = b"abcdef";
+
+/// Whether a recording has `BYTES` and nothing else.
+fn has_bytes(recording: &Recording<RefusingAllocator>) -> bool {
+    match recording.pieces() {
+        [piece] => piece.direction == Direction::ToServer && piece.bytes.as_slice() == BYTES,
+        _ => false,
+    }
+}
+
+/// Whether a copy whose allocations are refused in turn is added to a recording, whole and once.
+/// Before that each call is out of memory, and leaves the recording empty.
+fn is_added_at_last(
+    memory: &RefusingAllocator,
+    tee: &mut Tee<ScriptReader<'_>, RefusingAllocator>,
+    recording: &mut Recording<RefusingAllocator>,
+) -> bool {
+    let mut buf = [0; 6];
+    if !matches!(tee.read(&mut buf), Ok(6)) {
+        return false;
+    }
+    for number in 0u64..9 {
+        memory.refuse_nth(number);
+        let added = tee.add_to(recording, Direction::ToServer).is_ok();
+        if !memory.has_refused() {
+            return number > 0 && added && has_bytes(recording);
+        }
+        if added || !recording.pieces().is_empty() {
+            return false;
+        }
+    }
+    false
+}
+
+/// Whether a new `Tee` is out of memory where its only allocation is refused, and else copies.
+fn copies_at_last(memory: &RefusingAllocator) -> Result<bool, AllocError> {
+    memory.refuse_nth(0);
+    let refused = Tee::new(memory.clone()?, ScriptReader::new(BYTES, &[]), 6).is_err();
+    memory.refuse_none();
+    let mut tee = Tee::new(memory.clone()?, ScriptReader::new(BYTES, &[]), 6)?;
+    let mut recording = Recording::new(memory.clone()?);
+    Ok(refused && is_added_at_last(memory, &mut tee, &mut recording))
+}
+
+#[test]
+fn a_copy_is_refused_each_of_its_allocations(rt: HostRuntime) -> Result<(), Fail> {
+    let memory = RefusingAllocator::new(rt.alloc())?;
+    assert!(rt; copies_at_last(&memory)?);
+    Ok(())
+}

@@ -1,0 +1,74 @@
+//! Ends that make and lose objects for a long time.
+
+use crate::replay::Props;
+use crate::tally::Tally;
+use std::alloc::{AllocError, Global};
+use test_scene::{End, Trouble};
+use wl_client::Client;
+use wl_message::{Limit, Piece, Sizes};
+use wl_objects::{Arg, Object, SlotTable, Table};
+use wl_server::Server;
+use wl_sigs::request;
+
+/// How many objects are made.
+const BIRTHS: u64 = 5_000_000;
+
+/// Little room: what is written is taken at once.
+const SIZES: Sizes = Sizes {
+    out_bytes: 64,
+    out_tokens: 0,
+    in_bytes: 4096,
+    in_tokens: 20,
+    limit: Limit::USUAL,
+};
+
+/// wl_display.sync with new id 2, to a server.
+const SYNC: [u8; 12] = [1, 0, 0, 0, 0, 0, 12, 0, 2, 0, 0, 0];
+
+/// wl_display.delete_id of 2, to a client.
+const DELETE: [u8; 12] = [1, 0, 0, 0, 1, 0, 12, 0, 2, 0, 0, 0];
+
+/// Makes callbacks at a client, the id of each of which the server deletes at once.
+pub fn born_at_client(props: Props<'_>) -> Result<Tally, Trouble> {
+    let mut client = Client::<SlotTable<Global>>::new(props.alloc, props.tables, SIZES)?;
+    let mut tally = Tally::NONE;
+    for birth in 1..BIRTHS.saturating_add(1) {
+        let object = Object { id: 2, birth };
+        let made = client.send(
+            Client::display(&client),
+            request::wl_display::SYNC,
+            &[Arg::New],
+        );
+        let is_made = made == Ok(Some(object));
+        tally.count(false, is_made && reads(props, &mut client, &DELETE)?);
+    }
+    Ok(tally)
+}
+
+/// Lets a server read of callbacks, each of which it drops at once.
+pub fn born_at_server(props: Props<'_>) -> Result<Tally, Trouble> {
+    let mut server = Server::<SlotTable<Global>>::new(props.alloc, props.tables, SIZES)?;
+    let mut tally = Tally::NONE;
+    for birth in 1..BIRTHS.saturating_add(1) {
+        let is_read = reads(props, &mut server, &SYNC)?;
+        let is_dropped = server.drop_object(Object { id: 2, birth }) == Ok(());
+        tally.count(false, is_read && is_dropped);
+    }
+    Ok(tally)
+}
+
+/// Reads a message at an end, and takes what it wrote. Whether it gave one report.
+fn reads<T: Table<Alloc = Global>, E: End<Table = T>>(
+    props: Props<'_>,
+    end: &mut E,
+    message: &[u8],
+) -> Result<bool, AllocError> {
+    let mut reports = Vec::new(props.alloc);
+    let pieces = [Piece {
+        bytes: message,
+        tokens: &[],
+    }];
+    let read = end.read_all(&pieces, &mut reports);
+    end.take(&mut [0; 64], &mut []);
+    Ok(read.pieces == 1 && reports.len() == 1)
+}

@@ -1,0 +1,69 @@
+//! What happens at one end in a recorded session: its own calls, and what it reads.
+
+use std::alloc::{AllocError, Global};
+use wl_recording::Direction;
+
+/// What happens next at an end.
+#[derive(Clone, Copy)]
+pub enum Step<'a> {
+    /// It makes this call.
+    Call(&'a str),
+    /// It reads this number of bytes.
+    Read(usize),
+}
+
+/// How the lines for an end begin: those of its calls, which a recording skips, and those of the
+/// pieces that it reads.
+#[derive(Clone, Copy)]
+struct Marks {
+    call: &'static str,
+    piece: &'static str,
+}
+
+/// The marks of the end that reads in this direction.
+fn marks_of(direction: Direction) -> Marks {
+    match direction {
+        Direction::ToServer => Marks {
+            call: "#< ",
+            piece: "> ",
+        },
+        Direction::ToClient => Marks {
+            call: "#> ",
+            piece: "< ",
+        },
+    }
+}
+
+/// What happens at the end that reads in this direction, in order. Pieces that follow one another
+/// are read as one.
+pub fn steps_of(
+    alloc: Global,
+    text: &str,
+    direction: Direction,
+) -> Result<Vec<Step<'_>>, AllocError> {
+    let marks = marks_of(direction);
+    let mut steps = Vec::new(alloc);
+    for line in text.lines() {
+        if let Some(call) = line.strip_prefix(marks.call) {
+            steps.push(Step::Call(call))?;
+        } else if let Some(piece) = line.strip_prefix(marks.piece) {
+            put_read(&mut steps, len_of(piece))?;
+        }
+    }
+    Ok(steps)
+}
+
+/// Appends that this number of bytes is read.
+fn put_read(steps: &mut Vec<Step<'_>>, len: usize) -> Result<(), AllocError> {
+    if let Some(Step::Read(before)) = steps.last().copied() {
+        steps.pop();
+        return Ok(steps.push(Step::Read(before.saturating_add(len)))?);
+    }
+    Ok(steps.push(Step::Read(len))?)
+}
+
+/// How many bytes a piece has, by its words.
+fn len_of(piece: &str) -> usize {
+    let (bytes, _) = piece.split_once(' ').unwrap_or((piece, ""));
+    if bytes == "-" { 0 } else { bytes.len() / 2 }
+}

@@ -1,0 +1,49 @@
+-- The three histories are histories.
+use Rattle.std.proofs.Common.{List, [], ◌∷◌, refl}
+use Rattle.wl_sigs.specs.Tables.{Interface}
+use Rattle.theory_connection.specs.Meant.{Delete}
+use Rattle.theory_connection.specs.World.{put, nothing, writes_request, reads_request, writes_event, reads_event, reads_delete}
+use Rattle.theory_connection.specs.Samples.{CallbackLives, sync, done, called, DeadArgument, enter, destroy, DeadRegistry, tell, destroy_registry, registered}
+
+pub callback_lives : (tables : List Interface) → CallbackLives tables
+unfolding put nothing
+callback_lives tables = record {
+  asks = writes_request sync refl tt refl;
+  reads = reads_request sync [] refl;
+  tells = writes_event done refl tt;
+  sees = reads_event done (Delete called ∷ []) refl;
+  forgets = reads_delete called [] refl;
+  ends_here = refl;
+  not_at_client = refl;
+  not_at_server = refl;
+  no_requests = refl;
+  no_events = refl;
+  next = refl;
+}
+
+pub dead_argument : (tables : List Interface) → DeadArgument tables
+unfolding put nothing
+dead_argument tables = record {
+  tells = writes_event enter refl (refl, tt);
+  asks = writes_request destroy refl tt tt;
+  sees = reads_event enter [] refl;
+  reports = (refl, refl, refl, refl);
+  reads = reads_request destroy [] refl;
+  deletes = refl;
+}
+
+pub dead_registry : (tables : List Interface) → DeadRegistry tables
+unfolding put nothing
+dead_registry tables = record {
+  tells = writes_event tell refl tt;
+  asks = writes_request destroy_registry refl (refl, tt) tt;
+  sees = reads_event tell [] refl;
+  reports = (refl, refl, refl, refl);
+  teaches_nothing = refl;
+  reads = reads_request destroy_registry [] refl;
+  owes_nothing = refl;
+  deletes = refl;
+  forgets = reads_delete registered [] refl;
+  not_at_client = refl;
+  not_at_server = refl;
+}

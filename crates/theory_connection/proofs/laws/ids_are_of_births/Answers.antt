@@ -1,0 +1,8 @@
+use Rattle.theory_connection.proofs.Worlds.{in_world}
+use Rattle.theory_connection.proofs.laws.ids_are_of_births.Goals as goal
+
+pub returns : goal.returns
+returns c = record {
+  client = λ pair world h. in_world pair world h (λ asked told s. s.client_sound.ids);
+  server = λ pair world h. in_world pair world h (λ asked told s. s.server_sound.ids);
+}

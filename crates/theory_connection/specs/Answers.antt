@@ -1,0 +1,307 @@
+-- The reply that each move gets in the world, and what it does there.
+use Rattle.std.specs.Prelude.{◌≡◌, ◌≢◌, ℕ, ◌+◌, ◌<◌, true, false, List, [], ◌∷◌, ◌++◌, length, map}
+use Rattle.std.specs.Prelude.{take, Option, Some, None, is_some, option_map}
+use Rattle.std.specs.declared.result.Result.{Result}
+use Rattle.std.specs.declared.result.Result.TheVariants.{Ok, Err}
+use Rattle.wl_wire.specs.Argument.{reshaped, Uint, NewNamed}
+use Rattle.wl_sigs.specs.declared.signature.Side.{Side}
+use Rattle.wl_sigs.specs.declared.signature.Side.TheVariants.{Request as request_side}
+use Rattle.wl_sigs.specs.declared.signature.Side.TheVariants.{Event as event_side}
+use Rattle.wl_sigs.specs.Tables.{Interface, signature_at}
+use Rattle.wl_sigs.specs.Tables as sigs
+use Rattle.wl_message.specs.Cut.{HasMessage}
+use Rattle.wl_message.specs.Arrived.{Arrived, in_front}
+use Rattle.wl_message.specs.Outgoing.{room_of}
+use Rattle.wl_object_map.specs.declared.object.Object.{Object}
+use Rattle.wl_objects.specs.declared.argument.Named.{Named}
+use Rattle.wl_objects.specs.declared.argument.Named.TheVariants as named_as
+use Rattle.wl_objects.specs.declared.error.NextError.{NextError}
+use Rattle.wl_objects.specs.declared.error.NextError.TheVariants as errors
+use Rattle.wl_objects.specs.Reading.{Reported}
+use Rattle.wl_objects.specs.Writing.{Given}
+use Rattle.wl_connection.specs.Sending.{delete_id_len}
+use Rattle.wl_client.specs.Reports as events
+use Rattle.wl_server.specs.State as server
+use Rattle.wl_server.specs.Requests as requests
+use Rattle.wl_server.specs.Calls.{without_at}
+use Rattle.wl_server.specs.Announcing.{Owing, Due, owed_to, marked_in, opcode_of, values_of}
+use Rattle.wl_recording.specs.Piece.{Piece}
+use Rattle.theory_connection.specs.Meant.{Born, Message, Coming, Event, Delete, Arg, rearg, birth_of}
+use Rattle.theory_connection.specs.Meant.{made_in, ended_by, tokens}
+use Rattle.theory_connection.specs.World.{World, Row, Open, Ending, Marks, Action, WriteRequest, ReadRequest}
+use Rattle.theory_connection.specs.World.{WriteEvent, Drop, ReadEvent, Steps, IsOpen, IsEnding, IsThere}
+use Rattle.theory_connection.specs.Pair.{PairState, Move, Reply, ClientSend, ClientBind, ServerSend}
+use Rattle.theory_connection.specs.Pair.{ServerDrop, PostError, AddGlobal, Withdraw, Announce, CarryToServer}
+use Rattle.theory_connection.specs.Pair.{CarryToClient, ClientNext, ServerNext, Does}
+
+-- ---- writes
+
+-- what a message destroys, by its signature
+pub record IsMessageOf (tables : List Interface) (side : Side) (m : Message Born) : Type 0 where
+  pub signature : sigs.Message
+  pub there : signature_at tables m.target.iface.0 side m.opcode ≡ Some signature
+  pub ends : m.ends ≡ ended_by signature.destroys m.target m.args
+
+abbrev pub birth_at : Object → ℕ
+birth_at object = object.birth
+
+-- an argument handed to a call: its objects by their births, its new object as the next birth
+abbrev pub handed : ℕ → Given → Arg ℕ
+handed births given = reshaped (option_map birth_at) (λ _. births) (λ t. t) given
+
+abbrev pub writing : Side → Message Born → Action
+writing request_side m = WriteRequest m
+writing event_side m = WriteEvent m
+
+-- The message is written whose objects have the births of those handed to the call; where it makes
+-- an object, that is the one that the call returned.
+pub record WritesThat (tables : List Interface) (side : Side) (w : World) (target opcode : ℕ)
+    (args : List (Arg ℕ)) (new : Option Object) (w' : World) : Type 0 where
+  pub message : Message Born
+  pub is : IsMessageOf tables side message
+  pub target_is : message.target.birth ≡ target
+  pub opcode_is : message.opcode ≡ opcode
+  pub args_are : map (rearg birth_of) message.args ≡ args
+  pub new_is : option_map birth_of (made_in message.args) ≡ option_map birth_at new
+  pub steps : Steps tables w (writing side message) w'
+
+-- the arguments of a bind
+abbrev pub bound : ℕ → List ℕ → ℕ → ℕ → List (Arg ℕ)
+bound name iface version births = Uint name ∷ NewNamed iface version births ∷ []
+
+-- only an acceptance does anything
+abbrev pub IfAccepted : {X E : Type 0} → Result X E → World → World → (X → Type 0) → Type 0
+IfAccepted (Ok x) w w' P = P x
+IfAccepted (Err why) w w' P = w' ≡ w
+
+-- ---- what is owed to the open registries, by births
+
+abbrev pub registry_of : Marks → server.Registry
+registry_of r = record {
+  object = record { id = 0; birth = r.birth };
+  told = r.told;
+  removed = r.removed;
+}
+
+abbrev pub marks_of : server.Registry → Marks
+marks_of r = record { birth = r.object.birth; told = r.told; removed = r.removed }
+
+-- an event that is owed, and the birth of the registry that it is for
+pub record Owed : Type 0 where
+  pub birth : ℕ
+  pub owing : Owing
+
+abbrev pub owed_by : List server.Global → List Marks → List Owed
+owed_by given [] = []
+owed_by given (r ∷ registries) =
+    map (λ owing. record { birth = r.birth; owing = owing }) (owed_to given (registry_of r))
+    ++ owed_by given registries
+
+abbrev pub due_of : Owed → Due
+due_of o = record { object = record { id = 0; birth = o.birth }; owing = o.owing }
+
+-- The open registries after an owed event was written: marked as the server marks its own.
+abbrev pub mark_in : Owed → List Marks → List Marks
+mark_in o registries = map marks_of (marked_in (due_of o) (map registry_of registries))
+
+-- the arguments of an owed event, which names no object
+abbrev pub told_args : List Interface → Owing → List (Arg ℕ)
+told_args tables owing =
+    map (reshaped (λ _. None) (λ birth. birth) (λ _. 0)) (values_of tables owing)
+
+-- The events are written in this order, each to its registry, which is marked.
+pub data AnnouncesThose (tables : List Interface) : World → List Owed → World → Type 0 where
+  none : {w : World} → AnnouncesThose tables w [] w
+  more : {w between w' : World} {o : Owed} {others : List Owed}
+      → WritesThat tables event_side w o.birth (opcode_of o.owing)
+      (told_args tables o.owing) None between
+      → AnnouncesThose tables (record between { registries = mark_in o between.registries })
+      others w'
+      → AnnouncesThose tables w (o ∷ others) w'
+
+-- ---- reads
+
+-- an object as a reader sees it, by its birth: none, live or dead; one that the reader does not
+-- hold is in no report
+pub data Seen : Type 0 where
+  Null : Seen
+  Live : ℕ → Seen
+  Dead : ℕ → Seen
+  Unheld : Seen
+
+abbrev pub seen : Named → Seen
+seen named_as.Null = Null
+seen (named_as.Live object) = Live object.birth
+seen (named_as.Dead object) = Dead object.birth
+
+abbrev pub by_row : ℕ → Option Row → Seen
+by_row birth None = Unheld
+by_row birth (Some (Open x)) = Live birth
+by_row birth (Some (Ending x)) = Dead birth
+
+-- how a birth is seen by an end with these objects
+abbrev pub seen_by : (ℕ → Option Row) → Option Born → Seen
+seen_by rows None = Null
+seen_by rows (Some x) = by_row x.birth (rows x.birth)
+
+-- The reported arguments are those of the message: each object as its birth, live or dead by these
+-- rows, and each token.
+abbrev pub ReportsArgs : (ℕ → Option Row) → List (Arg Born) → List Reported → Type 0
+ReportsArgs rows args reported =
+    map (reshaped seen birth_at (λ t. t)) reported
+    ≡ map (reshaped (seen_by rows) birth_of (λ t. t)) args
+
+abbrev pub rows_of_server : World → ℕ → Option Row
+rows_of_server w birth = option_map Open (w.server birth)
+
+-- the report of a request, whose target is open at the server
+pub record ReportsRequest (w : World) (m : Message Born) (report : requests.Report) : Type 0 where
+  pub is_open : IsThere w.server m.target
+  pub target : report.target.birth ≡ m.target.birth
+  pub opcode : report.opcode ≡ m.opcode
+  pub args : ReportsArgs (rows_of_server w) m.args report.args
+
+-- The report of what comes to the client: of an event for an open object, the event as it was
+-- meant; of one for an ending object, its tokens; of a delete, the object.
+abbrev pub ReportsComing : World → Coming Born → events.Report → Type 0
+ReportsComing w (Event m) (events.Event target opcode args) =
+    IsOpen w.client m.target × (target.birth ≡ m.target.birth) × (opcode ≡ m.opcode)
+    × ReportsArgs w.client m.args args
+ReportsComing w (Event m) (events.Discarded target opcode own) =
+    IsEnding w.client m.target × (target.birth ≡ m.target.birth) × (opcode ≡ m.opcode)
+    × (own ≡ tokens m.args)
+ReportsComing w (Delete x) (events.Deleted object) = object.birth ≡ x.birth
+ReportsComing w _ report = ⊥
+
+-- no whole message waits
+abbrev pub HasNone : Arrived → Type 0
+HasNone inbox = HasMessage (in_front inbox) → ⊥
+
+abbrev pub HasOne : Arrived → Type 0
+HasOne inbox = HasMessage (in_front inbox)
+
+-- a destroying request whose delete has no room
+abbrev pub IsOutFull : PairState → Message Born → Type 0
+IsOutFull p m = (is_some m.ends ≡ true) × (room_of p.server.core.outbox < delete_id_len)
+
+-- a request whose report needs memory, which is asked for only where its delete has room
+abbrev pub AsksMemory : PairState → Message Born → Type 0
+AsksMemory p m = (m.args ≢ []) × (IsOutFull p m → ⊥)
+
+pub record ReadsRequest (tables : List Interface) (p : PairState) (w : World)
+    (report : requests.Report) (w' : World) : Type 0 where
+  pub waits : HasOne p.server.core.inbox
+  pub message : Message Born
+  pub steps : Steps tables w (ReadRequest message) w'
+  pub reports : ReportsRequest w message report
+  pub has_room : IsOutFull p message → ⊥
+
+-- the first request stays, and this is the cause
+pub record KeepsRequest (p : PairState) (w : World) (cause : Message Born → Type 0)
+    (w' : World) : Type 0 where
+  pub waits : HasOne p.server.core.inbox
+  pub message : Message Born
+  pub rest : List (Message Born)
+  pub first : w.requests ≡ message ∷ rest
+  pub because : cause message
+  pub same : w' ≡ w
+
+pub record ReadsEvent (tables : List Interface) (p : PairState) (w : World) (report : events.Report)
+    (w' : World) : Type 0 where
+  pub waits : HasOne p.client.core.inbox
+  pub coming : Coming Born
+  pub steps : Steps tables w (ReadEvent coming) w'
+  pub reports : ReportsComing w coming report
+
+-- what comes needs memory to be reported: an event with arguments for an open object
+abbrev pub NeedsMemory : World → Coming Born → Type 0
+NeedsMemory w (Event m) = IsOpen w.client m.target × (m.args ≢ [])
+NeedsMemory w (Delete x) = ⊥
+
+-- what comes first stays: there was no memory for its report, which needs some
+pub record KeepsEvent (p : PairState) (w : World) (w' : World) : Type 0 where
+  pub waits : HasOne p.client.core.inbox
+  pub coming : Coming Born
+  pub rest : List (Coming Born)
+  pub first : w.events ≡ coming ∷ rest
+  pub because : NeedsMemory w coming
+  pub same : w' ≡ w
+
+-- The server's read takes the first request and reports it, where a whole message waits. The
+-- request stays where its delete has no room, or else where there is no memory for a report with
+-- arguments; it reports no fault and no failure.
+abbrev pub ReadsAtServer : List Interface → PairState → World
+    → Result (Option requests.Report) NextError → World → Type 0
+ReadsAtServer tables p w (Ok None) w' = HasNone p.server.core.inbox × (w' ≡ w)
+ReadsAtServer tables p w (Ok (Some report)) w' = ReadsRequest tables p w report w'
+ReadsAtServer tables p w (Err errors.OutFull) w' = KeepsRequest p w (IsOutFull p) w'
+ReadsAtServer tables p w (Err errors.Memory) w' = KeepsRequest p w (AsksMemory p) w'
+ReadsAtServer tables p w (Err other) w' = ⊥
+
+-- The client's read takes the first of what comes and reports it, where a whole message waits.
+abbrev pub ReadsAtClient : List Interface → PairState → World
+    → Result (Option events.Report) NextError → World → Type 0
+ReadsAtClient tables p w (Ok None) w' = HasNone p.client.core.inbox × (w' ≡ w)
+ReadsAtClient tables p w (Ok (Some report)) w' = ReadsEvent tables p w report w'
+ReadsAtClient tables p w (Err errors.Memory) w' = KeepsEvent p w w'
+ReadsAtClient tables p w (Err other) w' = ⊥
+
+-- ---- all moves
+
+abbrev pub IfOk : {E : Type 0} → Result (Unit {0}) E → World → World → Type 0 → Type 0
+IfOk (Ok x) w w' P = P
+IfOk (Err why) w w' P = w' ≡ w
+
+pub record Drops (tables : List Interface) (w : World) (birth : ℕ) (w' : World) : Type 0 where
+  pub object : Born
+  pub is : object.birth ≡ birth
+  pub steps : Steps tables w (Drop object) w'
+
+-- What a move does in the world, whose pair and reply are these.
+abbrev pub Means : PairState → World → Move → Reply → World → Type 0
+Means p w (ClientSend target opcode given) (ClientSend reply) w' =
+    IfAccepted reply w w' (λ new. WritesThat p.client.core.tables request_side w target.birth opcode
+    (map (handed w.births) given) new w')
+Means p w (ClientBind target name iface version) (ClientBind reply) w' =
+    IfAccepted reply w w' (λ new. WritesThat p.client.core.tables request_side w target.birth 0
+    (bound name iface version w.births) new w')
+Means p w (ServerSend target opcode given) (ServerSend reply) w' =
+    IfAccepted reply w w' (λ new. WritesThat p.server.core.tables event_side w target.birth opcode
+    (map (handed w.births) given) new w')
+Means p w (ServerDrop object) (ServerDrop reply) w' =
+    IfOk reply w w' (Drops p.server.core.tables w object.birth w')
+Means p w (PostError object code text) (PostError reply) w' =
+    IfOk reply w w' (w' ≡ record w { ended = true })
+Means p w (AddGlobal iface version) (AddGlobal reply) w' =
+    IfAccepted reply w w' (λ name. (name ≡ length w.given + 1) × (w' ≡ record w {
+      given = w.given ++ record { iface = iface; version = version; present = true } ∷ [];
+    }))
+Means p w (Withdraw name) (Withdraw reply) w' =
+    IfOk reply w w'
+    (w' ≡ record w { given = without_at w.given name (server.global_of w.given name) })
+Means p w Announce (Announce reply) w' =
+    IfAccepted reply w w'
+    (λ count. AnnouncesThose p.server.core.tables w (take count (owed_by w.given w.registries)) w')
+Means p w (CarryToServer most) (CarryToServer reply) w' = w' ≡ w
+Means p w (CarryToClient most) (CarryToClient reply) w' = w' ≡ w
+Means p w ClientNext (ClientNext reply) w' = ReadsAtClient p.client.core.tables p w reply w'
+Means p w ServerNext (ServerNext reply) w' = ReadsAtServer p.server.core.tables p w reply w'
+Means p w _ _ w' = ⊥
+
+-- no error was posted yet
+abbrev pub NotEnded : PairState → World → Type 0
+NotEnded p w = (w.ended ≡ false) × (p.ended_at ≡ None)
+
+-- the pieces recorded stay where they are, and so does the mark that an error set
+pub record KeepsRecord (p p' : PairState) : Type 0 where
+  pub more : List Piece
+  pub pieces : p'.recording ≡ p.recording ++ more
+  pub mark : (count : ℕ) → p.ended_at ≡ Some count → p'.ended_at ≡ Some count
+
+-- The reply that a move may get, and what it leaves of the pair and the world. After an error was
+-- posted all is allowed, but what was recorded stays.
+pub data Answers (p : PairState) (w : World) (move : Move) (reply : Reply) (p' : PairState)
+    (w' : World) : Type 0 where
+  before : NotEnded p w → Does p move reply p' → Means p w move reply w'
+      → Answers p w move reply p' w'
+  after : w.ended ≡ true → w'.ended ≡ true → KeepsRecord p p' → Answers p w move reply p' w'

@@ -1,0 +1,140 @@
+-- Messages as they are meant: by the objects that they name, and not by ids alone.
+use Rattle.std.specs.Prelude.{ℕ, zero, suc, List, [], ◌∷◌, ◌++◌, map, Option, Some, None}
+use Rattle.std.specs.Prelude.{option_map}
+use Rattle.wl_wire.specs.declared.kind.Iface.{Iface}
+use Rattle.wl_sigs.specs.declared.signature.Destroys.{Destroys}
+use Rattle.wl_sigs.specs.declared.signature.Destroys.TheVariants.{Nothing, Target, Arg as ends_arg}
+use Rattle.wl_wire.specs.Argument.{Argument, Shape, reshaped, Uint, Obj, New, NewNamed, Fd}
+use Rattle.wl_object_map.specs.declared.object.Entry.{Entry}
+use Rattle.wl_object_map.specs.declared.object.State.TheVariants as states
+use Rattle.wl_message.specs.Outgoing as boxes
+use Rattle.wl_objects.specs.Writing.{message_bytes}
+
+-- an object as both ends mean it: its birth, its interface and its version
+pub record Born : Type 0 where
+  pub birth : ℕ
+  pub iface : Iface
+  pub version : ℕ
+
+-- an object as it stands on the wire and as it is meant
+pub record Known : Type 0 where
+  pub id : ℕ
+  pub born : Born
+
+-- an argument, where O names an object: an object or none, a new object, a descriptor's token
+abbrev pub Arg : Type 0 → Type 0
+Arg O = Shape (Option O) O ℕ
+
+-- a message: the object that it is for, its opcode, its arguments, and the object that it destroys,
+-- if it destroys one
+pub record Message (O : Type 0) : Type 0 where
+  pub target : O
+  pub opcode : ℕ
+  pub args : List (Arg O)
+  pub ends : Option O
+
+-- what comes to the client: an event, or the delete of an object
+pub data Coming (O : Type 0) : Type 0 where
+  Event : Message O → Coming O
+  Delete : O → Coming O
+
+-- ---- the same message with its objects named otherwise
+
+abbrev pub rearg : {A B : Type 0} → (A → B) → Arg A → Arg B
+rearg f a = reshaped (option_map f) f (λ t. t) a
+
+abbrev pub renamed : {A B : Type 0} → (A → B) → Message A → Message B
+renamed f m = record {
+  target = f m.target;
+  opcode = m.opcode;
+  args = map (rearg f) m.args;
+  ends = option_map f m.ends;
+}
+
+abbrev pub recoming : {A B : Type 0} → (A → B) → Coming A → Coming B
+recoming f (Event m) = Event (renamed f m)
+recoming f (Delete x) = Delete (f x)
+
+abbrev pub born_of : Known → Born
+born_of x = x.born
+
+abbrev pub birth_of : Born → ℕ
+birth_of x = x.birth
+
+-- ---- what a message names
+
+-- the object that an argument names
+abbrev pub object_in : {O : Type 0} → Arg O → List O
+object_in (Obj (Some x)) = x ∷ []
+object_in _ = []
+
+abbrev pub objects : {O : Type 0} → List (Arg O) → List O
+objects [] = []
+objects (a ∷ more) = object_in a ++ objects more
+
+-- the object that the argument at a place names
+abbrev pub object_at : {O : Type 0} → List (Arg O) → ℕ → Option O
+object_at [] place = None
+object_at (Obj (Some x) ∷ more) zero = Some x
+object_at (_ ∷ more) zero = None
+object_at (a ∷ more) (suc place) = object_at more place
+
+-- the object that a message destroys, by its signature
+abbrev pub ended_by : {O : Type 0} → Destroys → O → List (Arg O) → Option O
+ended_by Nothing target args = None
+ended_by Target target args = Some target
+ended_by (ends_arg place) target args = object_at args place
+
+-- the object that an argument makes
+abbrev pub new_in : {O : Type 0} → Arg O → Option O
+new_in (New x) = Some x
+new_in (NewNamed iface version x) = Some x
+new_in _ = None
+
+abbrev pub or_else : {O : Type 0} → Option O → Option O → Option O
+or_else None other = other
+or_else (Some x) other = Some x
+
+-- the object that a message makes
+abbrev pub made_in : {O : Type 0} → List (Arg O) → Option O
+made_in [] = None
+made_in (a ∷ more) = or_else (new_in a) (made_in more)
+
+-- the token of an argument
+abbrev pub token_in : {O : Type 0} → Arg O → List ℕ
+token_in (Fd token) = token ∷ []
+token_in _ = []
+
+abbrev pub tokens : {O : Type 0} → List (Arg O) → List ℕ
+tokens [] = []
+tokens (a ∷ more) = token_in a ++ tokens more
+
+-- ---- the message on the wire
+
+abbrev pub id_of : Known → ℕ
+id_of x = x.id
+
+abbrev pub id_or_null : Option Known → ℕ
+id_or_null None = 0
+id_or_null (Some x) = x.id
+
+-- an argument on the wire: objects by their ids
+abbrev pub wire : Arg Known → Argument
+wire a = reshaped id_or_null id_of (λ _. tt) a
+
+-- the bytes in the canonical spelling, and the tokens
+abbrev pub spelled : Message Known → boxes.Message
+spelled m = boxes.message (message_bytes m.target.id m.opcode (map wire m.args)) (tokens m.args)
+
+-- a delete is wl_display.delete_id
+abbrev pub spelled_coming : Coming Known → boxes.Message
+spelled_coming (Event m) = spelled m
+spelled_coming (Delete x) = boxes.message (message_bytes 1 1 (Uint x.id ∷ [])) []
+
+-- ---- the row of an object
+
+abbrev pub live_entry : Born → Entry
+live_entry x = record { birth = x.birth; iface = x.iface; version = x.version; state = states.Live }
+
+abbrev pub plain : Entry → Born
+plain e = record { birth = e.birth; iface = e.iface; version = e.version }

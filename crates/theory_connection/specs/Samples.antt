@@ -1,0 +1,173 @@
+-- Three short histories of the world: a callback that is done, an event that names an object which
+-- its reader has destroyed, and a registry that is destroyed by wl_fixes.
+use Rattle.std.specs.Prelude.{◌≡◌, pos, codes, List, [], ◌∷◌, Some, None}
+use Rattle.wl_wire.specs.Argument.{Uint, Fixed, Str, Obj, New}
+use Rattle.wl_sigs.specs.Tables.{Interface}
+use Rattle.wl_sigs.specs.Fixed.{callback, registry, fixes}
+use Rattle.wl_objects.specs.declared.argument.Named.TheVariants as named_as
+use Rattle.wl_client.specs.Reports as events
+use Rattle.theory_connection.specs.Meant.{Born, Message, Event, Delete}
+use Rattle.theory_connection.specs.World.{World, Open, Ending, opening, display_born, request_written}
+use Rattle.theory_connection.specs.World.{request_read, event_written, event_read, delete_read, Steps}
+use Rattle.theory_connection.specs.World.{WriteRequest, ReadRequest, WriteEvent, ReadEvent, put, nothing}
+use Rattle.theory_connection.specs.World.{untold}
+use Rattle.theory_connection.specs.Answers.{ReportsComing}
+
+-- the client asks wl_display for a callback, birth 1, and the server is done with it
+abbrev pub called : Born
+called = record { birth = 1; iface = callback; version = 1 }
+
+abbrev pub sync : Message Born
+sync = record { target = display_born; opcode = 0; args = New called ∷ []; ends = None }
+
+abbrev pub done : Message Born
+done = record { target = called; opcode = 0; args = Uint 7 ∷ []; ends = Some called }
+
+abbrev pub asked : World
+asked = request_written opening sync
+
+abbrev pub heard : World
+heard = request_read asked sync []
+
+abbrev pub answered : World
+answered = event_written heard done
+
+abbrev pub seen_done : List Interface → World
+seen_done tables = event_read tables answered done (Delete called ∷ [])
+
+abbrev pub forgotten : List Interface → World
+forgotten tables = delete_read (seen_done tables) called []
+
+-- each is a step; in the end the callback is nowhere, nothing is in flight, and the next object is
+-- birth 2
+pub record CallbackLives (tables : List Interface) : Type 0 where
+  pub asks : Steps tables opening (WriteRequest sync) asked
+  pub reads : Steps tables asked (ReadRequest sync) heard
+  pub tells : Steps tables heard (WriteEvent done) answered
+  pub sees : Steps tables answered (ReadEvent (Event done)) (seen_done tables)
+  pub forgets : Steps tables (seen_done tables) (ReadEvent (Delete called)) (forgotten tables)
+  pub ends_here : (seen_done tables).client 1 ≡ Some (Ending called)
+  pub not_at_client : (forgotten tables).client 1 ≡ None
+  pub not_at_server : (forgotten tables).server 1 ≡ None
+  pub no_requests : (forgotten tables).requests ≡ []
+  pub no_events : (forgotten tables).events ≡ []
+  pub next : (forgotten tables).births ≡ 2
+
+-- A pointer, birth 5, and a surface, birth 3, are open at both ends; the numbers of their
+-- interfaces do not matter here.
+abbrev pub surface : Born
+surface = record { birth = 3; iface = record { 0 = 7 }; version = 6 }
+
+abbrev pub pointer : Born
+pointer = record { birth = 5; iface = record { 0 = 10 }; version = 9 }
+
+abbrev pub both_open : World
+both_open = record opening {
+  births = 8;
+  client = put (put nothing 3 (Some (Open surface))) 5 (Some (Open pointer));
+  server = put (put nothing 3 (Some surface)) 5 (Some pointer);
+}
+
+-- the server says that the pointer enters the surface
+abbrev pub enter : Message Born
+enter = record {
+  target = pointer;
+  opcode = 0;
+  args = Uint 1 ∷ Obj (Some surface) ∷ Fixed (pos 0) ∷ Fixed (pos 0) ∷ [];
+  ends = None;
+}
+
+-- before the client reads that, it destroys the surface
+abbrev pub destroy : Message Born
+destroy = record { target = surface; opcode = 0; args = []; ends = Some surface }
+
+abbrev pub entered : World
+entered = event_written both_open enter
+
+abbrev pub destroyed : World
+destroyed = request_written entered destroy
+
+abbrev pub crossed : List Interface → World
+crossed tables = event_read tables destroyed enter []
+
+-- the client's report: the surface is dead
+abbrev pub report : events.Report
+report =
+    events.Event (record { id = 6; birth = 5 }) 0
+    (Uint 1 ∷ Obj (named_as.Dead (record { id = 4; birth = 3 })) ∷ Fixed (pos 0) ∷ Fixed (pos 0)
+    ∷ [])
+
+pub record DeadArgument (tables : List Interface) : Type 0 where
+  pub tells : Steps tables both_open (WriteEvent enter) entered
+  pub asks : Steps tables entered (WriteRequest destroy) destroyed
+  pub sees : Steps tables destroyed (ReadEvent (Event enter)) (crossed tables)
+  pub reports : ReportsComing destroyed (Event enter) report
+  pub reads : Steps tables (crossed tables) (ReadRequest destroy)
+      (request_read (crossed tables) destroy [])
+  pub deletes : (request_read (crossed tables) destroy []).events ≡ Delete surface ∷ []
+
+-- A wl_fixes, birth 8, and a registry, birth 9, are open at both ends.
+abbrev pub fixer : Born
+fixer = record { birth = 8; iface = fixes; version = 1 }
+
+abbrev pub registered : Born
+registered = record { birth = 9; iface = registry; version = 1 }
+
+abbrev pub both_registered : World
+both_registered = record opening {
+  births = 10;
+  client = put (put nothing 8 (Some (Open fixer))) 9 (Some (Open registered));
+  server = put (put nothing 8 (Some fixer)) 9 (Some registered);
+  registries = untold registered ∷ [];
+}
+
+-- the server tells the registry of a global
+abbrev pub tell : Message Born
+tell = record {
+  target = registered;
+  opcode = 0;
+  args = Uint 4 ∷ Str (Some (codes "wl_shm")) ∷ Uint 2 ∷ [];
+  ends = None;
+}
+
+-- before the client reads that, it destroys the registry
+abbrev pub destroy_registry : Message Born
+destroy_registry = record {
+  target = fixer;
+  opcode = 1;
+  args = Obj (Some registered) ∷ [];
+  ends = Some registered;
+}
+
+abbrev pub global_told : World
+global_told = event_written both_registered tell
+
+abbrev pub registry_destroyed : World
+registry_destroyed = request_written global_told destroy_registry
+
+abbrev pub global_dropped : List Interface → World
+global_dropped tables = event_read tables registry_destroyed tell []
+
+abbrev pub registry_closed : List Interface → World
+registry_closed tables = request_read (global_dropped tables) destroy_registry []
+
+abbrev pub registry_gone : List Interface → World
+registry_gone tables = delete_read (registry_closed tables) registered []
+
+-- each is a step: the event is discarded and teaches nothing, the closed registry is owed nothing,
+-- and its delete follows
+pub record DeadRegistry (tables : List Interface) : Type 0 where
+  pub tells : Steps tables both_registered (WriteEvent tell) global_told
+  pub asks : Steps tables global_told (WriteRequest destroy_registry) registry_destroyed
+  pub sees : Steps tables registry_destroyed (ReadEvent (Event tell)) (global_dropped tables)
+  pub reports : ReportsComing registry_destroyed (Event tell)
+      (events.Discarded (record { id = 10; birth = 9 }) 0 [])
+  pub teaches_nothing : (global_dropped tables).remembered ≡ []
+  pub reads : Steps tables (global_dropped tables) (ReadRequest destroy_registry)
+      (registry_closed tables)
+  pub owes_nothing : (registry_closed tables).registries ≡ []
+  pub deletes : (registry_closed tables).events ≡ Delete registered ∷ []
+  pub forgets : Steps tables (registry_closed tables) (ReadEvent (Delete registered))
+      (registry_gone tables)
+  pub not_at_client : (registry_gone tables).client 9 ≡ None
+  pub not_at_server : (registry_gone tables).server 9 ≡ None

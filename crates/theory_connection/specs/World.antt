@@ -1,0 +1,224 @@
+-- The world of births: what both ends mean, without ids, bytes and cuts.
+use Rattle.std.specs.Prelude.{◌≡◌, ℕ, ◌+◌, Bool, true, false, ◌&&◌, nat_eq, if◌then◌else◌, List, []}
+use Rattle.std.specs.Prelude.{◌∷◌, ◌++◌, map, replicate, Option, Some, None}
+use Rattle.wl_wire.specs.Argument.{Argument, reshaped}
+use Rattle.wl_sigs.specs.Tables.{Interface, interface_at}
+use Rattle.wl_sigs.specs.Fixed.{display, registry}
+use Rattle.wl_objects.specs.Messages.{same_iface}
+use Rattle.wl_client.specs.declared.globals.Global.{Global as Remembered}
+use Rattle.wl_client.specs.Reports.{globals_told}
+use Rattle.wl_server.specs.State.{Global, max_globals}
+use Rattle.wl_server.specs.Registries.{with_registry, without_registry}
+use Rattle.wl_sigs.specs.Rules.{is_ended_by_event}
+use Rattle.theory_connection.specs.Meant.{Born, Message, Coming, Event, Delete, objects, made_in, Arg}
+
+-- an object at the client: open, or ending
+pub data Row : Type 0 where
+  Open : Born → Row
+  Ending : Born → Row
+
+-- an open registry: which globals it was told of, and which of them it was told are removed
+pub record Marks : Type 0 where
+  pub birth : ℕ
+  pub told : List Bool
+  pub removed : List Bool
+
+pub record World : Type 0 where
+  -- the birth that the next object gets
+  pub births : ℕ
+  -- requests and events that were written and not yet read
+  pub requests : List (Message Born)
+  pub events : List (Coming Born)
+  -- by birth: what is open or ending at the client, and what is open at the server
+  pub client : ℕ → Option Row
+  pub server : ℕ → Option Born
+  -- globals: those that the client remembers, those that the server gave, and what each open
+  -- registry was told
+  pub remembered : List Remembered
+  pub given : List Global
+  pub registries : List Marks
+  -- an error was posted
+  pub ended : Bool
+
+-- ---- sets of births
+
+unfoldable pub put : {X : Type 0} → (ℕ → Option X) → ℕ → Option X → ℕ → Option X
+put f b x c = if nat_eq c b then x else f c
+
+unfoldable pub nothing : {X : Type 0} → ℕ → Option X
+nothing b = None
+
+abbrev pub IsOpen : (ℕ → Option Row) → Born → Type 0
+IsOpen client x = client x.birth ≡ Some (Open x)
+
+abbrev pub IsEnding : (ℕ → Option Row) → Born → Type 0
+IsEnding client x = client x.birth ≡ Some (Ending x)
+
+abbrev pub IsThere : (ℕ → Option Born) → Born → Type 0
+IsThere server x = server x.birth ≡ Some x
+
+-- P of each
+abbrev pub Each : {X : Type 0} → (X → Type 0) → List X → Type 0
+Each P [] = Unit {0}
+Each P (x ∷ xs) = P x × Each P xs
+
+-- P of the one that there is, if there is one
+abbrev pub IfThere : {X : Type 0} → (X → Type 0) → Option X → Type 0
+IfThere P None = Unit {0}
+IfThere P (Some x) = P x
+
+abbrev pub born_into : {X : Type 0} → (Born → X) → Option Born → (ℕ → Option X) → ℕ → Option X
+born_into f None sets = sets
+born_into f (Some x) sets = put sets x.birth (Some (f x))
+
+abbrev pub same : Born → Born
+same x = x
+
+-- from open to ending
+abbrev pub ending : Option Born → (ℕ → Option Row) → ℕ → Option Row
+ending None client = client
+ending (Some x) client = put client x.birth (Some (Ending x))
+
+-- no longer there
+abbrev pub gone : {X : Type 0} → Option Born → (ℕ → Option X) → ℕ → Option X
+gone None sets = sets
+gone (Some x) sets = put sets x.birth None
+
+-- the delete that goes with the end of an object
+abbrev pub delete : {O : Type 0} → Option O → List (Coming O)
+delete None = []
+delete (Some x) = Delete x ∷ []
+
+abbrev pub counted : {O : Type 0} → Option O → ℕ → ℕ
+counted None births = births
+counted (Some x) births = births + 1
+
+-- ---- registries
+
+abbrev pub is_registry : Born → Bool
+is_registry x = same_iface x.iface registry
+
+-- a new registry was told nothing
+abbrev pub untold : Born → Marks
+untold x = record {
+  birth = x.birth;
+  told = replicate max_globals false;
+  removed = replicate max_globals false;
+}
+
+abbrev pub marks_birth : Marks → ℕ
+marks_birth r = r.birth
+
+-- the open registries after a request that makes this
+abbrev pub registries_after : Option Born → List Marks → List Marks
+registries_after None registries = registries
+registries_after (Some x) registries = with_registry x.iface (untold x) registries
+
+-- a registry that is closed is owed nothing
+abbrev pub registries_without : Option Born → List Marks → List Marks
+registries_without None registries = registries
+registries_without (Some x) registries = without_registry marks_birth true x.birth registries
+
+-- ---- what the client learns of globals
+
+abbrev pub nameless : Arg Born → Argument
+nameless a = reshaped (λ _. 0) (λ _. 0) (λ _. tt) a
+
+abbrev pub is_open : Option Row → Bool
+is_open (Some (Open x)) = true
+is_open _ = false
+
+-- an event of a registry that is open teaches the client
+abbrev pub learned : List Interface → (ℕ → Option Row) → Message Born → List Remembered
+    → List Remembered
+learned tables client m remembered =
+    if is_registry m.target && is_open (client m.target.birth)
+    then globals_told tables remembered m.opcode (map nameless m.args)
+    else remembered
+
+-- ---- the steps
+
+-- what happens in the world at one time
+pub data Action : Type 0 where
+  WriteRequest : Message Born → Action
+  ReadRequest : Message Born → Action
+  WriteEvent : Message Born → Action
+  Drop : Born → Action
+  ReadEvent : Coming Born → Action
+
+abbrev pub request_written : World → Message Born → World
+request_written w m = record w {
+  births = counted (made_in m.args) w.births;
+  requests = w.requests ++ m ∷ [];
+  client = ending m.ends (born_into Open (made_in m.args) w.client);
+}
+
+abbrev pub request_read : World → Message Born → List (Message Born) → World
+request_read w m rest = record w {
+  requests = rest;
+  events = w.events ++ delete m.ends;
+  server = gone m.ends (born_into same (made_in m.args) w.server);
+  registries = registries_without m.ends (registries_after (made_in m.args) w.registries);
+}
+
+abbrev pub event_written : World → Message Born → World
+event_written w m = record w {
+  events = w.events ++ (Event m ∷ delete m.ends);
+  server = gone m.ends w.server;
+}
+
+abbrev pub dropped : World → Born → World
+dropped w x = record w { events = w.events ++ Delete x ∷ []; server = put w.server x.birth None }
+
+abbrev pub event_read : List Interface → World → Message Born → List (Coming Born) → World
+event_read tables w m rest = record w {
+  events = rest;
+  client = ending m.ends w.client;
+  remembered = learned tables w.client m w.remembered;
+}
+
+abbrev pub delete_read : World → Born → List (Coming Born) → World
+delete_read w x rest = record w { events = rest; client = put w.client x.birth None }
+
+-- What the world allows: by births alone.
+pub data Steps (tables : List Interface) (w : World) : Action → World → Type 0 where
+  -- The target and the objects of a written request are open at the client, and a new object is the
+  -- next birth. The request goes to the end, and one that it destroys becomes ending.
+  writes_request : (m : Message Born) → IsOpen w.client m.target
+      → Each (IsOpen w.client) (objects m.args)
+      → IfThere (λ x. x.birth ≡ w.births) (made_in m.args)
+      → Steps tables w (WriteRequest m) (request_written w m)
+  -- The first request is read: its new object becomes open at the server, and one that it destroys
+  -- is closed and its delete written.
+  reads_request : (m : Message Born) (rest : List (Message Born))
+      → w.requests ≡ m ∷ rest → Steps tables w (ReadRequest m) (request_read w m rest)
+  -- The target and the objects of a written event are open at the server. One that it destroys is
+  -- closed, and its delete follows.
+  writes_event : (m : Message Born) → IsThere w.server m.target
+      → Each (IsThere w.server) (objects m.args) → Steps tables w (WriteEvent m) (event_written w m)
+  -- An object of an interface with a destroying event is closed without one.
+  drops : (x : Born) → IsThere w.server x → is_ended_by_event (interface_at tables x.iface.0) ≡ true
+      → Steps tables w (Drop x) (dropped w x)
+  -- The first event is read: an object that it destroys becomes ending.
+  reads_event : (m : Message Born) (rest : List (Coming Born)) → w.events ≡ Event m ∷ rest
+      → Steps tables w (ReadEvent (Event m)) (event_read tables w m rest)
+  -- A delete is read: its object is neither open nor ending.
+  reads_delete : (x : Born) (rest : List (Coming Born)) → w.events ≡ Delete x ∷ rest
+      → Steps tables w (ReadEvent (Delete x)) (delete_read w x rest)
+
+abbrev pub display_born : Born
+display_born = record { birth = 0; iface = display; version = 1 }
+
+-- the world as it begins: wl_display is open at both ends
+abbrev pub opening : World
+opening = record {
+  births = 1;
+  requests = [];
+  events = [];
+  client = put nothing 0 (Some (Open display_born));
+  server = put nothing 0 (Some display_born);
+  remembered = [];
+  given = [];
+  registries = [];
+  ended = false;
+}

@@ -1,0 +1,42 @@
+-- What is linked was recorded lawfully.
+use Rattle.std.proofs.Common.{◌≡◌, ℕ, Bool, true, false, cond, List, nat_lt, slice_get, refl, sym, ap, subst}
+use Rattle.std.specs.declared.option.Option.{Option}
+use Rattle.std.specs.declared.option.Option.TheVariants.{None, Some}
+use Rattle.wl_sigs.specs.Tables.{Interface}
+use Rattle.wl_objects.specs.declared.error.Fault.{Fault}
+use Rattle.wl_recording.specs.Piece.{Piece}
+use Rattle.wl_check.specs.declared.verdict.Verdict.{Verdict}
+use Rattle.wl_check.specs.Session.{Judged, IsLawful, SaysLawful, Answers, session_of, messages, examined, fault_of}
+use Rattle.wl_check.proofs.Examined.{exact_from}
+use Rattle.theory_connection.specs.World.{World}
+use Rattle.theory_connection.specs.Pair.{PairState}
+use Rattle.theory_connection.specs.Stands.{Stands, stands, ended as stands_ended}
+use Rattle.theory_recording.specs.Follows.{AllGoOn}
+use Rattle.theory_recording.specs.Linked.{Linked, linked, ended, judgements, limit_of, up_to}
+
+no_fault : (ms : List Judged) → AllGoOn ms → (k : ℕ) (o : Option Judged) → slice_get ms k ≡ o → fault_of o ≡ None
+no_fault ms a k None e = refl
+no_fault ms a k (Some one) e = ap (λ (j : Judged). fault_of (Some j)) (a k one e).is
+
+if_none : (b : Bool) (o : Option Fault) → o ≡ None → cond b o None ≡ None
+if_none true o e = e
+if_none false o e = refl
+
+-- where all messages go on, none breaks a rule
+pub all_lawful : (limit : ℕ) (tables : List Interface) (pieces : List Piece) → AllGoOn (judgements limit tables pieces) → IsLawful tables (session_of limit pieces)
+all_lawful limit tables pieces a k =
+    let ms = messages tables (session_of limit pieces) in
+    if_none (nat_lt k (examined ms)) (fault_of (slice_get ms k)) (no_fault ms a k (slice_get ms k) refl)
+
+pub linked_lawful : (p : PairState) (w : World) → Linked p w → IsLawful p.server.core.tables (session_of (limit_of p) (up_to p.ended_at p.recording))
+linked_lawful p w (ended e l) = subst (λ (o : Option ℕ). IsLawful p.server.core.tables (session_of (limit_of p) (up_to o p.recording))) (sym l.mark) l.lawful
+linked_lawful p w (linked asked told z l) =
+    subst (λ (o : Option ℕ). IsLawful p.server.core.tables (session_of (limit_of p) (up_to o p.recording))) (sym z.1) (all_lawful (limit_of p) p.server.core.tables p.recording l.follows.passed)
+
+-- whatever a checker answers of it, it says that the session is lawful
+pub check_says_lawful : (p : PairState) (w : World) → Linked p w → (verdict : Verdict) → Answers p.server.core.tables (session_of (limit_of p) (up_to p.ended_at p.recording)) verdict → SaysLawful verdict
+check_says_lawful p w l verdict a = (exact_from p.server.core.tables (session_of (limit_of p) (up_to p.ended_at p.recording)) verdict a).1 (linked_lawful p w l)
+
+pub linked_stands : (p : PairState) (w : World) → Linked p w → Stands p w
+linked_stands p w (ended e l) = stands_ended e
+linked_stands p w (linked asked told z l) = stands asked told z l.stands

@@ -1,0 +1,40 @@
+-- A message that is read was recorded whole.
+use Rattle.std.proofs.Common.{◌≡◌, ℕ, ◌≤◌, List, [], ◌∷◌, ◌++◌, map, length, drop, sym, ap, ◌∙◌, arith, length-append}
+use Rattle.std.proofs.lemmas.List.{append_assoc, drop_at, length-drop}
+use Rattle.wl_message.specs.Cut.{front, More, Whole}
+use Rattle.wl_message.specs.Arrived.{Arrived, without_first, in_front}
+use Rattle.wl_message.specs.Outgoing as boxes
+use Rattle.wl_message.specs.Outgoing.{all_bytes, all_tokens}
+use Rattle.wl_recording.specs.declared.piece.Direction.{Direction}
+use Rattle.wl_recording.specs.Piece.{Piece}
+use Rattle.theory_recording.specs.Recorded.{Recorded}
+use Rattle.theory_recording.proofs.RecordedCarry.{part_more}
+
+-- ---- the first of what is in flight was recorded, where a whole message waits
+
+pub record SeenFirst {X : Type 0} (m : X) (ms seen later : List X) : Type 0 where
+  pub rest : List X
+  pub seen_is : seen ≡ m ∷ rest
+  pub others : ms ≡ rest ++ later
+
+pub seen_first : {X : Type 0} (spell : X → boxes.Message) (l : ℕ) (d : Direction) (ps : List Piece) (inbox : Arrived) (taken n : ℕ) (m : X) (ms seen later : List X) → m ∷ ms ≡ seen ++ later
+    → Recorded l d ps inbox taken (map spell seen) → in_front inbox ≡ Whole n → SeenFirst m ms seen later
+seen_first spell l d ps inbox taken n m ms [] later e r whole =
+    let none : in_front inbox ≡ More = ap (λ (limit : ℕ). front limit inbox.bytes) r.same_limit ∙ ap (front l) r.waits ∙ part_more l d ps inbox taken [] r in
+    absurd (cc (none, whole))
+seen_first spell l d ps inbox taken n m ms (x ∷ rest) later e r whole =
+    let first : x ≡ m = cc e in
+    let others : ms ≡ rest ++ later = cc e in
+    record { rest = rest; seen_is = ap (λ (y : _). y ∷ rest) first; others = others }
+
+-- the inbox without it
+pub read_on : (l : ℕ) (d : Direction) (ps : List Piece) (inbox : Arrived) (taken n t : ℕ) (first : boxes.Message) (rest : List boxes.Message) → Recorded l d ps inbox taken (first ∷ rest)
+    → n ≡ length first.bytes → t ≡ length first.tokens → t ≤ length inbox.tokens → Recorded l d ps (without_first inbox n t) taken rest
+read_on l d ps inbox taken n t first rest r size own there = record {
+  same_limit = r.same_limit;
+  part = r.part;
+  sound = r.sound;
+  rest = r.rest;
+  waits = ap (drop n) (r.waits ∙ append_assoc first.bytes (all_bytes rest) r.part) ∙ drop_at first.bytes (all_bytes rest ++ r.part) n (sym size);
+  tokens = let all = r.tokens in omega (arith, all, own, there, length-append first.tokens (all_tokens rest), length-drop t inbox.tokens);
+}

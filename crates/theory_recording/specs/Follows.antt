@@ -1,0 +1,107 @@
+-- What a checker knows behind the messages that it has judged, and how that fits the ends.
+use Rattle.std.specs.Prelude.{◌≡◌, ℕ, zero, suc, ◌<◌, ◌≤◌, true, false, List, [], ◌∷◌, ◌++◌, length}
+use Rattle.std.specs.Prelude.{map, get_or, slice_get, Option, Some, None, option_map}
+use Rattle.std.specs.declared.result.Result.TheVariants.{Ok}
+use Rattle.wl_wire.specs.declared.kind.Iface.{Iface}
+use Rattle.wl_wire.specs.Argument.{Uint, Str}
+use Rattle.wl_sigs.specs.Tables.{Interface, place_of}
+use Rattle.wl_sigs.specs.declared.signature.Side.TheVariants.{Request, Event as event_side}
+use Rattle.wl_object_map.specs.declared.object.Entry.{Entry}
+use Rattle.wl_object_map.specs.declared.object.State.TheVariants as states
+use Rattle.wl_objects.specs.Messages.{NewObject, is_bind}
+use Rattle.wl_client.specs.declared.globals.Global.{Global}
+use Rattle.wl_check.specs.Effects.{Call, first_number, is_global}
+use Rattle.wl_check.specs.Places.{Known as Knows, known}
+use Rattle.wl_check.specs.Session.{Judged, effects, ends_session}
+use Rattle.theory_connection.specs.Meant.{Known, Message, Coming, Event, Delete, made_in, wire}
+use Rattle.theory_connection.specs.World.{Row, Open, Ending, Each}
+use Rattle.theory_connection.specs.Flight.{Rows, all_asks, all_tells}
+use Rattle.theory_connection.specs.Stands.{birth_in, by_event}
+use Rattle.theory_recording.specs.Leads.{Joins}
+
+-- a message keeps all rules, and the session goes on
+pub record GoesOn (judged : Judged) : Type 0 where
+  pub call : Call
+  pub is : judged ≡ Ok call
+  pub goes_on : ends_session judged ≡ false
+
+abbrev pub AllGoOn : List Judged → Type 0
+AllGoOn judged = (k : ℕ) (one : Judged) → slice_get judged k ≡ Some one → GoesOn one
+
+-- what is known behind messages, each judged at its place
+abbrev pub knowledge : List Interface → List Judged → Knows
+knowledge tables judged = known (effects tables judged) (suc (length judged))
+
+-- The places of what makes an object, in their order: wl_display, of birth 0, is made at place 0,
+-- and the object of birth b by the b-th request that makes one.
+abbrev pub maker : Option NewObject → ℕ → List ℕ
+maker None place = []
+maker (Some new) place = place ∷ []
+
+unfoldable pub makers : (ℕ → Option NewObject) → ℕ → List ℕ
+makers made zero = []
+makers made (suc place) = makers made place ++ maker (made place) place
+
+abbrev pub places : List Interface → List Judged → List ℕ
+places tables judged = makers (λ place. (effects tables judged place).made) (suc (length judged))
+
+-- an object as the checker has it: its birth is told by its place
+abbrev pub entry_at : List ℕ → Row → Entry
+entry_at places (Open x) = record {
+  birth = get_or places x.birth 0;
+  iface = x.iface;
+  version = x.version;
+  state = states.Live;
+}
+entry_at places (Ending x) = record {
+  birth = get_or places x.birth 0;
+  iface = x.iface;
+  version = x.version;
+  state = states.Zombie;
+}
+
+-- The checker knows just these rows.
+pub record KnownAs (k : Knows) (places : List ℕ) (here : Rows Row) : Type 0 where
+  pub objects : (id : ℕ) → k.object id ≡ option_map (entry_at places) (here.rows id)
+  pub used : k.used ≡ here.used
+  pub births : length places ≡ here.births
+  pub below : (id : ℕ) (r : Row) → here.rows id ≡ Some r → birth_in r < here.births
+
+-- ---- globals
+
+-- a recorded event advertised at least this version of a global
+abbrev pub IsAdvertised : Knows → ℕ → ℕ → ℕ → Type 0
+IsAdvertised k name iface version = version ≤ k.advertised_version name iface
+
+-- so it is with what a `global` event tells, where its interface is in the tables
+abbrev pub TellsAdvertised : List Interface → Knows → Coming Known → Type 0
+TellsAdvertised tables k (Event m) = is_global event_side m.target.born.iface m.opcode ≡ true
+    → (name version : ℕ) (text : List ℕ) (iface : Iface)
+    → map wire m.args ≡ Uint name ∷ Str (Some text) ∷ Uint version ∷ []
+    → place_of tables text ≡ Some iface → IsAdvertised k name iface.0 version
+TellsAdvertised tables k (Delete x) = Unit {0}
+
+-- and with what a bind takes
+abbrev pub BindsAdvertised : Knows → Message Known → Type 0
+BindsAdvertised k m = is_bind Request m.target.born.iface m.opcode ≡ true
+    → (name : ℕ) (x : Known) → first_number (map wire m.args) ≡ Some name → made_in m.args ≡ Some x
+    → IsAdvertised k name x.born.iface.0 x.born.version
+
+-- ---- all of it
+
+-- These requests were asked and are not yet recorded; these events were recorded and are not yet
+-- read by the client, which has these rows and remembers these globals. None of the judged messages
+-- breaks a rule or is wl_display.error. The checker knows some rows; from them the requests lead to
+-- the rows to which the events lead the client. Each global that the client remembers, will read of
+-- or binds was advertised in a recorded event.
+pub record Follows (tables : List Interface) (judged : List Judged)
+    (asked_later : List (Message Known)) (told_seen : List (Coming Known)) (client : Rows Row)
+    (remembered : List Global) : Type 0 where
+  pub passed : AllGoOn judged
+  pub here : Rows Row
+  pub known_as : KnownAs (knowledge tables judged) (places tables judged) here
+  pub joins : Joins (by_event tables) (all_asks asked_later) (all_tells told_seen) here client
+  pub remembers : Each (λ g. IsAdvertised (knowledge tables judged) g.name g.iface.0 g.version)
+      remembered
+  pub tells : Each (TellsAdvertised tables (knowledge tables judged)) told_seen
+  pub binds : Each (BindsAdvertised (knowledge tables judged)) asked_later

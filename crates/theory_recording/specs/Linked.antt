@@ -1,0 +1,89 @@
+-- When a pair, its world and its recording are linked.
+use Rattle.std.specs.Prelude.{◌≡◌, ℕ, ◌≤◌, true, List, [], ◌∷◌, ◌++◌, length, map, take, Option}
+use Rattle.std.specs.Prelude.{Some, None}
+use Rattle.wl_sigs.specs.Tables.{Interface}
+use Rattle.wl_recording.specs.declared.piece.Direction.TheVariants.{ToServer, ToClient}
+use Rattle.wl_recording.specs.Piece.{Piece}
+use Rattle.wl_check.specs.Places.{Known as Knows}
+use Rattle.wl_check.specs.Session.{Judged, IsLawful, messages, session_of}
+use Rattle.theory_connection.specs.Meant.{Known, Message, Coming, spelled, spelled_coming}
+use Rattle.theory_connection.specs.World.{World, Each}
+use Rattle.theory_connection.specs.Pair.{PairState, Move, Reply}
+use Rattle.theory_connection.specs.Flight.{client_rows, all_tells, IsBelow}
+use Rattle.theory_connection.specs.Answers.{NotEnded, Answers}
+use Rattle.theory_connection.specs.Stands.{StandsBy}
+use Rattle.theory_recording.specs.Recorded.{Recorded}
+use Rattle.theory_recording.specs.Follows.{Follows, knowledge}
+
+-- the messages of a recording, each judged at its place, by this limit
+abbrev pub judgements : ℕ → List Interface → List Piece → List Judged
+judgements limit tables pieces = messages tables (session_of limit pieces)
+
+-- the limit by which both ends go
+abbrev pub limit_of : PairState → ℕ
+limit_of p = p.server.core.inbox.limit.bytes
+
+-- the messages of a pair's recording, and what the checker knows behind them
+abbrev pub judged_in : PairState → List Judged
+judged_in p = judgements (limit_of p) p.server.core.tables p.recording
+
+abbrev pub knows : PairState → Knows
+knows p = knowledge p.server.core.tables (judged_in p)
+
+-- These requests and events are in flight, and of each direction's the first were recorded and the
+-- others not. What was recorded goes on lawfully, and a checker of it follows the ends.
+pub record LinkedBy (p : PairState) (w : World) (asked : List (Message Known))
+    (told : List (Coming Known)) : Type 0 where
+  pub stands : StandsBy p w asked told
+  pub asked_seen : List (Message Known)
+  pub asked_later : List (Message Known)
+  pub told_seen : List (Coming Known)
+  pub told_later : List (Coming Known)
+  pub asked_is : asked ≡ asked_seen ++ asked_later
+  pub told_is : told ≡ told_seen ++ told_later
+  -- each direction's stream, and its tokens
+  pub to_server : Recorded (limit_of p) ToServer p.recording p.server.core.inbox
+      ((knows p).taken ToServer) (map spelled asked_seen)
+  pub to_client : Recorded (limit_of p) ToClient p.recording p.client.core.inbox
+      ((knows p).taken ToClient) (map spelled_coming told_seen)
+  -- what the checker knows, and how the ends differ from it
+  pub follows : Follows p.server.core.tables (judged_in p) asked_later told_seen
+      (client_rows p.client.core.view) p.client.globals
+  -- what an event in flight is about was counted by the server
+  pub counted : Each (IsBelow p.server.core.view.births) (all_tells told)
+
+-- the pieces up to the mark
+abbrev pub up_to : Option ℕ → List Piece → List Piece
+up_to None pieces = pieces
+up_to (Some count) pieces = take count pieces
+
+-- what was recorded when the first error was posted is lawful
+pub record EndedLawful (p : PairState) : Type 0 where
+  pub count : ℕ
+  pub mark : p.ended_at ≡ Some count
+  pub there : count ≤ length p.recording
+  pub lawful : IsLawful p.server.core.tables (session_of (limit_of p) (take count p.recording))
+
+-- The pair's recording is linked with its world. Once the world is ended this says only that what
+-- was recorded before the end is lawful.
+pub data Linked (p : PairState) (w : World) : Type 0 where
+  ended : w.ended ≡ true → EndedLawful p → Linked p w
+  linked : (asked : List (Message Known)) (told : List (Coming Known))
+      → NotEnded p w → LinkedBy p w asked told → Linked p w
+
+-- The run of these moves: each pair is linked with its world, and each reply is one that the world
+-- allows.
+abbrev pub RunsLinked : PairState → World → List Move → List Reply → PairState → Type 0
+RunsLinked pair world [] [] last = pair ≡ last
+RunsLinked pair world (move ∷ moves) (reply ∷ replies) last =
+    (next : PairState) × (world' : World)
+    × Answers pair world move reply next world' × Linked next world'
+    × RunsLinked next world' moves replies last
+RunsLinked pair world _ _ last = ⊥
+
+-- a step of a linked pair: the world allows the reply, and the pair is linked again
+pub record LinksOn (p : PairState) (w : World) (move : Move) (reply : Reply) (p' : PairState)
+    : Type 0 where
+  pub world : World
+  pub answers : Answers p w move reply p' world
+  pub links : Linked p' world

@@ -1,0 +1,46 @@
+-- What stands in front of an end, where the frame of a message was told.
+use Rattle.std.proofs.Common.{◌≡◌, ℕ, ◌≤◌, List, ◌++◌, length, take, drop, sym, ap, ◌∙◌}
+use Rattle.std.proofs.lemmas.List.{take-append-drop, append_assoc}
+use Rattle.std.proofs.lemmas.List.Sums.{count_by-le-length}
+use Rattle.std.specs.declared.option.Option.{Option}
+use Rattle.std.specs.declared.option.Option.TheVariants.{Some}
+use Rattle.std.specs.declared.result.Result.TheVariants.{Ok}
+use Rattle.wl_wire.specs.declared.header.Header.{Header}
+use Rattle.wl_wire.specs.declared.kind.Kind.{Kind}
+use Rattle.wl_wire.specs.Word.{IsHeader, header_at, header_bytes}
+use Rattle.wl_wire.proofs.Canonicals.{header_at-bytes}
+use Rattle.wl_sigs.specs.declared.signature.Side.{Side}
+use Rattle.wl_message.specs.declared.inbox.Frame.{Frame}
+use Rattle.wl_message.specs.Arrived.{Tells, in_front}
+use Rattle.wl_message.specs.Cut.{Whole}
+use Rattle.wl_objects.specs.Reading.{descriptors, is_descriptor_kind}
+use Rattle.wl_objects.specs.Messages.{received, reader_of}
+use Rattle.wl_connection.specs.Core.{Core}
+use Rattle.wl_connection.specs.Receiving.{found, found_at, found_in, header_of}
+
+-- a frame as it is told
+pub record IsFrame (core : Core) (h : Header) (body : List ℕ) (waiting : ℕ) : Type 0 where
+  pub header : IsHeader h
+  pub whole : in_front core.inbox ≡ Whole h.size
+  pub parts : take h.size core.inbox.bytes ≡ header_bytes h ++ body
+  pub tokens : waiting ≡ length core.inbox.tokens
+
+pub found_frame : (core : Core) (side : Side) (h : Header) (body : List ℕ) (waiting : ℕ) → IsFrame core h body waiting
+    → found core side ≡ found_in h.size h.opcode (received core.tables side (reader_of core.view) h body waiting)
+found_frame core side h body waiting f =
+    let bytes = core.inbox.bytes in
+    let rest = drop h.size bytes in
+    let whole : bytes ≡ header_bytes h ++ (body ++ rest) =
+    sym (take-append-drop h.size bytes) ∙ ap (λ (x : List ℕ). x ++ rest) f.parts ∙ append_assoc (header_bytes h) body rest in
+    let head : header_of bytes ≡ h = ap header_at whole ∙ header_at-bytes h (body ++ rest) f.header in
+    ap (found_at core side) f.whole
+    ∙ ap (λ (k : Header). found_in h.size k.opcode (received core.tables side (reader_of core.view) k (drop 8 (take h.size bytes)) (length core.inbox.tokens))) head
+    ∙ ap (λ (x : List ℕ). found_in h.size h.opcode (received core.tables side (reader_of core.view) h x (length core.inbox.tokens))) (ap (drop 8) f.parts)
+    ∙ ap (λ (n : ℕ). found_in h.size h.opcode (received core.tables side (reader_of core.view) h body n)) (sym f.tokens)
+
+pub framed : (core : Core) (o : Option Frame) (f : Frame) → o ≡ Some f → Tells core.inbox (Ok o) → IsHeader f.header → IsFrame core f.header f.body.now f.tokens
+framed core o f e t h = let k = rw e at t in record { header = h; whole = k.0; parts = k.1; tokens = k.2 }
+
+-- a message takes no more tokens than it has arguments
+pub descriptors-le : (ks : List Kind) → descriptors ks ≤ length ks
+descriptors-le ks = count_by-le-length is_descriptor_kind ks

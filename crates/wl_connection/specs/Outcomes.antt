@@ -1,0 +1,33 @@
+-- What a call returns and leaves where it may allocate.
+use Rattle.std.specs.Prelude.{◌≡◌, ◌⊎◌, Bool, true, false, IsOk, Option, Some, None}
+use Rattle.std.specs.declared.result.Result.{Result}
+use Rattle.std.specs.declared.result.Result.TheVariants.{Ok, Err}
+use Rattle.wl_object_map.specs.declared.object.Object.{Object}
+use Rattle.wl_objects.specs.declared.error.NextError.{NextError}
+use Rattle.wl_objects.specs.declared.error.NextError.TheVariants as errors
+
+-- A call returns what it should; or, where that is an acceptance for which memory may be needed,
+-- out of memory.
+abbrev pub AnswersOrMemory : {X E : Type 0} → E → Bool → Result X E → Result X E → Type 0
+AnswersOrMemory memory wants answer result =
+    (result ≡ answer) ⊎ ((result ≡ Err memory) × (wants ≡ true) × IsOk answer)
+
+-- whether a read returns a report, and one of this kind
+abbrev pub answers_with : {R : Type 0} → (R → Bool) → Result (Option R) NextError → Bool
+answers_with is (Ok (Some report)) = is report
+answers_with is _ = false
+
+-- what a read leaves: out of memory, nothing has changed
+abbrev pub left : {S R : Type 0} → S → S → Result R NextError → S
+left before after (Err errors.Memory) = before
+left before after result = after
+
+-- what a call that makes an object returned, as of a call that may make one
+abbrev pub new_in : {E : Type 0} → Result Object E → Result (Option Object) E
+new_in (Err why) = Err why
+new_in (Ok object) = Ok (Some object)
+
+-- why a call was refused, if it was
+abbrev pub refusal_in : {X E : Type 0} → Result X E → Option E
+refusal_in (Ok x) = None
+refusal_in (Err why) = Some why

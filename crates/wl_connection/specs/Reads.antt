@@ -1,0 +1,202 @@
+-- How an end reads a stream, however it is cut into pieces, and whichever end it is.
+use Rattle.std.specs.Prelude.{◌≡◌, ℕ, ◌<◌, Bool, true, false, List, [], ◌∷◌, length, map, take}
+use Rattle.std.specs.Prelude.{drop, Option, Some, None}
+use Rattle.std.specs.declared.result.Result.{Result}
+use Rattle.std.specs.declared.result.Result.TheVariants.{Ok, Err}
+use Rattle.wl_sigs.specs.declared.signature.Side.{Side}
+use Rattle.wl_message.specs.declared.amounts.Fed.{Fed}
+use Rattle.wl_message.specs.Arrived.{free_tokens}
+use Rattle.wl_message.specs.InStep.{Part, Need, InStep, part_bytes, part_tokens}
+use Rattle.wl_objects.specs.declared.error.Fault.{Fault}
+use Rattle.wl_objects.specs.declared.error.NextError.{NextError}
+use Rattle.wl_objects.specs.declared.error.NextError.TheVariants as errors
+use Rattle.wl_connection.specs.declared.streams.ReadAll.{ReadAll}
+use Rattle.wl_connection.specs.Core.{Core, with_arrived, no_room}
+use Rattle.wl_connection.specs.Streams.{BeginWith, Wants, IsTaken, taken_bytes, taken_tokens, untaken}
+use Rattle.wl_connection.specs.Streams.{NoneFits, waiting}
+
+-- what a reading returns: a report, nothing where no whole message waits, or why none can be read
+abbrev pub Answer : Type 0 → Type 0
+Answer R = Result (Option R) NextError
+
+-- How an end reads: what `next_owned` returns and leaves where memory is not refused, and after
+-- which report nothing more is read.
+pub record Reading (S R : Type 0) : Type 0 where
+  pub core : S → Core
+  pub with_core : S → Core → S
+  pub answer : S → Answer R
+  pub after : S → S
+  pub is_last : R → Bool
+
+abbrev pub reading_of : {S R : Type 0} → (S → Core) → (S → Core → S)
+    → (S → Answer R) → (S → S) → (R → Bool) → Reading S R
+reading_of core with_core answer after is_last =
+    record { core = core; with_core = with_core; answer = answer; after = after; is_last = is_last }
+
+-- what an end consists of besides its core stays as it is where the core is replaced
+pub record IsCoreOf {S : Type 0} (core : S → Core) (with_core : S → Core → S) : Type 0 where
+  pub kept : (state : S) → with_core state (core state) ≡ state
+  pub new : (state : S) (c : Core) → core (with_core state c) ≡ c
+  pub again : (state : S) (c d : Core) → with_core (with_core state c) d ≡ with_core state d
+
+-- the end with more that came in
+abbrev pub arrived : {S R : Type 0} → Reading S R → S → List ℕ → List ℕ → S
+arrived e state bytes tokens = e.with_core state (with_arrived (e.core state) bytes tokens)
+
+-- All that waits is read: these are the reports of the messages, in order, why the reading stopped,
+-- if it did, and the state that is left. Without a stop and without a last report no whole message
+-- and no bad header is left. At a server whose outbox is too full for a delete_id the request
+-- stays.
+pub data Reads {S R : Type 0} (e : Reading S R) : S → List R → Option NextError → S → Type 0 where
+  none : {state : S} → e.answer state ≡ Ok None → Reads e state [] None state
+  fault : {state : S} {what : Fault} {offset : ℕ} → e.answer state ≡ Err (errors.Fault what offset)
+      → Reads e state [] (Some (errors.Fault what offset)) (e.after state)
+  full : {state : S} → e.answer state ≡ Err errors.OutFull
+      → Reads e state [] (Some errors.OutFull) state
+  last : {state : S} {report : R} → e.answer state ≡ Ok (Some report) → e.is_last report ≡ true
+      → Reads e state (report ∷ []) None (e.after state)
+  next : {state end : S} {report : R} {reports : List R} {stop : Option NextError}
+      → e.answer state ≡ Ok (Some report) → e.is_last report ≡ false
+      → Reads e (e.after state) reports stop end → Reads e state (report ∷ reports) stop end
+
+-- Some of what waits is read, from the first message on: these are the reports, none of them a last
+-- one, and the state that is left.
+pub data ReadsSome {S R : Type 0} (e : Reading S R) : S → List R → S → Type 0 where
+  nothing : {state : S} → ReadsSome e state [] state
+  more : {state end : S} {report : R} {reports : List R}
+      → e.answer state ≡ Ok (Some report) → e.is_last report ≡ false
+      → ReadsSome e (e.after state) reports end → ReadsSome e state (report ∷ reports) end
+
+-- a message stands in front that can be read and reported
+abbrev pub HasReport : {S R : Type 0} → Reading S R → S → Type 0
+HasReport {R = R} e state = (report : R) × (e.answer state ≡ Ok (Some report))
+
+-- Where memory was refused some of what waits is read, up to a message that can be read; else all
+-- of it.
+abbrev pub ReadsUntil : {S R : Type 0} → Reading S R → S → List R → Option NextError → S → Type 0
+ReadsUntil e state reports (Some errors.Memory) end =
+    ReadsSome e state reports end × HasReport e end
+ReadsUntil e state reports stop end = Reads e state reports stop end
+
+-- Pieces are read, as far as the result says: as if all that was taken of them had come at once.
+-- Nothing but a stop and a last report ends it before a piece whose tokens find room.
+pub record ReadsAll {S R : Type 0} (e : Reading S R) (state : S) (pieces : List Part)
+    (reports : List R) (answer : ReadAll) (end : S) : Type 0 where
+  pub taken : IsTaken pieces answer.pieces answer.part
+  pub reads : ReadsUntil e (arrived e state (taken_bytes pieces answer.pieces answer.part)
+      (taken_tokens pieces answer.pieces answer.part)) reports answer.stop end
+  pub to_the_end : answer.stop ≡ None → (e.core end).failed ≡ false
+      → (answer.part ≡ no_room) × NoneFits (free_tokens (e.core end).inbox) pieces answer.pieces
+
+-- what the reports say that stand behind these others
+abbrev pub appended : {X R : Type 0} → (X → R) → List X → List X → List R
+appended seen before after = map seen (drop (length before) after)
+
+-- ---- one reading
+
+-- A message is read, and would be read so with more behind it, which would stay behind.
+pub record ReadsReport {S R : Type 0} (e : Reading S R) (state : S) (report : R) (end : S)
+    : Type 0 where
+  pub is : e.answer state ≡ Ok (Some report)
+  pub leaves : end ≡ e.after state
+  pub stays : (bytes tokens : List ℕ) → e.answer (arrived e state bytes tokens) ≡ Ok (Some report)
+  pub leaves_more : (bytes tokens : List ℕ)
+      → e.after (arrived e state bytes tokens) ≡ arrived e end bytes tokens
+  pub fewer : length (e.core end).inbox.bytes < length (e.core state).inbox.bytes
+  pub ends : (e.core end).failed ≡ e.is_last report
+
+-- Nothing is left to read: less waits than the longest message has.
+pub record ReadsNothing {S R : Type 0} (e : Reading S R) (state : S) : Type 0 where
+  pub is : e.answer state ≡ Ok None
+  pub sound : (e.core state).failed ≡ false
+  pub short : length (e.core state).inbox.bytes < (e.core state).inbox.limit.bytes
+
+-- What one reading returns and leaves, at an end that has not failed.
+abbrev pub ReadsNext : {S R X : Type 0} → Reading S R → (X → R) → S → Answer X → S → Type 0
+ReadsNext e seen state (Ok (Some report)) end = ReadsReport e state (seen report) end
+ReadsNext e seen state (Ok None) end = (end ≡ state) × ReadsNothing e state
+ReadsNext e seen state (Err why) end = ReadsUntil e state [] (Some why) end
+
+-- ---- the parts of a reading
+
+-- Some of what waits is read, and would be read so with more behind it, which would stay behind.
+abbrev pub ReadsOn : {S R : Type 0} → Reading S R → S → List R → S → Type 0
+ReadsOn e state reports end = (bytes tokens : List ℕ)
+    → ReadsSome e (arrived e state bytes tokens) reports (arrived e end bytes tokens)
+
+-- What waits is read: all of it, with nothing left to read; or up to a stop, or to a last report,
+-- where there is none.
+abbrev pub WaitingIsRead : {S R X : Type 0} → Reading S R → S → List R → Result X (Option NextError)
+    → S → Type 0
+WaitingIsRead e state reports (Ok _) end = ReadsOn e state reports end × ReadsNothing e end
+WaitingIsRead e state reports (Err stop) end =
+    ReadsUntil e state reports stop end × (stop ≡ None → (e.core end).failed ≡ true)
+
+-- A piece is read, whose tokens find room: it is taken whole; or part of it, where the reading
+-- stopped.
+abbrev pub PieceIsRead : {S R X : Type 0} → Reading S R → S → Part → List R → Result X ReadAll → S
+    → Type 0
+PieceIsRead e state piece reports (Ok _) end =
+    ReadsOn e (arrived e state piece.bytes piece.tokens) reports end × ((e.core end).failed ≡ false)
+PieceIsRead e state piece reports (Err ended) end =
+    ReadsUntil e
+    (arrived e state (take ended.part.bytes piece.bytes) (take ended.part.tokens piece.tokens))
+    reports ended.stop end
+    × (ended.stop ≡ None → (e.core end).failed ≡ true)
+    × (ended.part.bytes < length piece.bytes) × (ended.part.tokens ≡ length piece.tokens)
+    × (ended.pieces ≡ 0)
+
+-- ---- pieces that come in step
+
+-- What waits begins with messages of these needs: each is read before the next stands in front.
+-- Messages of this side come in.
+pub data Begins {S R : Type 0} (e : Reading S R) (side : Side) : S → List Need → Type 0 where
+  here : {state : S} → Begins e side state []
+  ends : {state : S} {need : Need} → (e.core state).failed ≡ false → Wants (e.core state) side need
+      → Begins e side state (need ∷ [])
+  goes_on : {state : S} {need : Need} {needs : List Need} {report : R}
+      → e.answer state ≡ Ok (Some report) → Wants (e.core state) side need
+      → Begins e side (e.after state) needs → Begins e side state (need ∷ needs)
+
+-- the pieces bring the messages in step, with which what waits begins
+abbrev pub ComeInStep : {S R : Type 0} → Reading S R → Side → S → List Part → Type 0
+ComeInStep e side state pieces =
+    (needs : List Need) → Begins e side state needs → InStep needs pieces
+
+-- ---- what holds of how an end reads
+
+-- What waits is read in one way. What is read of it is read in the same way when more comes behind
+-- it, and that stays behind.
+pub record HasOneReading {S R : Type 0} (e : Reading S R) : Type 0 where
+  pub reports : (state last end : S) (reports others : List R) (stop halt : Option NextError)
+      → Reads e state reports stop last → Reads e state others halt end → reports ≡ others
+  pub stop : (state last end : S) (reports others : List R) (stop halt : Option NextError)
+      → Reads e state reports stop last → Reads e state others halt end → stop ≡ halt
+  pub left : (state last end : S) (reports others : List R) (stop halt : Option NextError)
+      → Reads e state reports stop last → Reads e state others halt end → last ≡ end
+  pub stays : (state last : S) (reports : List R) (bytes tokens : List ℕ)
+      → ReadsSome e state reports last
+      → ReadsSome e (arrived e state bytes tokens) reports (arrived e last bytes tokens)
+
+-- It does not matter how a stream is cut, where its pieces are in step: what was read up to a
+-- fault, or to the last report that there is, is what would be read had all pieces come at once,
+-- and what was not taken of them stays behind.
+abbrev pub AnyCutReads : {S R : Type 0} → Reading S R → Side → Type 0
+AnyCutReads {S = S} {R = R} e side =
+    (state last : S) (pieces : List Part) (count : ℕ) (some : Fed)
+    (reports : List R) (stop : Option NextError) → IsTaken pieces count some
+    → ComeInStep e side (arrived e state (part_bytes pieces) (part_tokens pieces))
+    (waiting (e.core state) ∷ pieces)
+    → Reads e (arrived e state (taken_bytes pieces count some) (taken_tokens pieces count some))
+    reports stop last → (e.core last).failed ≡ true
+    → Reads e (arrived e state (part_bytes pieces) (part_tokens pieces)) reports stop
+    (arrived e last (part_bytes (untaken pieces count some))
+    (part_tokens (untaken pieces count some)))
+
+-- What is read begins what waits: as many whole messages as there are reports, cut off by the sizes
+-- in their headers, and then what is left.
+abbrev pub ReadsWhole : {S R : Type 0} → Reading S R → Type 0
+ReadsWhole {S = S} {R = R} e =
+    (state last : S) (reports : List R) (stop : Option NextError) → Reads e state reports stop last
+    → BeginWith (e.core state).inbox.limit.bytes (e.core state).inbox.bytes (length reports)
+    (e.core last).inbox.bytes

@@ -1,0 +1,68 @@
+-- What an end finds in front of its waiting bytes.
+use Rattle.std.specs.Prelude.{ℕ, ◌%◌, ◌/◌, Bool, true, false, List, [], ◌∷◌, take, drop, length}
+use Rattle.std.specs.Prelude.{Option, Some, None}
+use Rattle.std.specs.declared.result.Result.{Result}
+use Rattle.std.specs.declared.result.Result.TheVariants.{Ok, Err}
+use Rattle.wl_wire.specs.declared.header.Header.{Header}
+use Rattle.wl_wire.specs.Reading.{number_at}
+use Rattle.wl_sigs.specs.declared.signature.Side.{Side}
+use Rattle.wl_message.specs.Arrived.{in_front}
+use Rattle.wl_message.specs.Cut.{Front, More, Bad, Whole}
+use Rattle.wl_objects.specs.declared.error.Fault.{Fault}
+use Rattle.wl_objects.specs.declared.error.Fault.TheVariants as faults
+use Rattle.wl_objects.specs.Reading.{descriptors, Reported, reports_of}
+use Rattle.wl_objects.specs.Messages.{Received, received, reader_of}
+use Rattle.wl_connection.specs.Core.{Core, past}
+
+-- the header that the first eight bytes are
+abbrev pub header_of : List ℕ → Header
+header_of bytes = record {
+  object = number_at bytes;
+  size = number_at (drop 4 bytes) / 65536;
+  opcode = number_at (drop 4 bytes) % 65536;
+}
+
+-- a message that stands in front: its number of bytes, its opcode, and what was read
+pub record Found : Type 0 where
+  pub size : ℕ
+  pub opcode : ℕ
+  pub message : Received
+
+abbrev pub found_in : ℕ → ℕ → Result Received Fault → Result (Option Found) Fault
+found_in size opcode (Ok message) =
+    Ok (Some (record { size = size; opcode = opcode; message = message }))
+found_in size opcode (Err fault) = Err fault
+
+abbrev pub found_at : Core → Side → Front → Result (Option Found) Fault
+found_at core side More = Ok None
+found_at core side (Bad size) = Err faults.BadSize
+found_at core side (Whole size) =
+    found_in size (header_of core.inbox.bytes).opcode
+    (received core.tables side (reader_of core.view) (header_of core.inbox.bytes)
+    (drop 8 (take size core.inbox.bytes)) (length core.inbox.tokens))
+
+-- What stands in front of the waiting bytes: no whole message yet, a message, or a fault; messages
+-- of this side come in.
+abbrev pub found : Core → Side → Result (Option Found) Fault
+found core side = found_at core side (in_front core.inbox)
+
+-- the arguments of a message as they are reported: objects by the rows before the message,
+-- descriptors as the first tokens that wait
+abbrev pub reported : Core → Received → List Reported
+reported core message = reports_of (reader_of core.view) core.inbox.tokens message.values
+
+-- how many tokens a message takes
+abbrev pub takes : Received → ℕ
+takes message = descriptors message.signature.kinds
+
+-- the tokens that a message takes
+abbrev pub own_tokens : Core → Received → List ℕ
+own_tokens core message = take (takes message) core.inbox.tokens
+
+-- the end after the message in front was taken
+abbrev pub past_found : Core → Found → Core
+past_found core f = past core f.size (takes f.message)
+
+abbrev pub is_none : {X : Type 0} → List X → Bool
+is_none [] = true
+is_none (x ∷ xs) = false

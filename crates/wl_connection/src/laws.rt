@@ -1,0 +1,84 @@
+//! What holds of what an end reads. These functions do nothing: each is called for what it ensures.
+ghost use Rattle.std.specs.Prelude.{◌≡◌, ◌<◌, ℕ, false, List, [], ◌∷◌, ◌++◌, length};
+ghost use Rattle.std.specs.declared.option.Option.{Option};
+ghost use Rattle.std.specs.declared.option.Option.TheVariants.{None, Some};
+ghost use Rattle.std.specs.declared.result.Result.{Result};
+ghost use Rattle.std.specs.declared.result.Result.TheVariants.{Ok, Err};
+ghost use Rattle.wl_sigs.specs.declared.signature.Side.{Side};
+ghost use Rattle.wl_sigs.specs.declared.signature.Side.TheVariants.{Event as event_side};
+ghost use Rattle.wl_message.specs.declared.amounts.Fed.{Fed};
+ghost use Rattle.wl_message.specs.InStep.{Part, Need, part_bytes, part_tokens, InStep};
+ghost use Rattle.wl_sigs.specs.Tables.{Interface, Message};
+ghost use Rattle.wl_sigs.specs.Valid.{Valid};
+ghost use Rattle.wl_object_map.specs.declared.object.Object.{Object};
+ghost use Rattle.wl_object_map.specs.View.{View};
+ghost use Rattle.wl_objects.specs.declared.error.Fault.{Fault};
+ghost use Rattle.wl_objects.specs.declared.error.Fault.TheVariants as faults;
+ghost use Rattle.wl_objects.specs.declared.error.SendError.{SendError};
+ghost use Rattle.wl_objects.specs.Messages.{checked};
+ghost use Rattle.wl_objects.specs.Writing.{Given};
+ghost use Rattle.wl_connection.specs.Core.{Core, with_arrived};
+ghost use Rattle.wl_connection.specs.Receiving.{Found, found, reported, past_found};
+ghost use Rattle.wl_connection.specs.Sending.{IsSendAnswer, OpensNothing, opens_object};
+ghost use Rattle.wl_connection.specs.Spelled.{CallsSpell, FoundSpells};
+ghost use Rattle.wl_connection.specs.Streams.{IsTaken, taken_bytes, taken_tokens, untaken, longer};
+
+/// A message that stands in front is found there whatever comes behind it: it is reported by the
+/// same tokens, and what comes stays behind it. So is a fault, but for missing descriptors, which
+/// may still come.
+pub fn found_stays()
+    ensures message { (core : Core) (side : Side) (f : Found) (bytes tokens : List ℕ)
+        → found core side ≡ Ok (Some f)
+        → found (with_arrived core bytes tokens) side ≡ Ok (Some f) }
+    ensures report { (core : Core) (side : Side) (f : Found) (bytes tokens : List ℕ)
+        → found core side ≡ Ok (Some f)
+        → reported (with_arrived core bytes tokens) f.message ≡ reported core f.message }
+    ensures behind { (core : Core) (side : Side) (f : Found) (bytes tokens : List ℕ)
+        → found core side ≡ Ok (Some f)
+        → past_found (with_arrived core bytes tokens) f
+        ≡ with_arrived (past_found core f) bytes tokens }
+    ensures fault { (core : Core) (side : Side) (what : Fault) (bytes tokens : List ℕ)
+        → found core side ≡ Err what → (what ≡ faults.MissingDescriptor → tokens ≡ [])
+        → found (with_arrived core bytes tokens) side ≡ Err what }
+    ensures short { (core : Core) (side : Side) → found core side ≡ Ok None
+        → length core.inbox.bytes < core.inbox.limit.bytes }
+{}
+
+/// What was taken of pieces, and what was not, are all; and pieces in step stay so when what was
+/// taken of them joins what waits.
+pub fn taking_keeps_pieces()
+    ensures bytes { (pieces : List Part) (count : ℕ) (some : Fed)
+        → taken_bytes pieces count some ++ part_bytes (untaken pieces count some)
+        ≡ part_bytes pieces }
+    ensures tokens { (pieces : List Part) (count : ℕ) (some : Fed)
+        → taken_tokens pieces count some ++ part_tokens (untaken pieces count some)
+        ≡ part_tokens pieces }
+    ensures step { (needs : List Need) (waits : Part) (pieces : List Part) (count : ℕ) (some : Fed)
+        → IsTaken pieces count some → InStep needs (waits ∷ pieces)
+        → InStep needs (longer waits (taken_bytes pieces count some)
+        (taken_tokens pieces count some) ∷ untaken pieces count some) }
+{}
+
+/// A message is a spelling of its values: one that was written, by a call that passed its checks,
+/// and one that is found in front of what waits. In wl_display.error the object may be null.
+pub fn messages_are_spelled()
+    ensures written { (core : Core) (side : Side) (target : Object) (opcode : ℕ)
+        (given : List Given) (signature : Message)
+        → CallsSpell core side target opcode given signature }
+    ensures read { (core : Core) (side : Side) (f : Found) → FoundSpells core side f }
+{}
+
+/// A call that opens no object returns none where it is accepted, and neither S10 nor S11. No event
+/// opens one.
+pub fn openings_alone_need_memory()
+    ensures nothing { (core : Core) (side : Side) (target : Object) (opcode : ℕ)
+        (given : List Given) (result : Result (Option Object) SendError)
+        → IsSendAnswer core side target opcode given result
+        → opens_object
+        (checked core.outbox.limit.bytes core.tables side core.view target opcode given)
+        ≡ false → OpensNothing result }
+    ensures event { (limit : ℕ) (tables : List Interface) (view : View) (target : Object)
+        (opcode : ℕ) (given : List Given)
+        → Valid tables
+        → opens_object (checked limit tables event_side view target opcode given) ≡ false }
+{}

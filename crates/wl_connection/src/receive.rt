@@ -1,0 +1,77 @@
+//! What an end does with a message in front, and with its objects.
+ghost use Rattle.std.specs.Prelude.{◌≡◌, ◌≢◌, ◌≤◌, ◌<◌, ◌↔◌, ◌&&◌, not, ℕ, Err, IsTrue, IfOk, OnOk};
+ghost use Rattle.std.specs.Prelude.{OnErr, length, take, slice_index_or};
+ghost use Rattle.wl_message.specs.Arrived.{in_front};
+ghost use Rattle.wl_message.specs.Cut.{Whole};
+ghost use Rattle.wl_object_map.specs.View.{free_or_next, has_room, is_held, is_live, opened_at};
+ghost use Rattle.wl_object_map.specs.View.{closed};
+ghost use Rattle.wl_object_map.specs.View.{zombied};
+ghost use Rattle.wl_connection.specs.Core.{past, with_view};
+
+use crate::shared::Core;
+use wl_objects::{MAX_ARGS, NewObject, Object, Table, TableError};
+
+/// The most tokens that a message has, one for each argument.
+pub const MAX_TOKENS: usize = MAX_ARGS;
+
+impl<'t, T: Table> Core<'t, T> {
+    /// The tokens that wait first, as many as a message can take, and zeros where fewer wait.
+    pub fn first_tokens(&self) -> [u32; MAX_TOKENS]
+        ensures { (place : ℕ) → place < 20
+            → slice_index_or result place 0 ≡ slice_index_or self.now.inbox.tokens place 0 }
+    {
+        let mut tokens = [0; MAX_TOKENS];
+        'places: for place in 0..MAX_TOKENS {
+            tokens[place] = self.inbox.token(place).unwrap_or(0);
+        }
+        tokens
+    }
+
+    /// Takes out the message in front, of `size` bytes, and this many of the first tokens.
+    pub fn pass(&mut self, size: u16, tokens: usize)
+        requires message { in_front self.old.inbox ≡ Whole size }
+        requires tokens { tokens ≤ length self.old.inbox.tokens }
+        ensures { self.new ≡ past self.old size tokens }
+    {
+        self.inbox.pass(tokens);
+        self.read = self.read.saturating_add(u64::from(size));
+    }
+
+    /// Opens the object that a message makes. O3 is tested first, then O2, O1 and O4, as the table
+    /// does; what is refused changes nothing.
+    pub fn open_at(&mut self, new: NewObject) -> Result<Object, TableError>
+        ensures ok { OnOk result
+            (self.new ≡ with_view self.old
+            (opened_at self.old.view new.id new.iface new.version)) }
+        ensures object { IfOk result
+            (λ object. object ≡ record { id = new.id; birth = self.old.view.births }) }
+        ensures err { OnErr result (self.new ≡ self.old) }
+
+        ensures in_use { (result ≡ Err TableError.InUse) ↔ IsTrue (is_held self.old.view new.id) }
+        ensures not_next { (result ≡ Err TableError.NotNext)
+            ↔ IsTrue (not (is_held self.old.view new.id) && not
+            (free_or_next self.old.view new.id)) }
+        ensures no_ids { (result ≡ Err TableError.NoIds)
+            ↔ IsTrue (free_or_next self.old.view new.id && not (has_room self.old.view new.id)) }
+    {
+        self.table.open_at(new.id, new.iface, new.version)
+    }
+
+    /// Makes a live object a zombie: it has ended, and its id stays in use.
+    pub fn make_zombie(&mut self, id: u32)
+        requires live { IsTrue (is_live self.old.view id) }
+        requires not_display { id ≢ 1 }
+        ensures { self.new ≡ with_view self.old (zombied self.old.view id) }
+    {
+        self.table.make_zombie(id);
+    }
+
+    /// Closes an object: its id is free again.
+    pub fn close(&mut self, id: u32)
+        requires held { IsTrue (is_held self.old.view id) }
+        requires not_display { id ≢ 1 }
+        ensures { self.new ≡ with_view self.old (closed self.old.view id) }
+    {
+        self.table.close(id);
+    }
+}

@@ -1,0 +1,281 @@
+//! What an end writes.
+ghost use Rattle.std.specs.Prelude.{[], ◌≡◌, ◌≢◌, ◌≤◌, ◌+◌, ℕ, false, true, Some, Ok, IfOk, IfSome};
+ghost use Rattle.std.specs.Prelude.{IsTrue, OnErr, OnOk, is_some, length};
+ghost use Rattle.wl_sigs.specs.declared.signature.Side.TheVariants.{Event as event_side};
+ghost use Rattle.wl_sigs.specs.Tables.{destroys_one, makes};
+ghost use Rattle.wl_sigs.specs.Valid.{Valid};
+ghost use Rattle.wl_objects.specs.Messages.{checked, destroys, ended_id, id_named, opens};
+ghost use Rattle.wl_object_map.specs.View.{Sound, closed, is_held, is_live, look, next_id, opened};
+ghost use Rattle.wl_objects.specs.Writing.{EachFits, bind_values, given, given_of, wired};
+ghost use Rattle.wl_objects.specs.Writing.{has_no_nul, id_of, message_len, on_wire, tokens_of};
+ghost use Rattle.wl_connection.specs.Core.{HasDisplay, with_view};
+ghost use Rattle.wl_connection.specs.Outcomes.{AnswersOrMemory, new_in};
+ghost use Rattle.wl_connection.specs.Sending.{IsSendAnswer, OpensNothing, after_send, answer_of};
+ghost use Rattle.wl_connection.specs.Sending.{delete_id_len, fits};
+ghost use Rattle.wl_connection.specs.Sending.{following, following_len, next_object};
+ghost use Rattle.wl_connection.specs.Sending.{opening_answer};
+ghost use Rattle.wl_connection.specs.Sending.{sent, with_delete_id, with_error_event};
+ghost use Rattle.wl_connection.specs.Sending.{with_following, with_sent, writer};
+
+use crate::receive::MAX_TOKENS;
+use crate::shared::Core;
+use wl_object_map::DISPLAY_ID;
+use wl_objects::{
+    Arg, CheckedCall, Object, SendError, Table, TableError, call_makes, check_call, encode_bind,
+    encode_call, encode_error, encode_number, tokens_of,
+};
+use wl_sigs::event::wl_display::DELETE_ID;
+use wl_sigs::{Destroys, Side};
+use wl_wire::Iface;
+
+/// The number of bytes of wl_display.delete_id.
+pub const DELETE_ID_LEN: usize = 12;
+
+/// The id of the object that an argument names; 0 where it names none.
+fn id_named(arg: &Arg<'_>) -> u32
+    ensures { result ≡ id_named (Some (wired 0 (given_of arg.now))) }
+{
+    match arg {
+        Arg::Obj(Some(object)) => object.id,
+        _ => 0,
+    }
+}
+
+/// The id of the object that a call destroys, if it destroys one.
+#[tactic(auto, using(crate::proofs::Ends::named_known))]
+fn ended_id(what: Destroys, target: u32, args: &[Arg<'_>]) -> u32
+    ensures { result ≡ ended_id what target (on_wire 0 args.now) }
+{
+    match what {
+        Destroys::Nothing | Destroys::Target => target,
+        Destroys::Arg(place) => match args.get(place) {
+            Some(arg) => id_named(arg),
+            None => 0,
+        },
+    }
+}
+
+/// How many bytes directly follow a message of this side: a delete_id follows a destroying event.
+fn following_len(side: Side, destroys: Destroys) -> usize
+    ensures { result ≡ following_len side destroys }
+{
+    match (side, destroys) {
+        (Side::Event, Destroys::Target | Destroys::Arg(_)) => DELETE_ID_LEN,
+        _ => 0,
+    }
+}
+
+/// The id of the object that a message makes; 0 where it makes none.
+fn id_of(new: Option<Object>) -> u32
+    ensures { result ≡ id_of new }
+{
+    new.map_or(0, |object| object.id)
+}
+
+impl<'t, T: Table> Core<'t, T> {
+    /// Whether this number of bytes and tokens is free in the outbox.
+    pub fn fits(&self, bytes: usize, tokens: usize) -> bool
+        ensures { result ≡ fits self.now.outbox bytes tokens }
+    {
+        bytes <= self.outbox.room() && tokens <= self.outbox.token_room()
+    }
+
+    /// Closes an object, so that its id is free again, and tells the client by
+    /// wl_display.delete_id, for which 12 bytes must be free.
+    pub fn delete_object(&mut self, id: u32)
+        requires held { IsTrue (is_held self.old.view id) }
+        requires not_display { id ≢ 1 }
+        requires room { IsTrue (fits self.old.outbox delete_id_len 0) }
+        ensures { self.new ≡ with_delete_id (with_view self.old (closed self.old.view id)) id }
+    {
+        self.close(id);
+        self.write_delete_id(id);
+    }
+
+    /// Writes wl_display.delete_id, for which 12 bytes must be free.
+    fn write_delete_id(&mut self, id: u32)
+        requires { IsTrue (fits self.old.outbox delete_id_len 0) }
+        ensures { self.new ≡ with_delete_id self.old id }
+    {
+        encode_number(&mut self.store, DISPLAY_ID, DELETE_ID, id);
+        self.outbox.push_fitting(&self.store, &[]);
+    }
+
+    /// Writes wl_display.error, about an object of this id, into the room that is kept for it. The
+    /// end has failed afterwards.
+    pub fn write_error(&mut self, object: u32, code: u32, text: &[u8])
+        requires open { self.old.failed ≡ false }
+        requires text { IsTrue (has_no_nul text.now) }
+        requires short { length text.now ≤ 40 }
+        ensures { self.new ≡ with_error_event self.old object code text.now }
+    {
+        encode_error(&mut self.store, object, code, text);
+        self.outbox.push_error(&self.store);
+        self.failed = true;
+    }
+
+    /// Writes wl_registry.bind, which must fit.
+    pub fn write_bind(&mut self, registry: u32, name: u32, iface: &[u8], version: u32, id: u32)
+        requires fits { EachFits (bind_values name iface.now version id) }
+        requires len { message_len (bind_values name iface.now version id) ≤ 4096 }
+        requires room { IsTrue
+            (fits self.old.outbox (message_len (bind_values name iface.now version id)) 0) }
+        ensures { self.new ≡ with_sent self.old registry 0
+            (bind_values name iface.now version id) [] }
+    {
+        encode_bind(&mut self.store, registry, name, iface, version, id);
+        self.outbox.push_fitting(&self.store, &[]);
+    }
+
+    /// Opens an object at the next id. S10 is tested before S11.
+    pub fn open_next(&mut self, iface: Iface, version: u32) -> Result<Object, SendError>
+        requires { Sound self.old.view }
+        ensures answer { AnswersOrMemory SendError.Memory true
+            (opening_answer self.old (next_object self.old.view version (Some iface)))
+            (new_in result) }
+        ensures ok { OnOk result
+            (self.new ≡ with_view self.old (opened self.old.view iface version)) }
+        ensures id { IfOk result (λ object. object.id ≡ next_id self.old.view) }
+        ensures err { OnErr result (self.new ≡ self.old) }
+    {
+        match self.table.open_next(iface, version) {
+            Ok(object) => Ok(object),
+            Err(TableError::Memory) => Err(SendError::Memory),
+            Err(_) => Err(SendError::NoIds),
+        }
+    }
+
+    /// Opens the object that a message makes, if it makes one: of this interface and version.
+    fn open_new(&mut self, iface: Option<Iface>, version: u32) -> Result<Option<Object>, SendError>
+        requires { Sound self.old.view }
+        ensures answer { AnswersOrMemory SendError.Memory (is_some iface)
+            (opening_answer self.old (next_object self.old.view version iface)) result }
+        ensures ok { OnOk result
+            (self.new ≡ with_view self.old
+            (opens self.old.view (next_object self.old.view version iface))) }
+        ensures id { IfOk result (λ new. IfSome iface (λ _. id_of new ≡ next_id self.old.view)) }
+        ensures err { OnErr result (self.new ≡ self.old) }
+    {
+        match iface {
+            Some(iface) => Ok(Some(self.open_next(iface, version)?)),
+            None => Ok(None),
+        }
+    }
+
+    /// Writes the message of this length that a call becomes, where this is its new object.
+    fn write_call(
+        &mut self,
+        target: u32,
+        opcode: u16,
+        args: &[Arg<'_>],
+        tokens: &[u32],
+        new: Option<Object>,
+        len: usize,
+    )
+        requires fits { EachFits (on_wire (id_of new) args.now) }
+        requires len { len ≡ message_len (on_wire (id_of new) args.now) }
+        requires short { len ≤ self.old.outbox.limit.bytes }
+        requires room { IsTrue
+            (fits self.old.outbox (message_len (on_wire (id_of new) args.now))
+            (length tokens.now)) }
+        ensures { self.new ≡ with_sent self.old target opcode
+            (on_wire (id_of new) args.now) tokens.now }
+    {
+        encode_call(&mut self.store, target, opcode, args, id_of(new), len);
+        self.outbox.push_fitting(&self.store, tokens);
+    }
+
+    /// Ends the object that a message destroys, if it destroys one: at a client it is a zombie, at
+    /// a server it is closed, and delete_id follows.
+    fn end_object(&mut self, side: Side, what: Destroys, id: u32)
+        requires live { IsTrue (is_live self.old.view id) }
+        requires other { destroys_one what ≡ true → id ≢ 1 }
+        requires room { IsTrue (fits self.old.outbox (following_len side what) 0) }
+        ensures { self.new ≡ with_following (following side what) id
+            (with_view self.old (destroys (writer side) what id self.old.view)) }
+    {
+        if what.destroys_one() {
+            match side {
+                Side::Request => self.make_zombie(id),
+                Side::Event => self.delete_object(id),
+            }
+        }
+    }
+
+    /// Writes a call that passed its checks: S9, then as `open_new`.
+    fn write_checked(
+        &mut self,
+        side: Side,
+        target: Object,
+        opcode: u16,
+        args: &[Arg<'_>],
+        call: CheckedCall<'_>,
+    ) -> Result<Option<Object>, SendError>
+        requires passes { checked self.old.outbox.limit.bytes self.old.tables side self.old.view
+            target opcode (given args.now)
+            ≡ Ok call.signature.now }
+        requires entry { look self.old.view target.id ≡ Some call.entry }
+        requires len { (id : ℕ) → call.len ≡ message_len (on_wire id args.now) }
+        requires fits { (id : ℕ) → EachFits (on_wire id args.now)
+            × (message_len (on_wire id args.now) ≤ self.old.outbox.limit.bytes) }
+        requires few { length args.now ≤ 20 }
+        requires sound { Sound self.old.view }
+        requires display { HasDisplay self.old.view }
+        requires valid { Valid self.old.tables }
+        ensures answer { AnswersOrMemory SendError.Memory (is_some (makes call.entry.signature.now))
+            (answer_of self.old side target (given args.now) (Ok call.entry.signature.now)) result }
+        ensures ok { OnOk result
+            (self.new
+            ≡ sent self.old side target opcode (given args.now) call.entry.signature.now) }
+        ensures err { OnErr result (self.new ≡ self.old) }
+    {
+        let CheckedCall {
+            entry,
+            signature,
+            len,
+        } = call;
+        let mut tokens = [0; MAX_TOKENS];
+        let count = tokens_of(args, &mut tokens);
+        let what = signature.destroys();
+        if !self.fits(len + following_len(side, what), count) {
+            return Err(SendError::Full);
+        }
+        let new = self.open_new(call_makes(signature.kinds()), entry.version)?;
+        self.write_call(target.id, opcode, args, &tokens[..count], new, len);
+        self.end_object(side, what, ended_id(what, target.id, args));
+        Ok(new)
+    }
+
+    /// Writes a message with these arguments, `New` standing for the object that it makes, and
+    /// returns that object. What the message destroys is ended at once; after an event that
+    /// destroys, delete_id is written too.
+    ///
+    /// The refusals are tested in the order of their numbers: S1, S2, S3, S4, S5, S6, S8, S9, S10,
+    /// S11. The messages that other calls write are S3.
+    pub fn send(
+        &mut self,
+        side: Side,
+        target: Object,
+        opcode: u16,
+        args: &[Arg<'_>],
+    ) -> Result<Option<Object>, SendError>
+        ensures answer { IsSendAnswer self.old side target opcode (given args.now) result }
+        // No event makes an object.
+        ensures event { side ≡ event_side → OpensNothing result }
+        ensures ok { OnOk result
+            (self.new ≡ after_send self.old side target opcode (given args.now)) }
+        ensures err { OnErr result (self.new ≡ self.old) }
+        // Tables are always valid; a proof learns it from a call that looked into them.
+        ensures valid { IfOk result (λ _. Valid self.old.tables) }
+    {
+        if self.failed {
+            return Err(SendError::Failed);
+        }
+        let limit = self.outbox.limit().bytes;
+        let call = match check_call(self.tables, side, &self.table, target, opcode, args, limit) {
+            Ok(call) => call,
+            Err(refusal) => return Err(refusal),
+        };
+        self.write_checked(side, target, opcode, args, call)
+    }
+}

@@ -1,0 +1,148 @@
+//! What both ends of a connection have: tables, objects and two boxes.
+ghost use Rattle.std.specs.Prelude.{◌≡◌, ◌≤◌, ◌↔◌, IfOk, IsTrue, length, take};
+ghost use Rattle.wl_message.specs.Arrived.{AreSizes};
+ghost use Rattle.wl_connection.specs.Core.{new_core, display_object, live, in_room, feeds};
+ghost use Rattle.wl_connection.specs.Core.{with_arrived};
+ghost use Rattle.wl_connection.specs.Core.{is_drained};
+
+use std::alloc::AllocError;
+use std::marker::Model;
+use wl_message::{Fed, Inbox, Outbox, Sizes};
+use wl_object_map::DISPLAY_ID;
+use wl_objects::{DISPLAY, Object, State, Table};
+use wl_sigs::Tables;
+use wl_wire::Iface;
+
+/// The most globals that a server advertises in its life, and the most that a client remembers.
+pub const MAX_GLOBALS: usize = 1024;
+
+/// An end: its tables, its objects and its two boxes.
+///
+/// The fields are for the two ends built on it.
+#[derive(Drop)]
+pub struct Core<'t, T: Table> {
+    pub tables: &'t Tables,
+    pub table: T,
+    pub inbox: Inbox<T::Alloc>,
+    pub outbox: Outbox<T::Alloc>,
+    /// Where a message is encoded before it goes to the outbox, with room for the longest.
+    pub store: Vec<u8, T::Alloc>,
+    /// Whether the end has failed. It stays so for good.
+    pub failed: bool,
+    /// How many bytes the messages had that were read; no more than the greatest number.
+    pub read: u64,
+}
+
+impl<'t, T: Table> Model for Core<'t, T> {
+    ghost use Rattle.std.specs.Prelude.{◌≡◌, ◌≤◌, false, vec_capacity};
+    ghost use Rattle.std.specs.Coded.{codes};
+    ghost use Rattle.wl_object_map.specs.View.{view_code};
+    ghost use Rattle.wl_connection.specs.Core.{Core as CoreState, HasDisplay, IsOrdinary};
+
+    ghost Value = { CoreState };
+
+    ghost coded = { Prim.hlevel (codes, view_code) };
+
+    ghost view = { λ c. record {
+      tables = c.tables.now;
+      view = T.view c.table;
+      inbox = c.inbox;
+      outbox = c.outbox;
+      failed = c.failed;
+      read = c.read;
+    } };
+
+    // The error event is written once, by an end that fails with it.
+    ghost invariant = { λ c. record {
+      store : 4096 ≤ vec_capacity c.store;
+      room : c.outbox.limit.bytes ≤ vec_capacity c.store;
+      display : HasDisplay (T.view c.table);
+      no_error : c.failed ≡ false → IsOrdinary c.outbox;
+      whole : c.inbox.limit.bytes ≤ c.inbox.capacity;
+    } };
+}
+
+impl<'t, T: Table> Core<'t, T> {
+    /// An end with wl_display alone and empty boxes of these sizes.
+    pub fn new(alloc: T::Alloc, tables: &'t Tables, sizes: Sizes) -> Result<Self, AllocError>
+        requires { AreSizes sizes }
+        ensures { IfOk result (λ core. core ≡ new_core tables.now sizes) }
+    {
+        let limit = sizes.limit;
+        let inbox = Inbox::new(alloc.clone()?, sizes.in_bytes, sizes.in_tokens, limit)?;
+        let outbox = Outbox::new(alloc.clone()?, sizes.out_bytes, sizes.out_tokens, limit)?;
+        let store = Vec::with_capacity(alloc.clone()?, limit.bytes as usize)?;
+        let table = T::new(alloc, DISPLAY)?;
+        Ok(Core {
+            tables,
+            table,
+            inbox,
+            outbox,
+            store,
+            failed: false,
+            read: 0,
+        })
+    }
+
+    /// wl_display, id 1 and birth 0 at each end.
+    pub fn display(&self) -> Object
+        ensures { result ≡ display_object }
+    {
+        Object {
+            id: DISPLAY_ID,
+            birth: 0,
+        }
+    }
+
+    /// The interface and version of an object that is live. At a failed end too.
+    pub fn live(&self, object: Object) -> Option<(Iface, u32)>
+        ensures { result ≡ live self.now object }
+    {
+        let entry = self.table.look(object.id)?;
+        if entry.birth == object.birth && entry.state == State::Live {
+            Some((entry.iface, entry.version))
+        } else {
+            None
+        }
+    }
+
+    /// The free bytes and tokens of the inbox; zeros at a failed end.
+    pub fn in_room(&self) -> Fed
+        ensures { result ≡ in_room self.now }
+    {
+        if self.failed {
+            return Fed {
+                bytes: 0,
+                tokens: 0,
+            };
+        }
+        Fed {
+            bytes: self.inbox.room(),
+            tokens: self.inbox.token_room(),
+        }
+    }
+
+    /// Whether nothing waits in either box.
+    pub fn is_drained(&self) -> bool
+        ensures { result ≡ is_drained self.now }
+    {
+        self.inbox.is_empty() && self.outbox.is_empty()
+    }
+
+    /// Takes in what comes: as many tokens as fit, and where these are all, as many bytes as fit.
+    /// A failed end takes nothing. Whatever waits, the inbox can hold the longest message.
+    pub fn feed(&mut self, bytes: &[u8], tokens: &[u32]) -> Fed
+        ensures fed { result ≡ feeds self.old bytes.now tokens.now }
+        ensures state { self.new
+            ≡ with_arrived self.old (take result.bytes bytes.now) (take result.tokens tokens.now) }
+        ensures holds { self.old.inbox.limit.bytes ≤ self.old.inbox.capacity }
+    {
+        if self.failed {
+            return Fed {
+                bytes: 0,
+                tokens: 0,
+            };
+        }
+        self.inbox.feed(bytes, tokens)
+    }
+}

@@ -1,5 +1,0 @@
-use Rattle.wl_demo.proofs.Runs.{plays_once}
-use Rattle.wl_demo.proofs.playing.play_all.Goals as goal
-
-pub returns : goal.returns
-returns g c = plays_once _ _ _ _ c.in_ok-run_all.ensures

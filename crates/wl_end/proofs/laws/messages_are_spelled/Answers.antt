@@ -1,5 +1,0 @@
-use Rattle.wl_end.proofs.Spelled.{calls_spell, found_spells}
-use Rattle.wl_end.proofs.laws.messages_are_spelled.Goals as goal
-
-pub returns : goal.returns
-returns c = record { written = calls_spell; read = found_spells }

@@ -1,8 +1,0 @@
-use Rattle.wl_objects.specs.Messages.{Server}
-use Rattle.wl_end.proofs.Ends.{ends_by}
-use Rattle.wl_end.proofs.shared.Core.end_object.Goals as goal
-
-pub returns-in-Event : goal.returns-in-Event
-returns-in-Event g c =
-    rw (c.in-Event.is, ← c.if-destroys_one.ensures, ends_by Server c.args.what c.args.id c.args.self.now.view c.if-destroys_one.ensures)
-    c.delete_object.ensures

@@ -1,5 +1,0 @@
-use Rattle.std.proofs.Common.{rules}
-use Rattle.wl_end.proofs.shared.Core.fits.Goals as goal
-
-pub returns-else-bytes-room : goal.returns-else-bytes-room
-returns-else-bytes-room c = search rules

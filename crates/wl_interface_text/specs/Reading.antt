@@ -1,0 +1,13 @@
+-- What is left while a text is read.
+use Rattle.std.specs.Prelude.{ℕ, List, [], Bool, Option, Some, None}
+use Rattle.wl_line_text.specs.Lines.{words}
+use Rattle.wl_interface_text.specs.Text.{Tail}
+
+-- the words of what stands behind a word of a line
+abbrev pub words_behind : Option (List ℕ) → List (List ℕ)
+words_behind None = []
+words_behind (Some rest) = words rest
+
+-- the tail without arguments
+abbrev pub ended : Bool × ℕ → Tail
+ended end = record { kinds = []; destroys = end.0; since = end.1 }

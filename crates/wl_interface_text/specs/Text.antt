@@ -1,0 +1,195 @@
+-- Tables as a text. Each line that is not skipped is one of
+--
+--   "interface " name " " number
+--   side " " name *( " " argument ) [ " D" ] [ " @" number ]
+--
+-- where a side is "request" or "event". A message belongs to the last interface line above it.
+use Rattle.std.specs.Prelude.{ℕ, ◌+◌, ◌-◌, ◌==◌, ◌&&◌, ◌||◌, not, nat_le, if◌then◌else◌, List, []}
+use Rattle.std.specs.Prelude.{◌∷◌, ◌++◌, length, take, drop, codes, position, Bool, true, false}
+use Rattle.std.specs.Prelude.{slice_index, bytes_eq, unwrap_or, Option, Some, None, option_and_then}
+use Rattle.std.specs.Prelude.{option_map, Result, Ok, Err}
+use Rattle.std.specs.List.{list_all}
+use Rattle.std.specs.Option.{option_map_or}
+use Rattle.wl_wire.specs.declared.kind.Kind.{Kind}
+use Rattle.wl_wire.specs.declared.kind.Kind.TheVariants as kinds
+use Rattle.wl_line_text.specs.Lines.{says_nothing, words}
+use Rattle.wl_line_text.specs.Number.{number_of}
+
+-- The kind of an argument as a text writes it: the kind without an interface, and the interface's
+-- name where the text gives one.
+pub record WrittenKind : Type 0 where
+  pub kind : Kind
+  pub iface : Option (List ℕ)
+
+-- a message, with the number of its line
+pub record WrittenMessage : Type 0 where
+  pub line : ℕ
+  pub name : List ℕ
+  pub since : ℕ
+  pub kinds : List WrittenKind
+  pub destroys : Bool
+
+-- an interface, with the number of its line and the messages of the lines below it
+pub record WrittenInterface : Type 0 where
+  pub line : ℕ
+  pub name : List ℕ
+  pub version : ℕ
+  pub requests : List WrittenMessage
+  pub events : List WrittenMessage
+
+-- a byte of a name: none of space, ( and ). No line has a line feed
+abbrev pub is_text_byte : ℕ → Bool
+is_text_byte byte = not (byte == 32) && not (byte == 40) && not (byte == 41)
+
+-- a name: one or more such bytes
+abbrev pub is_text_name : List ℕ → Bool
+is_text_name name = not (length name == 0) && list_all is_text_byte name
+
+-- the kind that letters stand for
+abbrev pub kind_of : List ℕ → Option Kind
+kind_of letters =
+    if bytes_eq letters (codes "i") then Some kinds.Int
+    else (if bytes_eq letters (codes "u") then Some kinds.Uint
+    else (if bytes_eq letters (codes "f") then Some kinds.Fixed
+    else (if bytes_eq letters (codes "s") then Some (kinds.Str false)
+    else (if bytes_eq letters (codes "?s") then Some (kinds.Str true)
+    else (if bytes_eq letters (codes "a") then Some kinds.Array
+    else (if bytes_eq letters (codes "h") then Some kinds.Fd
+    else (if bytes_eq letters (codes "o") then Some (kinds.Obj false None)
+    else (if bytes_eq letters (codes "?o") then Some (kinds.Obj true None)
+    else (if bytes_eq letters (codes "n") then Some (kinds.New None)
+    else None)))))))))
+
+-- whether an argument of the kind may name an interface
+abbrev pub takes_interface : Kind → Bool
+takes_interface (kinds.Obj null iface) = true
+takes_interface (kinds.New iface) = true
+takes_interface _ = false
+
+-- the argument of this kind whose letters have this behind them: nothing, or a name in brackets
+abbrev pub bracketed : Kind → List ℕ → Option WrittenKind
+bracketed kind [] = Some (record { kind = kind; iface = None })
+bracketed kind (bracket ∷ tail) =
+    let name = take (length tail - 1) tail in
+    if takes_interface kind && nat_le 1 (length tail)
+    && (slice_index tail (length tail - 1) == 41) && is_text_name name
+    then Some (record { kind = kind; iface = Some name })
+    else None
+
+-- the argument that a word spells: its letters go up to the first (, if it has one
+abbrev pub argument_of : List ℕ → Option WrittenKind
+argument_of word =
+    let letters = unwrap_or (position (λ b. b == 40) word) (length word) in
+    option_and_then (λ kind. bracketed kind (drop letters word)) (kind_of (take letters word))
+
+-- what stands behind a message's name: its arguments, what it destroys, and its since number
+pub record Tail : Type 0 where
+  pub kinds : List WrittenKind
+  pub destroys : Bool
+  pub since : ℕ
+
+-- the number of a word "@" number
+abbrev pub at_number : List ℕ → Option ℕ
+at_number word =
+    if length word == 0 then None
+    else (if slice_index word 0 == 64 then number_of (drop 1 word) else None)
+
+-- the since number that words spell: the one word "@" number, or no word for 1
+abbrev pub since_of : List (List ℕ) → Option ℕ
+since_of [] = Some 1
+since_of (word ∷ []) = at_number word
+since_of (word ∷ next ∷ more) = None
+
+-- what words spell that begin with no argument: the mark of a message that destroys its target, if
+-- it does, and the since number
+abbrev pub ending_of : List ℕ → List (List ℕ) → Option Tail
+ending_of word more =
+    if bytes_eq word (codes "D")
+    then option_map (λ since.
+    let tail : Tail = record { kinds = []; destroys = true; since = since } in tail)
+    (since_of more)
+    else option_map (λ since.
+    let tail : Tail = record { kinds = []; destroys = false; since = since } in tail)
+    (since_of (word ∷ more))
+
+-- the same with further arguments in front
+abbrev pub with_kinds : List WrittenKind → Tail → Tail
+with_kinds kinds tail = record {
+  kinds = kinds ++ tail.kinds;
+  destroys = tail.destroys;
+  since = tail.since;
+}
+
+-- the tail whose first word spells this argument, or is none
+abbrev pub tail_from : Option WrittenKind → Option Tail → Option Tail → Option Tail
+tail_from (Some kind) more ending = option_map (with_kinds (kind ∷ [])) more
+tail_from None more ending = ending
+
+-- the tail that words spell
+abbrev pub tail_of : List (List ℕ) → Option Tail
+tail_of [] = Some (record { kinds = []; destroys = false; since = 1 })
+tail_of (word ∷ more) = tail_from (argument_of word) (tail_of more) (ending_of word more)
+
+-- the message of line n, from the words behind its side
+abbrev pub message_of : ℕ → List (List ℕ) → Option WrittenMessage
+message_of n [] = None
+message_of n (name ∷ more) =
+    if is_text_name name
+    then option_map (λ (tail : Tail). let it : WrittenMessage = record {
+      line = n;
+      name = name;
+      since = tail.since;
+      kinds = tail.kinds;
+      destroys = tail.destroys;
+    } in it) (tail_of more)
+    else None
+
+-- the interface of line n, from the words behind "interface"
+abbrev pub interface_of : ℕ → List (List ℕ) → Option WrittenInterface
+interface_of n (name ∷ digits ∷ []) =
+    if is_text_name name
+    then option_map (λ version. let it : WrittenInterface = record {
+      line = n;
+      name = name;
+      version = version;
+      requests = [];
+      events = [];
+    } in it) (number_of digits)
+    else None
+interface_of n _ = None
+
+-- the interface with one message more: a request or an event
+abbrev pub with_message : Bool → WrittenMessage → WrittenInterface → WrittenInterface
+with_message true m i = record i { requests = i.requests ++ m ∷ [] }
+with_message false m i = record i { events = i.events ++ m ∷ [] }
+
+-- the interfaces with one message more in the last, if there is one
+abbrev pub message_added : Bool → WrittenMessage → List WrittenInterface
+    → Option (List WrittenInterface)
+message_added is_request m [] = None
+message_added is_request m (i ∷ []) = Some (with_message is_request m i ∷ [])
+message_added is_request m (i ∷ j ∷ more) =
+    option_map (λ all. i ∷ all) (message_added is_request m (j ∷ more))
+
+-- the interfaces with what these words of line n declare, if they have a form
+abbrev pub words_added : ℕ → List (List ℕ) → List WrittenInterface → Option (List WrittenInterface)
+words_added n [] written = None
+words_added n (word ∷ more) written =
+    if bytes_eq word (codes "interface")
+    then option_map (λ i. written ++ i ∷ []) (interface_of n more)
+    else (if bytes_eq word (codes "request") || bytes_eq word (codes "event")
+    then option_and_then (λ m. message_added (bytes_eq word (codes "request")) m written)
+    (message_of n more)
+    else None)
+
+-- the interfaces with what line n declares
+abbrev pub line_added : ℕ → List ℕ → List WrittenInterface → Option (List WrittenInterface)
+line_added n line written =
+    if says_nothing line then Some written else words_added n (words line) written
+
+-- The interfaces that lines list in addition to those so far, in order, where the first is line n;
+-- or the first line that may not stand, as it has no form or is a message before any interface.
+abbrev pub listed : ℕ → List (List ℕ) → List WrittenInterface → Result (List WrittenInterface) ℕ
+listed n [] written = Ok written
+listed n (line ∷ more) written =
+    option_map_or (λ all. listed (n + 1) more all) (line_added n line written) (Err n)

@@ -1,6 +1,0 @@
-use Rattle.std.proofs.Common.{inl, inr}
-use Rattle.wl_jobs.proofs.acting.checked.Goals as goal
-
--- what was read has no bad line
-pub returns-clause-bad : goal.returns-clause-bad
-returns-clause-bad g c = λ n bad. elim (c.in_ok-verdict.ensures.first n bad) [ inl e ↦ cc e | inr e ↦ cc e ]

@@ -1,5 +1,0 @@
-use Rattle.std.proofs.Common.{rules}
-use Rattle.wl_jobs.proofs.verdict.write_broken.Goals as goal
-
-pub returns-in-Lawful : goal.returns-in-Lawful
-returns-in-Lawful c = search rules

@@ -1,5 +1,0 @@
-use Rattle.wl_link.proofs.Lawful.{check_says_lawful}
-use Rattle.wl_link.proofs.laws.check_says_lawful.Goals as goal
-
-pub returns : goal.returns
-returns c = λ pair world verdict linked answers. check_says_lawful pair world linked verdict answers

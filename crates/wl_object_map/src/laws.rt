@@ -1,0 +1,35 @@
+//! What follows from the definitions of a table. Each law is the contract of a function that does
+//! nothing.
+ghost use Rattle.std.specs.Prelude.{◌≡◌, ◌≢◌, ℕ, ◌+◌, true, not, ◌&&◌, ltb, leb, eqb, length, drop};
+ghost use Rattle.std.specs.Prelude.{if◌then◌else◌};
+ghost use Rattle.wl_wire.specs.declared.kind.Iface.{Iface};
+ghost use Rattle.wl_object_map.specs.View.{View, Sound, is_held, free_or_next, has_room, can_open};
+ghost use Rattle.wl_object_map.specs.View.{next_id, opening, opened, opened_at, closed, zombied};
+
+/// What each call makes of a sound table is sound.
+pub fn tables_stay_sound()
+    ensures opening { (display : Iface) → Sound (opening display) }
+    ensures opened_at { (table : View) (id : ℕ) (iface : Iface) (version : ℕ) → Sound table
+        → free_or_next table id ≡ true → has_room table id ≡ true
+        → Sound (opened_at table id iface version) }
+    ensures opened { (table : View) (iface : Iface) (version : ℕ) → Sound table
+        → can_open table ≡ true → Sound (opened table iface version) }
+    ensures zombied { (table : View) (id : ℕ) → Sound table → id ≢ 1 → Sound (zombied table id) }
+    ensures closed { (table : View) (id : ℕ) → Sound table → is_held table id ≡ true → id ≢ 1
+        → Sound (closed table id) }
+{}
+
+/// An id is freed or the next new one exactly where it has no row and is from 1 to one past the
+/// ids used. The id that is opened next is such an id: the one freed last, which is then taken
+/// from the freed ids, or the next new one.
+pub fn free_ids_have_no_row()
+    ensures free { (table : View) (id : ℕ) → Sound table
+        → free_or_next table id
+        ≡ (not (is_held table id) && (ltb 0 id && leb id (table.used + 1))) }
+    ensures next { (table : View) → free_or_next table (next_id table) ≡ true }
+    ensures freed { (table : View) (iface : Iface) (version : ℕ) → Sound table
+        → (opened table iface version).freed ≡ drop 1 table.freed }
+    ensures used { (table : View) (iface : Iface) (version : ℕ) → Sound table
+        → (opened table iface version).used
+        ≡ (if eqb (length table.freed) 0 then table.used + 1 else table.used) }
+{}

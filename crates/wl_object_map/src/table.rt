@@ -1,0 +1,101 @@
+//! The table of objects of one end, whatever keeps it.
+ghost use Rattle.std.specs.Prelude.{◌≡◌, ◌≢◌, ◌↔◌, not, ◌&&◌, IfOk, OnOk, OnErr, IsTrue};
+ghost use Rattle.std.specs.FinMap.{len as row_count};
+ghost use Rattle.wl_object_map.specs.View.{View, Sound, look, is_held, is_live, free_or_next};
+ghost use Rattle.wl_object_map.specs.View.{has_room};
+ghost use Rattle.wl_object_map.specs.View.{can_open, next_id, opening, opened, opened_at, closed};
+ghost use Rattle.wl_object_map.specs.View.{zombied};
+
+use super::{Entry, Object, TableError};
+use std::alloc::{AllocError, Allocator};
+use wl_wire::Iface;
+
+/// The most ids that a connection has, id 1 counted.
+pub const MAX_IDS: u32 = 1_048_576;
+
+/// The id of wl_display.
+pub const DISPLAY_ID: u32 = 1;
+
+/// The objects of one end: a row for each id in use, the list of freed ids, latest first, the
+/// number of ids ever used, and the number of births.
+///
+/// Id 1 is wl_display for good. Every call that is refused leaves the table as it was.
+pub trait Table {
+    /// The allocator of the table's memory.
+    type Alloc: Allocator + Clone + Drop;
+
+    ghost view: { Self → View };
+
+    /// A table with one object: wl_display with id 1, birth 0 and version 1.
+    fn new(alloc: Self::Alloc, display: Iface) -> Result<Self, AllocError>
+        ensures { IfOk result (λ table. view table ≡ opening display) };
+
+    /// The entry of an id, live or zombie.
+    fn look(&self, id: u32) -> Option<Entry>
+        ensures entry { result ≡ look (view self.now) id }
+        ensures sound { Sound (view self.now) };
+
+    /// Whether an id is freed or the next new one, so that `open_at` returns neither O2 nor O3.
+    fn is_free(&self, id: u32) -> bool
+        ensures { result ≡ free_or_next (view self.now) id };
+
+    /// Whether the limits of O1 leave room for an object at this id.
+    fn has_room(&self, id: u32) -> bool
+        ensures { result ≡ has_room (view self.now) id };
+
+    /// Whether the limits leave room for one more object, so that `open_next` does not return O1.
+    fn can_open(&self) -> bool
+        ensures { result ≡ can_open (view self.now) };
+
+    /// How many ids were ever used.
+    fn used(&self) -> u32
+        ensures { result ≡ (view self.now).used };
+
+    /// How many objects were opened, wl_display counted: the birth that the next object gets.
+    fn births(&self) -> u64
+        ensures { result ≡ (view self.now).births };
+
+    /// How many entries the table has, live and zombie. There is always that of id 1.
+    fn len(&self) -> u32
+        ensures { result ≡ row_count (view self.now).rows };
+
+    /// Opens an object at the id freed last, or at the next new one where no id is free. O1 is
+    /// tested before O4.
+    fn open_next(&mut self, iface: Iface, version: u32) -> Result<Object, TableError>
+        ensures ok { OnOk result (view self.new ≡ opened (view self.old) iface version) }
+        ensures object { IfOk result
+            (λ object. object
+            ≡ record { id = next_id (view self.old); birth = (view self.old).births }) }
+        ensures err { OnErr result (view self.new ≡ view self.old) }
+
+        ensures no_ids { (result ≡ Err TableError.NoIds) ↔ IsTrue (not (can_open (view self.old))) }
+        ensures not_next { result ≢ Err TableError.NotNext }
+        ensures in_use { result ≢ Err TableError.InUse };
+
+    /// Opens an object at a given id: a freed one, wherever it stands in the list, or the next
+    /// new one. O3 is tested first, then O2, O1 and O4.
+    fn open_at(&mut self, id: u32, iface: Iface, version: u32) -> Result<Object, TableError>
+        ensures ok { OnOk result (view self.new ≡ opened_at (view self.old) id iface version) }
+        ensures object { IfOk result
+            (λ object. object ≡ record { id = id; birth = (view self.old).births }) }
+        ensures err { OnErr result (view self.new ≡ view self.old) }
+
+        ensures in_use { (result ≡ Err TableError.InUse) ↔ IsTrue (is_held (view self.old) id) }
+        ensures not_next { (result ≡ Err TableError.NotNext)
+            ↔ IsTrue (not (is_held (view self.old) id) && not (free_or_next (view self.old) id)) }
+        ensures no_ids { (result ≡ Err TableError.NoIds)
+            ↔ IsTrue (free_or_next (view self.old) id && not (has_room (view self.old) id)) };
+
+    /// Makes a live object a zombie: its id stays in use. It allocates nothing.
+    fn make_zombie(&mut self, id: u32)
+        requires live { IsTrue (is_live (view self.old) id) }
+        requires not_display { id ≢ 1 }
+        ensures { view self.new ≡ zombied (view self.old) id };
+
+    /// Removes an object's entry and frees its id, which is then the first to be used again. It
+    /// allocates nothing.
+    fn close(&mut self, id: u32)
+        requires held { IsTrue (is_held (view self.old) id) }
+        requires not_display { id ≢ 1 }
+        ensures { view self.new ≡ closed (view self.old) id };
+}

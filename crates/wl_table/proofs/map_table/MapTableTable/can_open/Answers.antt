@@ -1,5 +1,0 @@
-use Rattle.std.proofs.Common.{rules}
-use Rattle.wl_table.proofs.map_table.MapTableTable.can_open.Goals as goal
-
-pub returns : goal.returns
-returns c = search rules

@@ -1,7 +1,0 @@
-use Rattle.std.proofs.Common.{sym, ◌∙◌, ap}
-use Rattle.wl_table.specs.View.{View, look}
-use Rattle.wl_table.proofs.Rows.{get_rows}
-use Rattle.wl_table.proofs.map_table.MapTableTable.look.Goals as goal
-
-pub returns-clause-entry : goal.returns-clause-entry
-returns-clause-entry g c = c.copied.ensures ∙ c.get.ensures.value ∙ sym (get_rows _ _) ∙ ap (λ (v : View). look v c.args.id) c.self.view_is

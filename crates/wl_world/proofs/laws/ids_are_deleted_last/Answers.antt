@@ -1,5 +1,0 @@
-use Rattle.wl_world.proofs.Worlds.{last_of_id}
-use Rattle.wl_world.proofs.laws.ids_are_deleted_last.Goals as goal
-
-pub returns : goal.returns
-returns c = λ object before after pair world asked told s e. last_of_id pair world asked told s object before after e

@@ -1,5 +1,0 @@
-use Rattle.wl_world.proofs.Steps.{server_meets_none}
-use Rattle.wl_world.proofs.laws.server_meets_no_fault.Goals as goal
-
-pub returns : goal.returns
-returns c = server_meets_none
