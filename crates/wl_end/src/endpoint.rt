@@ -17,7 +17,7 @@ pub struct Endpoint<'t, T: Table> {
 impl<'t, T: Table> Endpoint<'t, T> {
     /// This end, with no message read.
     pub fn new(core: Core<'t, T>) -> Self
-        ensures { result.core ≡ core }
+        ensures { result.core ≡ core.entry }
     {
         Endpoint {
             core,
