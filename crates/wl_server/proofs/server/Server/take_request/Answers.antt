@@ -1,4 +1,4 @@
-use Rattle.std.proofs.Common.{◌≡◌, sym, ap, subst, ◌∙◌, rules}
+use Rattle.std.proofs.Common.{◌≡◌, [], sym, ap, subst, ◌∙◌, rules}
 use Rattle.std.specs.Prelude.{IsTrue, is_some}
 use Rattle.wl_table.specs.View.{View, is_held}
 use Rattle.wl_objects.specs.Messages.{opens}
@@ -14,8 +14,8 @@ use Rattle.wl_server.proofs.server.Server.take_request.Goals as goal
 pub close_object-requires-clause-held : goal.close_object-requires-clause-held
 close_object-requires-clause-held g c =
     let core = c.self.inside.end.core in
-    let made = c.args.request.now.made in
-    let can = subst (λ (s : State). CanTake s.core (pending_in s.core c.args.request.now)) (sym c.self.view_is) c.requires in
+    let made = c.args.request.now.change.made in
+    let can = subst (λ (s : State). CanTake s.core (pending_in s.core [] c.args.request.now)) (sym c.self.view_is) (c.requires []) in
     let object = c.in-Some.object in
     let there = (can.ended object c.in-Some.is).row in
     let view : c.pass.new.self.view ≡ opens core.view made =
@@ -24,12 +24,12 @@ close_object-requires-clause-held g c =
 
 pub close_object-requires-clause-not_display : goal.close_object-requires-clause-not_display
 close_object-requires-clause-not_display g c =
-    let can = subst (λ (s : State). CanTake s.core (pending_in s.core c.args.request.now)) (sym c.self.view_is) c.requires in
+    let can = subst (λ (s : State). CanTake s.core (pending_in s.core [] c.args.request.now)) (sym c.self.view_is) (c.requires []) in
     (can.ended c.in-Some.object c.in-Some.is).not_display
 
 pub close_object-requires-clause-room : goal.close_object-requires-clause-room
 close_object-requires-clause-room g c =
-    let can = subst (λ (s : State). CanTake s.core (pending_in s.core c.args.request.now)) (sym c.self.view_is) c.requires in
+    let can = subst (λ (s : State). CanTake s.core (pending_in s.core [] c.args.request.now)) (sym c.self.view_is) (c.requires []) in
     let outbox : c.pass.new.self.outbox ≡ c.self.inside.end.core.outbox =
     ap (λ (k : Core). k.outbox) c.pass.ensures ∙ ap (λ (k : Core). k.outbox) c.in_ok-open_new_object.ensures.core in
     subst (λ (o : Outgoing). IsTrue (fits o delete_id_len 0)) (sym outbox) (can.ended c.in-Some.object c.in-Some.is).room
@@ -39,10 +39,10 @@ invariant_of-self-in-Some g c =
     let core = c.self.inside.end.core in
     let registries = c.self.inside.registries.items in
     let request = c.args.request.now in
-    let step = pending_in core request in
-    let can = subst (λ (s : State). CanTake s.core (pending_in s.core request)) (sym c.self.view_is) c.requires in
+    let step = pending_in core [] request in
+    let can = subst (λ (s : State). CanTake s.core (pending_in s.core [] request)) (sym c.self.view_is) (c.requires []) in
     let opened = c.in_ok-open_new_object.ensures in
-    let passed : c.pass.new.self ≡ past (with_view core (opens core.view request.made)) request.size request.tokens = search rules in
+    let passed : c.pass.new.self ≡ past (with_view core (opens core.view request.change.made)) request.size request.tokens = search rules in
     let now : c.close_object.new.core ≡ core_by core step = c.close_object.ensures.core ∙ (λ i. core_without (sym c.in-Some.is i) (passed i)) in
     let left : c.close_object.new.registries.items ≡ registries_by core registries step =
     c.close_object.ensures.registries ∙ (λ i. registries_without (sym c.in-Some.is i) (opened.registries i)) in
@@ -57,10 +57,10 @@ invariant_of-self-in_default g c =
     let core = c.self.inside.end.core in
     let registries = c.self.inside.registries.items in
     let request = c.args.request.now in
-    let step = pending_in core request in
-    let can = subst (λ (s : State). CanTake s.core (pending_in s.core request)) (sym c.self.view_is) c.requires in
+    let step = pending_in core [] request in
+    let can = subst (λ (s : State). CanTake s.core (pending_in s.core [] request)) (sym c.self.view_is) (c.requires []) in
     let opened = c.in_ok-open_new_object.ensures in
-    let passed : c.pass.new.self ≡ past (with_view core (opens core.view request.made)) request.size request.tokens = search rules in
+    let passed : c.pass.new.self ≡ past (with_view core (opens core.view request.change.made)) request.size request.tokens = search rules in
     let now : c.pass.new.self ≡ core_by core step = (λ i. core_without (sym c.in_default.is i) (passed i)) in
     let left : c.open_new_object.new.registries.items ≡ registries_by core registries step =
     (λ i. registries_without (sym c.in_default.is i) (opened.registries i)) in
@@ -71,14 +71,14 @@ invariant_of-self-in_default g c =
     }
 
 pub returns-in-Some-clause-ok : goal.returns-in-Some-clause-ok
-returns-in-Some-clause-ok g c =
+returns-in-Some-clause-ok g c args =
     let core = c.self.inside.end.core in
     let registries = c.self.inside.registries.items in
     let request = c.args.request.now in
-    let step = pending_in core request in
+    let step = pending_in core [] request in
     let opened = c.in_ok-open_new_object.ensures in
-    let passed : c.pass.new.self ≡ past (with_view core (opens core.view request.made)) request.size request.tokens = search rules in
+    let passed : c.pass.new.self ≡ past (with_view core (opens core.view request.change.made)) request.size request.tokens = search rules in
     let now : c.close_object.new.core ≡ core_by core step = c.close_object.ensures.core ∙ (λ i. core_without (sym c.in-Some.is i) (passed i)) in
     let left : c.close_object.new.registries.items ≡ registries_by core registries step =
     c.close_object.ensures.registries ∙ (λ i. registries_without (sym c.in-Some.is i) (opened.registries i)) in
-    (λ i. record { core = now i; globals = c.self.inside.globals.items; registries = left i }) ∙ ap (λ (s : State). after_step s (pending_in s.core request)) c.self.view_is
+    (λ i. record { core = now i; globals = c.self.inside.globals.items; registries = left i }) ∙ ap (λ (s : State). after_step s (pending_in s.core args request)) c.self.view_is
