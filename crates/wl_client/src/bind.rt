@@ -53,7 +53,8 @@ impl<'t, T: Table> Client<'t, T> {
             return Err(SendError::Full);
         }
         let object = self.end.core.open_next(global.iface, version)?;
-        self.end.core
+        self.end
+            .core
             .write_bind(registry.id, name, iface, version, object.id);
         Ok(object)
     }

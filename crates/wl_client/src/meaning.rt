@@ -86,9 +86,9 @@ pub(crate) fn meaning_of<T: Table>(
 /// No change of objects and globals.
 fn no_change(last: bool) -> Change
     ensures { result ≡ record {
-        objects = ObjectChange.Nothing;
-        globals = GlobalChange.Nothing;
-        last = last;
+      objects = ObjectChange.Nothing;
+      globals = GlobalChange.Nothing;
+      last = last;
     } }
 {
     Change {

@@ -104,23 +104,16 @@ fn copy<T: Table>(
 {
     let tokens = end.core.first_tokens(event.tokens);
     match end.core.inbox.frame() {
-        Ok(Some(frame)) => event.outline.to_owned(
-            alloc,
-            &end.args,
-            frame.body,
-            &tokens[..event.tokens],
-        ),
+        Ok(Some(frame)) => event
+            .outline
+            .to_owned(alloc, &end.args, frame.body, &tokens[..event.tokens]),
         _ => Err(AllocError),
     }
 }
 
 /// Takes the message in front with its tokens, and makes its changes. The end fails with the last
 /// message.
-fn take<T: Table>(
-    core: &mut Core<'_, T>,
-    globals: &mut Remembered<T::Alloc>,
-    event: &PendingEvent,
-)
+fn take<T: Table>(core: &mut Core<'_, T>, globals: &mut Remembered<T::Alloc>, event: &PendingEvent)
     requires can { CanTake core.old event.now }
     requires lives { core.old.failed ≡ false }
     ensures core { core.new ≡ stepped core.old event.now }

@@ -13,8 +13,8 @@ use crate::globals::Advertised;
 use crate::outline::Outline;
 use wl_end::{DELETE_ID_LEN, Endpoint};
 use wl_objects::{
-    Fault, NextError, Object, ParsedArg, ParsedArgs, Received, Table, TableLookup,
-    made_by_message, receive,
+    Fault, NextError, Object, ParsedArg, ParsedArgs, Received, Table, TableLookup, made_by_message,
+    receive,
 };
 use wl_sigs::{Destroys, Side, Tables};
 use wl_wire::Header;
@@ -104,13 +104,7 @@ pub(crate) fn find<T: Table>(
     if lacks_room(room, ended) {
         return Err(NextError::OutFull);
     }
-    Ok(Some(pending_of(
-        end.core.tables,
-        birth,
-        ended,
-        header,
-        &received,
-    )))
+    Ok(Some(pending_of(end.core.tables, birth, ended, header, &received)))
 }
 
 /// Whether an object is destroyed whose delete_id needs more room than there is.

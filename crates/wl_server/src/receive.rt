@@ -130,12 +130,9 @@ fn copy<T: Table>(
 {
     let tokens = end.core.first_tokens(request.tokens);
     match end.core.inbox.frame() {
-        Ok(Some(frame)) => request.outline.to_owned(
-            alloc,
-            &end.args,
-            frame.body,
-            &tokens[..request.tokens],
-        ),
+        Ok(Some(frame)) => request
+            .outline
+            .to_owned(alloc, &end.args, frame.body, &tokens[..request.tokens]),
         _ => Err(AllocError),
     }
 }

@@ -6,4 +6,3 @@ use Rattle.wl_message.specs.declared.inbox.Frame.{Frame}
 use Rattle.wl_end.proofs.Frames.{body-front}
 use Rattle.wl_end.proofs.Receivings.{first-tokens}
 use Rattle.wl_client.proofs.receive.copy.Goals as goal
-
