@@ -95,3 +95,11 @@ abbrev pub after_front : Core → List Global → Result (Option PendingEvent) N
 after_front core globals (Ok (Some event)) =
     state_of (stepped core event) (with_global_change globals event.change.globals)
 after_front core globals result = state_of (core_unless core result) globals
+
+-- what is reported of an event whose message an end took last
+abbrev pub taken_in : Core → List ParsedArg → Result (Option PendingEvent) NextError
+    → Result (Option Report) NextError
+taken_in core args (Err why) = Err why
+taken_in core args (Ok None) = Ok None
+taken_in core args (Ok (Some event)) =
+    Ok (Some (outlined core.inbox.last args core.inbox.last_tokens event.outline))

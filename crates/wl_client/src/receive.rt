@@ -1,8 +1,7 @@
 //! How a client reads the events that come in.
-ghost use Rattle.std.specs.Prelude.{◌≡◌, ◌≤◌, List, [], IfOk, IfSome, OnErr, false, true};
+ghost use Rattle.std.specs.Prelude.{◌≡◌, List, IfOk, IfSome, OnErr, false, true};
 ghost use Rattle.std.specs.Borrow.{sem};
 ghost use Rattle.std.specs.Io.BufRead.{Rests};
-ghost use Rattle.wl_end.specs.Core.{with_failure};
 ghost use Rattle.wl_end.specs.Outcomes.{left};
 ghost use Rattle.wl_client.specs.State.{Global as Told};
 ghost use Rattle.wl_client.specs.Reports.{IsNext, after_next, needs_memory, next_answer};
@@ -10,7 +9,7 @@ ghost use Rattle.wl_client.specs.Outlines.{client_row, lent_in, lent_report, out
 ghost use Rattle.wl_client.specs.Seen.{report_in, report_of};
 ghost use Rattle.wl_client.specs.Steps.{state_of, stepped, with_global_change};
 ghost use Rattle.wl_client.specs.Reading.{CanTake, after_front, core_unless, front_report};
-ghost use Rattle.wl_client.specs.Reading.{fronts_in};
+ghost use Rattle.wl_client.specs.Reading.{fronts_in, taken_in};
 
 use crate::changes::apply_object_change;
 use crate::client::Client;
@@ -18,7 +17,7 @@ use crate::globals::Remembered;
 use crate::pending::{PendingEvent, find};
 use crate::report::{Incoming, OwnedIncoming};
 use std::alloc::AllocError;
-use wl_end::{Core, Endpoint};
+use wl_end::Endpoint;
 use wl_objects::{NextError, Table};
 
 impl<'t, T: Table> Client<'t, T> {
@@ -32,12 +31,9 @@ impl<'t, T: Table> Client<'t, T> {
             (λ client. client ≡ after_next self.old)) }
         ensures answer { lent_in result ≡ next_answer self.old }
     {
-        match find_or_fail(&mut self.end)? {
+        match read(&mut self.end, &mut self.globals)? {
+            Some(event) => Ok(Some(lend(&self.end, event))),
             None => Ok(None),
-            Some(event) => {
-                take(&mut self.end.core, &mut self.globals, &event);
-                Ok(Some(lend(&self.end, event)))
-            }
         }
     }
 
@@ -50,24 +46,56 @@ impl<'t, T: Table> Client<'t, T> {
         ensures answer { IsNext self.old (report_in result) }
         ensures state { self.new ≡ left self.old (after_next self.old) (report_in result) }
     {
-        let event = match find_or_fail(&mut self.end)? {
-            None => return Ok(None),
-            Some(event) => event,
-        };
-        match copy(&mut self.end, &self.alloc, &event) {
-            Err(_) => Err(NextError::Memory),
-            Ok(report) => {
-                take(&mut self.end.core, &mut self.globals, &event);
-                Ok(Some(report))
-            }
-        }
+        read_owned(&mut self.end, &mut self.globals, &self.alloc)
     }
+}
+
+/// Reads the next message at an end, and takes it. Its report lies in the message that was taken
+/// last.
+fn read<T: Table>(
+    end: &mut Endpoint<'_, T>,
+    globals: &mut Remembered<T::Alloc>,
+) -> Result<Option<PendingEvent>, NextError>
+    ensures answer { taken_in end.new.core end.new.args result
+        ≡ next_answer (state_of end.old.core globals.old) }
+    ensures state { state_of end.new.core globals.new
+        ≡ after_next (state_of end.old.core globals.old) }
+{
+    let event = match find_or_fail(end)? {
+        Some(event) => event,
+        None => return Ok(None),
+    };
+    take(end, globals, &event);
+    Ok(Some(event))
+}
+
+/// Reads the next message at an end, copies its report, and takes it.
+fn read_owned<T: Table>(
+    end: &mut Endpoint<'_, T>,
+    globals: &mut Remembered<T::Alloc>,
+    alloc: &T::Alloc,
+) -> Result<Option<OwnedIncoming<T::Alloc>>, NextError>
+    ensures answer { IsNext (state_of end.old.core globals.old) (report_in result) }
+    ensures state { state_of end.new.core globals.new
+        ≡ left (state_of end.old.core globals.old)
+        (after_next (state_of end.old.core globals.old)) (report_in result) }
+{
+    let event = match find_or_fail(end)? {
+        Some(event) => event,
+        None => return Ok(None),
+    };
+    let report = match copy(end, alloc, &event) {
+        Ok(report) => report,
+        Err(_) => return Err(NextError::Memory),
+    };
+    take(end, globals, &event);
+    Ok(Some(report))
 }
 
 /// The event in front, once it is whole. The end fails with a fault; else nothing changes.
 fn find_or_fail<T: Table>(end: &mut Endpoint<'_, T>) -> Result<Option<PendingEvent>, NextError>
-    ensures answer { fronts_in end.old.core end.new.args result
-        ≡ next_answer (state_of end.old.core []) }
+    ensures answer { (globals : List Told) → fronts_in end.old.core end.new.args result
+        ≡ next_answer (state_of end.old.core globals) }
     ensures core { end.new.core ≡ core_unless end.old.core result }
     ensures state { (globals : List Told) → after_front end.old.core globals result
         ≡ after_next (state_of end.old.core globals) }
@@ -113,15 +141,20 @@ fn copy<T: Table>(
 
 /// Takes the message in front with its tokens, and makes its changes. The end fails with the last
 /// message.
-fn take<T: Table>(core: &mut Core<'_, T>, globals: &mut Remembered<T::Alloc>, event: &PendingEvent)
-    requires can { CanTake core.old event.now }
-    requires lives { core.old.failed ≡ false }
-    ensures core { core.new ≡ stepped core.old event.now }
+fn take<T: Table>(
+    end: &mut Endpoint<'_, T>,
+    globals: &mut Remembered<T::Alloc>,
+    event: &PendingEvent,
+)
+    requires can { CanTake end.old.core event.now }
+    requires lives { end.old.core.failed ≡ false }
+    ensures core { end.new.core ≡ stepped end.old.core event.now }
+    ensures args { end.new.args ≡ end.old.args }
     ensures globals { globals.new ≡ with_global_change globals.old event.now.change.globals }
 {
-    core.pass(event.size, event.tokens);
-    apply_object_change(core, event.change.objects);
-    core.failed = event.change.last;
+    end.core.pass(event.size, event.tokens);
+    apply_object_change(&mut end.core, event.change.objects);
+    end.core.failed = event.change.last;
     globals.apply(event.change.globals);
 }
 

@@ -28,7 +28,7 @@ use Rattle.wl_objects.proofs.Wholes.{passes}
 use Rattle.wl_end.specs.Core.{Core, past, with_view}
 use Rattle.wl_end.specs.Sending.{after_send, after_checked, made_at, version_at, fits, delete_id_len}
 use Rattle.wl_server.specs.State.{Registry, untold}
-use Rattle.wl_server.specs.Registries.{without_registry, registry_birth, IsAmong, IsRegistry, IsFresh, HasRegistries, BirthsAreOnce}
+use Rattle.wl_server.specs.Registries.{IsSound, without_registry, registry_birth, IsAmong, IsRegistry, IsFresh, HasRegistries, BirthsAreOnce}
 use Rattle.wl_server.specs.Requests.{registries_after}
 use Rattle.wl_sigs.specs.Rules.{is_ended_by_event}
 use Rattle.wl_server.specs.Calls.{drop_at, drop_refusal, after_drop}
@@ -251,6 +251,10 @@ has_now core now rs ms step can c m f b h =
 
 pub births_now : (core now : Core) (step : Step) → now ≡ core_by core step → BirthsAreOnce core.view → BirthsAreOnce now.view
 births_now core now step c b = subst (λ (k : Core). BirthsAreOnce k.view) (sym c) (births_step core step b)
+
+pub sound_now : (core now : Core) (rs ms : List Registry) (step : Step) → CanTake core step → now ≡ core_by core step → ms ≡ registries_by core rs step
+    → IsFresh core.view step.made → IsSound core.view rs → IsSound now.view ms
+sound_now core now rs ms step can c m f h = record { has = has_now core now rs ms step can c m f h.once h.has; once = births_now core now step c h.once }
 
 -- ---- an event is written
 

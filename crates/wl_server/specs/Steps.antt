@@ -107,6 +107,11 @@ taken_report core args p = outlined core.inbox.last args core.inbox.last_tokens 
 abbrev pub state_of : Core → List Global → State
 state_of core globals = record { core = core; globals = globals; registries = [] }
 
+-- a server
+abbrev pub whole_state : Core → List Global → List Registry → State
+whole_state core globals registries =
+    record { core = core; globals = globals; registries = registries }
+
 abbrev pub step_found : Core → Result (Option Found) Fault → Result (Option Step) NextError
 step_found core (Err fault) = Err (errors.Fault fault core.read)
 step_found core (Ok None) = Ok None
@@ -196,3 +201,10 @@ abbrev pub report_by : Result (Option Step) NextError → Result (Option Report)
 report_by (Ok None) = Ok None
 report_by (Ok (Some step)) = Ok (Some step.report)
 report_by (Err why) = Err why
+
+-- what a read returns, by the request that was taken
+abbrev pub taken_in : Core → List ParsedArg → Result (Option PendingRequest) NextError
+    → Result (Option Report) NextError
+taken_in core args (Err why) = Err why
+taken_in core args (Ok None) = Ok None
+taken_in core args (Ok (Some p)) = Ok (Some (taken_report core args p))

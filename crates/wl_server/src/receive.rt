@@ -1,19 +1,21 @@
 //! How a server reads the requests that come in.
-ghost use Rattle.std.specs.Prelude.{◌≡◌, ◌≢◌, List, None, [], OnOk, IfOk, IfSome, OnErr};
+ghost use Rattle.std.specs.Prelude.{◌≡◌, ◌≢◌, None, [], OnOk, IfOk, IfSome, OnErr};
 ghost use Rattle.std.specs.Borrow.{sem};
 ghost use Rattle.std.specs.Io.BufRead.{Rests};
-ghost use Rattle.wl_objects.specs.declared.parsed.ParsedArg.{ParsedArg};
 ghost use Rattle.wl_end.specs.Outcomes.{left};
+ghost use Rattle.wl_server.specs.Registries.{IsSound};
 ghost use Rattle.wl_server.specs.Requests.{after_next, IsLentNext, IsNext};
 ghost use Rattle.wl_server.specs.Seen.{lent_in, lent_report, report_in, report_of};
-ghost use Rattle.wl_server.specs.Steps.{CanTake, after_step, checked_front, core_unless};
-ghost use Rattle.wl_server.specs.Steps.{pending_in, pendings_in, state_of, taken_report};
+ghost use Rattle.wl_server.specs.Steps.{CanTake, checked_front, core_by, core_unless};
+ghost use Rattle.wl_server.specs.Steps.{pending_in, pendings_in, registries_by, state_of};
+ghost use Rattle.wl_server.specs.Steps.{taken_in, taken_report, whole_state};
 ghost use Rattle.wl_server.specs.Lent.{server_row};
 
-use crate::changes::{close_object, open_new_object};
+use crate::changes::{Change, close_object, open_new_object};
 use crate::faults::report_fault;
 use crate::globals::Advertised;
 use crate::pending::{PendingRequest, find};
+use crate::registry::OpenRegistry;
 use crate::report::{OwnedRequest, Request};
 use crate::server::Server;
 use std::alloc::AllocError;
@@ -35,12 +37,14 @@ impl<'t, T: Table> Server<'t, T> {
             (λ server. server ≡ left self.old (after_next self.old) (lent_in result))) }
         ensures answer { IsLentNext self.old (lent_in result) }
     {
-        match find_or_fail(&mut self.end, &self.globals)? {
+        match read(
+            &mut self.end,
+            &mut self.registries,
+            &self.globals,
+            &self.alloc,
+        )? {
+            Some(request) => Ok(Some(lend(&self.end, request))),
             None => Ok(None),
-            Some(request) => match self.take_request(&request) {
-                Err(_) => Err(NextError::Memory),
-                Ok(()) => Ok(Some(lend(&self.end, request))),
-            },
         }
     }
 
@@ -51,44 +55,69 @@ impl<'t, T: Table> Server<'t, T> {
         ensures answer { IsNext self.old (report_in result) }
         ensures state { self.new ≡ left self.old (after_next self.old) (report_in result) }
     {
-        let request = match find_or_fail(&mut self.end, &self.globals)? {
-            None => return Ok(None),
-            Some(request) => request,
-        };
-        let report = match copy(&mut self.end, &self.alloc, &request) {
-            Ok(report) => report,
-            Err(_) => return Err(NextError::Memory),
-        };
-        match self.take_request(&request) {
-            Ok(()) => Ok(Some(report)),
-            Err(_) => Err(NextError::Memory),
-        }
-    }
-
-    /// Takes the request in front out, opens the object that it makes and closes the one that it
-    /// destroys. If there is no memory for the object that it makes, nothing changes.
-    fn take_request(&mut self, request: &PendingRequest) -> Result<(), AllocError>
-        // Whatever its arguments are: they matter for the report alone.
-        requires { (args : List ParsedArg)
-            → CanTake self.old.core (pending_in self.old.core args request.now) }
-        ensures ok { OnOk result ((args : List ParsedArg)
-            → self.new ≡ after_step self.old (pending_in self.old.core args request.now)) }
-        ensures err { OnErr result (self.new ≡ self.old) }
-        ensures wants { OnErr result (request.now.change.made ≢ None) }
-    {
-        open_new_object(
-            &mut self.end.core,
+        read_owned(
+            &mut self.end,
             &mut self.registries,
+            &self.globals,
             &self.alloc,
-            request.change.made,
-            request.outline.birth,
-        )?;
-        // Nothing is allocated from here on.
-        self.end.core.pass(request.size, request.tokens);
-        if let Some(object) = request.change.ended {
-            close_object(&mut self.end.core, &mut self.registries, object);
-        }
-        Ok(())
+        )
+    }
+}
+
+/// Reads the next request at an end, and takes it. Its report lies in the message that was taken
+/// last.
+fn read<T: Table>(
+    end: &mut Endpoint<'_, T>,
+    registries: &mut Vec<OpenRegistry<T::Alloc>, T::Alloc>,
+    globals: &[Advertised],
+    alloc: &T::Alloc,
+) -> Result<Option<PendingRequest>, NextError>
+    ensures answer { IsLentNext (whole_state end.old.core globals.now registries.old.items)
+        (taken_in end.new.core end.new.args result) }
+    ensures state { whole_state end.new.core globals.now registries.new.items
+        ≡ left (whole_state end.old.core globals.now registries.old.items)
+        (after_next (whole_state end.old.core globals.now registries.old.items))
+        (taken_in end.new.core end.new.args result) }
+    ensures sound { IsSound end.old.core.view registries.old.items
+        → IsSound end.new.core.view registries.new.items }
+{
+    let request = match find_or_fail(end, globals)? {
+        Some(request) => request,
+        None => return Ok(None),
+    };
+    match take(end, registries, alloc, &request) {
+        Ok(()) => Ok(Some(request)),
+        Err(_) => Err(NextError::Memory),
+    }
+}
+
+/// Reads the next request at an end, copies its report, and takes it.
+fn read_owned<T: Table>(
+    end: &mut Endpoint<'_, T>,
+    registries: &mut Vec<OpenRegistry<T::Alloc>, T::Alloc>,
+    globals: &[Advertised],
+    alloc: &T::Alloc,
+) -> Result<Option<OwnedRequest<T::Alloc>>, NextError>
+    ensures answer { IsNext (whole_state end.old.core globals.now registries.old.items)
+        (report_in result) }
+    ensures state { whole_state end.new.core globals.now registries.new.items
+        ≡ left (whole_state end.old.core globals.now registries.old.items)
+        (after_next (whole_state end.old.core globals.now registries.old.items))
+        (report_in result) }
+    ensures sound { IsSound end.old.core.view registries.old.items
+        → IsSound end.new.core.view registries.new.items }
+{
+    let request = match find_or_fail(end, globals)? {
+        Some(request) => request,
+        None => return Ok(None),
+    };
+    let report = match copy(end, alloc, &request) {
+        Ok(report) => report,
+        Err(_) => return Err(NextError::Memory),
+    };
+    match take(end, registries, alloc, &request) {
+        Ok(()) => Ok(Some(report)),
+        Err(_) => Err(NextError::Memory),
     }
 }
 
@@ -103,6 +132,7 @@ fn find_or_fail<T: Table>(
     ensures core { end.new.core ≡ core_unless end.old.core result }
     ensures can { IfOk result (λ found. IfSome found
         (λ request. CanTake end.old.core (pending_in end.old.core end.new.args request))) }
+    ensures view { end.new.core.view ≡ end.old.core.view }
 {
     if end.core.failed {
         return Err(NextError::Failed);
@@ -124,6 +154,7 @@ fn copy<T: Table>(
 ) -> Result<OwnedRequest<T::Alloc>, AllocError>
     requires { CanTake end.old.core (pending_in end.old.core end.old.args request.now) }
     ensures core { end.new.core ≡ end.old.core }
+    ensures args { end.new.args ≡ end.old.args }
     ensures ok { IfOk result (λ report. report_of report
         ≡ (pending_in end.old.core end.old.args request.now).report) }
     ensures err { OnErr result (end.old.args ≢ []) }
@@ -135,6 +166,43 @@ fn copy<T: Table>(
             .to_owned(alloc, &end.args, frame.body, &tokens[..request.tokens]),
         _ => Err(AllocError),
     }
+}
+
+/// Takes the message in front with its tokens, opens the object that it makes and closes the one
+/// that it destroys. If there is no memory for the object that it makes, nothing changes.
+fn take<T: Table>(
+    end: &mut Endpoint<'_, T>,
+    registries: &mut Vec<OpenRegistry<T::Alloc>, T::Alloc>,
+    alloc: &T::Alloc,
+    request: &PendingRequest,
+) -> Result<(), AllocError>
+    requires { CanTake end.old.core (pending_in end.old.core end.old.args request.now) }
+    ensures args { end.new.args ≡ end.old.args }
+    ensures core { OnOk result (end.new.core
+        ≡ core_by end.old.core (pending_in end.old.core end.old.args request.now)) }
+    ensures registries { OnOk result (registries.new.items
+        ≡ registries_by end.old.core registries.old.items
+        (pending_in end.old.core end.old.args request.now)) }
+    ensures err { OnErr result
+        ((end.new.core ≡ end.old.core) × (registries.new.items ≡ registries.old.items)) }
+    ensures wants { OnErr result (request.now.change.made ≢ None) }
+    ensures sound { OnOk result (IsSound end.old.core.view registries.old.items
+        → IsSound end.new.core.view registries.new.items) }
+{
+    let Change { made, ended } = request.change;
+    open_new_object(
+        &mut end.core,
+        registries,
+        alloc,
+        made,
+        request.outline.birth,
+    )?;
+    // Nothing is allocated from here on.
+    end.core.pass(request.size, request.tokens);
+    if let Some(object) = ended {
+        close_object(&mut end.core, registries, object);
+    }
+    Ok(())
 }
 
 /// The report of the request that was taken last.

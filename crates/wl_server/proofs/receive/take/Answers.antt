@@ -1,0 +1,31 @@
+use Rattle.std.proofs.Common.{◌≡◌, sym, ap, subst, ◌∙◌, rules}
+use Rattle.std.specs.Prelude.{IsTrue, is_some}
+use Rattle.wl_table.specs.View.{View, is_held}
+use Rattle.wl_objects.specs.Messages.{opens}
+use Rattle.wl_message.specs.Outgoing.{Outgoing}
+use Rattle.wl_end.specs.Core.{Core, past, with_view}
+use Rattle.wl_end.specs.Sending.{delete_id_len, fits}
+use Rattle.wl_server.specs.Steps.{core_by, core_without, pending_in, registries_by, registries_without}
+use Rattle.wl_server.proofs.Taking.{held-opened}
+use Rattle.wl_server.proofs.Registries.{sound_now}
+use Rattle.wl_server.proofs.receive.take.Goals as goal
+
+pub close_object-requires-clause-held : goal.close_object-requires-clause-held
+close_object-requires-clause-held g c =
+    let core = c.args.end.now.core in
+    let made = c.args.request.now.change.made in
+    let object = c.in-Some.object in
+    let there = (c.requires.ended object c.in-Some.is).row in
+    let view : c.pass.new.self.view ≡ opens core.view made =
+    ap (λ (k : Core). k.view) c.pass.ensures ∙ ap (λ (k : Core). k.view) c.in_ok-open_new_object.ensures.core in
+    subst (λ (v : View). IsTrue (is_held v object.id)) (sym view) (held-opened core.view made object.id (ap is_some there.row))
+
+pub close_object-requires-clause-not_display : goal.close_object-requires-clause-not_display
+close_object-requires-clause-not_display g c = (c.requires.ended c.in-Some.object c.in-Some.is).not_display
+
+pub close_object-requires-clause-room : goal.close_object-requires-clause-room
+close_object-requires-clause-room g c =
+    let outbox : c.pass.new.self.outbox ≡ c.args.end.now.core.outbox =
+    ap (λ (k : Core). k.outbox) c.pass.ensures ∙ ap (λ (k : Core). k.outbox) c.in_ok-open_new_object.ensures.core in
+    subst (λ (o : Outgoing). IsTrue (fits o delete_id_len 0)) (sym outbox) (c.requires.ended c.in-Some.object c.in-Some.is).room
+
