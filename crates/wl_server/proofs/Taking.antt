@@ -27,7 +27,7 @@ use Rattle.wl_server.specs.State.{State, Global, Registry, RiseFrom, with_core, 
 use Rattle.wl_server.specs.Requests.{Report, report, request, made_in, is_out_full, next_answer, after_next, answer_found, state_found, state_past, registries_after, needs_memory, opens_object, IsNext, IsLentNext}
 use Rattle.wl_server.specs.Registries.{without_registry, registry_birth}
 use Rattle.wl_server.specs.declared.pending.PendingRequest.{PendingRequest}
-use Rattle.wl_server.specs.Steps.{Step, ended_by, CanTake, pending_in, outlined, taken_report, step_of, step_found, front_step, checked_front, after_front, after_step, report_by, core_by, core_told, core_without, state_of}
+use Rattle.wl_server.specs.Steps.{Step, ended_by, pending_in, outlined, taken_report, step_of, step_found, front_step, checked_front, after_front, after_step, report_by, core_by, core_told, core_without, registries_by, state_of, whole_state}
 use Rattle.wl_server.proofs.Risings.{rise-below, rise-new}
 
 -- ---- the registries
@@ -207,6 +207,23 @@ inbox-taken core step = inbox-without step.ended (past (with_view core (opens co
 pub taken-is : (core now : Core) (args : List ParsedArg) (p : PendingRequest) → now ≡ core_by core (pending_in core args p) → taken_report now args p ≡ (pending_in core args p).report
 taken-is core now args p e = ap (λ (k : Core). taken_report k args p) e ∙ ap (λ (b : Arrived). outlined b.last args b.last_tokens p.outline) (inbox-taken core (pending_in core args p))
 
--- the arguments matter for the report alone
-pub can-always : (core : Core) (args others : List ParsedArg) (p : PendingRequest) → CanTake core (pending_in core args p) → CanTake core (pending_in core others p)
-can-always core args others p h = record { whole = h.whole; tokens = h.tokens; few = h.few; birth = h.birth; ended = h.ended }
+-- ---- a read of an end and what stands beside it
+
+-- after an error
+pub err-left : (core now : Core) (globals : List Global) (rs : List Registry) (why : NextError) → Err why ≡ checked_front (whole_state core globals rs) → now ≡ core_told core why
+    → whole_state now globals rs ≡ left (whole_state core globals rs) (after_next (whole_state core globals rs)) (let it : Result (Option Report) NextError = Err why in it)
+err-left core now globals rs why e n = ap (λ (k : Core). whole_state k globals rs) n ∙ leaves-err (whole_state core globals rs) why e
+
+-- where nothing is whole yet
+pub none-left : (core now : Core) (globals : List Global) (rs : List Registry) → Ok None ≡ checked_front (whole_state core globals rs) → now ≡ core
+    → whole_state now globals rs ≡ after_next (whole_state core globals rs)
+none-left core now globals rs e n = ap (λ (k : Core). whole_state k globals rs) n ∙ after-is (whole_state core globals rs) (Ok None) e
+
+-- where a request was taken
+pub taken-left : (core now : Core) (globals : List Global) (rs ms : List Registry) (step : Step) → Ok (Some step) ≡ checked_front (whole_state core globals rs) → now ≡ core_by core step → ms ≡ registries_by core rs step
+    → whole_state now globals ms ≡ after_next (whole_state core globals rs)
+taken-left core now globals rs ms step e n m = (λ i. whole_state (n i) globals (m i)) ∙ after-is (whole_state core globals rs) (Ok (Some step)) e
+
+-- what is reported of it
+pub step-answer : (state : State) (step : Step) (report : Report) → Ok (Some step) ≡ checked_front state → report ≡ step.report → (let it : Result (Option Report) NextError = Ok (Some report) in it) ≡ next_answer state
+step-answer state step report e r = ap (λ (x : Report). let it : Result (Option Report) NextError = Ok (Some x) in it) r ∙ answer-is state (Ok (Some step)) e
