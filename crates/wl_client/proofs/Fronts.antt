@@ -1,5 +1,5 @@
 -- What an end finds, where the frame of a message was told.
-use Rattle.std.proofs.Common.{◌≡◌, ℕ, true, ◌≤◌, List, [], ◌++◌, length, take, drop, sym, ap, ◌∙◌, subst, arith}
+use Rattle.std.proofs.Common.{◌≡◌, ℕ, ◌<◌, ◌≤◌, List, [], length, take, drop, get_or, sym, ap, ◌∙◌, subst, arith}
 use Rattle.std.proofs.lemmas.List.{take-take}
 use Rattle.std.specs.Prelude.{if◌then◌else◌}
 use Rattle.std.specs.declared.option.Option.{Option}
@@ -22,11 +22,11 @@ use Rattle.wl_end.specs.Receiving.{Found, found, found_in, takes, own_tokens}
 use Rattle.wl_client.specs.declared.pending.PendingEvent.{PendingEvent}
 use Rattle.wl_client.specs.Reports.{Report, report, Event, Discarded, is_error_event, is_delete_event, deleted_id, error_report, delete_report, plain_report}
 use Rattle.wl_client.specs.Steps.{end_with, report_by}
-use Rattle.wl_end.proofs.Receivings.{is_received}
-use Rattle.wl_client.specs.Reading.{IsPending, IsPendingOf, IsAhead, IsFront, body_of, headed}
+use Rattle.wl_end.proofs.Receivings.{first-tokens, is_received}
+use Rattle.wl_client.specs.Reading.{CanTake, IsPending, IsPendingOf, IsAhead, IsFront, body_of, front_report, headed}
 use Rattle.wl_client.specs.Outlines.{outlined}
 use Rattle.wl_end.proofs.Coming.{IsFound, is_found, reported_own}
-use Rattle.wl_end.proofs.Frames.{IsFrame, descriptors-le, found_frame, framed}
+use Rattle.wl_end.proofs.Frames.{IsFrame, body-front, descriptors-le, found_frame, framed}
 
 -- ---- what comes of a frame
 
@@ -110,3 +110,15 @@ pub fault_told : (core before : Core) (o : Option Frame) (f : Frame) (fault : Fa
 fault_told core before o f fault same e t h s =
     subst (λ (c : Core). found c event_side ≡ Err fault) same
     (fault_is core f.header f.body.now f.tokens fault (framed core o f e t h) s)
+
+-- ---- the report that is copied
+
+-- the body and the tokens of an event in front, as they were told
+pub front_told : (core inner : Core) (args : List ParsedArg) (event : PendingEvent) (o : Option Frame) (f : Frame) (tokens : List ℕ) → inner ≡ core → CanTake core event → o ≡ Some f → Tells inner.inbox (Ok o) → length tokens ≡ 20
+    → ((place : ℕ) → place < event.tokens → place < 20 → get_or tokens place 0 ≡ get_or inner.inbox.tokens place 0)
+    → outlined f.body.now args (take event.tokens tokens) event.outline ≡ front_report core args event
+front_told core inner args event o f tokens same can e t all first =
+    let told = subst (λ (x : Option Frame). Tells core.inbox (Ok x)) e (subst (λ (k : Core). Tells k.inbox (Ok o)) same t) in
+    let body = body-front core.inbox.limit.bytes core.inbox.bytes f.body.now event.size f.header can.message told.0 told.1 in
+    let own = first-tokens event.tokens tokens core.inbox.tokens (omega (arith, can.few, all)) can.waiting (λ k less. first k less (omega (arith, less, can.few)) ∙ ap (λ (b : Core). get_or b.inbox.tokens k 0) same) in
+    λ i. outlined (body i) args (own i) event.outline

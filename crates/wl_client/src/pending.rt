@@ -33,12 +33,13 @@ pub(crate) fn find<T: Table>(end: &mut Endpoint<'_, T>) -> Result<Option<Pending
     ensures same { end.new.core ≡ end.old.core }
     ensures comes { IsFront end.old.core end.new.args (found end.old.core event_side) result }
 {
-    let frame = match end.core.inbox.frame() {
+    let Endpoint { core, args } = end;
+    let frame = match core.inbox.frame() {
         Ok(Some(frame)) => frame,
         Ok(None) => return Ok(None),
         Err(_) => return Err(Fault::BadSize),
     };
-    match pending_of(&mut end.args, end.core.tables, &end.core.table, frame) {
+    match pending_of(args, core.tables, &core.table, frame) {
         Ok(event) => Ok(Some(event)),
         Err(fault) => Err(fault),
     }

@@ -63,6 +63,7 @@ pub(crate) fn find<T: Table>(
         (λ request. CanTake end.old.core (pending_in end.old.core end.new.args request))) }
     ensures same { end.new.core ≡ end.old.core }
 {
+    let tables = end.core.tables;
     let offset = end.core.read;
     let birth = end.core.table.births();
     let room = end.core.outbox.room();
@@ -80,7 +81,7 @@ pub(crate) fn find<T: Table>(
     };
     let received = match receive(
         &mut end.args,
-        end.core.tables,
+        tables,
         Side::Request,
         &lookup,
         header,
@@ -90,7 +91,7 @@ pub(crate) fn find<T: Table>(
         Ok(received) => received,
         Err(fault) => return Err(NextError::Fault { fault, offset }),
     };
-    if is_bad_bind(end.core.tables, globals, header.opcode, &received) {
+    if is_bad_bind(tables, globals, header.opcode, &received) {
         return Err(NextError::Fault {
             fault: Fault::BadBind,
             offset,
@@ -104,7 +105,7 @@ pub(crate) fn find<T: Table>(
     if lacks_room(room, ended) {
         return Err(NextError::OutFull);
     }
-    Ok(Some(pending_of(end.core.tables, birth, ended, header, &received)))
+    Ok(Some(pending_of(tables, birth, ended, header, &received)))
 }
 
 /// Whether an object is destroyed whose delete_id needs more room than there is.

@@ -1,14 +1,10 @@
-use Rattle.wl_end.specs.Core.{Core}
 use Rattle.wl_client.proofs.Fronts.{pending_told, fault_told}
-use Rattle.wl_client.proofs.pending.find.Goals.{in-Ok, in-Err-pending_of}
 use Rattle.wl_client.proofs.pending.find.Goals as goal
 
-pub returns-clause-comes : goal.returns-clause-comes
-returns-clause-comes g c =
-    let core : Core = record { tables = c.end-core.inside.tables.now; view = g.T.Table.view c.end-core.inside.table; inbox = c.end-core.inside.inbox; outbox = c.end-core.inside.outbox; failed = c.end-core.inside.failed; read = c.end-core.inside.read } in
-    elim c.match-pending_of.branch [
-      | in-Ok w ↦ rw w.result-is
-          (pending_told core c.args.end.now.core c.pending_of.new.args c.in-Ok-Some.field-0 c.in-Ok-Some.frame w.in-Ok.event c.core.view_is c.in-Ok-Some.field-0-is c.in-Ok-Some.ensures.tells c.pending_of.ensures.header w.in-Ok.ensures.valid w.in-Ok.ensures.comes)
-      | in-Err-pending_of w ↦ rw w.result-is
-          (fault_told core c.args.end.now.core c.in-Ok-Some.field-0 c.in-Ok-Some.frame w.in-Err-pending_of.fault c.core.view_is c.in-Ok-Some.field-0-is c.in-Ok-Some.ensures.tells c.pending_of.ensures.header w.in-Err-pending_of.ensures.comes)
-    ]
+pub returns-in-Ok-clause-comes : goal.returns-in-Ok-clause-comes
+returns-in-Ok-clause-comes g c =
+    pending_told _ c.args.end.now.core c.pending_of.new.args c.in-Ok-Some.field-0 c.in-Ok-Some.frame c.in-Ok.event c.core.view_is c.in-Ok-Some.field-0-is c.in-Ok-Some.ensures.tells c.pending_of.ensures.header c.in-Ok.ensures.valid c.in-Ok.ensures.comes
+
+pub returns-in-Err-pending_of-clause-comes : goal.returns-in-Err-pending_of-clause-comes
+returns-in-Err-pending_of-clause-comes g c =
+    fault_told _ c.args.end.now.core c.in-Ok-Some.field-0 c.in-Ok-Some.frame c.in-Err-pending_of.fault c.core.view_is c.in-Ok-Some.field-0-is c.in-Ok-Some.ensures.tells c.pending_of.ensures.header c.in-Err-pending_of.ensures.comes
