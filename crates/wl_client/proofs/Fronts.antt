@@ -114,11 +114,11 @@ fault_told core before o f fault same e t h s =
 -- ---- the report that is copied
 
 -- the body and the tokens of an event in front, as they were told
-pub front_told : (core inner : Core) (args : List ParsedArg) (event : PendingEvent) (o : Option Frame) (f : Frame) (tokens : List ℕ) → inner ≡ core → CanTake core event → o ≡ Some f → Tells inner.inbox (Ok o) → length tokens ≡ 20
+pub front_told : (core inner : Core) (args held : List ParsedArg) (event : PendingEvent) (o : Option Frame) (f : Frame) (tokens : List ℕ) → inner ≡ core → held ≡ args → CanTake core event → o ≡ Some f → Tells inner.inbox (Ok o) → length tokens ≡ 20
     → ((place : ℕ) → place < event.tokens → place < 20 → get_or tokens place 0 ≡ get_or inner.inbox.tokens place 0)
-    → outlined f.body.now args (take event.tokens tokens) event.outline ≡ front_report core args event
-front_told core inner args event o f tokens same can e t all first =
+    → outlined f.body.now held (take event.tokens tokens) event.outline ≡ front_report core args event
+front_told core inner args held event o f tokens same kept can e t all first =
     let told = subst (λ (x : Option Frame). Tells core.inbox (Ok x)) e (subst (λ (k : Core). Tells k.inbox (Ok o)) same t) in
     let body = body-front core.inbox.limit.bytes core.inbox.bytes f.body.now event.size f.header can.message told.0 told.1 in
     let own = first-tokens event.tokens tokens core.inbox.tokens (omega (arith, can.few, all)) can.waiting (λ k less. first k less (omega (arith, less, can.few)) ∙ ap (λ (b : Core). get_or b.inbox.tokens k 0) same) in
-    λ i. outlined (body i) args (own i) event.outline
+    λ i. outlined (body i) (kept i) (own i) event.outline

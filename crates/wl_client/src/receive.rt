@@ -1,5 +1,5 @@
 //! How a client reads the events that come in.
-ghost use Rattle.std.specs.Prelude.{◌≡◌, List, IfOk, IfSome, OnErr, false, true};
+ghost use Rattle.std.specs.Prelude.{◌≡◌, List, [], IfOk, IfSome, OnErr, false, true};
 ghost use Rattle.std.specs.Borrow.{sem};
 ghost use Rattle.std.specs.Io.BufRead.{Rests};
 ghost use Rattle.wl_end.specs.Outcomes.{left};
@@ -94,8 +94,8 @@ fn read_owned<T: Table>(
 
 /// The event in front, once it is whole. The end fails with a fault; else nothing changes.
 fn find_or_fail<T: Table>(end: &mut Endpoint<'_, T>) -> Result<Option<PendingEvent>, NextError>
-    ensures answer { (globals : List Told) → fronts_in end.old.core end.new.args result
-        ≡ next_answer (state_of end.old.core globals) }
+    ensures answer { fronts_in end.old.core end.new.args result
+        ≡ next_answer (state_of end.old.core []) }
     ensures core { end.new.core ≡ core_unless end.old.core result }
     ensures state { (globals : List Told) → after_front end.old.core globals result
         ≡ after_next (state_of end.old.core globals) }
@@ -131,12 +131,12 @@ fn copy<T: Table>(
         (needs_memory (front_report end.old.core end.old.args event.now) ≡ true) }
 {
     let tokens = end.core.first_tokens(event.tokens);
-    match end.core.inbox.frame() {
-        Ok(Some(frame)) => event
-            .outline
-            .to_owned(alloc, &end.args, frame.body, &tokens[..event.tokens]),
-        _ => Err(AllocError),
-    }
+    let frame = match end.core.inbox.frame() {
+        Ok(Some(frame)) => frame,
+        _ => return Err(AllocError),
+    };
+    let tokens = &tokens[..event.tokens];
+    event.outline.to_owned(alloc, &end.args, frame.body, tokens)
 }
 
 /// Takes the message in front with its tokens, and makes its changes. The end fails with the last

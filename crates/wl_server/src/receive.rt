@@ -160,12 +160,12 @@ fn copy<T: Table>(
     ensures err { OnErr result (end.old.args ≢ []) }
 {
     let tokens = end.core.first_tokens(request.tokens);
-    match end.core.inbox.frame() {
-        Ok(Some(frame)) => request
-            .outline
-            .to_owned(alloc, &end.args, frame.body, &tokens[..request.tokens]),
-        _ => Err(AllocError),
-    }
+    let frame = match end.core.inbox.frame() {
+        Ok(Some(frame)) => frame,
+        _ => return Err(AllocError),
+    };
+    let tokens = &tokens[..request.tokens];
+    request.outline.to_owned(alloc, &end.args, frame.body, tokens)
 }
 
 /// Takes the message in front with its tokens, opens the object that it makes and closes the one
