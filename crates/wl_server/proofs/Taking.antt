@@ -18,16 +18,18 @@ use Rattle.wl_table.specs.Views.{look-opened_at}
 use Rattle.wl_objects.specs.declared.parsed.ParsedArg.{ParsedArg}
 use Rattle.wl_objects.specs.Messages.{NewObject, made, opens, same_iface, reader_of}
 use Rattle.wl_sigs.specs.Fixed.{registry}
-use Rattle.wl_message.specs.Arrived.{Arrived, without_first}
+use Rattle.wl_message.specs.Arrived.{Arrived, Tells, without_first}
+use Rattle.wl_message.specs.declared.inbox.Frame.{Frame}
 use Rattle.wl_end.specs.Core.{Core, past, with_view}
 use Rattle.wl_end.specs.Receiving.{Found, is_none}
 use Rattle.wl_end.specs.Outcomes.{answers_with, left}
-use Rattle.wl_end.proofs.Receivings.{some_reported}
+use Rattle.wl_end.proofs.Frames.{body-front}
+use Rattle.wl_end.proofs.Receivings.{first-tokens, some_reported}
 use Rattle.wl_server.specs.State.{State, Global, Registry, RiseFrom, with_core, untold}
 use Rattle.wl_server.specs.Requests.{Report, report, request, made_in, is_out_full, next_answer, after_next, answer_found, state_found, state_past, registries_after, needs_memory, opens_object, IsNext, IsLentNext}
 use Rattle.wl_server.specs.Registries.{without_registry, registry_birth}
 use Rattle.wl_server.specs.declared.pending.PendingRequest.{PendingRequest}
-use Rattle.wl_server.specs.Steps.{Step, ended_by, pending_in, outlined, taken_report, step_of, step_found, front_step, checked_front, after_front, after_step, report_by, core_by, core_told, core_without, registries_by, state_of, whole_state}
+use Rattle.wl_server.specs.Steps.{CanTake, Step, ended_by, pending_in, outlined, taken_report, step_of, step_found, front_step, checked_front, after_front, after_step, report_by, core_by, core_told, core_without, registries_by, state_of, whole_state}
 use Rattle.wl_server.proofs.Risings.{rise-below, rise-new}
 
 -- ---- the registries
@@ -206,6 +208,19 @@ inbox-taken core step = inbox-without step.ended (past (with_view core (opens co
 
 pub taken-is : (core now : Core) (args : List ParsedArg) (p : PendingRequest) → now ≡ core_by core (pending_in core args p) → taken_report now args p ≡ (pending_in core args p).report
 taken-is core now args p e = ap (λ (k : Core). taken_report k args p) e ∙ ap (λ (b : Arrived). outlined b.last args b.last_tokens p.outline) (inbox-taken core (pending_in core args p))
+
+-- ---- the report that is copied
+
+-- the body and the tokens of a request in front, as they were told
+pub front-told : (core inner : Core) (args held : List ParsedArg) (p : PendingRequest) (o : Option Frame) (f : Frame) (tokens : List ℕ) → inner ≡ core → held ≡ args → CanTake core (pending_in core args p) → o ≡ Some f → Tells inner.inbox (Ok o) → length tokens ≡ 20
+    → ((place : ℕ) → place < p.tokens → place < 20 → get_or tokens place 0 ≡ get_or inner.inbox.tokens place 0)
+    → outlined f.body.now held (take p.tokens tokens) p.outline ≡ (pending_in core args p).report
+front-told core inner args held p o f tokens same kept can e t all first =
+    let told = subst (λ (x : Option Frame). Tells core.inbox (Ok x)) e (subst (λ (k : Core). Tells k.inbox (Ok o)) same t) in
+    let body = body-front core.inbox.limit.bytes core.inbox.bytes f.body.now p.size f.header can.whole told.0 told.1 in
+    let few = can.few in
+    let own = first-tokens p.tokens tokens core.inbox.tokens (omega (arith, few, all)) can.tokens (λ k less. first k less (omega (arith, less, few)) ∙ ap (λ (b : Core). get_or b.inbox.tokens k 0) same) in
+    λ i. outlined (body i) (kept i) (own i) p.outline
 
 -- ---- a read of an end and what stands beside it
 

@@ -63,11 +63,11 @@ pub(crate) fn find<T: Table>(
         (λ request. CanTake end.old.core (pending_in end.old.core end.new.args request))) }
     ensures same { end.new.core ≡ end.old.core }
 {
-    let tables = end.core.tables;
-    let offset = end.core.read;
-    let birth = end.core.table.births();
-    let room = end.core.outbox.room();
-    let frame = match end.core.inbox.frame() {
+    let Endpoint { core, args } = end;
+    let offset = core.read;
+    let birth = core.table.births();
+    let room = core.outbox.room();
+    let frame = match core.inbox.frame() {
         Ok(Some(frame)) => frame,
         Ok(None) => return Ok(None),
         Err(_) => return Err(NextError::Fault {
@@ -76,12 +76,10 @@ pub(crate) fn find<T: Table>(
         }),
     };
     let header = frame.header;
-    let lookup = TableLookup {
-        table: &end.core.table,
-    };
+    let lookup = TableLookup { table: &core.table };
     let received = match receive(
-        &mut end.args,
-        tables,
+        args,
+        core.tables,
         Side::Request,
         &lookup,
         header,
@@ -91,7 +89,7 @@ pub(crate) fn find<T: Table>(
         Ok(received) => received,
         Err(fault) => return Err(NextError::Fault { fault, offset }),
     };
-    if is_bad_bind(tables, globals, header.opcode, &received) {
+    if is_bad_bind(core.tables, globals, header.opcode, &received) {
         return Err(NextError::Fault {
             fault: Fault::BadBind,
             offset,
@@ -105,7 +103,7 @@ pub(crate) fn find<T: Table>(
     if lacks_room(room, ended) {
         return Err(NextError::OutFull);
     }
-    Ok(Some(pending_of(tables, birth, ended, header, &received)))
+    Ok(Some(pending_of(core.tables, birth, ended, header, &received)))
 }
 
 /// Whether an object is destroyed whose delete_id needs more room than there is.

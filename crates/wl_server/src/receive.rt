@@ -165,7 +165,9 @@ fn copy<T: Table>(
         _ => return Err(AllocError),
     };
     let tokens = &tokens[..request.tokens];
-    request.outline.to_owned(alloc, &end.args, frame.body, tokens)
+    request
+        .outline
+        .to_owned(alloc, &end.args, frame.body, tokens)
 }
 
 /// Takes the message in front with its tokens, opens the object that it makes and closes the one

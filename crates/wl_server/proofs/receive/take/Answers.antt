@@ -28,4 +28,28 @@ close_object-requires-clause-room g c =
     let outbox : c.pass.new.self.outbox ≡ c.args.end.now.core.outbox =
     ap (λ (k : Core). k.outbox) c.pass.ensures ∙ ap (λ (k : Core). k.outbox) c.in_ok-open_new_object.ensures.core in
     subst (λ (o : Outgoing). IsTrue (fits o delete_id_len 0)) (sym outbox) (c.requires.ended c.in-Some.object c.in-Some.is).room
+pub returns-in-Some-clause-sound : goal.returns-in-Some-clause-sound
+returns-in-Some-clause-sound g c sound =
+    let core = c.args.end.now.core in
+    let registries = c.args.registries.now.items in
+    let request = c.args.request.now in
+    let step = pending_in core c.args.end.now.args request in
+    let opened = c.in_ok-open_new_object.ensures in
+    let passed : c.pass.new.self ≡ past (with_view core (opens core.view request.change.made)) request.size request.tokens = search rules in
+    let now : c.close_object.new.core ≡ core_by core step = c.close_object.ensures.core ∙ (λ i. core_without (sym c.in-Some.is i) (passed i)) in
+    let left : c.close_object.new.registries.items ≡ registries_by core registries step =
+    c.close_object.ensures.registries ∙ (λ i. registries_without (sym c.in-Some.is i) (opened.registries i)) in
+    sound_now core c.close_object.new.core registries c.close_object.new.registries.items step c.requires now left opened.fresh sound
 
+pub returns-in_default-clause-sound : goal.returns-in_default-clause-sound
+returns-in_default-clause-sound g c sound =
+    let core = c.args.end.now.core in
+    let registries = c.args.registries.now.items in
+    let request = c.args.request.now in
+    let step = pending_in core c.args.end.now.args request in
+    let opened = c.in_ok-open_new_object.ensures in
+    let passed : c.pass.new.self ≡ past (with_view core (opens core.view request.change.made)) request.size request.tokens = search rules in
+    let now : c.pass.new.self ≡ core_by core step = (λ i. core_without (sym c.in_default.is i) (passed i)) in
+    let left : c.open_new_object.new.registries.items ≡ registries_by core registries step =
+    (λ i. registries_without (sym c.in_default.is i) (opened.registries i)) in
+    sound_now core c.pass.new.self registries c.open_new_object.new.registries.items step c.requires now left opened.fresh sound
