@@ -1,5 +1,5 @@
 -- What stands in front of a server's waiting bytes, and that it can be taken.
-use Rattle.std.proofs.Common.{◌≡◌, ◌≢◌, ℕ, zero, suc, ◌≤◌, Bool, true, false, List, [], ◌∷◌, length, take, drop, Some, refl, sym, ap, subst, ◌∙◌, arith}
+use Rattle.std.proofs.Common.{◌≡◌, ◌≢◌, ℕ, zero, suc, ◌≤◌, Bool, true, false, List, [], ◌∷◌, length, take, drop, Some, refl, sym, ap, subst, ◌∙◌, inl, inr, arith}
 use Rattle.std.specs.Prelude.{Option, not, ◌&&◌, nat_lt, nat_eq, slice_get, IsTrue, is_some}
 use Rattle.std.specs.Option.{option_and_then}
 use Rattle.std.specs.declared.result.Result.{Result}
@@ -15,7 +15,11 @@ use Rattle.wl_sigs.specs.declared.signature.Destroys.TheVariants.{Nothing, Targe
 use Rattle.wl_sigs.specs.Tables.{Interface, Message, signature_at, message_of, destroys_one}
 use Rattle.wl_sigs.specs.Fixed.{wl_display, display}
 use Rattle.wl_sigs.specs.Valid.{Valid}
+use Rattle.wl_wire.specs.Word.{IsHeader}
+use Rattle.wl_message.specs.declared.inbox.Frame.{Frame}
+use Rattle.wl_message.specs.Arrived.{Tells}
 use Rattle.wl_message.specs.Outgoing.{room_of}
+use Rattle.wl_server.specs.declared.pending.PendingRequest.{PendingRequest}
 use Rattle.wl_objects.specs.declared.error.Fault.{Fault}
 use Rattle.wl_objects.specs.declared.error.Fault.TheVariants as faults
 use Rattle.wl_objects.specs.declared.error.NextError.{NextError}
@@ -35,12 +39,12 @@ use Rattle.wl_end.specs.Receiving.{Found, found, reported, found_in, takes}
 use Rattle.wl_end.specs.Sending.{delete_id_len, fits}
 use Rattle.wl_end.proofs.Receivings.{is_received}
 use Rattle.wl_end.proofs.Coming.{is_found}
-use Rattle.wl_end.proofs.Frames.{IsFrame, descriptors-le, found_frame}
+use Rattle.wl_end.proofs.Frames.{IsFrame, descriptors-le, found_frame, framed}
 use Rattle.wl_end.proofs.Ends.{argument_received}
 use Rattle.wl_end.proofs.Descriptors.{fds, reports_stay}
 use Rattle.wl_server.specs.State.{Global}
 use Rattle.wl_server.specs.Requests.{Report, report, request, judged, is_good_bind_of, object_in}
-use Rattle.wl_server.specs.Steps.{Step, step_of, step_found, front_step, state_of, pending_in, pending_of, ended_by, report_with, HasRow, CanTake}
+use Rattle.wl_server.specs.Steps.{Step, step_of, step_found, front_step, state_of, pending_in, pending_of, ended_by, report_with, HasRow, CanTake, IsEndedBy, IsPending, IsPendingOf, is_bad}
 
 abbrev pub read_by : Core → Header → List ℕ → ℕ → Result Received Fault
 read_by core h body waiting = received core.tables request_side (reader_of core.view) h body waiting
@@ -51,9 +55,6 @@ found_is core h body waiting s r e = found_frame core request_side h body waitin
 
 abbrev the_found : Header → Received → Found
 the_found h m = record { size = h.size; opcode = h.opcode; message = m }
-
-abbrev pub is_bad : List Interface → List Global → ℕ → Received → Bool
-is_bad tables globals opcode m = is_bind request_side m.entry.iface opcode && not (is_good_bind_of tables globals m.values)
 
 -- ---- what is answered
 
@@ -176,14 +177,6 @@ is_some_ended (Arg place) report = refl
 destroys_some : (what : Destroys) (report : Report) (object : Object) → ended_by what report ≡ Some object → destroys_one what ≡ true
 destroys_some what report object is = sym (is_some_ended what report) ∙ ap is_some is
 
--- what is destroyed, by the arguments that were parsed
-abbrev pub IsEndedBy : Received → List ParsedArg → Option Object → Type 0
-IsEndedBy m args ended = (opcode birth : ℕ) (body tokens : List ℕ) → ended ≡ ended_by m.signature.destroys (report_with m.target opcode (reported_in body birth tokens args))
-
-pub ended_told : (m : Received) (args : List ParsedArg) (ended : Option Object) (what : Destroys) → what ≡ m.signature.destroys
-    → ((opcode birth : ℕ) (body tokens : List ℕ) → ended ≡ ended_by what (report_with m.target opcode (reported_in body birth tokens args))) → IsEndedBy m args ended
-ended_told m args ended what e k = λ opcode birth body tokens. k opcode birth body tokens ∙ ap (λ (d : Destroys). ended_by d (report_with m.target opcode (reported_in body birth tokens args))) e
-
 ended_is : (core : Core) (h : Header) (body : List ℕ) (m : Received) (args : List ParsedArg) (ended : Option Object) → AreParsed (reader_of core.view) body args m.values → IsEndedBy m args ended
     → ended ≡ ended_by m.signature.destroys (report core (the_found h m))
 ended_is core h body m args ended a k =
@@ -247,3 +240,43 @@ pub answers_ok : (core : Core) (globals : List Global) (h : Header) (body : List
 answers_ok core globals h body waiting m args ended s e b f a k =
     ap (λ (x : Step). let it : Result (Option Step) NextError = Ok (Some x) in it) (same_step core h body waiting m args ended s e a k)
     ∙ sym (front_ok core globals h body waiting m s e b (full_by core m args ended false k f))
+
+-- ---- as the code has it
+
+-- a fault of the message in front
+pub fault_told : (core before : Core) (globals : List Global) (args : List ParsedArg) (o : Option Frame) (f : Frame) (fault : Fault) → core ≡ before → o ≡ Some f → Tells core.inbox (Ok o) → IsHeader f.header
+    → IsPendingOf core.tables core.view globals f.header f.body.now args (read_by core f.header f.body.now f.tokens) (Err fault)
+    → Answers before globals (Err (errors.Fault fault core.read))
+fault_told core before globals args o f fault same e t h (inl r) =
+    subst (λ (k : Core). Answers k globals (Err (errors.Fault fault core.read))) same (answers_fault core globals f.header f.body.now f.tokens fault (framed core o f e t h) (sym r))
+fault_told core before globals args o f fault same e t h (inr r) =
+    subst (λ (k : Core). Answers k globals (Err (errors.Fault fault core.read))) same
+    (subst (λ (x : Fault). Answers core globals (Err (errors.Fault x core.read))) (sym r.0) (answers_bad core globals f.header f.body.now f.tokens r.1 (framed core o f e t h) (sym r.2) r.3))
+
+-- a request that destroys an object, where there is no room for its delete_id
+pub full_told : (core before : Core) (globals : List Global) (args : List ParsedArg) (o : Option Frame) (f : Frame) (p : PendingRequest) → core ≡ before → o ≡ Some f → Tells core.inbox (Ok o) → IsHeader f.header
+    → IsPendingOf core.tables core.view globals f.header f.body.now args (read_by core f.header f.body.now f.tokens) (Ok p)
+    → (is_some p.change.ended && nat_lt (room_of core.outbox) delete_id_len) ≡ true
+    → Answers before globals (Err errors.OutFull)
+full_told core before globals args o f p same e t h s full =
+    subst (λ (k : Core). Answers k globals (Err errors.OutFull)) same
+    (answers_full core globals f.header f.body.now f.tokens s.0 (framed core o f e t h) (sym s.1) s.2 (full_by core s.0 args p.change.ended true s.3.ended full))
+
+-- a request that can be taken
+pub request_told : (core before : Core) (globals : List Global) (args : List ParsedArg) (o : Option Frame) (f : Frame) (p : PendingRequest) → core ≡ before → o ≡ Some f → Tells core.inbox (Ok o) → IsHeader f.header
+    → IsPendingOf core.tables core.view globals f.header f.body.now args (read_by core f.header f.body.now f.tokens) (Ok p)
+    → (is_some p.change.ended && nat_lt (room_of core.outbox) delete_id_len) ≡ false
+    → Answers before globals (Ok (Some (pending_in before args p)))
+request_told core before globals args o f p same e t h s fits =
+    subst (λ (k : Core). Answers k globals (Ok (Some (pending_in k args p)))) same
+    (subst (λ (q : PendingRequest). Answers core globals (Ok (Some (pending_in core args q)))) (sym s.3.same)
+    (answers_ok core globals f.header f.body.now f.tokens s.0 args p.change.ended (framed core o f e t h) (sym s.1) s.2 fits s.3.parsed s.3.ended))
+
+pub can_take_told : (core before : Core) (globals : List Global) (args : List ParsedArg) (o : Option Frame) (f : Frame) (p : PendingRequest) → core ≡ before → o ≡ Some f → Tells core.inbox (Ok o) → IsHeader f.header → Valid core.tables → HasDisplay core.view
+    → IsPendingOf core.tables core.view globals f.header f.body.now args (read_by core f.header f.body.now f.tokens) (Ok p)
+    → (is_some p.change.ended && nat_lt (room_of core.outbox) delete_id_len) ≡ false
+    → CanTake before (pending_in before args p)
+can_take_told core before globals args o f p same e t h v d s fits =
+    subst (λ (k : Core). CanTake k (pending_in k args p)) same
+    (subst (λ (q : PendingRequest). CanTake core (pending_in core args q)) (sym s.3.same)
+    (can_take core f.header f.body.now f.tokens s.0 args p.change.ended v d (framed core o f e t h) (sym s.1) s.3.parsed s.3.ended fits))

@@ -1,23 +1,26 @@
 //! What stands in front of a server's inbox: a request that was read and not yet taken.
 ghost use Rattle.std.specs.Prelude.{◌≡◌, ◌&&◌, ℕ, List, IfOk, IfSome, is_some, nat_lt};
+ghost use Rattle.wl_wire.specs.Word.{IsHeader};
+ghost use Rattle.wl_sigs.specs.declared.signature.Side.TheVariants.{Request as request_side};
+ghost use Rattle.wl_sigs.specs.Valid.{Valid};
+ghost use Rattle.wl_objects.specs.Messages.{made, reader_of, received};
 ghost use Rattle.wl_objects.specs.Parsed.{reported_in};
-ghost use Rattle.wl_objects.specs.Reading.{descriptors};
 ghost use Rattle.wl_objects.specs.Seen.{message_of};
 ghost use Rattle.wl_end.specs.Sending.{delete_id_len};
-ghost use Rattle.wl_server.specs.Steps.{CanTake, ended_by, front_step, pending_in, pending_of};
-ghost use Rattle.wl_server.specs.Steps.{pendings_in, report_with, state_of};
+ghost use Rattle.wl_server.specs.Steps.{CanTake, IsEndedBy, IsPendingOf, ended_by, front_step};
+ghost use Rattle.wl_server.specs.Steps.{pending_in, pendings_in, report_with, state_of};
 
 use crate::bind::is_bad_bind;
 use crate::changes::Change;
 use crate::globals::Advertised;
 use crate::outline::Outline;
 use wl_end::{DELETE_ID_LEN, Endpoint};
+use wl_message::Frame;
 use wl_objects::{
     Fault, NextError, Object, ParsedArg, ParsedArgs, Received, Table, TableLookup, made_by_message,
     receive,
 };
 use wl_sigs::{Destroys, Side, Tables};
-use wl_wire::Header;
 
 /// A request that was read and not yet taken: what is reported of it, and what it changes. It lends
 /// nothing; its arguments lie at the end that read it.
@@ -65,7 +68,6 @@ pub(crate) fn find<T: Table>(
 {
     let Endpoint { core, args } = end;
     let offset = core.read;
-    let birth = core.table.births();
     let room = core.outbox.room();
     let frame = match core.inbox.frame() {
         Ok(Some(frame)) => frame,
@@ -75,35 +77,77 @@ pub(crate) fn find<T: Table>(
             offset,
         }),
     };
+    let request = match pending_of(args, core.tables, &core.table, globals, frame) {
+        Ok(request) => request,
+        Err(fault) => return Err(NextError::Fault { fault, offset }),
+    };
+    if lacks_room(room, request.change.ended) {
+        return Err(NextError::OutFull);
+    }
+    Ok(Some(request))
+}
+
+/// What a message is and changes, with its arguments parsed.
+fn pending_of<T: Table>(
+    args: &mut ParsedArgs,
+    tables: &Tables,
+    table: &T,
+    globals: &[Advertised],
+    frame: Frame<'_>,
+) -> Result<PendingRequest, Fault>
+    ensures header { IsHeader frame.entry.header }
+    ensures valid { IfOk result (λ _. Valid tables.now) }
+    ensures comes { IsPendingOf tables.now (T.view table.now) globals.now
+        frame.entry.header frame.entry.body.now args.new
+        (received tables.now request_side (reader_of (T.view table.now))
+        frame.entry.header frame.entry.body.now frame.entry.tokens) result }
+{
     let header = frame.header;
-    let lookup = TableLookup { table: &core.table };
-    let received = match receive(
+    let lookup = TableLookup { table };
+    let received = receive(
         args,
-        core.tables,
+        tables,
         Side::Request,
         &lookup,
         header,
         frame.body,
         frame.tokens,
-    ) {
-        Ok(received) => received,
-        Err(fault) => return Err(NextError::Fault { fault, offset }),
-    };
-    if is_bad_bind(core.tables, globals, header.opcode, &received) {
-        return Err(NextError::Fault {
-            fault: Fault::BadBind,
-            offset,
-        });
-    }
-    let ended = ended_by(
-        received.signature.destroys(),
-        received.target,
-        received.args,
     );
-    if lacks_room(room, ended) {
-        return Err(NextError::OutFull);
+    let message = match received {
+        Ok(message) => message,
+        Err(fault) => return Err(fault),
+    };
+    if is_bad_bind(tables, globals, header.opcode, &message) {
+        return Err(Fault::BadBind);
     }
-    Ok(Some(pending_of(core.tables, birth, ended, header, &received)))
+    Ok(PendingRequest {
+        outline: Outline {
+            target: message.target,
+            opcode: header.opcode,
+            birth: table.births(),
+        },
+        change: change_of(tables, &message),
+        size: header.size,
+        tokens: message.tokens,
+    })
+}
+
+/// What a message changes among the objects.
+fn change_of(tables: &Tables, message: &Received<'_, '_>) -> Change
+    ensures made { result.made ≡ made tables.now message.now.entry.version
+        message.now.signature.now.kinds (message_of message.now).values }
+    ensures ended { IsEndedBy (message_of message.now) message.now.args.now result.ended }
+{
+    let signature = message.signature;
+    Change {
+        made: made_by_message(
+            tables,
+            message.entry.version,
+            signature.kinds(),
+            &message.values(),
+        ),
+        ended: ended_by(signature.destroys(), message.target, message.args),
+    }
 }
 
 /// Whether an object is destroyed whose delete_id needs more room than there is.
@@ -111,31 +155,4 @@ fn lacks_room(room: usize, ended: Option<Object>) -> bool
     ensures { result ≡ (is_some ended && nat_lt room delete_id_len) }
 {
     ended.is_some() && room < DELETE_ID_LEN
-}
-
-/// What a message is and does, where it destroys this object and the next one gets this birth.
-fn pending_of(
-    tables: &Tables,
-    birth: u64,
-    ended: Option<Object>,
-    header: Header,
-    message: &Received<'_, '_>,
-) -> PendingRequest
-    requires tokens { message.now.tokens ≡ descriptors message.now.signature.now.kinds }
-    ensures { result ≡ pending_of tables.now birth ended header (message_of message.now) }
-{
-    let kinds = message.signature.kinds();
-    PendingRequest {
-        outline: Outline {
-            target: message.target,
-            opcode: header.opcode,
-            birth,
-        },
-        change: Change {
-            made: made_by_message(tables, message.entry.version, kinds, &message.values()),
-            ended,
-        },
-        size: header.size,
-        tokens: message.tokens,
-    }
 }

@@ -28,6 +28,7 @@ close_object-requires-clause-room g c =
     let outbox : c.pass.new.self.outbox ≡ c.args.end.now.core.outbox =
     ap (λ (k : Core). k.outbox) c.pass.ensures ∙ ap (λ (k : Core). k.outbox) c.in_ok-open_new_object.ensures.core in
     subst (λ (o : Outgoing). IsTrue (fits o delete_id_len 0)) (sym outbox) (c.requires.ended c.in-Some.object c.in-Some.is).room
+
 pub returns-in-Some-clause-sound : goal.returns-in-Some-clause-sound
 returns-in-Some-clause-sound g c sound =
     let core = c.args.end.now.core in
