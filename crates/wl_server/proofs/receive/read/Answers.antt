@@ -1,5 +1,5 @@
-use Rattle.std.proofs.Common.{◌≡◌, Some, inl, ap, ◌∙◌}
-use Rattle.std.specs.declared.result.Result.TheVariants.{Ok as ok}
+use Rattle.std.proofs.Common.{◌≡◌, Some, inl, ap, ◌∙◌, rules}
+use Rattle.std.specs.declared.result.Result.TheVariants.{Ok as ok, Err as err}
 use Rattle.wl_end.specs.Core.{Core}
 use Rattle.wl_server.specs.State.{State}
 use Rattle.wl_server.specs.Steps.{checked_front, core_by, pending_in, registries_by, taken_report, whole_state}
@@ -8,8 +8,8 @@ use Rattle.wl_server.proofs.receive.read.Goals as goal
 
 pub returns-in_err-request-clause-state : goal.returns-in_err-request-clause-state
 returns-in_err-request-clause-state g c =
-    rw c.from_residual.ensures
-    (err-left c.args.end.now.core c.find_or_fail.new.end.core c.args.globals.now c.args.registries.now.items c.in_err-request.field-0.0 c.in_err-request.ensures.answer c.in_err-request.ensures.core)
+    let same : c.from_residual.result ≡ err c.in_err-request.field-0.0 = search rules in
+    rw same (err-left c.args.end.now.core c.find_or_fail.new.end.core c.args.globals.now c.args.registries.now.items c.in_err-request.field-0.0 c.in_err-request.ensures.answer c.in_err-request.ensures.core)
 
 pub returns-in-Ok-clause-answer : goal.returns-in-Ok-clause-answer
 returns-in-Ok-clause-answer g c =

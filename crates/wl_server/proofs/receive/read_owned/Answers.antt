@@ -1,5 +1,5 @@
-use Rattle.std.proofs.Common.{◌≡◌, List, Some, sym, subst, ◌∙◌}
-use Rattle.std.specs.declared.result.Result.TheVariants.{Ok as ok}
+use Rattle.std.proofs.Common.{◌≡◌, List, Some, sym, subst, ◌∙◌, rules}
+use Rattle.std.specs.declared.result.Result.TheVariants.{Ok as ok, Err as err}
 use Rattle.wl_objects.specs.declared.parsed.ParsedArg.{ParsedArg}
 use Rattle.wl_objects.specs.Parsed.{reported_of}
 use Rattle.wl_end.specs.Core.{Core}
@@ -10,8 +10,8 @@ use Rattle.wl_server.proofs.receive.read_owned.Goals as goal
 
 pub returns-in_err-request-clause-state : goal.returns-in_err-request-clause-state
 returns-in_err-request-clause-state g c =
-    rw c.from_residual.ensures
-    (err-left c.args.end.now.core c.find_or_fail.new.end.core c.args.globals.now c.args.registries.now.items c.in_err-request.field-0.0 c.in_err-request.ensures.answer c.in_err-request.ensures.core)
+    let same : c.from_residual.result ≡ err c.in_err-request.field-0.0 = search rules in
+    rw same (err-left c.args.end.now.core c.find_or_fail.new.end.core c.args.globals.now c.args.registries.now.items c.in_err-request.field-0.0 c.in_err-request.ensures.answer c.in_err-request.ensures.core)
 
 pub returns-in-Err-clause-answer : goal.returns-in-Err-clause-answer
 returns-in-Err-clause-answer g c =
