@@ -1,6 +1,6 @@
 -- What stands in front of a server's waiting bytes, and that it can be taken.
 use Rattle.std.proofs.Common.{◌≡◌, ◌≢◌, ℕ, zero, suc, ◌≤◌, Bool, true, false, List, [], ◌∷◌, length, take, drop, Some, refl, sym, ap, subst, ◌∙◌, inl, inr, arith}
-use Rattle.std.specs.Prelude.{Option, not, ◌&&◌, nat_lt, nat_eq, slice_get, IsTrue, is_some}
+use Rattle.std.specs.Prelude.{Option, ◌&&◌, nat_lt, nat_eq, slice_get, IsTrue, is_some}
 use Rattle.std.specs.Option.{option_and_then}
 use Rattle.std.specs.declared.result.Result.{Result}
 use Rattle.std.specs.declared.result.Result.TheVariants.{Ok, Err}
@@ -33,7 +33,7 @@ use Rattle.wl_table.specs.View.{View, look}
 use Rattle.wl_objects.specs.declared.parsed.ParsedArg.{ParsedArg}
 use Rattle.wl_objects.specs.Parsed.{AreParsed, reported_in}
 use Rattle.wl_objects.specs.Reading.{Reader, in_state, reports_of, Reported}
-use Rattle.wl_objects.specs.Messages.{Received, received, reader_of, is_bind}
+use Rattle.wl_objects.specs.Messages.{Received, received, reader_of}
 use Rattle.wl_end.specs.Core.{Core, HasDisplay}
 use Rattle.wl_end.specs.Receiving.{Found, found, reported, found_in, takes}
 use Rattle.wl_end.specs.Sending.{delete_id_len, fits}
@@ -43,8 +43,8 @@ use Rattle.wl_end.proofs.Frames.{IsFrame, descriptors-le, found_frame, framed}
 use Rattle.wl_end.proofs.Ends.{argument_received}
 use Rattle.wl_end.proofs.Descriptors.{fds, reports_stay}
 use Rattle.wl_server.specs.State.{Global}
-use Rattle.wl_server.specs.Requests.{Report, report, request, judged, is_good_bind_of, object_in}
-use Rattle.wl_server.specs.Steps.{Step, step_of, step_found, front_step, state_of, pending_in, pending_of, ended_by, report_with, HasRow, CanTake, IsEndedBy, IsPending, IsPendingOf, is_bad}
+use Rattle.wl_server.specs.Requests.{Report, report, request, judged, object_in}
+use Rattle.wl_server.specs.Steps.{Step, step_of, step_found, front_step, state_of, pending_in, pending_of, ended_by, report_with, HasRow, CanTake, IsEndedBy, IsPendingOf, is_bad}
 
 abbrev pub read_by : Core → Header → List ℕ → ℕ → Result Received Fault
 read_by core h body waiting = received core.tables request_side (reader_of core.view) h body waiting

@@ -1,4 +1,4 @@
-use Rattle.std.proofs.Common.{◌≡◌, ℕ, true, false, sym, ap, ◌∙◌}
+use Rattle.std.proofs.Common.{ℕ, sym, ap, ◌∙◌}
 use Rattle.std.specs.Prelude.{◌&&◌, nat_lt, is_some}
 use Rattle.wl_end.specs.Sending.{delete_id_len}
 use Rattle.wl_server.proofs.Fronts.{can_take_told, fault_told, full_told, request_told}
