@@ -127,10 +127,9 @@ target-live core side target opcode list signature new version e =
     live-opened core.view new version target.id (ap lives_in p.row ∙ state-lives p.entry.state p.live)
 
 -- what the code counts is the room that a call needs
-pub fits-known : (o : Outgoing) (list : List Arg) (len more other count : ℕ) (all : List ℕ) (b : Bool) → len ≡ message_len (on_wire 0 list) → more ≡ other → take count all ≡ tokens_of (given list) → count ≤ length all → b ≡ fits o (len + more) count
+pub fits-known : (o : Outgoing) (list : List Arg) (len more other count : ℕ) (b : Bool) → len ≡ message_len (on_wire 0 list) → more ≡ other → count ≡ length (tokens_of (given list)) → b ≡ fits o (len + more) count
     → b ≡ fits o (message_len (on_wire 0 list) + other) (length (tokens_of (given list)))
-fits-known o list len more other count all b whole m t c e =
-    let tokens : count ≡ length (tokens_of (given list)) = sym (length-take-le count all c) ∙ ap length t in
+fits-known o list len more other count b whole m tokens e =
     e ∙ (ap (λ (n : ℕ). fits o (n + more) count) whole ∙ (ap (λ (n : ℕ). fits o (message_len (on_wire 0 list) + n) count) m ∙ ap (fits o (message_len (on_wire 0 list) + other)) tokens))
 
 -- the message has room, whatever its new id

@@ -119,10 +119,8 @@ fn measure<T: Table>(
             Some(arg) if suits(*kind, arg) => arg,
             _ => return Err(SendError::WrongArgs(place)),
         };
-        if lost.is_none() && !can_name(table, *kind, arg) {
-            lost = Some(place);
-        }
-        len += len_of(arg);
+        lost = lost.or(lost_at(table, place, *kind, arg));
+        len += len_of(*arg);
         tokens += token_count(arg);
         makes = makes.or(new_iface(*kind));
     }
@@ -139,10 +137,10 @@ fn measure<T: Table>(
 }
 
 /// How many bytes spell the argument; beyond any limit, only that these are more.
-fn len_of(arg: &Arg<'_>) -> usize
-    ensures most { result ≤ spelled_len (wired 0 (given_of arg.now)) }
-    ensures exact { result ≤ 65535 → result ≡ spelled_len (wired 0 (given_of arg.now)) }
-    ensures in_range { result ≤ 65535 → InRange (given_of arg.now) }
+fn len_of(arg: Arg<'_>) -> usize
+    ensures most { result ≤ spelled_len (wired 0 (given_of arg.entry)) }
+    ensures exact { result ≤ 65535 → result ≡ spelled_len (wired 0 (given_of arg.entry)) }
+    ensures in_range { result ≤ 65535 → InRange (given_of arg.entry) }
     ensures bounded { result ≤ 65544 }
 {
     match arg {
@@ -234,5 +232,18 @@ fn can_name<T: Table>(table: &T, kind: Kind, arg: &Arg<'_>) -> bool
         (Kind::Obj { iface, .. }, Arg::Obj(Some(object))) => names_one(table, iface, *object),
         (_, Arg::Obj(Some(object))) => names_one(table, None, *object),
         _ => true,
+    }
+}
+
+/// The place of an argument of this kind, if the object that it names is not live or of another
+/// interface.
+fn lost_at<T: Table>(table: &T, place: usize, kind: Kind, arg: &Arg<'_>) -> Option<usize>
+    ensures { result ≡ lost_place (look (T.view table.now)) place (kind ∷ [])
+        (given_of arg.now ∷ []) }
+{
+    if can_name(table, kind, arg) {
+        None
+    } else {
+        Some(place)
     }
 }
