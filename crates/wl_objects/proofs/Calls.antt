@@ -5,7 +5,7 @@ use Rattle.std.proofs.lemmas.List.{drop_all}
 use Rattle.std.specs.Option.{option_or}
 use Rattle.std.specs.List.{All}
 use Rattle.std.proofs.Common.{Err}
-use Rattle.std.proofs.lemmas.List.Elements.{All-cons}
+use Rattle.std.proofs.lemmas.List.Elements.{All-cons, All-same}
 use Rattle.wl_sigs.specs.Tables.{Message}
 use Rattle.wl_objects.specs.declared.error.SendError.TheVariants.{WrongArgs}
 use Rattle.wl_objects.specs.Messages.{unless_wrong}
@@ -92,7 +92,9 @@ len-next i list a q e = rw (add-one, drop-cons list i a q, ← e) refl
 
 pub range-next : (i : ℕ) (list : List Arg) (a : Arg) → i < length list → a ≡ get_or list i a → InRange (given_of a)
     → All InRange (given (drop (i + 1) list)) → All InRange (given (drop i list))
-range-next i list a q e here more = rw (drop-cons list i a q, ← e) (All-cons InRange (given_of a) (given (drop (suc i) list)) here (rw (add-one) at more))
+range-next i list a q e here more =
+    let cut : given (drop i list) ≡ given_of a ∷ given (drop (i + 1) list) = rw (add-one, drop-cons list i a q, ← e) refl in
+    All-same InRange (given (drop i list)) (given_of a ∷ given (drop (i + 1) list)) cut (All-cons InRange (given_of a) (given (drop (i + 1) list)) here more)
 
 -- the length of an argument is the same whatever the new object's id
 len-one : (id : ℕ) (x : Given) → spelled_len (wired id x) ≡ spelled_len (wired 0 x)
