@@ -182,7 +182,15 @@ impl<'t, T: Table> Core<'t, T> {
     {
         let mut tokens = [0; MAX_TOKENS];
         let new_id = id_of(new);
-        let count = encode_call(&mut self.store, &mut tokens, target, opcode, args, new_id, len);
+        let count = encode_call(
+            &mut self.store,
+            &mut tokens,
+            target,
+            opcode,
+            args,
+            new_id,
+            len,
+        );
         self.outbox.push_fitting(&self.store, &tokens[..count]);
     }
 
