@@ -25,4 +25,4 @@ pub push_fitting-requires-clause-tokens : goal.push_fitting-requires-clause-toke
 push_fitting-requires-clause-tokens g c =
     let values = on_wire (id_of c.args.new) c.args.args.now in
     let room = subst (λ (core : Core). fits core.outbox (message_len values) (length (tokens_of (given c.args.args.now))) ≡ true) (sym c.self.view_is) c.requires.room in
-    fits-tokens c.self.inside.outbox (message_len values) (length (tokens_of (given c.args.args.now))) room
+    rw (c.encode_call-count.ensures.tokens) (fits-tokens c.self.inside.outbox (message_len values) (length (tokens_of (given c.args.args.now))) room)
