@@ -11,6 +11,7 @@
 //! ```
 #![tactic(auto)]
 
+mod digits;
 mod line;
 mod piece;
 mod reader;

@@ -4,8 +4,8 @@ ghost use Rattle.wl_recording.specs.Piece.{Piece, plain};
 ghost use Rattle.wl_recording.specs.declared.piece.Direction.{Direction as Way};
 ghost use Rattle.wl_recording.specs.Line.{IsPiece, SpellsBytes, SpellsTokens, sign};
 
+use crate::digits::decode;
 use crate::piece::{Direction, Passed};
-use hex::FromHexError;
 use std::alloc::{AllocError, Allocator};
 use wl_text::{decimal_number, split_before};
 use wl_wire::Bytes;
@@ -74,12 +74,16 @@ fn read_bytes<A: Allocator>(alloc: A, digits: &[u8]) -> Result<Option<Bytes<A>>,
         (λ bytes. SpellsBytes digits.now bytes)) }
 {
     match digits {
-        [] => Ok(None),
-        [b'-'] => Ok(Some(Bytes::from_vec(Vec::new(alloc)))),
-        _ => match hex::decode(alloc, digits) {
-            Ok(bytes) => Ok(Some(Bytes::from_vec(bytes))),
-            Err(FromHexError::OutOfMemory) => Err(AllocError),
-            Err(_) => Ok(None),
-        },
+        [] => return Ok(None),
+        [b'-'] => return Ok(Some(Bytes::from_vec(Vec::new(alloc)))),
+        _ => {}
     }
+    if digits.len() % 2 != 0 {
+        return Ok(None);
+    }
+    let mut bytes = vec![in alloc; 0u8; digits.len() / 2]?;
+    if !decode(digits, bytes.as_mut_slice()) {
+        return Ok(None);
+    }
+    Ok(Some(Bytes::from_vec(bytes)))
 }
