@@ -1,12 +1,11 @@
 -- What the tables of digits have, and what two digits come to.
-use Rattle.std.proofs.Common.{◌≡◌, ℕ, zero, suc, ◌+◌, ◌*◌, ◌<◌, ◌≤◌, ◌==◌, Bool, true, false, ◌&&◌, List, [], length, take, drop, slice_index, Option, Some, None, Ok, Err, inl, inr, refl, sym, ap, ◌∙◌, arith}
-use Rattle.std.specs.Prelude.{IsTrue}
+use Rattle.std.proofs.Common.{◌≡◌, ℕ, zero, suc, ◌+◌, ◌*◌, ◌<◌, ◌≤◌, ◌==◌, Bool, true, false, ◌%◌, ◌&&◌, List, [], ◌∷◌, ◌++◌, length, drop, slice_index, Option, Some, None, Result, Ok, Err, inl, inr, refl, sym, ap, ◌∙◌, append_assoc, append-nil, arith}
 use Rattle.std.proofs.lemmas.Bool.{and_parts, cases_lt, eqb-true}
+use Rattle.std.proofs.lemmas.List.{drop_all}
 use Rattle.hex.specs.Hex.{decode_of, decode_pairs, digit_or_error, hex_digit_value, pair_value, ◌>>=◌}
 use Rattle.hex.specs.declared.error.FromHexError.{FromHexError}
-use Rattle.hex.specs.declared.error.FromHexError.TheVariants.{InvalidHexCharacter}
 use Rattle.hex.proofs.HexLemmas.{decode_of-even}
-use Rattle.hex.proofs.Pairs.{prepend, decode_done, decode_err}
+use Rattle.hex.proofs.Pairs.{prepend, cons_byte, decode_pairs-err_pair, decode_pairs-ok_pair, drop-pair, prepend-cons_byte}
 use Rattle.wl_recording.specs.Digits.{worth}
 
 -- the test of the first n places of a table, which computes
@@ -64,20 +63,54 @@ pub pair_bad : (a b i : ℕ) → 256 ≤ worth 16 (hex_digit_value a) + worth 1 
     → (e : FromHexError) × (pair_value a b i ≡ Err e)
 pair_bad a b i much = both_bad a b i (hex_digit_value a) (hex_digit_value b) (value_small a) (value_small b) much
 
--- a refused pair refuses all
-pub refused : (s out read : List ℕ) (i : ℕ) → length s ≡ 2 * length out → i < length out
-    → 256 ≤ worth 16 (hex_digit_value (slice_index s (2 * i))) + worth 1 (hex_digit_value (slice_index s (2 * i + 1)))
-    → decode_pairs 0 s ≡ prepend (take i out) (decode_pairs (2 * i) (drop (2 * i) s))
-    → decode_of s ≡ Ok read → ⊥
-refused s out read i whole lt much inv is =
-    let bad = pair_bad (slice_index s (2 * i)) (slice_index s (2 * i + 1)) (2 * i) much in
-    let err = decode_err s out i bad.0 (omega (arith, whole, lt)) bad.1 inv in
-    let no : Ok read ≡ Err bad.0 = sym is ∙ decode_of-even s (omega (arith, whole)) ∙ err in
+-- Behind these bytes stand those of the first pairs of digits, which are read.
+pub record IsReading (digits before now : List ℕ) (i : ℕ) : Type 0 where
+  pub more : List ℕ
+  pub now_is : now ≡ before ++ more
+  pub read : decode_pairs 0 digits ≡ prepend more (decode_pairs (2 * i) (drop (2 * i) digits))
+
+pub none_read : (digits before : List ℕ) → IsReading digits before before 0
+none_read digits before = record {
+  more = [];
+  now_is = sym (append-nil before);
+  read = nothing (decode_pairs 0 digits);
+} where
+  nothing : (r : Result (List ℕ) FromHexError) → r ≡ prepend [] r
+  nothing (Ok rest) = refl
+  nothing (Err e) = refl
+
+-- one pair more
+pub pair_read : (digits before now : List ℕ) (i v : ℕ) → 2 * i + 1 < length digits
+    → pair_value (slice_index digits (2 * i)) (slice_index digits (2 * i + 1)) (2 * i) ≡ Ok v
+    → IsReading digits before now i → IsReading digits before (now ++ v ∷ []) (i + 1)
+pair_read digits before now i v fits ok p =
+    let rest : List ℕ = drop (2 * (i + 1)) digits in
+    let two : 2 * i + 2 ≡ 2 * (i + 1) = omega arith in
+    let pair = ap (decode_pairs (2 * i)) (drop-pair digits i fits) ∙ decode_pairs-ok_pair (2 * i) _ _ v rest ok
+    ∙ ap (λ (k : ℕ). cons_byte v (decode_pairs k rest)) two in
+    record {
+      more = p.more ++ v ∷ [];
+      now_is = ap (λ (bytes : List ℕ). bytes ++ v ∷ []) p.now_is ∙ append_assoc before p.more (v ∷ []);
+      read = p.read ∙ ap (prepend p.more) pair ∙ prepend-cons_byte p.more v _;
+    }
+
+-- a pair that is refused
+pub refused : (digits before now read : List ℕ) (i : ℕ) → length digits % 2 ≡ 0 → 2 * i + 1 < length digits
+    → 256 ≤ worth 16 (hex_digit_value (slice_index digits (2 * i))) + worth 1 (hex_digit_value (slice_index digits (2 * i + 1)))
+    → IsReading digits before now i → decode_of digits ≡ Ok read → ⊥
+refused digits before now read i even fits much p is =
+    let bad = pair_bad (slice_index digits (2 * i)) (slice_index digits (2 * i + 1)) (2 * i) much in
+    let err : decode_pairs 0 digits ≡ Err bad.0 =
+    p.read ∙ ap (prepend p.more) (ap (decode_pairs (2 * i)) (drop-pair digits i fits) ∙ decode_pairs-err_pair (2 * i) _ _ bad.0 _ bad.1) in
+    let no : Ok read ≡ Err bad.0 = sym is ∙ decode_of-even digits even ∙ err in
     cc no
 
 -- all pairs are read
-pub all_read : (s out : List ℕ) (i : ℕ) → length s ≡ 2 * length out → length out ≤ i
-    → decode_pairs 0 s ≡ prepend (take i out) (decode_pairs (2 * i) (drop (2 * i) s))
-    → decode_of s ≡ Ok out
-all_read s out i whole ge inv =
-    decode_of-even s (omega (arith, whole)) ∙ decode_done s out i ge (omega (arith, whole, ge)) inv
+pub all_read : (digits before now : List ℕ) (i : ℕ) → length digits % 2 ≡ 0 → length digits ≤ 2 * i → IsReading digits before now i
+    → (more : List ℕ) × (now ≡ before ++ more) × (decode_of digits ≡ Ok more)
+unfolding decode_pairs
+all_read digits before now i even past p = (
+  p.more,
+  p.now_is,
+  decode_of-even digits even ∙ p.read ∙ ap (prepend p.more) (ap (decode_pairs (2 * i)) (drop_all (2 * i) digits past)) ∙ ap Ok (append-nil p.more),
+)

@@ -1,7 +1,9 @@
 //! Hexadecimal digits, two at a time.
-ghost use Rattle.std.specs.Prelude.{◌≡◌, ◌≤◌, ◌*◌, ℕ, List, Ok, length, IsTrue};
+ghost use Rattle.std.specs.Prelude.{◌≡◌, ◌≤◌, ◌%◌, ℕ, List, ◌++◌, Ok, length, IsTrue, IfOk};
 ghost use Rattle.hex.specs.Hex.{decode_of, hex_digit_value};
 ghost use Rattle.wl_recording.specs.Digits.{worth};
+
+use std::alloc::{AllocError, Allocator};
 
 // What a table has in place of the value of a byte that is no digit. It is more than a byte.
 const NO_DIGIT: u16 = 256;
@@ -42,21 +44,29 @@ const SECOND: [u16; 256] = [
     256, 256, 256,
 ];
 
-/// Writes the bytes that these digits stand for, two digits of either case for each, and returns
-/// whether all are digits. Where one is none, what was written says nothing.
-pub fn decode(digits: &[u8], bytes: &mut [u8]) -> bool
-    requires { length digits.now ≡ 2 * length bytes.old }
-    ensures read { IsTrue result → decode_of digits.now ≡ Ok bytes.new }
-    ensures whole { (read : List ℕ) → decode_of digits.now ≡ Ok read → IsTrue result }
+/// Appends the bytes that these digits stand for, two digits of either case for each, and returns
+/// whether all are digits. Where one is none, what was appended says nothing.
+pub fn append_bytes<A: Allocator>(
+    digits: &[u8],
+    bytes: &mut Vec<u8, A>,
+) -> Result<bool, AllocError>
+    requires { length digits.now % 2 ≡ 0 }
+    ensures read { IfOk result (λ are_digits. IsTrue are_digits
+        → (more : List ℕ) × (bytes.new.items ≡ bytes.old.items ++ more)
+        × (decode_of digits.now ≡ Ok more)) }
+    ensures whole { IfOk result (λ are_digits. (more : List ℕ)
+        → decode_of digits.now ≡ Ok more → IsTrue are_digits) }
 {
-    'bytes: for i in 0..bytes.len() {
+    let count = digits.len() / 2;
+    bytes.reserve(count)?;
+    'pairs: for i in 0..count {
         let value = first_value(digits[2 * i]) + second_value(digits[2 * i + 1]);
         if value >= NO_DIGIT {
-            return false;
+            return Ok(false);
         }
-        bytes[i] = value as u8;
+        bytes.push_reserved(value as u8);
     }
-    true
+    Ok(true)
 }
 
 // What a byte is worth as the first of two digits.

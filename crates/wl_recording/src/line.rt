@@ -1,10 +1,10 @@
 //! Reading the lines of a recording.
-ghost use Rattle.std.specs.Prelude.{◌≡◌, ◌≢◌, ℕ, List, ◌∷◌, IfOk, MatchOption};
+ghost use Rattle.std.specs.Prelude.{◌≡◌, ◌≢◌, ℕ, List, ◌∷◌, ◌++◌, length, IfOk, MatchOption};
 ghost use Rattle.wl_recording.specs.Piece.{Piece, plain};
 ghost use Rattle.wl_recording.specs.declared.piece.Direction.{Direction as Way};
 ghost use Rattle.wl_recording.specs.Line.{IsPiece, SpellsBytes, SpellsTokens, sign};
 
-use crate::digits::decode;
+use crate::digits::append_bytes;
 use crate::piece::{Direction, Passed};
 use std::alloc::{AllocError, Allocator};
 use wl_text::{decimal_number, split_before};
@@ -73,17 +73,34 @@ fn read_bytes<A: Allocator>(alloc: A, digits: &[u8]) -> Result<Option<Bytes<A>>,
         ((bytes : List ℕ) → SpellsBytes digits.now bytes → ⊥)
         (λ bytes. SpellsBytes digits.now bytes)) }
 {
-    match digits {
-        [] => return Ok(None),
-        [b'-'] => return Ok(Some(Bytes::from_vec(Vec::new(alloc)))),
-        _ => {}
-    }
-    if digits.len() % 2 != 0 {
+    let mut bytes = Vec::new(alloc);
+    let Some(_len) = append_digits(digits, &mut bytes)? else {
         return Ok(None);
-    }
-    let mut bytes = vec![in alloc; 0u8; digits.len() / 2]?;
-    if !decode(digits, bytes.as_mut_slice()) {
-        return Ok(None);
-    }
+    };
     Ok(Some(Bytes::from_vec(bytes)))
+}
+
+// Appends the bytes that these digits stand for, if they stand for any, and returns how many these
+// are.
+fn append_digits<A: Allocator>(
+    digits: &[u8],
+    bytes: &mut Vec<u8, A>,
+) -> Result<Option<usize>, AllocError>
+    ensures { IfOk result (λ found. MatchOption found
+        ((more : List ℕ) → SpellsBytes digits.now more → ⊥)
+        (λ len. (more : List ℕ) × SpellsBytes digits.now more × (length more ≡ len)
+        × (bytes.new.items ≡ bytes.old.items ++ more))) }
+{
+    match digits {
+        [] => Ok(None),
+        [b'-'] => Ok(Some(0)),
+        _ if digits.len() % 2 != 0 => Ok(None),
+        _ => {
+            if append_bytes(digits, bytes)? {
+                Ok(Some(digits.len() / 2))
+            } else {
+                Ok(None)
+            }
+        }
+    }
 }
