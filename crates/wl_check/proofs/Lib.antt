@@ -20,3 +20,4 @@ pub mod Verdicts
 pub mod Outcomes
 pub mod Printing
 pub mod Copies
+pub mod Readying

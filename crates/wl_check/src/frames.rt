@@ -66,5 +66,9 @@ pub(crate) fn remove_front<A: Allocator>(bytes: &mut Vec<u8, A>, count: usize)
     requires { count ≤ length bytes.old.items }
     ensures { bytes.new.items ≡ drop count bytes.old.items }
 {
-    drop(bytes.drain(..count));
+    if count == bytes.len() {
+        bytes.clear();
+    } else if count > 0 {
+        drop(bytes.drain(..count));
+    }
 }

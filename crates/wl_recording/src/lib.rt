@@ -18,6 +18,6 @@ mod reader;
 mod recording;
 mod write;
 
-pub use piece::{Direction, Passed};
+pub use piece::{Appended, Direction, Passed};
 pub use reader::PieceReader;
 pub use recording::{Recording, RecordingError};

@@ -1,4 +1,4 @@
-use Rattle.std.proofs.Common.{[]}
+use Rattle.std.proofs.Common.{[], ◌∷◌, ◌++◌, refl}
 use Rattle.wl_recording.proofs.TextLemmas.{IsRefused, refused_on}
 use Rattle.wl_check.proofs.scanning.scan_text.Goals as goal
 
@@ -9,3 +9,35 @@ pub returns-in_err-piece-clause-bad : goal.returns-in_err-piece-clause-bad
 returns-in_err-piece-clause-bad g c =
     let bad = c.in_err-piece.ensures.bad c.args.text.now c.pieces.invariant.0 c.pieces.invariant.1 in
     refused_on c.from_residual-in_err-piece.result c.in_err-piece.field-0.0 _ (IsRefused c.args.text.now) c.from_residual-in_err-piece.ensures.1 (λ e h. cc h) bad
+
+pub judge-requires-clause-ready : goal.judge-requires-clause-ready
+judge-requires-clause-ready g c =
+    let more = rw c.in-Some.is at (c.in_ok-piece.ensures.read c.args.text.now c.pieces.invariant.0 c.pieces.invariant.1) in (
+      c.pieces.invariant.0,
+      more.0,
+      record {
+        before = c.pieces.scanner;
+        after = c.pieces.invariant.2;
+        course = refl;
+        len_to_server = refl;
+        len_to_client = refl;
+        tokens_to_server = refl;
+        tokens_to_client = refl;
+        appended_is = more.2;
+      },
+    )
+
+pub pieces-preserved : goal.pieces-preserved
+pieces-preserved g c =
+    let more = rw c.in-Some.is at (c.in_ok-piece.ensures.read c.args.text.now c.pieces.invariant.0 c.pieces.invariant.1) in
+    let after = c.in_ok-judge.ensures c.pieces.invariant.0 more.0 (record {
+      before = c.pieces.scanner;
+      after = c.pieces.invariant.2;
+      course = refl;
+      len_to_server = refl;
+      len_to_client = refl;
+      tokens_to_server = refl;
+      tokens_to_client = refl;
+      appended_is = more.2;
+    }) in
+    (c.pieces.invariant.0 ++ more.0 ∷ [], more.1, after)

@@ -1,0 +1,101 @@
+-- A piece whose bytes were appended to those of its direction, and then judged.
+use Rattle.std.proofs.Common.{◌≡◌, ℕ, true, false, List, [], ◌∷◌, ◌++◌, refl, sym, ap, subst, ◌∙◌, append-nil}
+use Rattle.std.specs.Prelude.{OnOk}
+use Rattle.std.specs.declared.result.Result.{Result}
+use Rattle.std.specs.declared.result.Result.TheVariants.{Ok, Err}
+use Rattle.wl_sigs.specs.Tables.{Interface}
+use Rattle.wl_recording.specs.declared.piece.Appended.{Appended}
+use Rattle.wl_recording.specs.declared.piece.Direction.{Direction}
+use Rattle.wl_recording.specs.declared.piece.Direction.TheVariants.{ToServer, ToClient}
+use Rattle.wl_recording.specs.Piece.{Piece, own}
+use Rattle.wl_check.specs.declared.course.Course.{Course}
+use Rattle.wl_check.specs.declared.course.Output.{Output}
+use Rattle.wl_check.specs.declared.frames.Stream.{Stream}
+use Rattle.wl_check.specs.declared.scanning.Scanner.{Scanner}
+use Rattle.wl_check.specs.Copied.{AreSameBytes, IsSameKnowledge}
+use Rattle.wl_check.specs.Course.{is_open, end_in, Along, HasCome, IsAfter, IsReady}
+use Rattle.wl_check.specs.Merged.{same_direction}
+use Rattle.wl_check.proofs.Copies.{IsCopy, after_copied}
+use Rattle.wl_check.proofs.Piecing.{after_client, after_server, along_client, along_server}
+
+abbrev scanner : {A : Type 0} → Course A → Stream A → Stream A → Scanner A
+scanner c server client = record { course = c; to_server = server; to_client = client }
+
+same_stream : {A : Type 0} (s : Stream A) → AreSameBytes s s
+same_stream s = record { bytes = refl; len = refl; tokens = refl }
+
+-- with streams of the same bytes
+same_but : {A : Type 0} (c : Course A) (s t x y : Stream A) → AreSameBytes s t → AreSameBytes x y → IsCopy (scanner c s x) (scanner c t y)
+same_but c s t x y server client = record {
+  known = record { objects = refl; used = refl; globals = refl; taken_to_server = refl; taken_to_client = refl };
+  counted_to_server = refl;
+  counted_to_client = refl;
+  count = refl;
+  text = refl;
+  stage = refl;
+  to_server = server;
+  to_client = client;
+}
+
+pub come_server : {A : Type 0} (limit : ℕ) (tables : List Interface) (o : Output) (ps : List Piece) (p : Piece) (a : Appended) (s : Scanner A) → p.direction ≡ ToServer
+    → IsReady limit tables o ps p a s → HasCome limit tables o ps p a s.course s.to_server
+come_server limit tables o ps p a s is r = record {
+  before = r.before.to_server;
+  along = subst (λ (c : Course A). Along limit tables o p.direction ps c r.before.to_server) (sym r.course) (along_server limit tables o ps p.direction r.before is r.after);
+  bytes = r.appended_is.to_server ∙ ap (λ (d : Direction). r.before.to_server.bytes.items ++ own ToServer d p.bytes) is;
+  len = r.len_to_server;
+  tokens = r.tokens_to_server;
+  direction_is = r.appended_is.direction;
+  len_is = r.appended_is.len;
+  tokens_are = r.appended_is.tokens;
+}
+
+pub come_client : {A : Type 0} (limit : ℕ) (tables : List Interface) (o : Output) (ps : List Piece) (p : Piece) (a : Appended) (s : Scanner A) → p.direction ≡ ToClient
+    → IsReady limit tables o ps p a s → HasCome limit tables o ps p a s.course s.to_client
+come_client limit tables o ps p a s is r = record {
+  before = r.before.to_client;
+  along = subst (λ (c : Course A). Along limit tables o p.direction ps c r.before.to_client) (sym r.course) (along_client limit tables o ps p.direction r.before is r.after);
+  bytes = r.appended_is.to_client ∙ ap (λ (d : Direction). r.before.to_client.bytes.items ++ own ToClient d p.bytes) is;
+  len = r.len_to_client;
+  tokens = r.tokens_to_client;
+  direction_is = r.appended_is.direction;
+  len_is = r.appended_is.len;
+  tokens_are = r.appended_is.tokens;
+}
+
+-- in the form in which the code has it
+pub judged_server : {A E : Type 0} (limit : ℕ) (tables : List Interface) (o : Output) (a : Appended) (s : Scanner A) (n : Course A) (after : Stream A) (r : Result (Unit {0}) E) → a.direction ≡ ToServer
+    → OnOk r ((ps : List Piece) (p : Piece) → HasCome limit tables o ps p a s.course s.to_server → Along limit tables o p.direction (ps ++ p ∷ []) n after)
+    → OnOk r (is_open n.stage ≡ true → is_open s.course.stage ≡ true) → OnOk r ((d : Direction) → same_direction a.direction d ≡ false → end_in n d ≡ end_in s.course d)
+    → OnOk r ((ps : List Piece) (p : Piece) → IsReady limit tables o ps p a s → IsAfter limit tables o (ps ++ p ∷ []) (record { course = n; to_server = after; to_client = s.to_client }))
+judged_server limit tables o a s n after (Ok x) is along going other = λ ps p r.
+    let pd : p.direction ≡ ToServer = sym r.appended_is.direction ∙ is in
+    let b = r.before in
+    let done = after_server limit tables o ps p b n after pd r.after (λ h. along ps p (come_server limit tables o ps p a s pd r))
+    (λ open. subst (λ (c : Course A). is_open c.stage ≡ true) r.course (going open))
+    (λ d away. other d (subst (λ (e : Direction). same_direction e d ≡ false) (sym r.appended_is.direction) away) ∙ ap (λ (c : Course A). end_in c d) r.course) in
+    let client : AreSameBytes b.to_client s.to_client = record {
+      bytes = r.appended_is.to_client ∙ ap (λ (d : Direction). b.to_client.bytes.items ++ own ToClient d p.bytes) pd ∙ append-nil b.to_client.bytes.items;
+      len = r.len_to_client;
+      tokens = r.tokens_to_client;
+    } in
+    after_copied limit tables o (ps ++ p ∷ []) (scanner n after b.to_client) (scanner n after s.to_client) (same_but n after after b.to_client s.to_client (same_stream after) client) done
+judged_server limit tables o a s n after (Err e) is along going other = tt
+
+pub judged_client : {A E : Type 0} (limit : ℕ) (tables : List Interface) (o : Output) (a : Appended) (s : Scanner A) (n : Course A) (after : Stream A) (r : Result (Unit {0}) E) → a.direction ≡ ToClient
+    → OnOk r ((ps : List Piece) (p : Piece) → HasCome limit tables o ps p a s.course s.to_client → Along limit tables o p.direction (ps ++ p ∷ []) n after)
+    → OnOk r (is_open n.stage ≡ true → is_open s.course.stage ≡ true) → OnOk r ((d : Direction) → same_direction a.direction d ≡ false → end_in n d ≡ end_in s.course d)
+    → OnOk r ((ps : List Piece) (p : Piece) → IsReady limit tables o ps p a s → IsAfter limit tables o (ps ++ p ∷ []) (record { course = n; to_server = s.to_server; to_client = after }))
+judged_client limit tables o a s n after (Ok x) is along going other = λ ps p r.
+    let pd : p.direction ≡ ToClient = sym r.appended_is.direction ∙ is in
+    let b = r.before in
+    let done = after_client limit tables o ps p b n after pd r.after (λ h. along ps p (come_client limit tables o ps p a s pd r))
+    (λ open. subst (λ (c : Course A). is_open c.stage ≡ true) r.course (going open))
+    (λ d away. other d (subst (λ (e : Direction). same_direction e d ≡ false) (sym r.appended_is.direction) away) ∙ ap (λ (c : Course A). end_in c d) r.course) in
+    let server : AreSameBytes b.to_server s.to_server = record {
+      bytes = r.appended_is.to_server ∙ ap (λ (d : Direction). b.to_server.bytes.items ++ own ToServer d p.bytes) pd ∙ append-nil b.to_server.bytes.items;
+      len = r.len_to_server;
+      tokens = r.tokens_to_server;
+    } in
+    after_copied limit tables o (ps ++ p ∷ []) (scanner n b.to_server after) (scanner n s.to_server after) (same_but n b.to_server s.to_server after after server (same_stream after)) done
+judged_client limit tables o a s n after (Err e) is along going other = tt
