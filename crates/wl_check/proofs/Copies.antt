@@ -1,6 +1,5 @@
 -- What is known of a session is the same of a copy.
-use Rattle.std.proofs.Common.{◌≡◌, ℕ, ◌*◌, ◌^◌, ◌≤◌, List, drop, refl, sym, ap, ◌∙◌, arith, subst}
-use Rattle.std.specs.Ordering.{nat_cmp}
+use Rattle.std.proofs.Common.{◌≡◌, ℕ, ◌*◌, ◌^◌, ◌≤◌, List, drop, get_or, None, refl, sym, ap, ◌∙◌, arith, subst}
 use Rattle.std.specs.BTreeMap.{get}
 use Rattle.std.specs.Option.{unwrap_or}
 use Rattle.wl_sigs.specs.Tables.{Interface}
@@ -26,7 +25,7 @@ taken_same : {A : Type 0} (k c : Knowledge A) → IsSameKnowledge k c → (d : D
 taken_same k c h ToServer = h.taken_to_server
 taken_same k c h ToClient = h.taken_to_client
 
-object_same : {A : Type 0} (k c : Knowledge A) → IsSameKnowledge k c → (id : ℕ) → get nat_cmp c.objects id ≡ get nat_cmp k.objects id
+object_same : {A : Type 0} (k c : Knowledge A) → IsSameKnowledge k c → (id : ℕ) → get_or c.objects.items id None ≡ get_or k.objects.items id None
 object_same k c h id = rw h.objects refl
 
 version_same : {A : Type 0} (k c : Knowledge A) → IsSameKnowledge k c → (name iface : ℕ) → unwrap_or (get pair_cmp c.globals (name, iface)) 0 ≡ unwrap_or (get pair_cmp k.globals (name, iface)) 0

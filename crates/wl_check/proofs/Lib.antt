@@ -21,3 +21,4 @@ pub mod Outcomes
 pub mod Printing
 pub mod Copies
 pub mod Readying
+pub mod Slots

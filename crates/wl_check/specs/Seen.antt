@@ -1,5 +1,5 @@
 -- What the code's own types stand for.
-use Rattle.std.specs.Prelude.{ℕ, ◌+◌, if◌then◌else◌, Option, Some, None, List}
+use Rattle.std.specs.Prelude.{ℕ, ◌+◌, get_or, if◌then◌else◌, Option, Some, None, List}
 use Rattle.std.specs.declared.cmp.Ordering.{Ordering}
 use Rattle.std.specs.Ordering.{nat_cmp, ordering_then}
 use Rattle.std.specs.BTreeMap.{get}
@@ -38,7 +38,7 @@ taken_in k ToClient = k.taken_to_client
 
 abbrev pub known_in : {A : Type 0} → Knowledge A → Known
 known_in k = record {
-  object = get nat_cmp k.objects;
+  object = λ id. get_or k.objects.items id None;
   used = k.used;
   advertised_version = λ name iface. unwrap_or (get pair_cmp k.globals (name, iface)) 0;
   taken = taken_in k;

@@ -12,6 +12,7 @@ use crate::known::Knowledge;
 use crate::progress::Progress;
 use crate::scanning::Scanner;
 use std::alloc::{AllocError, Allocator};
+use wl_table::Entry;
 
 fn copy_of_bytes<A: Allocator + Clone>(bytes: &Vec<u8, A>) -> Result<Vec<u8, A>, AllocError>
     ensures { IfOk result (λ copy. copy.items ≡ bytes.now.items) }
@@ -19,11 +20,19 @@ fn copy_of_bytes<A: Allocator + Clone>(bytes: &Vec<u8, A>) -> Result<Vec<u8, A>,
     bytes.clone()
 }
 
+fn copy_of_objects<A: Allocator + Clone>(
+    objects: &Vec<Option<Entry>, A>,
+) -> Result<Vec<Option<Entry>, A>, AllocError>
+    ensures { IfOk result (λ copy. copy.items ≡ objects.now.items) }
+{
+    Vec::from_slice(objects.allocator().clone()?, objects.as_slice())
+}
+
 fn copy_of_known<A: Allocator + Clone>(known: &Knowledge<A>) -> Result<Knowledge<A>, AllocError>
     ensures { IfOk result (λ copy. IsSameKnowledge known.now copy) }
 {
     Ok(Knowledge {
-        objects: known.objects.clone()?,
+        objects: copy_of_objects(&known.objects)?,
         used: known.used,
         globals: known.globals.clone()?,
         taken_to_server: known.taken_to_server,
