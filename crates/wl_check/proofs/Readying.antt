@@ -72,7 +72,7 @@ judged_server limit tables o a s n after (Ok x) is along going other = λ ps p r
     let pd : p.direction ≡ ToServer = sym r.appended_is.direction ∙ is in
     let b = r.before in
     let done = after_server limit tables o ps p b n after pd r.after (λ h. along ps p (come_server limit tables o ps p a s pd r))
-    (λ open. subst (λ (c : Course A). is_open c.stage ≡ true) r.course (going open))
+    (λ on. subst (λ (c : Course A). is_open c.stage ≡ true) r.course (going on))
     (λ d away. other d (subst (λ (e : Direction). same_direction e d ≡ false) (sym r.appended_is.direction) away) ∙ ap (λ (c : Course A). end_in c d) r.course) in
     let client : AreSameBytes b.to_client s.to_client = record {
       bytes = r.appended_is.to_client ∙ ap (λ (d : Direction). b.to_client.bytes.items ++ own ToClient d p.bytes) pd ∙ append-nil b.to_client.bytes.items;
@@ -90,7 +90,7 @@ judged_client limit tables o a s n after (Ok x) is along going other = λ ps p r
     let pd : p.direction ≡ ToClient = sym r.appended_is.direction ∙ is in
     let b = r.before in
     let done = after_client limit tables o ps p b n after pd r.after (λ h. along ps p (come_client limit tables o ps p a s pd r))
-    (λ open. subst (λ (c : Course A). is_open c.stage ≡ true) r.course (going open))
+    (λ on. subst (λ (c : Course A). is_open c.stage ≡ true) r.course (going on))
     (λ d away. other d (subst (λ (e : Direction). same_direction e d ≡ false) (sym r.appended_is.direction) away) ∙ ap (λ (c : Course A). end_in c d) r.course) in
     let server : AreSameBytes b.to_server s.to_server = record {
       bytes = r.appended_is.to_server ∙ ap (λ (d : Direction). b.to_server.bytes.items ++ own ToServer d p.bytes) pd ∙ append-nil b.to_server.bytes.items;

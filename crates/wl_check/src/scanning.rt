@@ -104,14 +104,23 @@ impl<A: Allocator + Clone> Scanner<A> {
             → IsReady limit.bytes tables.now output ps p piece.now self.old
             → IsAfter limit.bytes tables.now output (ps ++ p ∷ []) self.new) }
     {
-        let course = &mut self.course;
         match piece.direction {
-            Direction::ToServer => {
-                judge_piece(course, &mut self.to_server, piece, tables, limit, output)
-            }
-            Direction::ToClient => {
-                judge_piece(course, &mut self.to_client, piece, tables, limit, output)
-            }
+            Direction::ToServer => judge_piece(
+                &mut self.course,
+                &mut self.to_server,
+                piece,
+                tables,
+                limit,
+                output,
+            ),
+            Direction::ToClient => judge_piece(
+                &mut self.course,
+                &mut self.to_client,
+                piece,
+                tables,
+                limit,
+                output,
+            ),
         }
     }
 }
