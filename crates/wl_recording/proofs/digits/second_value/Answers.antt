@@ -1,10 +1,10 @@
-use Rattle.std.proofs.Common.{◌≤◌, ℕ, refl, subst, sym}
+use Rattle.std.proofs.Common.{◌≤◌, ℕ, refl, subst, sym, arith}
 use Rattle.wl_recording.proofs.DigitLemmas.{table_at, second_small}
 use Rattle.wl_recording.proofs.digits.second_value.Goals as goal
 
 pub returns-clause-value : goal.returns-clause-value
-returns-clause-value c = table_at 1 _ 256 c.args.digit refl c.ranges.digit
+returns-clause-value c = table_at 1 _ 256 c.args.digit refl (let fits = c.ranges.digit.fits in omega (arith, fits))
 
 pub returns-clause-small : goal.returns-clause-small
 returns-clause-small c =
-    subst (λ (n : ℕ). n ≤ 256) (sym (table_at 1 _ 256 c.args.digit refl c.ranges.digit)) (second_small c.args.digit)
+    subst (λ (n : ℕ). n ≤ 256) (sym (table_at 1 _ 256 c.args.digit refl (let fits = c.ranges.digit.fits in omega (arith, fits)))) (second_small c.args.digit)
