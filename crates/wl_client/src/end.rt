@@ -34,7 +34,7 @@ impl<'t, T: Table> End for Client<'t, T> {
     }
 
     fn flush<W: Write>(&mut self, writer: &mut W) -> Result<usize, FlushError> {
-        self.core.flush(writer)
+        wl_message::flush(&mut self.core.outbox, writer)
     }
 
     ghost laws = { record {

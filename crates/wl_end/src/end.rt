@@ -111,14 +111,25 @@ pub trait End {
     final fn in_room(&self) -> Fed
         ensures { result ≡ in_room (core self.now) }
     {
-        self.core().in_room()
+        let core = self.core();
+        if core.failed {
+            return Fed {
+                bytes: 0,
+                tokens: 0,
+            };
+        }
+        Fed {
+            bytes: core.inbox.room(),
+            tokens: core.inbox.token_room(),
+        }
     }
 
     /// Whether nothing waits in either box.
     final fn is_drained(&self) -> bool
         ensures { result ≡ is_drained (core self.now) }
     {
-        self.core().is_drained()
+        let core = self.core();
+        core.inbox.is_empty() && core.outbox.is_empty()
     }
 
     /// How much `take` into slices of these lengths would take.
