@@ -31,6 +31,9 @@
 //! descriptors pass, `flush` writes what waits to a stream (steps 2 and 3), and `fill` reads from
 //! one (steps 3 and 4). No call waits by itself, and none calls back.
 //!
+//! The calls that both ends have, such as `take` and `feed`, are those of the trait [`End`]: bring
+//! it in with them, and write code for either end over it.
+//!
 //! Messages have names: [`request::wl_surface::COMMIT`](request) is the opcode of
 //! wl_surface.commit, and [`event::wl_callback::DONE`](event) that of wl_callback.done.
 //!
