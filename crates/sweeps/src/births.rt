@@ -36,7 +36,7 @@ pub fn born_at_client(props: Props<'_>) -> Result<Tally, Trouble> {
     for birth in 1..BIRTHS.saturating_add(1) {
         let object = Object { id: 2, birth };
         let made = client.send(
-            client.display(),
+            End::display(&client),
             request::wl_display::SYNC,
             &[Arg::New],
         );
