@@ -91,14 +91,8 @@ none_recorded limit tables d sizes same = record { same_limit = same; part = [];
 pub new_linked : (tables : List Interface) (client_sizes server_sizes : Sizes) → client_sizes.limit.bytes ≡ server_sizes.limit.bytes → Valid tables → Linked (new_pair tables client_sizes server_sizes) opening
 new_linked tables client_sizes server_sizes one v = linked [] [] (refl, refl) (record {
   stands = new_stands_by tables client_sizes server_sizes one v;
-  asked_seen = [];
-  asked_later = [];
-  told_seen = [];
-  told_later = [];
-  asked_is = refl;
-  told_is = refl;
-  to_server = none_recorded server_sizes.limit.bytes tables ToServer server_sizes refl;
-  to_client = none_recorded server_sizes.limit.bytes tables ToClient client_sizes one;
+  requests = record { seen = []; later = []; is = refl; recorded = none_recorded server_sizes.limit.bytes tables ToServer server_sizes refl };
+  events = record { seen = []; later = []; is = refl; recorded = none_recorded server_sizes.limit.bytes tables ToClient client_sizes one };
   follows = subst (λ (ms : List Judged). Follows tables ms [] [] (client_rows (opening_view display)) []) (sym (none_judged server_sizes.limit.bytes tables)) (follows_none server_sizes.limit.bytes tables);
   counted = tt;
 })

@@ -56,24 +56,28 @@ carry_to_server_links p w asked told most l s =
     let ps = p.recording in
     let qs = next.recording in
     let client = client_rows p.client.core.view in
-    let F = Asking tables p.server.globals l.told_seen client p.client.globals in
+    let F = Asking tables p.server.globals l.events.seen client p.client.globals in
     let brings = carry_brings limit tables ToServer ps bytes taken.tokens in
-    let fits = each_rest (AsksFitly tables p.server.globals) l.asked_seen l.asked_later (subst (Each (AsksFitly tables p.server.globals)) l.asked_is l.stands.asked_fit) in
+    let fits = each_rest (AsksFitly tables p.server.globals) l.requests.seen l.requests.later (subst (Each (AsksFitly tables p.server.globals)) l.requests.is l.stands.requests.fit) in
     let there = (carry_fits p.client.core p.server.core most).tokens_there in
-    let flight = subst (λ (ms : List (Message Known)). InFlight next.client.core.outbox next.server.core.inbox (map spelled ms)) l.asked_is s.to_server in
-    let c = carry_recorded spelled limit tables ToServer ps qs bytes taken.tokens F next.client.core.outbox p.server.core.inbox next.server.core.inbox l.asked_seen l.asked_later brings
-    (asking_one limit tables p.server.globals l.told_seen client p.client.globals (λ x. stream_of x qs) (tokens_of ToServer ps + taken.tokens) l.stands.valid l.stands.globals)
-    l.to_server (l.follows, fits) flight refl (omega (arith, there, length-append p.server.core.inbox.tokens (carried_tokens p.client.core taken))) refl in
+    let flight = subst (λ (ms : List (Message Known)). InFlight next.client.core.outbox next.server.core.inbox (map spelled ms)) l.requests.is s.requests.in_boxes in
+    let c = carry_recorded spelled limit tables ToServer ps qs bytes taken.tokens F next.client.core.outbox p.server.core.inbox next.server.core.inbox l.requests.seen l.requests.later brings
+    (asking_one limit tables p.server.globals l.events.seen client p.client.globals (λ x. stream_of x qs) (tokens_of ToServer ps + taken.tokens) l.stands.terms.valid l.stands.globals.globals)
+    l.requests.recorded (l.follows, fits) flight refl (omega (arith, there, length-append p.server.core.inbox.tokens (carried_tokens p.client.core taken))) refl in
     record {
       stands = s;
-      asked_seen = l.asked_seen ++ c.fresh;
-      asked_later = c.still;
-      told_seen = l.told_seen;
-      told_later = l.told_later;
-      asked_is = l.asked_is ∙ ap (λ (ms : List (Message Known)). l.asked_seen ++ ms) c.later_is ∙ sym (append_assoc l.asked_seen c.fresh c.still);
-      told_is = l.told_is;
-      to_server = c.own;
-      to_client = recorded_other limit tables ToServer ToClient ps qs bytes taken.tokens p.client.core.inbox (map spelled_coming l.told_seen) brings refl (c.other ToClient refl) l.to_client;
+      requests = record {
+        seen = l.requests.seen ++ c.fresh;
+        later = c.still;
+        is = l.requests.is ∙ ap (λ (ms : List (Message Known)). l.requests.seen ++ ms) c.later_is ∙ sym (append_assoc l.requests.seen c.fresh c.still);
+        recorded = c.own;
+      };
+      events = record {
+        seen = l.events.seen;
+        later = l.events.later;
+        is = l.events.is;
+        recorded = recorded_other limit tables ToServer ToClient ps qs bytes taken.tokens p.client.core.inbox (map spelled_coming l.events.seen) brings refl (c.other ToClient refl) l.events.recorded;
+      };
       follows = c.next.0;
       counted = l.counted;
     }
@@ -93,13 +97,13 @@ telling_one limit tables given asked_seen asked_later told client server remembe
     (tell_one limit tables given asked_seen asked_later told client server remembered (streams ToClient) more t p e seen later c valid w f.1 f.0 f.2.0 whole at enough)
 
 whereabouts : (p : PairState) (w : World) (asked : List (Message Known)) (told : List (Coming Known)) (l : LinkedBy p w asked told)
-    → Whereabouts p.server.core.tables l.asked_seen l.asked_later told (client_rows p.client.core.view) (server_rows p.server.core.view)
+    → Whereabouts p.server.core.tables l.requests.seen l.requests.later told (client_rows p.client.core.view) (server_rows p.server.core.view)
 whereabouts p w asked told l =
-    let parts = ap all_asks l.asked_is ∙ all_asks_both l.asked_seen l.asked_later in
+    let parts = ap all_asks l.requests.is ∙ all_asks_both l.requests.seen l.requests.later in
     record {
       meet = subst (λ (qs : List Ask). Meets (by_event p.server.core.tables) (all_tells told) qs (client_rows p.client.core.view) (server_rows p.server.core.view)) parts l.stands.meet;
       counted = l.counted;
-      display = ap (option_map flight.row) l.stands.client_display;
+      display = ap (option_map flight.row) l.stands.client.display;
     }
 
 pub carry_to_client_links : (p : PairState) (w : World) (asked : List (Message Known)) (told : List (Coming Known)) (most : ℕ) → LinkedBy p w asked told
@@ -114,25 +118,29 @@ carry_to_client_links p w asked told most l s =
     let ps = p.recording in
     let qs = next.recording in
     let client = client_rows p.client.core.view in
-    let F = Telling tables p.server.globals l.asked_later told client p.client.globals in
+    let F = Telling tables p.server.globals l.requests.later told client p.client.globals in
     let brings = carry_brings limit tables ToClient ps bytes taken.tokens in
-    let fits = each_rest (ComesFitly tables p.server.globals) l.told_seen l.told_later (subst (Each (ComesFitly tables p.server.globals)) l.told_is l.stands.told_fit) in
+    let fits = each_rest (ComesFitly tables p.server.globals) l.events.seen l.events.later (subst (Each (ComesFitly tables p.server.globals)) l.events.is l.stands.events.fit) in
     let there = (carry_fits p.server.core p.client.core most).tokens_there in
-    let flight = subst (λ (cs : List (Coming Known)). InFlight next.server.core.outbox next.client.core.inbox (map spelled_coming cs)) l.told_is s.to_client in
-    let c = carry_recorded spelled_coming limit tables ToClient ps qs bytes taken.tokens F next.server.core.outbox p.client.core.inbox next.client.core.inbox l.told_seen l.told_later brings
-    (telling_one limit tables p.server.globals l.asked_seen l.asked_later told client (server_rows p.server.core.view) p.client.globals (λ x. stream_of x qs) (tokens_of ToClient ps + taken.tokens) l.stands.valid
+    let flight = subst (λ (cs : List (Coming Known)). InFlight next.server.core.outbox next.client.core.inbox (map spelled_coming cs)) l.events.is s.events.in_boxes in
+    let c = carry_recorded spelled_coming limit tables ToClient ps qs bytes taken.tokens F next.server.core.outbox p.client.core.inbox next.client.core.inbox l.events.seen l.events.later brings
+    (telling_one limit tables p.server.globals l.requests.seen l.requests.later told client (server_rows p.server.core.view) p.client.globals (λ x. stream_of x qs) (tokens_of ToClient ps + taken.tokens) l.stands.terms.valid
     (whereabouts p w asked told l))
-    l.to_client (l.follows, l.told_is, fits) flight refl (omega (arith, there, length-append p.client.core.inbox.tokens (carried_tokens p.server.core taken))) refl in
+    l.events.recorded (l.follows, l.events.is, fits) flight refl (omega (arith, there, length-append p.client.core.inbox.tokens (carried_tokens p.server.core taken))) refl in
     record {
       stands = s;
-      asked_seen = l.asked_seen;
-      asked_later = l.asked_later;
-      told_seen = l.told_seen ++ c.fresh;
-      told_later = c.still;
-      asked_is = l.asked_is;
-      told_is = l.told_is ∙ ap (λ (cs : List (Coming Known)). l.told_seen ++ cs) c.later_is ∙ sym (append_assoc l.told_seen c.fresh c.still);
-      to_server = recorded_other limit tables ToClient ToServer ps qs bytes taken.tokens p.server.core.inbox (map spelled l.asked_seen) brings refl (c.other ToServer refl) l.to_server;
-      to_client = c.own;
+      requests = record {
+        seen = l.requests.seen;
+        later = l.requests.later;
+        is = l.requests.is;
+        recorded = recorded_other limit tables ToClient ToServer ps qs bytes taken.tokens p.server.core.inbox (map spelled l.requests.seen) brings refl (c.other ToServer refl) l.requests.recorded;
+      };
+      events = record {
+        seen = l.events.seen ++ c.fresh;
+        later = c.still;
+        is = l.events.is ∙ ap (λ (cs : List (Coming Known)). l.events.seen ++ cs) c.later_is ∙ sym (append_assoc l.events.seen c.fresh c.still);
+        recorded = c.own;
+      };
       follows = c.next.0;
       counted = l.counted;
     }

@@ -11,7 +11,6 @@ use Rattle.wl_sigs.specs.Tables.{Interface, place_of}
 use Rattle.wl_sigs.specs.Fixed.{registry}
 use Rattle.wl_message.specs.Arrived.{in_front}
 use Rattle.wl_message.specs.Cut.{Whole}
-use Rattle.wl_message.specs.Outgoing as boxes
 use Rattle.wl_message.specs.Outgoing.{Outgoing}
 use Rattle.wl_table.specs.declared.object.Entry.{Entry}
 use Rattle.wl_table.specs.View.{View}
@@ -33,7 +32,6 @@ use Rattle.wl_world.specs.Stands.{StandsBy, Fits, TellsGiven, TellsFitly, by_eve
 use Rattle.wl_world.proofs.Wholes.{OpenRow, client_ends, tells_at, deletes_at, all_asks_more, all_tells_more, each_more, each_rest, each_by}
 use Rattle.wl_world.proofs.Bridges.{client_closed}
 use Rattle.wl_world.proofs.Afters.{held_row, client_after}
-use Rattle.wl_world.proofs.Channels.{pops}
 use Rattle.wl_world.proofs.Readings.{made_of}
 use Rattle.wl_world.proofs.Learning.{each_remembered, each_filter}
 use Rattle.wl_world.proofs.ServerReads.{left_state}
@@ -42,44 +40,19 @@ use Rattle.wl_world.proofs.ClientSends.{CanAsk, asked_pair}
 use Rattle.wl_world.proofs.ClientBind.{find_at}
 use Rattle.wl_world.proofs.Moves.{BindsRemembered, told_pair, delete_below}
 use Rattle.wl_link.specs.Leads.{Joins}
-use Rattle.wl_link.specs.Recorded.{Recorded}
 use Rattle.wl_link.specs.Follows.{IsAdvertised, TellsAdvertised, BindsAdvertised}
 use Rattle.wl_link.specs.Linked.{LinkedBy, knows, limit_of}
 use Rattle.wl_link.proofs.Joining.{asks_more}
-use Rattle.wl_link.proofs.Seen.{seen_first, read_on}
+use Rattle.wl_link.proofs.Seen.{rest_seen}
 
 -- ---- nothing in flight changes
 
 pub again : (p : PairState) (w w' : World) (asked : List (Message Known)) (told : List (Coming Known)) → LinkedBy p w asked told → StandsBy p w' asked told → LinkedBy p w' asked told
-again p w w' asked told l s = record {
-  stands = s;
-  asked_seen = l.asked_seen;
-  asked_later = l.asked_later;
-  told_seen = l.told_seen;
-  told_later = l.told_later;
-  asked_is = l.asked_is;
-  told_is = l.told_is;
-  to_server = l.to_server;
-  to_client = l.to_client;
-  follows = l.follows;
-  counted = l.counted;
-}
+again p w w' asked told l s = record { stands = s; requests = l.requests; events = l.events; follows = l.follows; counted = l.counted }
 
 pub given_links : (p : PairState) (w w' : World) (asked : List (Message Known)) (told : List (Coming Known)) (more : List Global) → LinkedBy p w asked told
     → StandsBy (with_server p (record p.server { globals = more })) w' asked told → LinkedBy (with_server p (record p.server { globals = more })) w' asked told
-given_links p w w' asked told more l s = record {
-  stands = s;
-  asked_seen = l.asked_seen;
-  asked_later = l.asked_later;
-  told_seen = l.told_seen;
-  told_later = l.told_later;
-  asked_is = l.asked_is;
-  told_is = l.told_is;
-  to_server = l.to_server;
-  to_client = l.to_client;
-  follows = l.follows;
-  counted = l.counted;
-}
+given_links p w w' asked told more l s = record { stands = s; requests = l.requests; events = l.events; follows = l.follows; counted = l.counted }
 
 -- ---- the client writes a request
 
@@ -126,22 +99,21 @@ asked_links p w w' asked told m c binds l s =
     let f = l.follows in
     record {
       stands = s;
-      asked_seen = l.asked_seen;
-      asked_later = l.asked_later ++ m ∷ [];
-      told_seen = l.told_seen;
-      told_later = l.told_later;
-      asked_is = ap (λ (x : List (Message Known)). x ++ m ∷ []) l.asked_is ∙ append_assoc l.asked_seen l.asked_later (m ∷ []);
-      told_is = l.told_is;
-      to_server = l.to_server;
-      to_client = l.to_client;
+      requests = record {
+        seen = l.requests.seen;
+        later = l.requests.later ++ m ∷ [];
+        is = ap (λ (x : List (Message Known)). x ++ m ∷ []) l.requests.is ∙ append_assoc l.requests.seen l.requests.later (m ∷ []);
+        recorded = l.requests.recorded;
+      };
+      events = l.events;
       follows = record {
         passed = f.passed;
         here = f.here;
         known_as = f.known_as;
-        joins = asked_joins p m c l.asked_later l.told_seen f.here f.joins;
+        joins = asked_joins p m c l.requests.later l.events.seen f.here f.joins;
         remembers = f.remembers;
         tells = f.tells;
-        binds = each_more (BindsAdvertised (knows p)) l.asked_later (m ∷ []) f.binds (bind_advertised (knows p) p.client.globals m f.remembers binds, tt);
+        binds = each_more (BindsAdvertised (knows p)) l.requests.later (m ∷ []) f.binds (bind_advertised (knows p) p.client.globals m f.remembers binds, tt);
       };
       counted = l.counted;
     }
@@ -157,14 +129,13 @@ pub told_links : (p : PairState) (w w' : World) (asked : List (Message Known)) (
     → StandsBy (told_pair p view outbox registries) w' asked (told ++ news) → LinkedBy (told_pair p view outbox registries) w' asked (told ++ news)
 told_links p w w' asked told view outbox registries news births below l s = record {
   stands = s;
-  asked_seen = l.asked_seen;
-  asked_later = l.asked_later;
-  told_seen = l.told_seen;
-  told_later = l.told_later ++ news;
-  asked_is = l.asked_is;
-  told_is = ap (λ (x : List (Coming Known)). x ++ news) l.told_is ∙ append_assoc l.told_seen l.told_later news;
-  to_server = l.to_server;
-  to_client = l.to_client;
+  requests = l.requests;
+  events = record {
+    seen = l.events.seen;
+    later = l.events.later ++ news;
+    is = ap (λ (x : List (Coming Known)). x ++ news) l.events.is ∙ append_assoc l.events.seen l.events.later news;
+    recorded = l.events.recorded;
+  };
   follows = l.follows;
   counted = subst (λ (n : ℕ). Each (IsBelow n) (all_tells (told ++ news))) (sym births) (more_counted p.server.core.view.births told news l.counted below);
 }
@@ -185,27 +156,20 @@ pub request_links : (p : PairState) (w w' : World) (m : Message Known) (ms : Lis
     → StandsBy (with_server p (left_state p.server m n)) w' ms (told ++ delete m.ends)
     → LinkedBy (with_server p (left_state p.server m n)) w' ms (told ++ delete m.ends)
 request_links p w w' m ms told n whole there l s =
-    let q = pops p.client.core.outbox p.server.core.inbox (map spelled (m ∷ ms)) n l.stands.to_server whole in
-    let first : q.first ≡ spelled m = cc q.is in
-    let size : n ≡ length (spelled m).bytes = q.size ∙ ap (λ (x : boxes.Message). length x.bytes) first in
-    let enough : length (tokens m.args) ≤ length p.server.core.inbox.tokens = subst (λ (x : boxes.Message). length x.tokens ≤ length p.server.core.inbox.tokens) first q.enough in
-    let seen = seen_first spelled (limit_of p) ToServer p.recording p.server.core.inbox ((knows p).taken ToServer) n m ms l.asked_seen l.asked_later l.asked_is l.to_server whole in
-    let recorded : Recorded (limit_of p) ToServer p.recording p.server.core.inbox ((knows p).taken ToServer) (spelled m ∷ map spelled seen.rest) =
-    subst (λ (x : List (Message Known)). Recorded (limit_of p) ToServer p.recording p.server.core.inbox ((knows p).taken ToServer) (map spelled x)) seen.seen_is l.to_server in
+    let seen = rest_seen spelled (limit_of p) ToServer p.recording p.client.core.outbox p.server.core.inbox ((knows p).taken ToServer) n m ms l.stands.requests.in_boxes whole l.requests in
     let births = p.server.core.view.births in
     let now = (ended_view server_end (opens p.server.core.view (option_map made_of (made_in m.args))) m.ends).births in
     let dead = delete m.ends in
     let counted = more_counted births told dead l.counted (delete_below births m.ends there) in
     record {
       stands = s;
-      asked_seen = seen.rest;
-      asked_later = l.asked_later;
-      told_seen = l.told_seen;
-      told_later = l.told_later ++ dead;
-      asked_is = seen.others;
-      told_is = ap (λ (x : List (Coming Known)). x ++ dead) l.told_is ∙ append_assoc l.told_seen l.told_later dead;
-      to_server = read_on (limit_of p) ToServer p.recording p.server.core.inbox ((knows p).taken ToServer) n (length (tokens m.args)) (spelled m) (map spelled seen.rest) recorded size refl enough;
-      to_client = l.to_client;
+      requests = record { seen = seen.rest; later = l.requests.later; is = seen.others; recorded = seen.recorded };
+      events = record {
+        seen = l.events.seen;
+        later = l.events.later ++ dead;
+        is = ap (λ (x : List (Coming Known)). x ++ dead) l.events.is ∙ append_assoc l.events.seen l.events.later dead;
+        recorded = l.events.recorded;
+      };
       follows = l.follows;
       counted = each_by (IsBelow births) (IsBelow now) (below_more births now (births_kept p.server.core.view (made_in m.args) m.ends)) (all_tells (told ++ dead)) counted;
     }
@@ -256,33 +220,19 @@ pub event_links : (p : PairState) (w w' : World) (asked : List (Message Known)) 
 event_links p w w' asked m cs n entry whole l s =
     let f = l.follows in
     let tables = p.server.core.tables in
-    let inbox = p.client.core.inbox in
-    let taken = (knows p).taken ToClient in
-    let q = pops p.server.core.outbox inbox (map spelled_coming (Event m ∷ cs)) n l.stands.to_client whole in
-    let first : q.first ≡ spelled m = cc q.is in
-    let size : n ≡ length (spelled m).bytes = q.size ∙ ap (λ (x : boxes.Message). length x.bytes) first in
-    let enough : length (tokens m.args) ≤ length inbox.tokens = subst (λ (x : boxes.Message). length x.tokens ≤ length inbox.tokens) first q.enough in
-    let seen = seen_first spelled_coming (limit_of p) ToClient p.recording inbox taken n (Event m) cs l.told_seen l.told_later l.told_is l.to_client whole in
-    let recorded : Recorded (limit_of p) ToClient p.recording inbox taken (spelled m ∷ map spelled_coming seen.rest) =
-    subst (λ (x : List (Coming Known)). Recorded (limit_of p) ToClient p.recording inbox taken (map spelled_coming x)) seen.seen_is l.to_client in
+    let seen = rest_seen spelled_coming (limit_of p) ToClient p.recording p.server.core.outbox p.client.core.inbox ((knows p).taken ToClient) n (Event m) cs l.stands.events.in_boxes whole l.events in
     let told = subst (λ (x : List (Coming Known)). Each (TellsAdvertised tables (knows p)) x) seen.seen_is f.tells in
-    let joins = subst (λ (x : List (Coming Known)). Joins (by_event tables) (all_asks l.asked_later) (all_tells x) f.here (client_rows p.client.core.view)) seen.seen_is f.joins in
+    let joins = subst (λ (x : List (Coming Known)). Joins (by_event tables) (all_asks l.requests.later) (all_tells x) f.here (client_rows p.client.core.view)) seen.seen_is f.joins in
     record {
       stands = s;
-      asked_seen = l.asked_seen;
-      asked_later = l.asked_later;
-      told_seen = seen.rest;
-      told_later = l.told_later;
-      asked_is = l.asked_is;
-      told_is = seen.others;
-      to_server = l.to_server;
-      to_client = read_on (limit_of p) ToClient p.recording inbox taken n (length (tokens m.args)) (spelled m) (map spelled_coming seen.rest) recorded size refl enough;
+      requests = l.requests;
+      events = record { seen = seen.rest; later = l.events.later; is = seen.others; recorded = seen.recorded };
       follows = record {
         passed = f.passed;
         here = f.here;
         known_as = f.known_as;
-        joins = event_joins (by_event tables) m l.asked_later seen.rest f.here p.client.core.view tables l.stands.told_fit.0.fits joins;
-        remembers = learns (knows p) tables p.client.core.tables p.server.globals p.client.globals m l.stands.same_tables l.stands.told_fit.0 told.0 f.remembers (teaches m entry) (λ h. (and_parts (is_registry m.target.born) _ h).0);
+        joins = event_joins (by_event tables) m l.requests.later seen.rest f.here p.client.core.view tables l.stands.events.fit.0.fits joins;
+        remembers = learns (knows p) tables p.client.core.tables p.server.globals p.client.globals m l.stands.terms.same_tables l.stands.events.fit.0 told.0 f.remembers (teaches m entry) (λ h. (and_parts (is_registry m.target.born) _ h).0);
         tells = told.1;
         binds = f.binds;
       };
@@ -300,31 +250,18 @@ pub delete_links : (p : PairState) (w w' : World) (asked : List (Message Known))
 delete_links p w w' asked x cs n whole l s =
     let f = l.follows in
     let tables = p.server.core.tables in
-    let inbox = p.client.core.inbox in
-    let taken = (knows p).taken ToClient in
-    let q = pops p.server.core.outbox inbox (map spelled_coming (Delete x ∷ cs)) n l.stands.to_client whole in
-    let first : q.first ≡ spelled_coming (Delete x) = cc q.is in
-    let size : n ≡ length (spelled_coming (Delete x)).bytes = q.size ∙ ap (λ (y : boxes.Message). length y.bytes) first in
-    let seen = seen_first spelled_coming (limit_of p) ToClient p.recording inbox taken n (Delete x) cs l.told_seen l.told_later l.told_is l.to_client whole in
-    let recorded : Recorded (limit_of p) ToClient p.recording inbox taken (spelled_coming (Delete x) ∷ map spelled_coming seen.rest) =
-    subst (λ (y : List (Coming Known)). Recorded (limit_of p) ToClient p.recording inbox taken (map spelled_coming y)) seen.seen_is l.to_client in
+    let seen = rest_seen spelled_coming (limit_of p) ToClient p.recording p.server.core.outbox p.client.core.inbox ((knows p).taken ToClient) n (Delete x) cs l.stands.events.in_boxes whole l.events in
     let told = subst (λ (y : List (Coming Known)). Each (TellsAdvertised tables (knows p)) y) seen.seen_is f.tells in
-    let joins = subst (λ (y : List (Coming Known)). Joins (by_event tables) (all_asks l.asked_later) (all_tells y) f.here (client_rows p.client.core.view)) seen.seen_is f.joins in
+    let joins = subst (λ (y : List (Coming Known)). Joins (by_event tables) (all_asks l.requests.later) (all_tells y) f.here (client_rows p.client.core.view)) seen.seen_is f.joins in
     record {
       stands = s;
-      asked_seen = l.asked_seen;
-      asked_later = l.asked_later;
-      told_seen = seen.rest;
-      told_later = l.told_later;
-      asked_is = l.asked_is;
-      told_is = seen.others;
-      to_server = l.to_server;
-      to_client = read_on (limit_of p) ToClient p.recording inbox taken n 0 (spelled_coming (Delete x)) (map spelled_coming seen.rest) recorded size refl (omega arith);
+      requests = l.requests;
+      events = record { seen = seen.rest; later = l.events.later; is = seen.others; recorded = seen.recorded };
       follows = record {
         passed = f.passed;
         here = f.here;
         known_as = f.known_as;
-        joins = delete_joins (by_event tables) x l.asked_later seen.rest f.here p n joins;
+        joins = delete_joins (by_event tables) x l.requests.later seen.rest f.here p n joins;
         remembers = f.remembers;
         tells = told.1;
         binds = f.binds;

@@ -261,13 +261,13 @@ due_can : (p : PairState) (w : World) (asked : List (Message Known)) (told : Lis
 due_can p w asked told s d i =
     let x : Known = record { id = d.object.id; born = record { birth = d.object.birth; iface = registry; version = i.version } } in
     let r = there_row p.server.core.view x i.there in
-    let low = (row_low p.server.core.view d.object.id r.entry s.server_sound r.there).1 in
+    let low = (row_low p.server.core.view d.object.id r.entry s.server.sound r.there).1 in
     record {
-      fitly = due_fits p.server.core.tables s.valid p.server.globals d i.version i.some low d.owing i.owing refl;
+      fitly = due_fits p.server.core.tables s.terms.valid p.server.globals d i.version i.some low d.owing i.owing refl;
       target = i.there;
       args = no_objects p.server.core.tables d.owing;
       ends = tt;
-      short = let l = due_short p.server.core.tables s.valid p.server.globals d.owing i.owing in omega (arith, l, p.server.core.outbox.limit.in_range.0);
+      short = let l = due_short p.server.core.tables s.terms.valid p.server.globals d.owing i.owing in omega (arith, l, p.server.core.outbox.limit.in_range.0);
     }
   where
     no_objects : (tables : List Interface) (o : Owing) → Each (ThereRow (server_rows p.server.core.view)) (objects (due_args tables o))
@@ -292,38 +292,18 @@ core_is c d version = λ i. record c {
 marked_stands : (p : PairState) (w : World) (asked : List (Message Known)) (told : List (Coming Known)) (s : StandsBy p w asked told) (d : Due)
     → StandsBy (with_server p (record p.server { registries = marked_in d p.server.registries })) (record w { registries = mark_in (owed_of d) w.registries }) asked told
 marked_stands p w asked told s d = record {
-  same_tables = s.same_tables;
-  valid = s.valid;
-  deletes_follow = s.deletes_follow;
-  client_sets = s.client_sets;
-  server_sets = s.server_sets;
-  births = s.births;
-  client_sound = s.client_sound;
-  versions = s.versions;
-  server_sound = s.server_sound;
-  client_display = s.client_display;
-  server_display = s.server_display;
-  server_versions = s.server_versions;
-  server_live = s.server_live;
+  terms = s.terms;
+  client = s.client;
+  server = s.server;
   requests = s.requests;
   events = s.events;
-  to_server = s.to_server;
-  to_client = s.to_client;
-  asked_fit = s.asked_fit;
-  told_fit = s.told_fit;
+  deletes_follow = s.deletes_follow;
   meet = s.meet;
-  client_lives = s.client_lives;
-  server_lives = s.server_lives;
-  remembered = s.remembered;
-  given = s.given;
-  registries = ap (mark_in (owed_of d)) s.registries ∙ sym (marks_marked d p.server.registries);
-  remembers = s.remembers;
   globals = s.globals;
-  up_limit = s.up_limit;
-  down_limit = s.down_limit;
-  one_limit = s.one_limit;
-  few_globals = s.few_globals;
-  open_registries = has_marked p.server.core.view d p.server.registries s.open_registries;
+  registries = record {
+    told = ap (mark_in (owed_of d)) s.registries.told ∙ sym (marks_marked d p.server.registries);
+    open_registries = has_marked p.server.core.view d p.server.registries s.registries.open_registries;
+  };
 }
 
 pub record Told (p : PairState) (w : World) (asked : List (Message Known)) (earlier : List (Coming Known)) (ds : List Due) (after_all : PairState) : Type 0 where
@@ -376,7 +356,7 @@ tell_all p w asked told s z (d ∷ ds) i =
       told = r.told;
       news = Event m ∷ r.news;
       added = r.added ∙ append_assoc told (Event m ∷ []) r.news;
-      below = each_more (IsBelow p.server.core.view.births) (tells (Event m)) (all_tells r.news) (event_below (server_rows p.server.core.view) p.server.core.view.births s.server_sets.below m can.target can.args tt) r.below;
+      below = each_more (IsBelow p.server.core.view.births) (tells (Event m)) (all_tells r.news) (event_below (server_rows p.server.core.view) p.server.core.view.births s.server.sets.below m can.target can.args tt) r.below;
       not_ended = r.not_ended;
       announces = more (writes_due p w asked told s d i.0) r.announces;
       stands_by = r.stands_by;
@@ -392,10 +372,10 @@ pub announce_keeps : (p : PairState) (w : World) (asked : List (Message Known)) 
 announce_keeps p w asked told s z reply p' (announced {count = count} l f) =
     let ds = take count (owed p.server) in
     let due = each_take (IsDue p.server.core.tables p.server.globals (server_rows p.server.core.view)) count (owed p.server)
-    (all_due p.server.core.tables p.server.globals p.server.core.view p.server.registries s.few_globals s.globals s.server_versions s.open_registries.only) in
+    (all_due p.server.core.tables p.server.globals p.server.core.view p.server.registries s.globals.few_globals s.globals.globals s.server.versions s.registries.open_registries.only) in
     let r = tell_all p w asked told s z ds due in
     let owes : take count (owed_by w.given w.registries) ≡ map owed_of ds =
-    ap (take count) ((λ i. owed_by (s.given i) (s.registries i)) ∙ owed_same p.server.globals p.server.registries) ∙ take_map owed_of count (owed p.server) in
+    ap (take count) ((λ i. owed_by (s.globals.given i) (s.registries.told i)) ∙ owed_same p.server.globals p.server.registries) ∙ take_map owed_of count (owed p.server) in
     record {
       world = r.world;
       answers = before z (announced l f) (subst (λ (os : List Owed). AnnouncesThose p.server.core.tables w os r.world) (sym owes) r.announces);
@@ -404,4 +384,4 @@ announce_keeps p w asked told s z reply p' (announced {count = count} l f) =
           (subst (λ (c : Core). LeadsTo p asked told (with_server p (record p.server { core = c; registries = all_marked ds p.server.registries })) asked (told ++ r.news)) (sym (only_sent p.server.core ds))
           (telling p.server.core.view (with_dues p.server.core ds).outbox (all_marked ds p.server.registries) r.news refl r.below)));
     }
-announce_keeps p w asked told s z reply p' (refused l) = absurd (cc (l, s.server_lives))
+announce_keeps p w asked told s z reply p' (refused l) = absurd (cc (l, s.server.lives))

@@ -26,75 +26,29 @@ flies o i ms b t f =
 pub to_server_stands : (p : PairState) (w : World) (asked : List (Message Known)) (told : List (Coming Known)) (most : ℕ) → StandsBy p w asked told
     → StandsBy (after_carry_to_server p (carries p.client.core p.server.core most)) w asked told
 to_server_stands p w asked told most s = record {
-  same_tables = s.same_tables;
-  valid = s.valid;
-  deletes_follow = s.deletes_follow;
-  client_sets = s.client_sets;
-  server_sets = s.server_sets;
-  births = s.births;
-  client_sound = s.client_sound;
-  versions = s.versions;
-  server_sound = s.server_sound;
-  client_display = s.client_display;
-  server_display = s.server_display;
-  server_versions = s.server_versions;
-  server_live = s.server_live;
-  requests = s.requests;
+  terms = s.terms;
+  client = s.client;
+  server = s.server;
+  requests = record { in_world = s.requests.in_world; in_boxes = flies p.client.core.outbox p.server.core.inbox (map spelled asked) (min most (in_room p.server.core).bytes) (in_room p.server.core).tokens s.requests.in_boxes; fit = s.requests.fit };
   events = s.events;
-  to_server = flies p.client.core.outbox p.server.core.inbox (map spelled asked) (min most (in_room p.server.core).bytes) (in_room p.server.core).tokens s.to_server;
-  to_client = record { begun = s.to_client.begun; all = s.to_client.all; bytes = s.to_client.bytes; tokens = s.to_client.tokens; whole = s.to_client.whole };
-  asked_fit = s.asked_fit;
-  told_fit = s.told_fit;
+  deletes_follow = s.deletes_follow;
   meet = s.meet;
-  client_lives = s.client_lives;
-  server_lives = s.server_lives;
-  remembered = s.remembered;
-  given = s.given;
-  registries = s.registries;
-  remembers = s.remembers;
   globals = s.globals;
-  up_limit = s.up_limit;
-  down_limit = s.down_limit;
-  one_limit = s.one_limit;
-  few_globals = s.few_globals;
-  open_registries = s.open_registries;
+  registries = s.registries;
 }
 
 pub to_client_stands : (p : PairState) (w : World) (asked : List (Message Known)) (told : List (Coming Known)) (most : ℕ) → StandsBy p w asked told
     → StandsBy (after_carry_to_client p (carries p.server.core p.client.core most)) w asked told
 to_client_stands p w asked told most s = record {
-  same_tables = s.same_tables;
-  valid = s.valid;
-  deletes_follow = s.deletes_follow;
-  client_sets = s.client_sets;
-  server_sets = s.server_sets;
-  births = s.births;
-  client_sound = s.client_sound;
-  versions = s.versions;
-  server_sound = s.server_sound;
-  client_display = s.client_display;
-  server_display = s.server_display;
-  server_versions = s.server_versions;
-  server_live = s.server_live;
+  terms = s.terms;
+  client = s.client;
+  server = s.server;
   requests = s.requests;
-  events = s.events;
-  to_server = record { begun = s.to_server.begun; all = s.to_server.all; bytes = s.to_server.bytes; tokens = s.to_server.tokens; whole = s.to_server.whole };
-  to_client = flies p.server.core.outbox p.client.core.inbox (map spelled_coming told) (min most (in_room p.client.core).bytes) (in_room p.client.core).tokens s.to_client;
-  asked_fit = s.asked_fit;
-  told_fit = s.told_fit;
+  events = record { in_world = s.events.in_world; in_boxes = flies p.server.core.outbox p.client.core.inbox (map spelled_coming told) (min most (in_room p.client.core).bytes) (in_room p.client.core).tokens s.events.in_boxes; fit = s.events.fit };
+  deletes_follow = s.deletes_follow;
   meet = s.meet;
-  client_lives = s.client_lives;
-  server_lives = s.server_lives;
-  remembered = s.remembered;
-  given = s.given;
-  registries = s.registries;
-  remembers = s.remembers;
   globals = s.globals;
-  up_limit = s.up_limit;
-  down_limit = s.down_limit;
-  one_limit = s.one_limit;
-  few_globals = s.few_globals;
-  open_registries = s.open_registries;
+  registries = s.registries;
 }
 
 pub carry_to_server_keeps : (p : PairState) (w : World) (asked : List (Message Known)) (told : List (Coming Known)) → StandsBy p w asked told → NotEnded p w → (most : ℕ) (reply : Carried) (p' : PairState)

@@ -158,29 +158,29 @@ pub bind_can : (p : PairState) (w : World) (asked : List (Message Known)) (told 
 bind_can p w asked told s target name iface version new b n can =
     let v = p.client.core.view in
     let tables = p.server.core.tables in
-    let f = find_at (λ (g : Remembered). WasGiven p.server.globals g.name g.iface g.version) (is_named name) p.client.globals n.global s.remembers n.there in
+    let f = find_at (λ (g : Remembered). WasGiven p.server.globals g.name g.iface g.version) (is_named name) p.client.globals n.global s.globals.remembers n.there in
     let same_name : n.global.name ≡ name = eqb-true n.global.name name f.1 in
     let given : WasGiven p.server.globals name n.global.iface n.global.version = subst (λ (k : ℕ). WasGiven p.server.globals k n.global.iface n.global.version) same_name f.0 in
     let few = name_low p.server.globals name given.global given.there in
-    let g = given_at (IsGlobal tables) p.server.globals name given.global s.globals given.there in
-    let is_name = s.valid.names_distinct.interfaces_named n.global.iface.0 n.interface n.place in
+    let g = given_at (IsGlobal tables) p.server.globals name given.global s.globals.globals given.there in
+    let is_name = s.terms.valid.names_distinct.interfaces_named n.global.iface.0 n.interface n.place in
     let text : IsText iface = subst IsText n.named (name_text n.interface.name is_name) in
     let short : length iface ≤ 256 = subst (λ (l : List ℕ). length l ≤ 256) n.named is_name.few in
-    let place : place_of tables iface ≡ Some n.global.iface = ap (place_of tables) (sym n.named) ∙ place_there tables s.valid n.global.iface n.interface n.place in
+    let place : place_of tables iface ≡ Some n.global.iface = ap (place_of tables) (sym n.named) ∙ place_there tables s.terms.valid n.global.iface n.interface n.place in
     let reg : b.entry.iface ≡ registry = same_is b.entry.iface registry b.registers in
     let x : Known = record { id = next_id v; born = record { birth = v.births; iface = n.global.iface; version = version } } in
-    let fresh = next_fresh v x s.client_sound can refl refl in
+    let fresh = next_fresh v x s.client.sound can refl refl in
     let fits_name : name_fits iface (interface_at tables given.global.iface.0) ≡ true = ap (λ (i : Iface). name_fits iface (interface_at tables i.0)) given.iface_is ∙ ap (name_fits iface) n.place ∙ ap (λ (l : List ℕ). bytes_eq l iface) n.named ∙ bytes_self iface in
-    let low = row_low v target.id b.entry s.client_sound b.there in
+    let low = row_low v target.id b.entry s.client.sound b.there in
     let bind_there : signature_at tables b.entry.iface.0 Request 0 ≡ Some (fixed.message (codes "bind") 1 (fixed.uint ∷ fixed.new None ∷ []) Nothing) =
-    ap (λ (i : Iface). signature_at tables i.0 Request 0) reg ∙ registry_bind tables s.valid in
+    ap (λ (i : Iface). signature_at tables i.0 Request 0) reg ∙ registry_bind tables s.terms.valid in
     record {
       fitly = record {
         fits = record {
           signature = fixed.message (codes "bind") 1 (fixed.uint ∷ fixed.new None ∷ []) Nothing;
           there = bind_there;
-          old_enough = s.versions target.id b.entry b.there;
-          args = ((omega (arith, few, s.few_globals), tt), (((text, omega (arith, n.most, g.word, given.version_is), omega (arith, fresh.low)), ap (option_map (λ (i : Iface). record { id = next_id v; iface = i; version = version })) place), tt));
+          old_enough = s.client.versions target.id b.entry b.there;
+          args = ((omega (arith, few, s.globals.few_globals), tt), (((text, omega (arith, n.most, g.word, given.version_is), omega (arith, fresh.low)), ap (option_map (λ (i : Iface). record { id = next_id v; iface = i; version = version })) place), tt));
           ends = refl;
           len = omega (arith, short);
           low = low.1;
@@ -192,7 +192,7 @@ bind_can p w asked told s target name iface version new b n can =
         binds = λ h. record { name = name; iface = iface; version = version; new = x; args_are = refl; was_given = bind_is tables iface version (server.global_of p.server.globals name) given.global given.there fits_name n.some (omega (arith, n.most, given.version_is)) };
       };
       target = open_row v target.id b.entry b.there b.live;
-      target_plain = ap (λ (i : Iface). test_of p (record { birth = b.entry.birth; iface = i; version = b.entry.version })) reg ∙ registry_plain tables s.valid;
+      target_plain = ap (λ (i : Iface). test_of p (record { birth = b.entry.birth; iface = i; version = b.entry.version })) reg ∙ registry_plain tables s.terms.valid;
       args = tt;
       args_plain = tt;
       new = fresh;
@@ -224,12 +224,12 @@ pub client_bind_keeps : (p : PairState) (w : World) (asked : List (Message Known
     → Writes (bind_answer p.client target name iface version) true p (with_client p (after_bind p.client target name iface version)) reply p'
     → Moves p w asked told (ClientBind target name iface version) (ClientBind reply) p'
 client_bind_keeps p w asked told s z target name iface version reply p' (accepted {new = new} h) =
-    let b = is_bound p.client target name iface version new s.client_lives h in
+    let b = is_bound p.client target name iface version new s.client.lives h in
     let o = opens p.client.core (Some (bound p.client name version)) new b.opens_it in
-    let n = names_at p.server.core.tables p.client.globals iface version name (client.global_of p.client.globals name) refl (subst (λ (t : List Interface). can_bind t iface version (client.global_of p.client.globals name) ≡ true) s.same_tables b.binds) in
+    let n = names_at p.server.core.tables p.client.globals iface version name (client.global_of p.client.globals name) refl (subst (λ (t : List Interface). can_bind t iface version (client.global_of p.client.globals name) ≡ true) s.terms.same_tables b.binds) in
     let can = bind_can p w asked told s target name iface version new b n o.can in
     let m = bind_message p.client.core.view b.entry target name iface version n.global.iface in
-    let sig_there : signature_at p.client.core.tables m.target.born.iface.0 Request 0 ≡ Some can.fitly.fits.signature = subst (λ (t : List Interface). signature_at t m.target.born.iface.0 Request 0 ≡ Some can.fitly.fits.signature) (sym s.same_tables) can.fitly.fits.there in
+    let sig_there : signature_at p.client.core.tables m.target.born.iface.0 Request 0 ≡ Some can.fitly.fits.signature = subst (λ (t : List Interface). signature_at t m.target.born.iface.0 Request 0 ≡ Some can.fitly.fits.signature) (sym s.terms.same_tables) can.fitly.fits.there in
     record {
       world = request_written w (renamed born_of m);
       answers = before z (accepted h) (record {
@@ -237,7 +237,7 @@ client_bind_keeps p w asked told s z target name iface version reply p' (accepte
         is = record { signature = can.fitly.fits.signature; there = sig_there; ends = born_ends m can.fitly.fits.signature.destroys can.fitly.fits.ends };
         target_is = b.birth;
         opcode_is = refl;
-        args_are = ap (λ (k : ℕ). answers.bound name iface version k) (sym s.births);
+        args_are = ap (λ (k : ℕ). answers.bound name iface version k) (sym s.client.births);
         new_is = ap (option_map birth_at) (sym o.is);
         steps = asks_world p w asked told s m can;
       });

@@ -70,10 +70,10 @@ reports_as p w m more entry signature states.Zombie h b t c a = (
 )
 
 reports_it : (p : PairState) (w : World) (m : Message Known) (cs : List (Coming Known)) (asked : List (Message Known)) (s : StandsBy p w asked (Event m ∷ cs)) (n : ℕ) (i : InEvent p w m cs asked s n)
-    → ReportsComing w (Event (renamed born_of m)) (report p.client.core (the_found n m i.target.entry s.told_fit.0.fits.signature))
+    → ReportsComing w (Event (renamed born_of m)) (report p.client.core (the_found n m i.target.entry s.events.fit.0.fits.signature))
 reports_it p w m cs asked s n i =
-    let f = s.told_fit.0.fits in
-    let a = event_answer p m n i.target.entry p.server.core.tables f s.valid s.told_fit.0.no_delete_id i.target.same in
+    let f = s.events.fit.0.fits in
+    let a = event_answer p m n i.target.entry p.server.core.tables f s.terms.valid s.events.fit.0.no_delete_id i.target.same in
     let count : descriptors f.signature.kinds ≡ length (tokens m.args) = tokens_taken p.server.core.tables m.target.born.version f.signature.kinds m.args f.args in
     let shown = i.target.shown ∙ ap (λ (b : Born). Some (as_row i.target.entry.state b)) i.target.same in
     subst (ReportsComing w (Event (renamed born_of m))) (sym a.tells_it)
@@ -83,21 +83,21 @@ reports_it p w m cs asked s n i =
 keeps_event : (p : PairState) (w : World) (m : Message Known) (cs : List (Coming Known)) (asked : List (Message Known)) (s : StandsBy p w asked (Event m ∷ cs)) (n : ℕ) → NotEnded p w
     → in_front p.client.core.inbox ≡ Whole n → (i : InEvent p w m cs asked s n) → (reply : Result (Option Report) NextError) (p' : PairState)
     → (Nexts needs_memory (next_answer p.client) p (with_client p (after_next p.client)) reply p')
-    → Nexts needs_memory (Ok (Some (report p.client.core (the_found n m i.target.entry s.told_fit.0.fits.signature)))) p
+    → Nexts needs_memory (Ok (Some (report p.client.core (the_found n m i.target.entry s.events.fit.0.fits.signature)))) p
     (with_client p (after_event p.client m n (teaches m i.target.entry))) reply p'
     → Moves p w asked (Event m ∷ cs) ClientNext (ClientNext reply) p'
 keeps_event p w m cs asked s n z e i reply p' d answered = record {
   world = event_read p.client.core.tables w (renamed born_of m) (map (recoming born_of) cs);
-  answers = before z d (record { waits = subst HasMessage (sym e) tt; coming = Event (renamed born_of m); steps = reads_event (renamed born_of m) (map (recoming born_of) cs) s.events; reports = reports_it p w m cs asked s n i });
+  answers = before z d (record { waits = subst HasMessage (sym e) tt; coming = Event (renamed born_of m); steps = reads_event (renamed born_of m) (map (recoming born_of) cs) s.events.in_world; reports = reports_it p w m cs asked s n i });
   outcome = goes_on asked cs z (event_stands p w m cs asked s n i (event_mortal p w m cs asked s n i))
       (reading_event m cs n i.target.entry refl e);
 }
 keeps_event p w m cs asked s n z e i reply p' d (no_memory {report = r} q h) =
-    let same : report p.client.core (the_found n m i.target.entry s.told_fit.0.fits.signature) ≡ r = cc q in
+    let same : report p.client.core (the_found n m i.target.entry s.events.fit.0.fits.signature) ≡ r = cc q in
     let needs = is_some_event w (renamed born_of m) _ (reports_it p w m cs asked s n i) (ap needs_memory same ∙ h) in
     record {
       world = w;
-      answers = before z d (record { waits = subst HasMessage (sym e) tt; coming = Event (renamed born_of m); rest = map (recoming born_of) cs; first = s.events; because = needs; same = refl });
+      answers = before z d (record { waits = subst HasMessage (sym e) tt; coming = Event (renamed born_of m); rest = map (recoming born_of) cs; first = s.events.in_world; because = needs; same = refl });
       outcome = goes_on asked (Event m ∷ cs) z s stays;
     }
 
@@ -106,10 +106,10 @@ at_event : (p : PairState) (w : World) (m : Message Known) (cs : List (Coming Kn
     → (Nexts needs_memory (next_answer p.client) p (with_client p (after_next p.client)) reply p') → Moves p w asked (Event m ∷ cs) ClientNext (ClientNext reply) p'
 at_event p w m cs asked s n z e reply p' d =
     let i = in_event p w m cs asked s n e in
-    let sig = s.told_fit.0.fits.signature in
+    let sig = s.events.fit.0.fits.signature in
     let f = the_found n m i.target.entry sig in
-    let a = answer_is p f s.client_lives i.finds_it in
-    let b = event_answer p m n i.target.entry p.server.core.tables s.told_fit.0.fits s.valid s.told_fit.0.no_delete_id i.target.same in
+    let a = answer_is p f s.client.lives i.finds_it in
+    let b = event_answer p m n i.target.entry p.server.core.tables s.events.fit.0.fits s.terms.valid s.events.fit.0.no_delete_id i.target.same in
     keeps_event p w m cs asked s n z e i reply p' d
     (subst (λ st. Nexts needs_memory (Ok (Some (report p.client.core f))) p (with_client p st) reply p') (a.leaves ∙ b.leaves)
     (subst (λ x. Nexts needs_memory x p (with_client p (after_next p.client)) reply p') a.answer d))
@@ -123,7 +123,7 @@ keeps_delete : (p : PairState) (w : World) (x : Known) (cs : List (Coming Known)
     → Moves p w asked (Delete x ∷ cs) ClientNext (ClientNext reply) p'
 keeps_delete p w x cs asked s n z e i reply p' d answered = record {
   world = delete_read w x.born (map (recoming born_of) cs);
-  answers = before z d (record { waits = subst HasMessage (sym e) tt; coming = Delete x.born; steps = reads_delete x.born (map (recoming born_of) cs) s.events; reports = ap birth_of i.same });
+  answers = before z d (record { waits = subst HasMessage (sym e) tt; coming = Delete x.born; steps = reads_delete x.born (map (recoming born_of) cs) s.events.in_world; reports = ap birth_of i.same });
   outcome = goes_on asked cs z (delete_stands p w x cs asked s n i) (reading_delete x cs n refl e);
 }
 keeps_delete p w x cs asked s n z e i reply p' d (no_memory {report = r} q h) =
@@ -136,7 +136,7 @@ at_delete : (p : PairState) (w : World) (x : Known) (cs : List (Coming Known)) (
 at_delete p w x cs asked s n z e reply p' d =
     let i = in_delete p w x cs asked s n e in
     let f = the_found n (deleting x) (live_entry world.display_born) i.signature in
-    let a = answer_is p f s.client_lives i.finds_it in
+    let a = answer_is p f s.client.lives i.finds_it in
     let b = delete_answer p x n i.entry i.signature i.deletes_it.mortal i.there i.count in
     keeps_delete p w x cs asked s n z e i reply p' d
     (subst (λ st. Nexts needs_memory (Ok (Some (reports.Deleted (record { id = x.id; birth = i.entry.birth })))) p (with_client p st) reply p') (a.leaves ∙ b.leaves)
@@ -147,7 +147,7 @@ at_delete p w x cs asked s n z e reply p' d =
 at_whole : (p : PairState) (w : World) (asked : List (Message Known)) (told : List (Coming Known)) (s : StandsBy p w asked told) (n : ℕ) → NotEnded p w
     → in_front p.client.core.inbox ≡ Whole n → (reply : Result (Option Report) NextError) (p' : PairState)
     → (Nexts needs_memory (next_answer p.client) p (with_client p (after_next p.client)) reply p') → Moves p w asked told ClientNext (ClientNext reply) p'
-at_whole p w asked [] s n z e reply p' d = absurd (let q = pops p.server.core.outbox p.client.core.inbox [] n s.to_client e in cc q.is)
+at_whole p w asked [] s n z e reply p' d = absurd (let q = pops p.server.core.outbox p.client.core.inbox [] n s.events.in_boxes e in cc q.is)
 at_whole p w asked (Event m ∷ cs) s n z e reply p' d = at_event p w m cs asked s n z e reply p' d
 at_whole p w asked (Delete x ∷ cs) s n z e reply p' d = at_delete p w x cs asked s n z e reply p' d
 
@@ -161,11 +161,11 @@ at_front : (p : PairState) (w : World) (asked : List (Message Known)) (told : Li
     → (reply : Result (Option Report) NextError) (p' : PairState) → (Nexts needs_memory (next_answer p.client) p (with_client p (after_next p.client)) reply p')
     → (f : Front) → in_front p.client.core.inbox ≡ f → Moves p w asked told ClientNext (ClientNext reply) p'
 at_front p w asked told s z reply p' d More e =
-    let i = idle p s.client_lives e in
+    let i = idle p s.client.lives e in
     keeps_idle p w asked told s z e reply p' d
     (subst (λ st. Nexts needs_memory (Ok None) p (with_client p st) reply p') i.1
     (subst (λ x. Nexts needs_memory x p (with_client p (after_next p.client)) reply p') i.0 d))
-at_front p w asked told s z reply p' d (Bad n) e = absurd (never_bad p.server.core.outbox p.client.core.inbox _ n s.to_client e)
+at_front p w asked told s z reply p' d (Bad n) e = absurd (never_bad p.server.core.outbox p.client.core.inbox _ n s.events.in_boxes e)
 at_front p w asked told s z reply p' d (Whole n) e = at_whole p w asked told s n z e reply p' d
 
 pub client_next_keeps : (p : PairState) (w : World) (asked : List (Message Known)) (told : List (Coming Known)) → StandsBy p w asked told → NotEnded p w

@@ -37,10 +37,9 @@ use Rattle.wl_world.specs.Pair.{PairState, with_client}
 use Rattle.wl_world.specs.Flight.{Rows, Held, Reads, all_tells, client_rows, row, as_row}
 use Rattle.wl_world.specs.Stands.{StandsBy, Fits, TellsFitly, TellsGiven, InFlight, Shows, birth_in}
 use Rattle.wl_world.proofs.Wholes.{client_ends, TellsAt, tells_at, DeletesAt, deletes_at}
-use Rattle.wl_world.proofs.Sets.{client_ended, client_deleted}
-use Rattle.wl_world.proofs.Channels.{pops}
 use Rattle.wl_world.proofs.Bridges.{client_closed}
-use Rattle.wl_world.proofs.Afters.{held_row, client_after, client_sound, client_aged, closed_aged}
+use Rattle.wl_world.proofs.Afters.{held_row, client_after}
+use Rattle.wl_world.proofs.Stands.{client_message, client_delete, first_read}
 use Rattle.wl_world.proofs.Readings.{HeldAt, AllMet, tokens_taken}
 use Rattle.wl_world.proofs.Findings.{the_found, the_message, finds, all_met, news_none}
 use Rattle.wl_world.proofs.Learning.{Gave, told_same, told_keeps}
@@ -74,7 +73,7 @@ held_at_client v sets s x some h = let r = seen_at v sets s x h in record { some
 pub record InEvent (p : PairState) (w : World) (m : Message Known) (cs : List (Coming Known)) (asked : List (Message Known)) (s : StandsBy p w asked (Event m ∷ cs)) (n : ℕ) : Type 0 where
   pub target : SeenAt p.client.core.view w.client m.target
   pub met : AllMet p.client.core.view w.client m.args
-  pub finds_it : found p.client.core event_side ≡ Ok (Some (the_found n m target.entry s.told_fit.0.fits.signature))
+  pub finds_it : found p.client.core event_side ≡ Ok (Some (the_found n m target.entry s.events.fit.0.fits.signature))
   pub tells_it : TellsAt (test_of p) (all_tells cs) (client_rows p.client.core.view) s.meet.middle m.target (objects m.args) m.ends
   pub down : InFlight p.server.core.outbox (without_first p.client.core.inbox n (length (tokens m.args))) (map spelled_coming cs)
   pub more : List ℕ
@@ -86,28 +85,22 @@ fits_at t u m e f = subst (λ (x : List Interface). Fits x event_side m) e f
 pub in_event : (p : PairState) (w : World) (m : Message Known) (cs : List (Coming Known)) (asked : List (Message Known)) (s : StandsBy p w asked (Event m ∷ cs)) (n : ℕ)
     → in_front p.client.core.inbox ≡ Whole n → InEvent p w m cs asked s n
 in_event p w m cs asked s n e =
-    let q = pops p.server.core.outbox p.client.core.inbox (map spelled_coming (Event m ∷ cs)) n s.to_client e in
-    let first : q.first ≡ spelled m = cc q.is in
-    let rest : q.rest ≡ map spelled_coming cs = cc q.is in
+    let q = first_read p.server.core.outbox p.client.core.inbox (spelled m) (map spelled_coming cs) n s.events.in_boxes e in
     let t = tells_at m.target (objects m.args) m.ends s.meet.reads in
-    let r = seen_at p.client.core.view w.client s.client_sets m.target t.target in
-    let f = s.told_fit.0.fits in
-    let met = all_met p.server.core.tables m.target.born.version p.client.core.view w.client (Held (client_rows p.client.core.view)) (held_at_client p.client.core.view w.client s.client_sets)
-    f.signature.kinds m.args f.args t.args (news_none p.client.core.view m.args m.args s.told_fit.0.makes_none f.new_is) in
-    let bytes : take n p.client.core.inbox.bytes ≡ (spelled m).bytes = q.bytes ∙ ap (λ (x : boxes.Message). x.bytes) first in
-    let own : q.first.tokens ≡ tokens m.args = ap (λ (x : boxes.Message). x.tokens) first in
-    let enough : length (tokens m.args) ≤ length p.client.core.inbox.tokens = let k = ap length own in omega (arith, q.enough, k) in
+    let r = seen_at p.client.core.view w.client s.client.sets m.target t.target in
+    let f = s.events.fit.0.fits in
+    let met = all_met p.server.core.tables m.target.born.version p.client.core.view w.client (Held (client_rows p.client.core.view)) (held_at_client p.client.core.view w.client s.client.sets)
+    f.signature.kinds m.args f.args t.args (news_none p.client.core.view m.args m.args s.events.fit.0.makes_none f.new_is) in
     let core' : Core = record p.client.core { tables = p.server.core.tables } in
-    let same_core : core' ≡ p.client.core = λ i. record p.client.core { tables = sym s.same_tables i } in
+    let same_core : core' ≡ p.client.core = λ i. record p.client.core { tables = sym s.terms.same_tables i } in
     record {
       target = r;
       met = met;
-      finds_it = ap (λ (c : Core). found c event_side) (sym same_core) ∙ finds core' event_side m n w.client r.entry f e bytes r.there r.same met enough;
+      finds_it = ap (λ (c : Core). found c event_side) (sym same_core) ∙ finds core' event_side m n w.client r.entry f e q.bytes r.there r.same met q.enough;
       tells_it = t;
-      down = subst (λ (l : List boxes.Message). InFlight p.server.core.outbox (without_first p.client.core.inbox n (length (tokens m.args))) l) rest
-          (subst (λ (l : List ℕ). InFlight p.server.core.outbox (without_first p.client.core.inbox n (length l)) q.rest) own q.stay);
+      down = q.stay;
       more = q.more;
-      tokens_are = q.tokens ∙ ap (λ (l : List ℕ). l ++ q.more) own;
+      tokens_are = q.tokens;
     }
 
 -- the client as an event leaves it
@@ -159,79 +152,53 @@ open_is : (s : State) (b : Born) → is_open (Some (as_row s b)) ≡ is_live s
 open_is states.Live b = refl
 open_is states.Zombie b = refl
 
-display_kept : (v : View) (o : Option Known) → look v 1 ≡ Some (live_entry display_born) → IfThere Mortal o → look (ended_view client_end v o) 1 ≡ Some (live_entry display_born)
-display_kept v None h y = h
-display_kept v (Some x) h y = let b : nat_eq 1 x.id ≡ false = ne_eqb 1 x.id (λ e. y (sym e)) in look-zombied v x.id 1 ∙ rw b h
-
-no_births : (v : View) (o : Option Known) → (ended_view client_end v o).births ≡ v.births
-no_births v None = refl
-no_births v (Some x) = refl
-
 learned_is : (p : PairState) (w : World) (m : Message Known) (asked : List (Message Known)) (told : List (Coming Known)) (s : StandsBy p w asked told) (t : SeenAt p.client.core.view w.client m.target)
     → learned p.client.core.tables w.client (renamed born_of m) w.remembered ≡ cond (teaches m t.entry) (globals_told p.client.core.tables p.client.globals m.opcode (map wire m.args)) p.client.globals
 learned_is p w m asked told s t =
     let live : is_open (w.client m.target.born.birth) ≡ is_live t.entry.state = ap is_open t.shown ∙ open_is t.entry.state (plain t.entry) in
     let same : globals_told p.client.core.tables p.client.globals m.opcode (map nameless (map (rearg born_of) m.args)) ≡ globals_told p.client.core.tables p.client.globals m.opcode (map wire m.args) =
     sym (told_same p.client.core.tables p.client.globals m.opcode m.args) in
-    (λ i. cond (is_registry m.target.born && live i) (globals_told p.client.core.tables (s.remembered i) m.opcode (map nameless (map (rearg born_of) m.args))) (s.remembered i))
+    (λ i. cond (is_registry m.target.born && live i) (globals_told p.client.core.tables (s.globals.remembered i) m.opcode (map nameless (map (rearg born_of) m.args))) (s.globals.remembered i))
     ∙ ap (λ (l : List Remembered). cond (teaches m t.entry) l p.client.globals) same
 
 learns : (p : PairState) (w : World) (m : Message Known) (asked : List (Message Known)) (told : List (Coming Known)) (s : StandsBy p w asked told) (f : TellsFitly p.server.core.tables p.server.globals m)
     → (b : Bool) → (b ≡ true → is_registry m.target.born ≡ true) → Each (Gave p.server.globals) (cond b (globals_told p.client.core.tables p.client.globals m.opcode (map wire m.args)) p.client.globals)
-learns p w m asked told s f false h = s.remembers
+learns p w m asked told s f false h = s.globals.remembers
 learns p w m asked told s f true h =
     told_keeps p.client.core.tables p.server.globals p.client.globals m.opcode m.args
-    (λ e. subst (λ (t : List Interface). TellsGiven t p.server.globals m.args) (sym s.same_tables) (f.tells (h refl) e))
-    s.remembers (nat_eq m.opcode 0) (nat_eq m.opcode 1) refl
+    (λ e. subst (λ (t : List Interface). TellsGiven t p.server.globals m.args) (sym s.terms.same_tables) (f.tells (h refl) e))
+    s.globals.remembers (nat_eq m.opcode 0) (nat_eq m.opcode 1) refl
 
 pub event_stands : (p : PairState) (w : World) (m : Message Known) (cs : List (Coming Known)) (asked : List (Message Known)) (s : StandsBy p w asked (Event m ∷ cs)) (n : ℕ) (i : InEvent p w m cs asked s n)
     → IfThere Mortal m.ends
     → StandsBy (with_client p (after_event p.client m n (teaches m i.target.entry))) (event_read p.client.core.tables w (renamed born_of m) (map (recoming born_of) cs)) asked cs
 event_stands p w m cs asked s n i y =
-    let f = s.told_fit.0.fits in
+    let f = s.events.fit.0.fits in
     let d : ended_by f.signature.destroys m.target m.args ≡ m.ends = sym f.ends in
     let v = p.client.core.view in
     let t = i.tells_it in
     let held : IfThere (Held (client_rows v)) m.ends = subst (λ (o : Option Known). IfThere (Held (client_rows v)) o) d (ended_has (Held (client_rows v)) f.signature.destroys m.target m.args t.target t.args) in
     let rows : client_rows (ended_view client_end v m.ends) ≡ client_ends m.ends (client_rows v) = client_after v None m.ends tt (if_by (held_row v) m.ends held) in
-    let sets = client_ended (client_rows v) w.client m.ends s.client_sets held in
     record {
-      same_tables = s.same_tables;
-      valid = s.valid;
-      deletes_follow = s.deletes_follow.1;
-      client_sets = subst (λ (x : Rows Row). Shows birth_in x.rows x.births (ending (option_map born_of m.ends) w.client)) (sym rows) sets;
-      server_sets = s.server_sets;
-      births = s.births ∙ sym (no_births v m.ends);
-      client_sound = client_sound v None m.ends s.client_sound y;
-      versions = client_aged v None m.ends tt s.versions;
-      server_sound = s.server_sound;
-      client_display = display_kept v m.ends s.client_display y;
-      server_display = s.server_display;
-      server_versions = s.server_versions;
-      server_live = s.server_live;
+      terms = s.terms;
+      client = client_message s.client None m.ends s.client.sound tt tt held held y false refl;
+      server = s.server;
       requests = s.requests;
-      events = refl;
-      to_server = s.to_server;
-      to_client = i.down;
-      asked_fit = s.asked_fit;
-      told_fit = s.told_fit.1;
+      events = record { in_world = refl; in_boxes = i.down; fit = s.events.fit.1 };
+      deletes_follow = s.deletes_follow.1;
       meet = record {
         middle = s.meet.middle;
         reads = subst (λ (x : Rows Row). Reads (test_of p) (all_tells cs) x s.meet.middle) (sym rows) t.rest;
         tied = s.meet.tied;
       };
-      client_lives = refl;
-      server_lives = s.server_lives;
-      remembered = learned_is p w m asked (Event m ∷ cs) s i.target;
-      given = s.given;
+      globals = record {
+        remembered = learned_is p w m asked (Event m ∷ cs) s i.target;
+        given = s.globals.given;
+        remembers = learns p w m asked (Event m ∷ cs) s s.events.fit.0 (teaches m i.target.entry) (λ h. (and_parts (is_registry m.target.born) (is_live i.target.entry.state) h).0);
+        globals = s.globals.globals;
+        few_globals = s.globals.few_globals;
+      };
       registries = s.registries;
-      remembers = learns p w m asked (Event m ∷ cs) s s.told_fit.0 (teaches m i.target.entry) (λ h. (and_parts (is_registry m.target.born) (is_live i.target.entry.state) h).0);
-      globals = s.globals;
-      up_limit = s.up_limit;
-      down_limit = s.down_limit;
-      one_limit = s.one_limit;
-      few_globals = s.few_globals;
-      open_registries = s.open_registries;
     }
 
 -- ---- a delete
@@ -241,10 +208,10 @@ held_mortal : (p : PairState) (w : World) (asked : List (Message Known)) (told :
     → test_of p x.born ≡ true → x.id ≢ 1
 held_mortal p w asked told s x h d one =
     let r = held_row p.client.core.view x h in
-    let e : Some r.entry ≡ Some (live_entry display_born) = sym r.there ∙ ap (look p.client.core.view) one ∙ s.client_display in
+    let e : Some r.entry ≡ Some (live_entry display_born) = sym r.there ∙ ap (look p.client.core.view) one ∙ s.client.display in
     let entry : r.entry ≡ live_entry display_born = cc e in
     let born : x.born ≡ display_born = sym r.same ∙ ap plain entry in
-    let plain_display : test_of p display_born ≡ false = rw s.valid.fixed_four.display refl in
+    let plain_display : test_of p display_born ≡ false = rw s.terms.valid.fixed_four.display refl in
     let no : true ≡ false = sym d ∙ ap (test_of p) born ∙ plain_display in
     cc no
 
@@ -252,7 +219,7 @@ pub event_mortal : (p : PairState) (w : World) (m : Message Known) (cs : List (C
     → IfThere Mortal m.ends
 event_mortal p w m cs asked s n i =
     let t = i.tells_it in
-    let f = s.told_fit.0.fits in
+    let f = s.events.fit.0.fits in
     both_if (held_mortal p w asked (Event m ∷ cs) s) m.ends
     (subst (λ (o : Option Known). IfThere (Held (client_rows p.client.core.view)) o) (sym f.ends) (ended_has (Held (client_rows p.client.core.view)) f.signature.destroys m.target m.args t.target t.args)) t.ends_it
 
@@ -290,29 +257,24 @@ pub in_delete : (p : PairState) (w : World) (x : Known) (cs : List (Coming Known
     → in_front p.client.core.inbox ≡ Whole n → InDelete p x cs s.meet.middle n
 unfolding delete_signature
 in_delete p w x cs asked s n e =
-    let q = pops p.server.core.outbox p.client.core.inbox (map spelled_coming (Delete x ∷ cs)) n s.to_client e in
-    let first : q.first ≡ spelled (deleting x) = cc q.is in
-    let rest : q.rest ≡ map spelled_coming cs = cc q.is in
+    let q = first_read p.server.core.outbox p.client.core.inbox (spelled (deleting x)) (map spelled_coming cs) n s.events.in_boxes e in
     let t = deletes_at x s.meet.reads in
     let r = held_row p.client.core.view x t.held in
-    let display_there : signature_at p.server.core.tables 0 event_side 1 ≡ Some (fixed.message (codes "delete_id") 1 (fixed.uint ∷ []) Nothing) = rw s.valid.fixed_four.display refl in
-    let f = delete_signature p.server.core.tables display_there x s.told_fit.0 in
-    let bytes : take n p.client.core.inbox.bytes ≡ (spelled (deleting x)).bytes = q.bytes ∙ ap (λ (y : boxes.Message). y.bytes) first in
-    let own : q.first.tokens ≡ [] = ap (λ (y : boxes.Message). y.tokens) first in
+    let display_there : signature_at p.server.core.tables 0 event_side 1 ≡ Some (fixed.message (codes "delete_id") 1 (fixed.uint ∷ []) Nothing) = rw s.terms.valid.fixed_four.display refl in
+    let f = delete_signature p.server.core.tables display_there x s.events.fit.0 in
     let core' : Core = record p.client.core { tables = p.server.core.tables } in
-    let same_core : core' ≡ p.client.core = λ i. record p.client.core { tables = sym s.same_tables i } in
+    let same_core : core' ≡ p.client.core = λ i. record p.client.core { tables = sym s.terms.same_tables i } in
     record {
       entry = r.entry;
       there = r.there;
       same = r.same;
       signature = f.signature;
       some_kinds = refl;
-      finds_it = ap (λ (c : Core). found c event_side) (sym same_core) ∙ finds core' event_side (deleting x) n w.client (live_entry display_born) f e bytes s.client_display refl (tt, tt) (omega arith);
+      finds_it = ap (λ (c : Core). found c event_side) (sym same_core) ∙ finds core' event_side (deleting x) n w.client (live_entry display_born) f e q.bytes s.client.display refl (tt, tt) (omega arith);
       keeps_target = refl;
       count = refl;
       deletes_it = t;
-      down = subst (λ (l : List boxes.Message). InFlight p.server.core.outbox (without_first p.client.core.inbox n 0) l) rest
-          (subst (λ (l : List ℕ). InFlight p.server.core.outbox (without_first p.client.core.inbox n (length l)) q.rest) own q.stay);
+      down = q.stay;
     }
 
 -- the client as a delete leaves it
@@ -350,46 +312,19 @@ delete_answer p x n entry signature y l c =
 pub delete_stands : (p : PairState) (w : World) (x : Known) (cs : List (Coming Known)) (asked : List (Message Known)) (s : StandsBy p w asked (Delete x ∷ cs)) (n : ℕ) (i : InDelete p x cs s.meet.middle n)
     → StandsBy (with_client p (after_delete p.client x n)) (delete_read w x.born (map (recoming born_of) cs)) asked cs
 delete_stands p w x cs asked s n i =
-    let v = p.client.core.view in
     let t = i.deletes_it in
-    let rows = client_closed v x.id in
-    let held : is_held v x.id ≡ true = ap is_some i.there in
-    let b : nat_eq 1 x.id ≡ false = ne_eqb 1 x.id (λ e. t.mortal (sym e)) in
     record {
-      same_tables = s.same_tables;
-      valid = s.valid;
-      deletes_follow = s.deletes_follow;
-      client_sets = subst (λ (y : Rows Row). Shows birth_in y.rows y.births (put w.client x.born.birth None)) (sym rows) (client_deleted (client_rows v) w.client x s.client_sets t.held);
-      server_sets = s.server_sets;
-      births = s.births;
-      client_sound = Sound-closed v x.id s.client_sound held t.mortal;
-      versions = closed_aged v x.id s.versions;
-      server_sound = s.server_sound;
-      client_display = look-closed v x.id 1 ∙ rw b s.client_display;
-      server_display = s.server_display;
-      server_versions = s.server_versions;
-      server_live = s.server_live;
+      terms = s.terms;
+      client = client_delete s.client x t.held t.mortal false refl;
+      server = s.server;
       requests = s.requests;
-      events = refl;
-      to_server = s.to_server;
-      to_client = i.down;
-      asked_fit = s.asked_fit;
-      told_fit = s.told_fit.1;
+      events = record { in_world = refl; in_boxes = i.down; fit = s.events.fit.1 };
+      deletes_follow = s.deletes_follow;
       meet = record {
         middle = s.meet.middle;
-        reads = subst (λ (y : Rows Row). Reads (test_of p) (all_tells cs) y s.meet.middle) (sym rows) t.rest;
+        reads = subst (λ (y : Rows Row). Reads (test_of p) (all_tells cs) y s.meet.middle) (sym (client_closed p.client.core.view x.id)) t.rest;
         tied = s.meet.tied;
       };
-      client_lives = refl;
-      server_lives = s.server_lives;
-      remembered = s.remembered;
-      given = s.given;
-      registries = s.registries;
-      remembers = s.remembers;
       globals = s.globals;
-      up_limit = s.up_limit;
-      down_limit = s.down_limit;
-      one_limit = s.one_limit;
-      few_globals = s.few_globals;
-      open_registries = s.open_registries;
+      registries = s.registries;
     }

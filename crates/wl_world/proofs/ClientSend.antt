@@ -77,26 +77,26 @@ new_fits v new (Some x) s i b h c =
 pub not_display : (p : PairState) (w : World) (asked : List (Message Known)) (told : List (Coming Known)) → StandsBy p w asked told → (id opcode : ℕ) (entry : Entry) (signature : sigs.Message) → look p.client.core.view id ≡ Some entry
     → signature_at p.server.core.tables entry.iface.0 Request opcode ≡ Some signature → destroys_target signature.destroys ≡ true → id ≢ 1
 not_display p w asked told s id opcode entry signature l h d one =
-    let e : Some entry ≡ Some (live_entry display_born) = sym l ∙ ap (look p.client.core.view) one ∙ s.client_display in
+    let e : Some entry ≡ Some (live_entry display_born) = sym l ∙ ap (look p.client.core.view) one ∙ s.client.display in
     let same : entry ≡ live_entry display_born = cc e in
     let f : signature_at p.server.core.tables 0 Request opcode ≡ Some signature = ap (λ (x : Entry). signature_at p.server.core.tables x.iface.0 Request opcode) (sym same) ∙ h in
-    let no : true ≡ false = sym d ∙ display_lasts p.server.core.tables s.valid opcode signature f in
+    let no : true ≡ false = sym d ∙ display_lasts p.server.core.tables s.terms.valid opcode signature f in
     cc no
 
 pub valid_client : (p : PairState) (w : World) (asked : List (Message Known)) (told : List (Coming Known)) → StandsBy p w asked told → Valid p.client.core.tables
-valid_client p w asked told s = subst Valid (sym s.same_tables) s.valid
+valid_client p w asked told s = subst Valid (sym s.terms.same_tables) s.terms.valid
 
 pub made_same : (core : Core) (target : Object) (given : List Given) (signature : sigs.Message) (entry : Entry) → look core.view target.id ≡ Some entry → made_at core target signature given ≡ the_made core entry given signature
 made_same core target given signature entry h = ap (λ o. made core.tables (version_at o) signature.kinds (map (wired (next_id core.view)) given)) h
 
 signed_there : (p : PairState) (w : World) (asked : List (Message Known)) (told : List (Coming Known)) (s : StandsBy p w asked told) (target : Object) (opcode : ℕ) (given : List Given) (signature : sigs.Message)
     → (c : Checked p.client.core.outbox.limit.bytes p.client.core.tables Request p.client.core.view target opcode given signature) → signature_at p.server.core.tables c.entry.iface.0 Request opcode ≡ Some signature
-signed_there p w asked told s target opcode given signature c = subst (λ (t : List Interface). signature_at t c.entry.iface.0 Request opcode ≡ Some signature) s.same_tables c.signed
+signed_there p w asked told s target opcode given signature c = subst (λ (t : List Interface). signature_at t c.entry.iface.0 Request opcode ≡ Some signature) s.terms.same_tables c.signed
 
 -- a registry is not wl_display
 registry_mortal : (p : PairState) (w : World) (asked : List (Message Known)) (told : List (Coming Known)) → StandsBy p w asked told → (x : Known) → LiveAt p.client.core.view x → x.born.iface.0 ≡ 1 → x.id ≢ 1
 registry_mortal p w asked told s x l h one =
-    let e : Some l.entry ≡ Some (live_entry display_born) = sym l.there ∙ ap (look p.client.core.view) one ∙ s.client_display in
+    let e : Some l.entry ≡ Some (live_entry display_born) = sym l.there ∙ ap (look p.client.core.view) one ∙ s.client.display in
     let same : l.entry ≡ live_entry display_born = cc e in
     let no : 1 ≡ 0 = sym h ∙ ap (λ (b : Born). b.iface.0) (sym l.same ∙ ap plain same) in
     cc no
@@ -130,16 +130,16 @@ client_can p w asked told s target opcode given signature new c k o =
     let v = core.view in
     let tables = p.server.core.tables in
     let m = the_call core c.entry target opcode given signature in
-    let f = moved core.tables tables Request m s.same_tables k.fits_it in
+    let f = moved core.tables tables Request m s.terms.same_tables k.fits_it in
     let there = signed_there p w asked told s target opcode given signature c in
     let can = if_map (can_open v ≡ true) made_of (made_in m.args) (subst (IfThere (λ (x : NewObject). can_open v ≡ true)) (made_same core target given signature c.entry c.there ∙ k.made_is) o.can) in
-    let n = new_fits v (the_new core c.entry given signature) (made_in m.args) s.client_sound (new_id v (the_made core c.entry given signature)) (new_birth v (the_made core c.entry given signature)) k.new can in
+    let n = new_fits v (the_new core c.entry given signature) (made_in m.args) s.client.sound (new_id v (the_made core c.entry given signature)) (new_birth v (the_made core c.entry given signature)) k.new can in
     record {
       fitly = record { fits = f; binds = λ h. absurd (cc (h, c.hidden)) };
       target = open_live v m.target (record { entry = c.entry; there = c.there; same = refl; live = c.live });
-      target_plain = target_plain tables s.valid (plain c.entry) opcode signature there;
+      target_plain = target_plain tables s.terms.valid (plain c.entry) opcode signature there;
       args = each_by (LiveAt v) (OpenRow (client_rows v)) (open_live v) (objects m.args) k.live;
-      args_plain = objects_plain tables v (the_new core c.entry given signature) signature.kinds given k.right (s.valid.no_any_in_requests c.entry.iface.0 opcode signature there) (s.valid.race_free.no_arguments c.entry.iface.0 opcode signature there);
+      args_plain = objects_plain tables v (the_new core c.entry given signature) signature.kinds given k.right (s.terms.valid.no_any_in_requests c.entry.iface.0 opcode signature there) (s.terms.valid.race_free.no_arguments c.entry.iface.0 opcode signature there);
       new = n.0;
       new_next = n.1;
       new_can = can;
@@ -185,9 +185,9 @@ pub asks_world : (p : PairState) (w : World) (asked : List (Message Known)) (tol
 asks_world p w asked told s m c =
     let v = p.client.core.view in
     let births = fresh_births v (made_in m.args) c.new in
-    writes_request (renamed born_of m) (s.client_sets.shown m.target.id (Open m.target.born) c.target)
-    (rw (objects_map born_of m.args) (each_map born_of (IsOpen w.client) (objects m.args) (each_by (OpenRow (client_rows v)) (λ (x : Known). IsOpen w.client x.born) (λ x h. s.client_sets.shown x.id (Open x.born) h) (objects m.args) c.args)))
-    (rw (made_map born_of m.args, s.births) (if_born v.births (made_in m.args) births))
+    writes_request (renamed born_of m) (s.client.sets.shown m.target.id (Open m.target.born) c.target)
+    (rw (objects_map born_of m.args) (each_map born_of (IsOpen w.client) (objects m.args) (each_by (OpenRow (client_rows v)) (λ (x : Known). IsOpen w.client x.born) (λ x h. s.client.sets.shown x.id (Open x.born) h) (objects m.args) c.args)))
+    (rw (made_map born_of m.args, s.client.births) (if_born v.births (made_in m.args) births))
 
 pub sends_that : (p : PairState) (w : World) (asked : List (Message Known)) (told : List (Coming Known)) (s : StandsBy p w asked told) (target : Object) (opcode : ℕ) (given : List Given) (signature : sigs.Message) (new : Option Object)
     → (c : Checked p.client.core.outbox.limit.bytes p.client.core.tables Request p.client.core.view target opcode given signature) (k : CallIs p.client.core Request target opcode given signature c.entry)
@@ -203,7 +203,7 @@ sends_that p w asked told s target opcode given signature new c k o can =
       is = record { signature = signature; there = c.signed; ends = born_ends m signature.destroys refl };
       target_is = c.birth;
       opcode_is = refl;
-      args_are = handed_all v (the_new core c.entry given signature) w.births signature.kinds given (new_birth v (the_made core c.entry given signature) ∙ sym s.births) k.right;
+      args_are = handed_all v (the_new core c.entry given signature) w.births signature.kinds given (new_birth v (the_made core c.entry given signature) ∙ sym s.client.births) k.right;
       new_is = ap (option_map birth_of) (made_map born_of m.args) ∙ new_births (made_in m.args) v.births (next_id v) births
           ∙ ap (option_map birth_at) (ap (option_map (λ (y : NewObject). record { id = next_id v; birth = v.births })) (sym (made_same core target given signature c.entry c.there ∙ k.made_is)) ∙ sym o.is);
       steps = asks_world p w asked told s m can;
@@ -216,9 +216,9 @@ pub client_send_keeps : (p : PairState) (w : World) (asked : List (Message Known
     → Moves p w asked told (ClientSend target opcode given) (ClientSend reply) p'
 client_send_keeps p w asked told s z target opcode given g reply p' (accepted {new = new} h) =
     let core = p.client.core in
-    let a = accepted_call core Request target opcode given new s.client_lives h in
+    let a = accepted_call core Request target opcode given new s.client.lives h in
     let c = is_checked core.outbox.limit.bytes core.tables Request core.view target opcode given a.signature a.checks in
-    let k = call_is core Request target opcode given a.signature (valid_client p w asked told s) s.client_sound g c in
+    let k = call_is core Request target opcode given a.signature (valid_client p w asked told s) s.client.sound g c in
     let o = opens core (made_at core target a.signature given) new a.opens_it in
     let can = client_can p w asked told s target opcode given a.signature new c k o in
     let m = the_call core c.entry target opcode given a.signature in

@@ -69,39 +69,30 @@ pub given_stands : (p : PairState) (w : World) (asked : List (Message Known)) (t
     → Each (IsGlobal p.server.core.tables) more → length more ≤ max_globals
     → StandsBy (with_server p (record p.server { globals = more })) (record w { given = more }) asked told
 given_stands p w asked told s more g e l = record {
-  same_tables = s.same_tables;
-  valid = s.valid;
+  terms = s.terms;
+  client = s.client;
+  server = s.server;
+  requests = record {
+    in_world = s.requests.in_world;
+    in_boxes = s.requests.in_boxes;
+    fit = each_by (AsksFitly p.server.core.tables p.server.globals) (AsksFitly p.server.core.tables more) (asks_still p.server.globals more g p.server.core.tables) asked s.requests.fit;
+  };
+  events = record {
+    in_world = s.events.in_world;
+    in_boxes = s.events.in_boxes;
+    fit = each_by (ComesFitly p.server.core.tables p.server.globals) (ComesFitly p.server.core.tables more) (comes_still p.server.globals more g p.server.core.tables) told s.events.fit;
+  };
   deletes_follow = s.deletes_follow;
-  client_sets = s.client_sets;
-  server_sets = s.server_sets;
-  births = s.births;
-  client_sound = s.client_sound;
-  versions = s.versions;
-  server_sound = s.server_sound;
-  client_display = s.client_display;
-  server_display = s.server_display;
-  server_versions = s.server_versions;
-  server_live = s.server_live;
-  requests = s.requests;
-  events = s.events;
-  to_server = s.to_server;
-  to_client = s.to_client;
-  asked_fit = each_by (AsksFitly p.server.core.tables p.server.globals) (AsksFitly p.server.core.tables more) (asks_still p.server.globals more g p.server.core.tables) asked s.asked_fit;
-  told_fit = each_by (ComesFitly p.server.core.tables p.server.globals) (ComesFitly p.server.core.tables more) (comes_still p.server.globals more g p.server.core.tables) told s.told_fit;
   meet = s.meet;
-  client_lives = s.client_lives;
-  server_lives = s.server_lives;
-  remembered = s.remembered;
-  given = refl;
+  globals = record {
+    remembered = s.globals.remembered;
+    given = refl;
+    remembers = each_by (λ (x : Remembered). WasGiven p.server.globals x.name x.iface x.version) (λ (x : Remembered). WasGiven more x.name x.iface x.version)
+        (λ x h. was_given p.server.globals more g x.name x.iface x.version h) p.client.globals s.globals.remembers;
+    globals = e;
+    few_globals = l;
+  };
   registries = s.registries;
-  remembers = each_by (λ (x : Remembered). WasGiven p.server.globals x.name x.iface x.version) (λ (x : Remembered). WasGiven more x.name x.iface x.version)
-      (λ x h. was_given p.server.globals more g x.name x.iface x.version h) p.client.globals s.remembers;
-  globals = e;
-  up_limit = s.up_limit;
-  down_limit = s.down_limit;
-  one_limit = s.one_limit;
-  few_globals = l;
-  open_registries = s.open_registries;
 }
 
 -- ---- one more
@@ -130,14 +121,14 @@ pub add_global_keeps : (p : PairState) (w : World) (asked : List (Message Known)
     → (reply : Result ℕ GlobalError) (p' : PairState) → Adds (add_refusal p.server iface version) (next_name p.server) p (with_server p (with_global p.server iface version)) reply p'
     → Moves p w asked told (AddGlobal iface version) (AddGlobal reply) p'
 add_global_keeps p w asked told s z iface version v reply p' (added h) =
-    let c = can_add p.server iface version p.server.core.failed _ _ s.server_lives refl refl h in
+    let c = can_add p.server iface version p.server.core.failed _ _ s.server.lives refl refl h in
     let g : Global = record { iface = iface; version = version; present = true } in
     let t = given_stands p w asked told s (p.server.globals ++ g ∷ []) (grows_more p.server.globals (g ∷ []))
-    (each_more (IsGlobal p.server.core.tables) p.server.globals (g ∷ []) s.globals (record { can_be = c.can; word = v }, tt))
+    (each_more (IsGlobal p.server.core.tables) p.server.globals (g ∷ []) s.globals.globals (record { can_be = c.can; word = v }, tt))
     (omega (arith, c.few, length-append p.server.globals (g ∷ []))) in
     record {
       world = record w { given = p.server.globals ++ g ∷ [] };
-      answers = before z (added h) (ap (λ (l : List Global). length l + 1) (sym s.given), ap (λ (l : List Global). record w { given = l ++ g ∷ [] }) (sym s.given));
+      answers = before z (added h) (ap (λ (l : List Global). length l + 1) (sym s.globals.given), ap (λ (l : List Global). record w { given = l ++ g ∷ [] }) (sym s.globals.given));
       outcome = goes_on asked told z t (giving (p.server.globals ++ g ∷ []));
     }
 add_global_keeps p w asked told s z iface version v reply p' (refused h) = record { world = w; answers = before z (refused h) refl; outcome = goes_on asked told z s stays }
@@ -181,17 +172,17 @@ each_without P f xs (suc i) x h e =
 
 withdraw_stands : (p : PairState) (w : World) (asked : List (Message Known)) (told : List (Coming Known)) (s : StandsBy p w asked told) (name : ℕ) (o : Option Global) → global_of p.server.globals name ≡ o
     → StandsBy (with_server p (record p.server { globals = without_at p.server.globals name o })) (record w { given = without_at p.server.globals name o }) asked told
-withdraw_stands p w asked told s name None e = given_stands p w asked told s p.server.globals (λ n g h. record { global = g; there = h; same = record { iface = refl; version = refl } }) s.globals s.few_globals
+withdraw_stands p w asked told s name None e = given_stands p w asked told s p.server.globals (λ n g h. record { global = g; there = h; same = record { iface = refl; version = refl } }) s.globals.globals s.globals.few_globals
 withdraw_stands p w asked told s name (Some x) e =
     given_stands p w asked told s (slice_set p.server.globals (name - 1) (withdrawn x)) (grows_without p.server.globals name x e)
-    (each_without (IsGlobal p.server.core.tables) (λ g h. record { can_be = h.can_be; word = h.word }) p.server.globals name x e s.globals)
-    (let l = length_set p.server.globals (name - 1) (withdrawn x) in omega (arith, l, s.few_globals))
+    (each_without (IsGlobal p.server.core.tables) (λ g h. record { can_be = h.can_be; word = h.word }) p.server.globals name x e s.globals.globals)
+    (let l = length_set p.server.globals (name - 1) (withdrawn x) in omega (arith, l, s.globals.few_globals))
 
 pub withdraw_keeps : (p : PairState) (w : World) (asked : List (Message Known)) (told : List (Coming Known)) → StandsBy p w asked told → NotEnded p w → (name : ℕ) (reply : Result (Unit {0}) GlobalError) (p' : PairState)
     → Calls (withdraw_refusal p.server name) p (with_server p (after_withdraw p.server name)) reply p' → Moves p w asked told (Withdraw name) (Withdraw reply) p'
 withdraw_keeps p w asked told s z name reply p' (done h) = record {
   world = record w { given = without_at p.server.globals name (global_of p.server.globals name) };
-  answers = before z (done h) (ap (λ (l : List Global). record w { given = without_at l name (global_of l name) }) (sym s.given));
+  answers = before z (done h) (ap (λ (l : List Global). record w { given = without_at l name (global_of l name) }) (sym s.globals.given));
   outcome = goes_on asked told z (withdraw_stands p w asked told s name (global_of p.server.globals name) refl) (giving (without_at p.server.globals name (global_of p.server.globals name)));
 }
 withdraw_keeps p w asked told s z name reply p' (refused h) = record { world = w; answers = before z (refused h) refl; outcome = goes_on asked told z s stays }

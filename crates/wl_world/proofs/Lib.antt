@@ -5,6 +5,7 @@ pub mod Channels
 pub mod Bridges
 pub mod Readings
 pub mod Afters
+pub mod Stands
 pub mod Registries
 pub mod Findings
 pub mod ServerReads

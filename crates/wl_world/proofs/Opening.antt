@@ -63,38 +63,29 @@ nothing_flies from to a b c d = record { begun = []; all = sym b; bytes = rw (c,
 
 pub new_stands_by : (tables : List Interface) (client_sizes server_sizes : Sizes) → client_sizes.limit.bytes ≡ server_sizes.limit.bytes → Valid tables → StandsBy (new_pair tables client_sizes server_sizes) opening [] []
 new_stands_by tables client_sizes server_sizes one v = record {
-  same_tables = refl;
-  valid = v;
+  terms = record { same_tables = refl; valid = v; up_limit = one; down_limit = sym one; one_limit = one };
+  client = record {
+    sets = shows_opening birth_in row refl;
+    births = refl;
+    sound = Sound-opening display;
+    display = look-opening display 1;
+    versions = λ id e h. opening_aged (nat_eq id 1) e (sym (look-opening display id) ∙ h);
+    lives = refl;
+  };
+  server = record {
+    sets = shows_opening birth_of plain refl;
+    sound = Sound-opening display;
+    display = look-opening display 1;
+    versions = λ id e h. opening_aged (nat_eq id 1) e (sym (look-opening display id) ∙ h);
+    live = λ id e h. opening_live (nat_eq id 1) e (sym (look-opening display id) ∙ h);
+    lives = refl;
+  };
+  requests = record { in_world = refl; in_boxes = nothing_flies _ _ refl refl refl refl; fit = tt };
+  events = record { in_world = refl; in_boxes = nothing_flies _ _ refl refl refl refl; fit = tt };
   deletes_follow = tt;
-  client_sets = shows_opening birth_in row refl;
-  server_sets = shows_opening birth_of plain refl;
-  births = refl;
-  client_sound = Sound-opening display;
-  server_sound = Sound-opening display;
-  client_display = look-opening display 1;
-  server_display = look-opening display 1;
-  versions = λ id e h. opening_aged (nat_eq id 1) e (sym (look-opening display id) ∙ h);
-  server_versions = λ id e h. opening_aged (nat_eq id 1) e (sym (look-opening display id) ∙ h);
-  server_live = λ id e h. opening_live (nat_eq id 1) e (sym (look-opening display id) ∙ h);
-  requests = refl;
-  events = refl;
-  to_server = nothing_flies _ _ refl refl refl refl;
-  to_client = nothing_flies _ _ refl refl refl refl;
-  asked_fit = tt;
-  told_fit = tt;
   meet = record { middle = client_rows (opening_view display); reads = done; tied = nothing_left (λ id. both (look (opening_view display) id) (λ e h. opening_live (nat_eq id 1) e (sym (look-opening display id) ∙ h))) refl refl };
-  client_lives = refl;
-  server_lives = refl;
-  remembered = refl;
-  given = refl;
-  registries = refl;
-  remembers = tt;
-  globals = tt;
-  up_limit = one;
-  down_limit = sym one;
-  one_limit = one;
-  few_globals = lit≤ tt;
-  open_registries = has_none;
+  globals = record { remembered = refl; given = refl; remembers = tt; globals = tt; few_globals = lit≤ tt };
+  registries = record { told = refl; open_registries = has_none };
 }
   where
     live_row : (e : Entry) (s : State) → s ≡ states.Live → as_row s (plain e) ≡ Open (plain e)
@@ -146,12 +137,12 @@ agree_by : (p : PairState) (w : World) (asked : List (Message Known)) (told : Li
 agree_by p w asked told s d =
     let c = empty_boxes p.client.core d.0 in
     let v = empty_boxes p.server.core d.1 in
-    let a = none_of spelled asked (none_in_flight p.client.core.outbox p.server.core.inbox (map spelled asked) s.to_server v.inbox c.outbox) in
-    let t = none_of spelled_coming told (none_in_flight p.server.core.outbox p.client.core.inbox (map spelled_coming told) s.to_client c.inbox v.outbox) in
+    let a = none_of spelled asked (none_in_flight p.client.core.outbox p.server.core.inbox (map spelled asked) s.requests.in_boxes v.inbox c.outbox) in
+    let t = none_of spelled_coming told (none_in_flight p.server.core.outbox p.client.core.inbox (map spelled_coming told) s.events.in_boxes c.inbox v.outbox) in
     let rows = same_rows (subst (λ (l : List (Coming Known)). Reads (by_event p.server.core.tables) (all_tells l) (client_rows p.client.core.view) s.meet.middle) t s.meet.reads)
     (subst (λ (l : List (Message Known)). Tied (by_event p.server.core.tables) (all_asks l) (server_rows p.server.core.view) s.meet.middle) a s.meet.tied) in
-    let same : (id : ℕ) → look p.client.core.view id ≡ look p.server.core.view id = λ id. rows_same (look p.client.core.view id) (look p.server.core.view id) (s.server_live id) (rows id) in
-    record { same = same; live = λ id e h. s.server_live id e (sym (same id) ∙ h) }
+    let same : (id : ℕ) → look p.client.core.view id ≡ look p.server.core.view id = λ id. rows_same (look p.client.core.view id) (look p.server.core.view id) (s.server.live id) (rows id) in
+    record { same = same; live = λ id e h. s.server.live id e (sym (same id) ∙ h) }
 
 pub agree_drained : (p : PairState) (w : World) → Stands p w → w.ended ≡ false → drained p → Agree p.client.core.view p.server.core.view
 agree_drained p w (ended e) z d = absurd (cc (e, z))

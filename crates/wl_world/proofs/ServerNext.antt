@@ -34,7 +34,7 @@ idle : (p : PairState) (w : World) (asked : List (Message Known)) (told : List (
     → (request p.server ≡ Ok None) × (next_answer p.server ≡ Ok None) × (after_next p.server ≡ p.server)
 idle p w asked told s e =
     let r : request p.server ≡ Ok None = ap (λ (f : Front). judged p.server (found_at p.server.core request_side f)) e in
-    (r, rw (s.server_lives, r) refl, rw (s.server_lives, r) refl)
+    (r, rw (s.server.lives, r) refl, rw (s.server.lives, r) refl)
 
 -- ---- a request in front
 
@@ -54,9 +54,9 @@ is_some_request w m r t h e = by_args r.args refl
     by_args (a ∷ args) k = cc (t.args, e, k)
 
 reports : (p : PairState) (w : World) (m : Message Known) (ms : List (Message Known)) (told : List (Coming Known)) (s : StandsBy p w (m ∷ ms) told) (n : ℕ) (i : InRequest p w m ms told s n)
-    → ReportsRequest w (renamed born_of m) (report p.server.core (the_found n m i.entry s.asked_fit.0.fits.signature))
+    → ReportsRequest w (renamed born_of m) (report p.server.core (the_found n m i.entry s.requests.fit.0.fits.signature))
 reports p w m ms told s n i = record {
-  is_open = s.server_sets.shown m.target.id m.target.born i.asks_it.target;
+  is_open = s.server.sets.shown m.target.id m.target.born i.asks_it.target;
   target = ap birth_of i.same_target;
   opcode = refl;
   args = rw i.tokens_are (reports_right p.server.core.view (rows_of_server w) m.args i.more i.met);
@@ -73,7 +73,7 @@ keeps_out_full : (p : PairState) (w : World) (m : Message Known) (ms : List (Mes
     → Nexts needs_memory (Err errors.OutFull) p p reply p' → Moves p w (m ∷ ms) told ServerNext (ServerNext reply) p'
 keeps_out_full p w m ms told s n z e i reply p' d full answered = record {
   world = w;
-  answers = before z d (record { waits = subst HasMessage (sym e) tt; message = renamed born_of m; rest = map (renamed born_of) ms; first = s.requests; because = full; same = refl });
+  answers = before z d (record { waits = subst HasMessage (sym e) tt; message = renamed born_of m; rest = map (renamed born_of) ms; first = s.requests.in_world; because = full; same = refl });
   outcome = goes_on (m ∷ ms) told z s stays;
 }
 keeps_out_full p w m ms told s n z e i reply p' d full (no_memory q h) = absurd (cc q)
@@ -82,55 +82,55 @@ request_there : (p : PairState) (w : World) (m : Message Known) (ms : List (Mess
     → IfThere (ThereRow (server_rows p.server.core.view)) m.ends
 request_there p w m ms told s n i =
     let there = ThereRow (server_rows p.server.core.view) in
-    let f = s.asked_fit.0.fits in
+    let f = s.requests.fit.0.fits in
     subst (IfThere there) (sym f.ends) (ended_has there f.signature.destroys m.target m.args i.asks_it.target i.asks_it.args)
 
 keeps_read : (p : PairState) (w : World) (m : Message Known) (ms : List (Message Known)) (told : List (Coming Known)) (s : StandsBy p w (m ∷ ms) told) (n : ℕ) → NotEnded p w
     → in_front p.server.core.inbox ≡ Whole n → (i : InRequest p w m ms told s n) → (reply : Result (Option Report) NextError) (p' : PairState)
     → (Nexts needs_memory (next_answer p.server) p (with_server p (after_next p.server)) reply p')
     → (IsOutFull p (renamed born_of m) → ⊥)
-    → Nexts needs_memory (Ok (Some (report p.server.core (the_found n m i.entry s.asked_fit.0.fits.signature)))) p
+    → Nexts needs_memory (Ok (Some (report p.server.core (the_found n m i.entry s.requests.fit.0.fits.signature)))) p
     (with_server p (left_state p.server m n)) reply p'
     → Moves p w (m ∷ ms) told ServerNext (ServerNext reply) p'
 keeps_read p w m ms told s n z e i reply p' d room answered = record {
   world = request_read w (renamed born_of m) (map (renamed born_of) ms);
-  answers = before z d (record { waits = subst HasMessage (sym e) tt; message = renamed born_of m; steps = reads_request (renamed born_of m) (map (renamed born_of) ms) s.requests; reports = reports p w m ms told s n i; has_room = room });
+  answers = before z d (record { waits = subst HasMessage (sym e) tt; message = renamed born_of m; steps = reads_request (renamed born_of m) (map (renamed born_of) ms) s.requests.in_world; reports = reports p w m ms told s n i; has_room = room });
   outcome = goes_on ms (told ++ delete m.ends) z (server_read_stands p w m ms told s n i.asks_it i.up)
-      (reading_request m ms n refl e (if_by (λ x h. s.server_sets.below x.id x.born h) m.ends (request_there p w m ms told s n i)));
+      (reading_request m ms n refl e (if_by (λ x h. s.server.sets.below x.id x.born h) m.ends (request_there p w m ms told s n i)));
 }
 keeps_read p w m ms told s n z e i reply p' d room (no_memory {report = r} q h) =
-    let same : report p.server.core (the_found n m i.entry s.asked_fit.0.fits.signature) ≡ r = cc q in
+    let same : report p.server.core (the_found n m i.entry s.requests.fit.0.fits.signature) ≡ r = cc q in
     let needs = is_some_request w (renamed born_of m) _ (reports p w m ms told s n i) (ap needs_memory same ∙ h) in
     record {
       world = w;
-      answers = before z d (record { waits = subst HasMessage (sym e) tt; message = renamed born_of m; rest = map (renamed born_of) ms; first = s.requests; because = (needs, room); same = refl });
+      answers = before z d (record { waits = subst HasMessage (sym e) tt; message = renamed born_of m; rest = map (renamed born_of) ms; first = s.requests.in_world; because = (needs, room); same = refl });
       outcome = goes_on (m ∷ ms) told z s stays;
     }
 
 at_request : (p : PairState) (w : World) (m : Message Known) (ms : List (Message Known)) (told : List (Coming Known)) (s : StandsBy p w (m ∷ ms) told) (n : ℕ) → NotEnded p w
     → in_front p.server.core.inbox ≡ Whole n → (i : InRequest p w m ms told s n) → (reply : Result (Option Report) NextError) (p' : PairState)
     → (Nexts needs_memory (next_answer p.server) p (with_server p (after_next p.server)) reply p')
-    → (b : Bool) → is_out_full p.server.core (the_found n m i.entry s.asked_fit.0.fits.signature) ≡ b → Moves p w (m ∷ ms) told ServerNext (ServerNext reply) p'
+    → (b : Bool) → is_out_full p.server.core (the_found n m i.entry s.requests.fit.0.fits.signature) ≡ b → Moves p w (m ∷ ms) told ServerNext (ServerNext reply) p'
 at_request p w m ms told s n z e i reply p' d true h =
-    let a = answer_is p m (the_found n m i.entry s.asked_fit.0.fits.signature) true s.server_lives i.finds_it h in
+    let a = answer_is p m (the_found n m i.entry s.requests.fit.0.fits.signature) true s.server.lives i.finds_it h in
     let k = and_parts _ _ h in
-    let flag = some_map born_of m.ends ∙ sym (ends_as p.server.core.tables request_side m s.asked_fit.0.fits s.valid).flag in
+    let flag = some_map born_of m.ends ∙ sym (ends_as p.server.core.tables request_side m s.requests.fit.0.fits s.terms.valid).flag in
     keeps_out_full p w m ms told s n z e i reply p' d (flag ∙ k.0, ltb-true _ _ k.1)
     (subst (λ st. Nexts needs_memory (Err errors.OutFull) p (with_server p st) reply p') a.leaves
     (subst (λ x. Nexts needs_memory x p (with_server p (after_next p.server)) reply p') a.answer d))
 at_request p w m ms told s n z e i reply p' d false h =
-    let f = the_found n m i.entry s.asked_fit.0.fits.signature in
-    let a = answer_is p m f false s.server_lives i.finds_it h in
-    let flag = some_map born_of m.ends ∙ sym (ends_as p.server.core.tables request_side m s.asked_fit.0.fits s.valid).flag in
+    let f = the_found n m i.entry s.requests.fit.0.fits.signature in
+    let a = answer_is p m f false s.server.lives i.finds_it h in
+    let flag = some_map born_of m.ends ∙ sym (ends_as p.server.core.tables request_side m s.requests.fit.0.fits s.terms.valid).flag in
     keeps_read p w m ms told s n z e i reply p' d
     (λ full. (let no = ltb-false _ _ (and_not _ _ h (sym flag ∙ full.0)) in absurd (omega (arith, no, full.1))))
-    (subst (λ st. Nexts needs_memory (Ok (Some (report p.server.core f))) p (with_server p st) reply p') (a.leaves ∙ left_is p.server m n i.entry s.asked_fit.0.fits s.valid i.same_target i.asks_it.target i.asks_it.args)
+    (subst (λ st. Nexts needs_memory (Ok (Some (report p.server.core f))) p (with_server p st) reply p') (a.leaves ∙ left_is p.server m n i.entry s.requests.fit.0.fits s.terms.valid i.same_target i.asks_it.target i.asks_it.args)
     (subst (λ x. Nexts needs_memory x p (with_server p (after_next p.server)) reply p') a.answer d))
 
 at_whole : (p : PairState) (w : World) (asked : List (Message Known)) (told : List (Coming Known)) (s : StandsBy p w asked told) (n : ℕ) → NotEnded p w
     → in_front p.server.core.inbox ≡ Whole n → (reply : Result (Option Report) NextError) (p' : PairState)
     → (Nexts needs_memory (next_answer p.server) p (with_server p (after_next p.server)) reply p') → Moves p w asked told ServerNext (ServerNext reply) p'
-at_whole p w [] told s n z e reply p' d = absurd (let q = pops p.client.core.outbox p.server.core.inbox [] n s.to_server e in cc q.is)
+at_whole p w [] told s n z e reply p' d = absurd (let q = pops p.client.core.outbox p.server.core.inbox [] n s.requests.in_boxes e in cc q.is)
 at_whole p w (m ∷ ms) told s n z e reply p' d =
     let i = in_request p w m ms told s n e in
     at_request p w m ms told s n z e i reply p' d _ refl
@@ -149,7 +149,7 @@ at_front p w asked told s z reply p' d More e =
     keeps_idle p w asked told s z e reply p' d
     (subst (λ st. Nexts needs_memory (Ok None) p (with_server p st) reply p') i.2
     (subst (λ x. Nexts needs_memory x p (with_server p (after_next p.server)) reply p') i.1 d))
-at_front p w asked told s z reply p' d (Bad n) e = absurd (never_bad p.client.core.outbox p.server.core.inbox _ n s.to_server e)
+at_front p w asked told s z reply p' d (Bad n) e = absurd (never_bad p.client.core.outbox p.server.core.inbox _ n s.requests.in_boxes e)
 at_front p w asked told s z reply p' d (Whole n) e = at_whole p w asked told s n z e reply p' d
 
 pub server_next_keeps : (p : PairState) (w : World) (asked : List (Message Known)) (told : List (Coming Known)) → StandsBy p w asked told → NotEnded p w

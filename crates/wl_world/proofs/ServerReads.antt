@@ -36,9 +36,8 @@ use Rattle.wl_world.specs.Flight.{Rows, Fresh, Tied, all_asks, server_rows, as_r
 use Rattle.wl_world.specs.Stands.{DeletesFollow, BeginsWithDelete, StandsBy, Fits, ComesFitly, InFlight, by_event, Shows}
 use Rattle.wl_world.proofs.Flight.{reads_more}
 use Rattle.wl_world.proofs.Wholes.{ThereRow, server_makes, asks_at, AsksAt, all_tells_more, each_more}
-use Rattle.wl_world.proofs.Sets.{server_made, server_ended, there_kept}
-use Rattle.wl_world.proofs.Channels.{pops, pushed}
-use Rattle.wl_world.proofs.Afters.{there_row, server_after, server_sound, server_live, server_aged, made_map}
+use Rattle.wl_world.proofs.Afters.{there_row, server_after, made_map}
+use Rattle.wl_world.proofs.Stands.{server_message, first_read, travel_more}
 use Rattle.wl_world.proofs.Registries.{marks_with, marks_left, left_are, registries_left, fresh_row, has_read}
 use Rattle.wl_world.proofs.Readings.{HeldAt, AllMet, made_of, made_read, tokens_taken}
 use Rattle.wl_table.specs.declared.object.Object.{Object}
@@ -61,8 +60,8 @@ held_at_server : (p : PairState) (w : World) (asked : List (Message Known)) (tol
     → HeldAt p.server.core.view (rows_of_server w) x
 held_at_server p w asked told s x some h =
     let r = there_row p.server.core.view x h in
-    let shown = s.server_sets.shown x.id x.born h in
-    let live = s.server_live x.id r.entry r.there in
+    let shown = s.server.sets.shown x.id x.born h in
+    let live = s.server.live x.id r.entry r.there in
     record {
       some = some;
       entry = r.entry;
@@ -78,13 +77,13 @@ pub request_front : (p : PairState) (w : World) (m : Message Known) (ms : List (
     → AsksAt (test_of p) (all_asks ms) (server_rows p.server.core.view) s.meet.middle m.target (objects m.args) (made_in m.args) m.ends → InFront p w m n
 request_front p w m ms told s n a =
     let r = there_row p.server.core.view m.target a.target in
-    let f = s.asked_fit.0.fits in
+    let f = s.requests.fit.0.fits in
     record {
       entry = r.entry;
       there = r.there;
       same_target = r.same;
       met = all_met p.server.core.tables m.target.born.version p.server.core.view (rows_of_server w) (ThereRow (server_rows p.server.core.view)) (held_at_server p w (m ∷ ms) told s)
-          f.signature.kinds m.args f.args a.args (news_free p.server.core.view m.args m.args s.server_sound a.new f.new_is);
+          f.signature.kinds m.args f.args a.args (news_free p.server.core.view m.args m.args s.server.sound a.new f.new_is);
     }
 
 no_bad_bind : (b g : Bool) → (b ≡ true → g ≡ true) → (b && not g) ≡ false
@@ -200,19 +199,6 @@ begins_delete (Some x) = refl
 
 -- ---- the pair stands again
 
-display_opens : (v : View) (n : Option Known) (e : Entry) → IfThere (Fresh (server_rows v)) n → look v 1 ≡ Some e → look (opens v (option_map made_of n)) 1 ≡ Some e
-display_opens v None e f h = h
-display_opens v (Some x) e f h = look-opened_at v x.id x.born.iface x.born.version 1 ∙ rw (other x.id f.free) h
-  where
-    other : (i : ℕ) → (server_rows v).rows i ≡ None → nat_eq 1 i ≡ false
-    other i g = ne_eqb 1 i (λ k. (let q : ◌≡◌ {A = Option Born} (Some (plain e)) None = ap (option_map plain) (sym h ∙ ap (look v) k) ∙ g in cc q))
-
-pub display_after : (v : View) (n o : Option Known) (e : Entry) → IfThere (Fresh (server_rows v)) n → look v 1 ≡ Some e → IfThere Mortal o
-    → look (ended_view server_end (opens v (option_map made_of n)) o) 1 ≡ Some e
-display_after v n None e f h y = display_opens v n e f h
-display_after v n (Some x) e f h y =
-    let b : nat_eq 1 x.id ≡ false = ne_eqb 1 x.id (λ k. y (sym k)) in look-closed (opens v (option_map made_of n)) x.id 1 ∙ rw b (display_opens v n e f h)
-
 -- an id that has a row is no more than the greatest
 pub low_there : (v : View) → Sound v → (x : Known) → ThereRow (server_rows v) x → x.id ≤ 1048576
 low_there v s x h = let r = there_row v x h in (row_low v x.id r.entry s r.there).1
@@ -222,57 +208,34 @@ pub server_read_stands : (p : PairState) (w : World) (m : Message Known) (ms : L
     → InFlight p.client.core.outbox (without_first p.server.core.inbox n (length (tokens m.args))) (map spelled ms)
     → StandsBy (with_server p (left_state p.server m n)) (request_read w (renamed born_of m) (map (renamed born_of) ms)) ms (told ++ delete m.ends)
 server_read_stands p w m ms told s n a up =
-    let f = s.asked_fit.0.fits in
+    let f = s.requests.fit.0.fits in
     let d : ended_by f.signature.destroys m.target m.args ≡ m.ends = sym f.ends in
     let v = p.server.core.view in
     let new = made_in m.args in
     let rows = server_after v new m.ends a.new in
     let world_new : made_in (map (rearg born_of) m.args) ≡ option_map born_of new = made_map born_of m.args in
     let there : IfThere (ThereRow (server_rows v)) m.ends = subst (λ (o : Option Known). IfThere (ThereRow (server_rows v)) o) d (ended_has (ThereRow (server_rows v)) f.signature.destroys m.target m.args a.target a.args) in
-    let kept : IfThere (ThereRow (server_makes (server_rows v) new)) m.ends = if_by (λ x h. there_kept (server_rows v) new x a.new h) m.ends there in
-    let sets = server_ended _ _ m.ends (server_made (server_rows v) w.server new s.server_sets a.new) kept in
-    let low : IfThere (λ x. x.id ≤ 1048576) m.ends = if_by (low_there v s.server_sound) m.ends there in
+    let low : IfThere (λ x. x.id ≤ 1048576) m.ends = if_by (low_there v s.server.sound) m.ends there in
     record {
-      same_tables = s.same_tables;
-      valid = s.valid;
+      terms = s.terms;
+      client = s.client;
+      server = rw world_new (server_message s.server new m.ends a.new f.new_version there a.mortal);
+      requests = record { in_world = refl; in_boxes = up; fit = s.requests.fit.1 };
+      events = travel_more p.server.core.outbox (left_core p.server.core m n).outbox p.client.core.inbox w.events _ told (delete m.ends) s.events (ap (λ (l : List (Coming Born)). w.events ++ l) (sym (map_delete m.ends)))
+          refl refl (delete_whole p.client.core.inbox.limit m.ends) (delete_fits p m.ends low);
       deletes_follow = follow_more told (delete m.ends) s.deletes_follow (follow_delete m.ends);
-      client_sets = s.client_sets;
-      server_sets = rw world_new (subst (λ (r : Rows Born). Shows birth_of r.rows r.births (gone (option_map born_of m.ends) (born_into same (option_map born_of new) w.server))) (sym rows) sets);
-      births = s.births;
-      client_sound = s.client_sound;
-      versions = s.versions;
-      server_sound = server_sound v new m.ends s.server_sound a.new there a.mortal;
-      client_display = s.client_display;
-      server_display = display_after v new m.ends (live_entry display_born) a.new s.server_display a.mortal;
-      server_versions = server_aged v new m.ends f.new_version s.server_versions;
-      server_live = server_live v new m.ends s.server_live;
-      requests = refl;
-      events = ap (λ (l : List (Coming Born)). l ++ delete (option_map born_of m.ends)) s.events ∙ ap (λ (l : List (Coming Born)). map (recoming born_of) told ++ l) (sym (map_delete m.ends))
-          ∙ sym (map-append (recoming born_of) told (delete m.ends));
-      to_server = up;
-      to_client = subst (λ (l : List boxes.Message). InFlight (left_core p.server.core m n).outbox p.client.core.inbox l) (sym (map-append spelled_coming told (delete m.ends)))
-          (pushed p.server.core.outbox (left_core p.server.core m n).outbox p.client.core.inbox (map spelled_coming told) (map spelled_coming (delete m.ends)) s.to_client refl refl (delete_whole p.client.core.inbox.limit m.ends));
-      asked_fit = s.asked_fit.1;
-      told_fit = each_more (ComesFitly p.server.core.tables p.server.globals) told (delete m.ends) s.told_fit (delete_fits p m.ends low);
       meet = record {
         middle = a.past.middle;
         reads = rw (all_tells_more told (delete m.ends)) (reads_more s.meet.reads a.past.reads);
         tied = subst (λ (r : Rows Born). Tied (test_of p) (all_asks ms) r a.past.middle) (sym rows) a.past.tied;
       };
-      client_lives = s.client_lives;
-      server_lives = s.server_lives;
-      remembered = s.remembered;
-      given = s.given;
-      registries = rw world_new (ap (λ (l : List _). registries_without (option_map born_of m.ends) (marks_after (option_map born_of new) l)) s.registries
-          ∙ ap (registries_without (option_map born_of m.ends)) (sym (marks_with p.server.core p.server.registries new (births_of v new a.new)))
-          ∙ sym (marks_left m.ends (registries_after p.server.core p.server.registries (option_map made_of new))));
-      remembers = s.remembers;
       globals = s.globals;
-      up_limit = s.up_limit;
-      down_limit = s.down_limit;
-      one_limit = s.one_limit;
-      few_globals = s.few_globals;
-      open_registries = has_read p.server.core p.server.registries new m.ends s.server_sound (fresh_row v new a.new) (if_by (there_row v) m.ends there) s.open_registries;
+      registries = record {
+        told = rw world_new (ap (λ (l : List _). registries_without (option_map born_of m.ends) (marks_after (option_map born_of new) l)) s.registries.told
+            ∙ ap (registries_without (option_map born_of m.ends)) (sym (marks_with p.server.core p.server.registries new (births_of v new a.new)))
+            ∙ sym (marks_left m.ends (registries_after p.server.core p.server.registries (option_map made_of new))));
+        open_registries = has_read p.server.core p.server.registries new m.ends s.server.sound (fresh_row v new a.new) (if_by (there_row v) m.ends there) s.registries.open_registries;
+      };
     }
 
 -- ---- what is answered
@@ -281,7 +244,7 @@ pub record InRequest (p : PairState) (w : World) (m : Message Known) (ms : List 
   pub entry : Entry
   pub same_target : plain entry ≡ m.target.born
   pub met : AllMet p.server.core.view (rows_of_server w) m.args
-  pub finds_it : request p.server ≡ Ok (Some (the_found n m entry s.asked_fit.0.fits.signature))
+  pub finds_it : request p.server ≡ Ok (Some (the_found n m entry s.requests.fit.0.fits.signature))
   pub asks_it : AsksAt (test_of p) (all_asks ms) (server_rows p.server.core.view) s.meet.middle m.target (objects m.args) (made_in m.args) m.ends
   pub up : InFlight p.client.core.outbox (without_first p.server.core.inbox n (length (tokens m.args))) (map spelled ms)
   pub more : List ℕ
@@ -293,18 +256,13 @@ judge st f h e = ap (judged st) e ∙ rw h refl
 pub in_request : (p : PairState) (w : World) (m : Message Known) (ms : List (Message Known)) (told : List (Coming Known)) (s : StandsBy p w (m ∷ ms) told) (n : ℕ)
     → in_front p.server.core.inbox ≡ Whole n → InRequest p w m ms told s n
 in_request p w m ms told s n e =
-    let q = pops p.client.core.outbox p.server.core.inbox (map spelled (m ∷ ms)) n s.to_server e in
-    let first : q.first ≡ spelled m = cc q.is in
-    let rest : q.rest ≡ map spelled ms = cc q.is in
+    let q = first_read p.client.core.outbox p.server.core.inbox (spelled m) (map spelled ms) n s.requests.in_boxes e in
     let a = asks_at m.target (objects m.args) (made_in m.args) m.ends s.meet.tied in
     let i = request_front p w m ms told s n a in
-    let f = s.asked_fit.0.fits in
-    let bytes : take n p.server.core.inbox.bytes ≡ (spelled m).bytes = q.bytes ∙ ap (λ (x : boxes.Message). x.bytes) first in
-    let own : q.first.tokens ≡ tokens m.args = ap (λ (x : boxes.Message). x.tokens) first in
-    let enough : length (tokens m.args) ≤ length p.server.core.inbox.tokens = let k = ap length own in omega (arith, q.enough, k) in
-    let there = finds p.server.core request_side m n (rows_of_server w) i.entry f e bytes i.there i.same_target i.met enough in
+    let f = s.requests.fit.0.fits in
+    let there = finds p.server.core request_side m n (rows_of_server w) i.entry f e q.bytes i.there i.same_target i.met q.enough in
     let binds : is_bind request_side i.entry.iface m.opcode ≡ true → is_good_bind p.server (map wire m.args) ≡ true = λ h. (
-    let b = s.asked_fit.0.binds (sym (ap (λ (x : Born). is_bind request_side x.iface m.opcode) i.same_target) ∙ h) in
+    let b = s.requests.fit.0.binds (sym (ap (λ (x : Born). is_bind request_side x.iface m.opcode) i.same_target) ∙ h) in
     ap (λ (l : List (Arg Known)). is_good_bind p.server (map wire l)) b.args_are ∙ b.was_given) in
     record {
       entry = i.entry;
@@ -312,8 +270,7 @@ in_request p w m ms told s n e =
       met = i.met;
       finds_it = judge p.server (the_found n m i.entry f.signature) (no_bad_bind (is_bind request_side i.entry.iface m.opcode) (is_good_bind p.server (map wire m.args)) binds) there;
       asks_it = a;
-      up = subst (λ (l : List boxes.Message). InFlight p.client.core.outbox (without_first p.server.core.inbox n (length (tokens m.args))) l) rest
-          (subst (λ (l : List ℕ). InFlight p.client.core.outbox (without_first p.server.core.inbox n (length l)) q.rest) own q.stay);
+      up = q.stay;
       more = q.more;
-      tokens_are = q.tokens ∙ ap (λ (l : List ℕ). l ++ q.more) own;
+      tokens_are = q.tokens;
     }

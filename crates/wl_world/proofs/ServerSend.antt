@@ -76,7 +76,7 @@ server_can p w asked told s target opcode given signature c k n =
       };
       target = there_live v m.target (record { entry = c.entry; there = c.there; same = refl; live = c.live });
       args = each_by (LiveAt v) (ThereRow (server_rows v)) (there_live v) (objects m.args) k.live;
-      ends = event_ends p.server.core.tables s.valid m.target m.args opcode signature c.signed;
+      ends = event_ends p.server.core.tables s.terms.valid m.target m.args opcode signature c.signed;
       short = k.short;
     }
 
@@ -108,8 +108,8 @@ pub tells_world : (p : PairState) (w : World) (asked : List (Message Known)) (to
     → Steps p.server.core.tables w (WriteEvent (renamed born_of m)) (event_written w (renamed born_of m))
 tells_world p w asked told s m c =
     let v = p.server.core.view in
-    writes_event (renamed born_of m) (s.server_sets.shown m.target.id m.target.born c.target)
-    (rw (objects_map born_of m.args) (each_map born_of (IsThere w.server) (objects m.args) (each_by (ThereRow (server_rows v)) (λ (x : Known). IsThere w.server x.born) (λ x h. s.server_sets.shown x.id x.born h) (objects m.args) c.args)))
+    writes_event (renamed born_of m) (s.server.sets.shown m.target.id m.target.born c.target)
+    (rw (objects_map born_of m.args) (each_map born_of (IsThere w.server) (objects m.args) (each_by (ThereRow (server_rows v)) (λ (x : Known). IsThere w.server x.born) (λ x h. s.server.sets.shown x.id x.born h) (objects m.args) c.args)))
 
 same_births : (v : View) (o : Option Known) → (ended_view server_end v o).births ≡ v.births
 same_births v None = refl
@@ -124,7 +124,7 @@ tells_one p w asked told s m c =
     let there : IfThere (ThereRow (server_rows v)) m.ends =
     subst (λ (o : Option Known). IfThere (ThereRow (server_rows v)) o) (sym f.ends) (ended_has (ThereRow (server_rows v)) f.signature.destroys m.target m.args c.target c.args) in
     let news = event_of m ∷ delete m.ends in
-    let below = s.server_sets.below in
+    let below = s.server.sets.below in
     let ended : IfThere (λ x. x.born.birth < v.births) m.ends = if_by (λ x h. below x.id x.born h) m.ends there in
     telling (ended_view server_end v m.ends) (told_core p.server.core m).outbox p.server.registries news (same_births v m.ends)
     (each_more (IsBelow v.births) (tells (event_of m)) (all_tells (delete m.ends)) (event_below (server_rows v) v.births below m c.target c.args ended)
@@ -137,12 +137,12 @@ pub server_send_keeps : (p : PairState) (w : World) (asked : List (Message Known
     → Moves p w asked told (ServerSend target opcode given) (ServerSend reply) p'
 server_send_keeps p w asked told s z target opcode given g reply p' (accepted {new = new} h) =
     let core = p.server.core in
-    let a = accepted_call core Event target opcode given new s.server_lives h in
+    let a = accepted_call core Event target opcode given new s.server.lives h in
     let c = is_checked core.outbox.limit.bytes core.tables Event core.view target opcode given a.signature a.checks in
-    let k = call_is core Event target opcode given a.signature s.valid s.server_sound g c in
+    let k = call_is core Event target opcode given a.signature s.terms.valid s.server.sound g c in
     let o = opens core (made_at core target a.signature given) new a.opens_it in
     let args = the_args core c.entry given a.signature in
-    let n : made_in args ≡ None = no_made core.view (the_new core c.entry given a.signature) a.signature.kinds given k.right (no_event_new core.tables s.valid c.entry.iface.0 opcode a.signature c.signed) in
+    let n : made_in args ≡ None = no_made core.view (the_new core c.entry given a.signature) a.signature.kinds given k.right (no_event_new core.tables s.terms.valid c.entry.iface.0 opcode a.signature c.signed) in
     let can = server_can p w asked told s target opcode given a.signature c k n in
     let m = the_call core c.entry target opcode given a.signature in
     let none : new ≡ None = o.is ∙ ap (option_map (λ (y : NewObject). record { id = next_id core.view; birth = core.view.births })) (made_same core target given a.signature c.entry c.there ∙ k.made_is ∙ ap (option_map made_of) n) in
@@ -158,7 +158,7 @@ server_send_keeps p w asked told s z target opcode given g reply p' (accepted {n
         steps = tells_world p w asked told s m can;
       });
       outcome = subst (λ (x : Core). Outcome p asked told (with_server_core p x) (event_written w (renamed born_of m)))
-          (sym (left_by core target opcode given a.signature s.valid a.checks c k n))
+          (sym (left_by core target opcode given a.signature s.terms.valid a.checks c k n))
           (goes_on asked (told ++ (event_of m ∷ delete m.ends)) z (tell_stands p w asked told s m can) (tells_one p w asked told s m can));
     }
 server_send_keeps p w asked told s z target opcode given g reply p' (refused h) = record { world = w; answers = before z (refused h) refl; outcome = goes_on asked told z s stays }
@@ -197,15 +197,15 @@ droppable core object l h =
 pub server_drop_keeps : (p : PairState) (w : World) (asked : List (Message Known)) (told : List (Coming Known)) → StandsBy p w asked told → NotEnded p w → (object : Object) (reply : Result (Unit {0}) SendError) (p' : PairState)
     → Calls (drop_refusal p.server.core object) p (with_server_core p (after_drop p.server.core object)) reply p' → Moves p w asked told (ServerDrop object) (ServerDrop reply) p'
 server_drop_keeps p w asked told s z object reply p' (done h) =
-    let d = droppable p.server.core object s.server_lives h in
+    let d = droppable p.server.core object s.server.lives h in
     let x : Known = record { id = object.id; born = plain d.entry } in
     let there : ThereRow (server_rows p.server.core.view) x = ap (option_map plain) d.there in
-    let low = (row_low p.server.core.view object.id d.entry s.server_sound d.there).1 in
+    let low = (row_low p.server.core.view object.id d.entry s.server.sound d.there).1 in
     record {
       world = dropped w x.born;
-      answers = before z (done h) (record { object = x.born; is = d.birth; steps = drops x.born (s.server_sets.shown x.id x.born there) d.by });
+      answers = before z (done h) (record { object = x.born; is = d.birth; steps = drops x.born (s.server.sets.shown x.id x.born there) d.by });
       outcome = goes_on asked (told ++ Delete x ∷ []) z (drop_stands p w asked told s x there d.by low)
-          (telling (closed p.server.core.view x.id) (dropped_core p.server.core x).outbox p.server.registries (Delete x ∷ []) refl (s.server_sets.below x.id x.born there, tt));
+          (telling (closed p.server.core.view x.id) (dropped_core p.server.core x).outbox p.server.registries (Delete x ∷ []) refl (s.server.sets.below x.id x.born there, tt));
     }
 server_drop_keeps p w asked told s z object reply p' (refused h) = record { world = w; answers = before z (refused h) refl; outcome = goes_on asked told z s stays }
 

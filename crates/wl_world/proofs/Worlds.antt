@@ -289,12 +289,12 @@ module _ (p : PairState) (w : World) (asked : List (Message Known)) (told : List
   o = server_rows p.server.core.view
 
   delete_comes : (k : Known) → In (Delete k) (all_tells told) → DeleteComes w k.born
-  delete_comes k h = subst (In (delete_of k.born)) (sym s.events) (in_map (recoming born_of) (delete_of k) told (delete_of_tells k told h))
+  delete_comes k h = subst (In (delete_of k.born)) (sym s.events.in_world) (in_map (recoming born_of) (delete_of k) told (delete_of_tells k told h))
 
   -- the object whose delete is on the way, under its id
   delete_known : (x : Born) → DeleteComes w x → (k : Known) × (In (Delete k) (all_tells told) × (k.born ≡ x))
   delete_known x h =
-      let f = from_map (recoming born_of) (delete_of x) told (subst (In (delete_of x)) s.events h) in
+      let f = from_map (recoming born_of) (delete_of x) told (subst (In (delete_of x)) s.events.in_world h) in
       by_coming f.it f.there f.is
     where
       by_coming : (c : Coming Known) → In c told → recoming born_of c ≡ delete_of x → (k : Known) × (In (Delete k) (all_tells told) × (k.born ≡ x))
@@ -302,7 +302,7 @@ module _ (p : PairState) (w : World) (asked : List (Message Known)) (told : List
       by_coming (delete_of k) i e = (k, (tells_in (Delete k) (delete_of k) told i (inl refl), cc e))
 
   request_in : (m : Message Known) → In m asked → In (renamed born_of m) w.requests
-  request_in m i = subst (In (renamed born_of m)) (sym s.requests) (in_map (renamed born_of) m asked i)
+  request_in m i = subst (In (renamed born_of m)) (sym s.requests.in_world) (in_map (renamed born_of) m asked i)
 
   make_comes : (k : Known) → In (Make k) (all_asks asked) → MakeComes w k.born
   make_comes k h =
@@ -311,7 +311,7 @@ module _ (p : PairState) (w : World) (asked : List (Message Known)) (told : List
 
   make_known : (x : Born) → MakeComes w x → (k : Known) × (In (Make k) (all_asks asked) × (k.born ≡ x))
   make_known x h =
-      let f = from_map (renamed born_of) h.request asked (subst (In h.request) s.requests h.there) in
+      let f = from_map (renamed born_of) h.request asked (subst (In h.request) s.requests.in_world h.there) in
       let m = f.it in
       let e : option_map born_of (made_in m.args) ≡ Some x = sym (made_map born_of m.args) ∙ ap (λ (r : Message Born). made_in r.args) f.is ∙ h.makes in
       let k = map_some born_of (made_in m.args) x e in
@@ -324,7 +324,7 @@ module _ (p : PairState) (w : World) (asked : List (Message Known)) (told : List
 
   destroy_known : (x : Born) → DestroyComes w x → (k : Known) × (In (Destroy k) (all_asks asked) × (k.born ≡ x))
   destroy_known x h =
-      let f = from_map (renamed born_of) h.request asked (subst (In h.request) s.requests h.there) in
+      let f = from_map (renamed born_of) h.request asked (subst (In h.request) s.requests.in_world h.there) in
       let m = f.it in
       let e : option_map born_of m.ends ≡ Some x = ap (λ (r : Message Born). r.ends) f.is ∙ h.ends in
       let k = map_some born_of m.ends x e in
@@ -334,23 +334,23 @@ module _ (p : PairState) (w : World) (asked : List (Message Known)) (told : List
 
   held_known : (x : Born) → IsHeld w x → (k : Known) × (Held v k × (k.born ≡ x))
   held_known x h = elim h [
-    | inl p ↦ (let r = (s.client_sets.only x.birth (Open x) p).1 in (record { id = r.0; born = x }, (inl r.1, refl)))
-    | inr p ↦ (let r = (s.client_sets.only x.birth (Ending x) p).1 in (record { id = r.0; born = x }, (inr r.1, refl)))
+    | inl p ↦ (let r = (s.client.sets.only x.birth (Open x) p).1 in (record { id = r.0; born = x }, (inl r.1, refl)))
+    | inr p ↦ (let r = (s.client.sets.only x.birth (Ending x) p).1 in (record { id = r.0; born = x }, (inr r.1, refl)))
   ]
 
   held_world : (k : Known) → Held v k → IsHeld w k.born
-  held_world k h = elim h [ inl p ↦ inl (s.client_sets.shown k.id (Open k.born) p) | inr p ↦ inr (s.client_sets.shown k.id (Ending k.born) p) ]
+  held_world k h = elim h [ inl p ↦ inl (s.client.sets.shown k.id (Open k.born) p) | inr p ↦ inr (s.client.sets.shown k.id (Ending k.born) p) ]
 
   there_known : (x : Born) → IsThere w.server x → (k : Known) × ((o.rows k.id ≡ Some k.born) × (k.born ≡ x))
-  there_known x h = let r = (s.server_sets.only x.birth x h).1 in (record { id = r.0; born = x }, (r.1, refl))
+  there_known x h = let r = (s.server.sets.only x.birth x h).1 in (record { id = r.0; born = x }, (r.1, refl))
 
   -- an object that the client holds has one id
   one_id : (j k : Known) → Held v j → Held v k → j.born ≡ k.born → j ≡ k
   one_id j k h i e =
       let b : j.born.birth ≡ k.born.birth = ap birth_of e in
       let q : j.id ≡ k.id = elim h [
-        | inl a ↦ elim i [ inl c ↦ s.client_sets.one j.id k.id (Open j.born) (Open k.born) a c b | inr c ↦ s.client_sets.one j.id k.id (Open j.born) (Ending k.born) a c b ]
-        | inr a ↦ elim i [ inl c ↦ s.client_sets.one j.id k.id (Ending j.born) (Open k.born) a c b | inr c ↦ s.client_sets.one j.id k.id (Ending j.born) (Ending k.born) a c b ]
+        | inl a ↦ elim i [ inl c ↦ s.client.sets.one j.id k.id (Open j.born) (Open k.born) a c b | inr c ↦ s.client.sets.one j.id k.id (Open j.born) (Ending k.born) a c b ]
+        | inr a ↦ elim i [ inl c ↦ s.client.sets.one j.id k.id (Ending j.born) (Open k.born) a c b | inr c ↦ s.client.sets.one j.id k.id (Ending j.born) (Ending k.born) a c b ]
       ] in
       λ n. record { id = q n; born = e n }
 
@@ -362,7 +362,7 @@ module _ (p : PairState) (w : World) (asked : List (Message Known)) (told : List
       elim (plain.held_where k.0 s.meet k.1.0) [
         | inl a ↦ inl (subst (DeleteComes w) k.1.1 (delete_comes k.0 a))
         | inr a ↦ elim a [
-          | inl b ↦ inr (inl (subst (IsThere w.server) k.1.1 (s.server_sets.shown k.0.id k.0.born b)))
+          | inl b ↦ inr (inl (subst (IsThere w.server) k.1.1 (s.server.sets.shown k.0.id k.0.born b)))
           | inr b ↦ inr (inr (subst (MakeComes w) k.1.1 (make_comes k.0 b)))
         ]
       ]
@@ -397,7 +397,7 @@ module _ (p : PairState) (w : World) (asked : List (Message Known)) (told : List
   made_not_open x h i =
       let j = make_known x h in
       let k = there_known x i in
-      plain.not_made_counted j.0 s.meet j.1.0 (let l = s.server_sets.below k.0.id k.0.born k.1.0 in let b = ap birth_of (j.1.1 ∙ sym k.1.1) in omega (arith, l, b))
+      plain.not_made_counted j.0 s.meet j.1.0 (let l = s.server.sets.below k.0.id k.0.born k.1.0 in let b = ap birth_of (j.1.1 ∙ sym k.1.1) in omega (arith, l, b))
 
   pub made_not_counted : (x : Born) → MakeComes w x → x.birth < p.server.core.view.births → ⊥
   made_not_counted x h l =
@@ -406,7 +406,7 @@ module _ (p : PairState) (w : World) (asked : List (Message Known)) (told : List
 
   pub where_ending : (x : Born) → w.client x.birth ≡ Some (Ending x) → DeleteComes w x ⊎ DestroyComes w x
   where_ending x h =
-      let r = (s.client_sets.only x.birth (Ending x) h).1 in
+      let r = (s.client.sets.only x.birth (Ending x) h).1 in
       let k : Known = record { id = r.0; born = x } in
       elim (plain.ending_where k s.meet r.1) [ inl a ↦ inl (delete_comes k a) | inr a ↦ inr (destroy_comes k a) ]
 
@@ -419,7 +419,7 @@ module _ (p : PairState) (w : World) (asked : List (Message Known)) (told : List
 
   open_row : (x : Born) → w.client x.birth ≡ Some (Open x) → (k : Known) → Held v k → k.born ≡ x → v.rows k.id ≡ Some (Open k.born)
   open_row x h k i e =
-      let r = (s.client_sets.only x.birth (Open x) h).1 in
+      let r = (s.client.sets.only x.birth (Open x) h).1 in
       let n : Known = record { id = r.0; born = x } in
       subst (λ (m : Known). v.rows m.id ≡ Some (Open m.born)) (one_id n k (inl r.1) i (sym e)) r.1
 
@@ -440,7 +440,7 @@ module _ (p : PairState) (w : World) (asked : List (Message Known)) (told : List
 
   pub last_deleted : (before after : List (Coming Born)) (x : Born) → w.events ≡ before ++ delete_of x ∷ after → (c : Coming Born) → In c after → Names x c → ⊥
   last_deleted before after x h c i n =
-      let t = parted (recoming born_of) told before (delete_of x) after (sym s.events ∙ h) in
+      let t = parted (recoming born_of) told before (delete_of x) after (sym s.events.in_world ∙ h) in
       let f = from_map (recoming born_of) c t.rest (subst (In c) (sym t.rest_is) i) in
       at_delete t.front t.it t.rest t.whole t.it_is f.it f.there (subst (Names x) (sym f.is) n)
     where
@@ -513,8 +513,8 @@ module _ (p : PairState) (w : World) (asked : List (Message Known)) (told : List
       let k = there_known x h in
       let r = there_row p.server.core.view k.0 k.1.0 in
       let same : plain_of r.entry ≡ x = r.same ∙ k.1.1 in
-      let at = s.open_registries.all k.0.id r.entry r.there (ap (λ (b : Born). b.iface) same ∙ i) in
-      subst (λ (l : List _). In x.birth (map marks_birth l)) (sym s.registries)
+      let at = s.registries.open_registries.all k.0.id r.entry r.there (ap (λ (b : Born). b.iface) same ∙ i) in
+      subst (λ (l : List _). In x.birth (map marks_birth l)) (sym s.registries.told)
       (subst (λ (n : ℕ). In n (map marks_birth (map marks_of p.server.registries))) (ap birth_of same) (among_marks (record { id = k.0.id; birth = r.entry.birth }) p.server.registries at))
 
 -- ---- a pair that stands in a world
