@@ -27,7 +27,7 @@ use Rattle.wl_link.specs.Follows.{knowledge, places, maker, KnownAs, GoesOn, All
 use Rattle.wl_link.proofs.Globals.{Grows}
 use Rattle.wl_link.proofs.Judging.{call_as}
 use Rattle.wl_link.proofs.Knowing.{ended_ids, known_behind, places_behind}
-use Rattle.wl_world.proofs.Ended.{ends_as, ended_has}
+use Rattle.wl_world.proofs.Ended.{ends_as, ends_have}
 
 -- The message that stands at a place of a direction's stream, where its direction brought t tokens, keeps all rules; and so it is behind it.
 pub record One (limit : ℕ) (tables : List Interface) (d : Direction) (stream : List ℕ) (t p : ℕ) (sent : boxes.Message) (e : List Judged) (Next : List Judged → Type 0) : Type 0 where
@@ -89,7 +89,7 @@ known_call tables e here d m entry f n valid a fresh target args made_is deleted
     let k' = knowledge tables (e ++ Ok call ∷ []) in
     let p = suc (length e) in
     let b = behind_one tables e call in
-    let held : IfThere (Held here) m.ends = subst (λ (o : Option Known). IfThere (Held here) o) (sym f.ends) (ended_has (Held here) f.signature.destroys m.target m.args target args) in
+    let held : IfThere (Held here) m.ends = ends_have (Held here) tables (side_of d) m f target args in
     let ended = ends_as tables (side_of d) m f valid in
     let destroyed_is : (effect tables call).destroyed ≡ ended_ids m.ends = destroyed_as (destroys_one f.signature.destroys) (ended_id f.signature.destroys m.target.id (map wire m.args)) m.ends ended.flag ended.same in
     let known = known_behind k k' (places tables e) p here n m.ends a fresh held

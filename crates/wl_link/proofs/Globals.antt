@@ -77,13 +77,7 @@ named_as : (tables : List Interface) (target : ℕ) (kind : Kind) (iface : List 
     → IsNamed tables iface version new
 named_as tables target (kinds.New None) iface version new h = named_by tables iface version new (place_of tables iface) refl h
 named_as tables target (kinds.New (Some i)) iface version new h = absurd (cc h)
-named_as tables target kinds.Int iface version new h = absurd (cc h)
-named_as tables target kinds.Uint iface version new h = absurd (cc h)
-named_as tables target kinds.Fixed iface version new h = absurd (cc h)
-named_as tables target (kinds.Str null) iface version new h = absurd (cc h)
-named_as tables target (kinds.Obj null i) iface version new h = absurd (cc h)
-named_as tables target kinds.Array iface version new h = absurd (cc h)
-named_as tables target kinds.Fd iface version new h = absurd (cc h)
+named_as tables target kind iface version new h = absurd (cc h)
 
 named_in : (tables : List Interface) (target name : ℕ) (iface : List ℕ) (version : ℕ) (new : Known) (ks : List Kind) → AreOf tables target ks (Uint name ∷ NewNamed iface version new ∷ [])
     → IsNamed tables iface version new

@@ -5,7 +5,7 @@ use Rattle.std.specs.declared.result.Result.TheVariants.{Ok, Err}
 use Rattle.std.proofs.lemmas.List.{append_assoc, take_at, drop-drop}
 use Rattle.wl_wire.specs.declared.header.Header.{Header}
 use Rattle.wl_wire.specs.Word.{header_at, header_bytes}
-use Rattle.wl_wire.specs.Argument.{Int, Uint, Fixed, Str, Obj, New, NewNamed, Array, Fd}
+use Rattle.wl_wire.specs.Argument.{Obj, New, NewNamed}
 use Rattle.wl_sigs.specs.Tables.{Interface}
 use Rattle.wl_sigs.specs.Tables as sigs
 use Rattle.wl_message.specs.Cut.{IsMessage, is_size}
@@ -28,16 +28,11 @@ use Rattle.wl_world.proofs.Readings.{HasObject, Finds, received_by_any, parted}
 
 pub all_found : (r : Reader) (args : List (Arg Known)) → Each (HasObject r) (objects args) → Each (λ a. IfThere (λ x. r.new_id x.id ≡ Free) (new_in a)) args → Each (Finds r) args
 all_found r [] o n = tt
-all_found r (Int z ∷ args) o n = (tt, all_found r args o n.1)
-all_found r (Uint z ∷ args) o n = (tt, all_found r args o n.1)
-all_found r (Fixed z ∷ args) o n = (tt, all_found r args o n.1)
-all_found r (Str z ∷ args) o n = (tt, all_found r args o n.1)
 all_found r (Obj None ∷ args) o n = (tt, all_found r args o n.1)
 all_found r (Obj (Some x) ∷ args) o n = (o.0, all_found r args o.1 n.1)
 all_found r (New x ∷ args) o n = (n.0, all_found r args o n.1)
 all_found r (NewNamed name own x ∷ args) o n = (n.0, all_found r args o n.1)
-all_found r (Array z ∷ args) o n = (tt, all_found r args o n.1)
-all_found r (Fd z ∷ args) o n = (tt, all_found r args o n.1)
+all_found r (a ∷ args) o n = (tt, all_found r args o n.1)
 
 -- the call as which a message is read, where its target has this row
 abbrev pub call_as : Direction → Message Known → Entry → sigs.Message → Call

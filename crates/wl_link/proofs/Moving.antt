@@ -1,39 +1,37 @@
 -- Each move that carries nothing keeps what is linked.
-use Rattle.std.proofs.Common.{◌≡◌, ℕ, ◌<◌, ◌≤◌, Bool, true, false, cond, List, [], ◌∷◌, ◌++◌, map, length, inl, refl, sym, ap, subst, ◌∙◌, arith}
-use Rattle.std.specs.Prelude.{option_map, nat_eq, ◌&&◌, not}
-use Rattle.std.specs.declared.option.Option.{Option}
+use Rattle.std.proofs.Common.{◌≡◌, ℕ, ◌<◌, ◌≤◌, Bool, true, false, List, [], ◌∷◌, ◌++◌, map, inl, refl, sym, ap, subst, ◌∙◌, arith, ◌+◌, min, length}
+use Rattle.std.specs.Prelude.{option_map}
 use Rattle.std.specs.declared.option.Option.TheVariants.{None, Some}
 use Rattle.std.proofs.lemmas.Bool.{eqb-true, eq-eqb, and_parts}
 use Rattle.std.proofs.lemmas.List.{append_assoc}
 use Rattle.wl_wire.specs.declared.kind.Iface.{Iface}
 use Rattle.wl_sigs.specs.declared.signature.Side.TheVariants.{Request as request_side, Event as event_side}
 use Rattle.wl_sigs.specs.Tables.{Interface, place_of}
-use Rattle.wl_sigs.specs.Fixed.{registry}
-use Rattle.wl_message.specs.Arrived.{in_front}
+use Rattle.wl_message.specs.Arrived.{without_first, in_front}
 use Rattle.wl_message.specs.Cut.{Whole}
 use Rattle.wl_message.specs.Outgoing.{Outgoing}
 use Rattle.wl_table.specs.declared.object.Entry.{Entry}
-use Rattle.wl_table.specs.View.{View}
-use Rattle.wl_objects.specs.Messages.{Client as client_end, Server as server_end, opens, is_bind, same_iface}
+use Rattle.wl_table.specs.View.{View, closed}
+use Rattle.wl_objects.specs.Messages.{Client as client_end, Server as server_end, opens, is_bind}
 use Rattle.wl_client.specs.declared.globals.Global.{Global as Remembered}
+use Rattle.wl_client.specs.State as client
 use Rattle.wl_client.specs.State.{is_named}
-use Rattle.wl_client.specs.Reports.{argument, number_in, text_in, forgotten, remembered_as, globals_told}
 use Rattle.wl_server.specs.State.{Global, Registry}
 use Rattle.wl_server.specs.Announcing.{name_at}
 use Rattle.wl_recording.specs.declared.piece.Direction.TheVariants.{ToServer, ToClient}
 use Rattle.wl_check.specs.Effects.{first_number}
 use Rattle.wl_check.specs.Places.{Known as Knows}
-use Rattle.wl_world.specs.Meant.{Born, Known, Message, Coming, Event, Delete, Arg, made_in, objects, wire, tokens, spelled, spelled_coming}
+use Rattle.wl_world.specs.Meant.{Born, Known, Message, Coming, Event, Delete, Arg, made_in, objects, wire, spelled, spelled_coming}
 use Rattle.wl_world.specs.World.{World, Row, Each, IfThere, delete, is_registry}
-use Rattle.wl_world.proofs.Ended.{ended_view, ended_has, if_by}
+use Rattle.wl_world.proofs.Ended.{ended_view, ends_have, if_by}
 use Rattle.wl_world.specs.Pair.{PairState, with_client, with_server}
 use Rattle.wl_world.specs.Flight.{IsBelow, Rows, Tell, tells, all_asks, all_tells, Reads, Held, client_rows}
-use Rattle.wl_world.specs.Stands.{StandsBy, Fits, TellsGiven, TellsFitly, by_event}
+use Rattle.wl_world.specs.Stands.{StandsBy, Fits, TellsGiven, by_event}
 use Rattle.wl_world.proofs.Wholes.{OpenRow, client_ends, tells_at, deletes_at, all_asks_more, all_tells_more, each_more, each_rest, each_by}
 use Rattle.wl_world.proofs.Bridges.{client_closed}
-use Rattle.wl_world.proofs.Afters.{held_row, client_after}
+use Rattle.wl_world.proofs.Afters.{held_row, client_after, births_kept}
 use Rattle.wl_world.proofs.Readings.{made_of}
-use Rattle.wl_world.proofs.Learning.{each_remembered, each_filter}
+use Rattle.wl_world.proofs.Learning.{learns}
 use Rattle.wl_world.proofs.ServerReads.{left_state}
 use Rattle.wl_world.proofs.ClientReads.{after_event, after_delete, teaches}
 use Rattle.wl_world.proofs.ClientSends.{CanAsk, asked_pair}
@@ -81,9 +79,8 @@ asked_joins p m c asked_later told_seen here j =
     let v = p.client.core.view in
     let f = c.fitly.fits in
     let new = made_in m.args in
-    let opened : IfThere (OpenRow (client_rows v)) m.ends = subst (λ (o : Option Known). IfThere (OpenRow (client_rows v)) o) (sym f.ends) (ended_has (OpenRow (client_rows v)) f.signature.destroys m.target m.args c.target c.args) in
-    let no_event : IfThere (λ x. test x.born ≡ false) m.ends =
-    subst (λ (o : Option Known). IfThere (λ x. test x.born ≡ false) o) (sym f.ends) (ended_has (λ x. test x.born ≡ false) f.signature.destroys m.target m.args c.target_plain c.args_plain) in
+    let opened : IfThere (OpenRow (client_rows v)) m.ends = ends_have (OpenRow (client_rows v)) p.server.core.tables request_side m f c.target c.args in
+    let no_event : IfThere (λ x. test x.born ≡ false) m.ends = ends_have (λ x. test x.born ≡ false) p.server.core.tables request_side m f c.target_plain c.args_plain in
     let rows = client_after v new m.ends c.new (if_by (λ x h. held_row v x (inl h)) m.ends opened) in
     let more = asks_more m.target (objects m.args) new m.ends j c.target c.target_plain c.args c.args_plain c.new opened no_event c.mortal in
     record {
@@ -142,12 +139,6 @@ told_links p w w' asked told view outbox registries news births below l s = reco
 
 -- ---- the server reads
 
-births_kept : (v : View) (n o : Option Known) → v.births ≤ (ended_view server_end (opens v (option_map made_of n)) o).births
-births_kept v None None = omega arith
-births_kept v None (Some x) = omega arith
-births_kept v (Some y) None = omega arith
-births_kept v (Some y) (Some x) = omega arith
-
 below_more : (few many : ℕ) → few ≤ many → (t : Tell) → IsBelow few t → IsBelow many t
 below_more few many h t l = omega (arith, h, l)
 
@@ -176,53 +167,42 @@ request_links p w w' m ms told n whole there l s =
 
 -- ---- the client reads
 
-module _ (k : Knows) where
-  abbrev Learned : Remembered → Type 0
-  Learned g = IsAdvertised k g.name g.iface.0 g.version
+-- a recorded event advertised it
+abbrev Advertised : PairState → Remembered → Type 0
+Advertised p g = IsAdvertised (knows p) g.name g.iface.0 g.version
 
-  told_new : (tables : List Interface) (given : List Global) (globals : List Remembered) (args : List (Arg Known)) → (t : TellsGiven tables given args) → IsAdvertised k t.name t.iface.0 t.version
-      → Each Learned globals
-      → Each Learned (remembered_as (number_in (argument (map wire args) 0)) (number_in (argument (map wire args) 2)) (place_of tables (text_in (argument (map wire args) 1))) globals)
-  told_new tables given globals args t new h =
-      rw (t.args_are, t.known) (each_remembered Learned (record { name = t.name; iface = t.iface; version = t.version }) globals new h)
-
-  told_keeps : (tables : List Interface) (given : List Global) (globals : List Remembered) (opcode : ℕ) (args : List (Arg Known))
-      → (opcode ≡ 0 → (t : TellsGiven tables given args) × IsAdvertised k t.name t.iface.0 t.version) → Each Learned globals
-      → (b c : Bool) → nat_eq opcode 0 ≡ b
-      → Each Learned (cond b (remembered_as (number_in (argument (map wire args) 0)) (number_in (argument (map wire args) 2)) (place_of tables (text_in (argument (map wire args) 1))) globals)
-      (cond c (forgotten (number_in (argument (map wire args) 0)) globals) globals))
-  told_keeps tables given globals opcode args t h true c e = let n = t (eqb-true opcode 0 e) in told_new tables given globals args n.0 n.1 h
-  told_keeps tables given globals opcode args t h false true e = each_filter Learned (λ g. not (is_named (number_in (argument (map wire args) 0)) g)) globals h
-  told_keeps tables given globals opcode args t h false false e = h
-
-  learns : (tables client_tables : List Interface) (given : List Global) (globals : List Remembered) (m : Message Known) → client_tables ≡ tables → TellsFitly tables given m → TellsAdvertised tables k (Event m)
-      → Each Learned globals → (b : Bool) → (b ≡ true → is_registry m.target.born ≡ true) → Each Learned (cond b (globals_told client_tables globals m.opcode (map wire m.args)) globals)
-  learns tables client_tables given globals m same f a h false r = h
-  learns tables client_tables given globals m same f a h true r =
-      subst (λ (t : List Interface). Each Learned (globals_told t globals m.opcode (map wire m.args))) (sym same)
-      (told_keeps tables given globals m.opcode m.args (λ e. (let t = f.tells (r refl) e in (t, a (global_is (same_iface m.target.born.iface registry) m.opcode (r refl) e) t.name t.version (name_at tables t.iface) t.iface (ap (map wire) t.args_are) t.known))) h
-      (nat_eq m.opcode 0) (nat_eq m.opcode 1) refl)
-    where
-      global_is : (b : Bool) (opcode : ℕ) → b ≡ true → opcode ≡ 0 → (b && nat_eq opcode 0) ≡ true
-      global_is b opcode e z = rw (e, eq-eqb opcode 0 z) refl
+-- a global that an event tells was advertised by it
+told_advertised : (tables : List Interface) (given : List Global) (k : Knows) (m : Message Known) → TellsAdvertised tables k (Event m) → is_registry m.target.born ≡ true → m.opcode ≡ 0
+    → (t : TellsGiven tables given m.args) → IsAdvertised k t.name t.iface.0 t.version
+told_advertised tables given k m a r e t = a (rw (r, eq-eqb m.opcode 0 e) refl) t.name t.version (name_at tables t.iface) t.iface (ap (map wire) t.args_are) t.known
 
 event_joins : (test : Born → Bool) (m : Message Known) (asked_later : List (Message Known)) (rest : List (Coming Known)) (here : Rows Row) (v : View) (tables : List Interface) (f : Fits tables event_side m)
     → Joins test (all_asks asked_later) (all_tells (Event m ∷ rest)) here (client_rows v) → Joins test (all_asks asked_later) (all_tells rest) here (client_rows (ended_view client_end v m.ends))
 event_joins test m asked_later rest here v tables f j =
     let t = tells_at m.target (objects m.args) m.ends j.reads in
-    let held : IfThere (Held (client_rows v)) m.ends = subst (λ (o : Option Known). IfThere (Held (client_rows v)) o) (sym f.ends) (ended_has (Held (client_rows v)) f.signature.destroys m.target m.args t.target t.args) in
+    let held : IfThere (Held (client_rows v)) m.ends = ends_have (Held (client_rows v)) tables event_side m f t.target t.args in
     let rows : client_rows (ended_view client_end v m.ends) ≡ client_ends m.ends (client_rows v) = client_after v None m.ends tt (if_by (held_row v) m.ends held) in
     record { common = j.common; leads = j.leads; reads = subst (λ (x : Rows Row). Reads test (all_tells rest) x j.common) (sym rows) t.rest }
 
-pub event_links : (p : PairState) (w w' : World) (asked : List (Message Known)) (m : Message Known) (cs : List (Coming Known)) (n : ℕ) (entry : Entry)
-    → in_front p.client.core.inbox ≡ Whole n → LinkedBy p w asked (Event m ∷ cs)
-    → StandsBy (with_client p (after_event p.client m n (teaches m entry))) w' asked cs → LinkedBy (with_client p (after_event p.client m n (teaches m entry))) w' asked cs
-event_links p w w' asked m cs n entry whole l s =
+-- the client behind the first of what comes, with this view and these globals
+abbrev read_client : client.State → Coming Known → ℕ → View → List Remembered → client.State
+read_client st c n view globals = record {
+  core = record st.core { view = view; inbox = without_first st.core.inbox n (length (spelled_coming c).tokens); read = min (st.core.read + n) 18446744073709551615; failed = false };
+  globals = globals;
+}
+
+-- A pair stays linked when the client reads the first of what comes, where its rows still join and what it remembers is advertised.
+coming_links : (p : PairState) (w w' : World) (asked : List (Message Known)) (c : Coming Known) (cs : List (Coming Known)) (n : ℕ) (view : View) (globals : List Remembered)
+    → in_front p.client.core.inbox ≡ Whole n → (l : LinkedBy p w asked (c ∷ cs))
+    → ((here : Rows Row) (rest : List (Coming Known)) → Joins (by_event p.server.core.tables) (all_asks l.requests.later) (all_tells (c ∷ rest)) here (client_rows p.client.core.view)
+    → Joins (by_event p.server.core.tables) (all_asks l.requests.later) (all_tells rest) here (client_rows view))
+    → (TellsAdvertised p.server.core.tables (knows p) c → Each (Advertised p) globals)
+    → StandsBy (with_client p (read_client p.client c n view globals)) w' asked cs → LinkedBy (with_client p (read_client p.client c n view globals)) w' asked cs
+coming_links p w w' asked c cs n view globals whole l joins learned s =
     let f = l.follows in
     let tables = p.server.core.tables in
-    let seen = rest_seen spelled_coming (limit_of p) ToClient p.recording p.server.core.outbox p.client.core.inbox ((knows p).taken ToClient) n (Event m) cs l.stands.events.in_boxes whole l.events in
+    let seen = rest_seen spelled_coming (limit_of p) ToClient p.recording p.server.core.outbox p.client.core.inbox ((knows p).taken ToClient) n c cs l.stands.events.in_boxes whole l.events in
     let told = subst (λ (x : List (Coming Known)). Each (TellsAdvertised tables (knows p)) x) seen.seen_is f.tells in
-    let joins = subst (λ (x : List (Coming Known)). Joins (by_event tables) (all_asks l.requests.later) (all_tells x) f.here (client_rows p.client.core.view)) seen.seen_is f.joins in
     record {
       stands = s;
       requests = l.requests;
@@ -231,13 +211,24 @@ event_links p w w' asked m cs n entry whole l s =
         passed = f.passed;
         here = f.here;
         known_as = f.known_as;
-        joins = event_joins (by_event tables) m l.requests.later seen.rest f.here p.client.core.view tables l.stands.events.fit.0.fits joins;
-        remembers = learns (knows p) tables p.client.core.tables p.server.globals p.client.globals m l.stands.terms.same_tables l.stands.events.fit.0 told.0 f.remembers (teaches m entry) (λ h. (and_parts (is_registry m.target.born) _ h).0);
+        joins = joins f.here seen.rest (subst (λ (x : List (Coming Known)). Joins (by_event tables) (all_asks l.requests.later) (all_tells x) f.here (client_rows p.client.core.view)) seen.seen_is f.joins);
+        remembers = learned told.0;
         tells = told.1;
         binds = f.binds;
       };
-      counted = each_rest (IsBelow p.server.core.view.births) (tells (Event m)) (all_tells cs) l.counted;
+      counted = each_rest (IsBelow p.server.core.view.births) (tells c) (all_tells cs) l.counted;
     }
+
+pub event_links : (p : PairState) (w w' : World) (asked : List (Message Known)) (m : Message Known) (cs : List (Coming Known)) (n : ℕ) (entry : Entry)
+    → in_front p.client.core.inbox ≡ Whole n → LinkedBy p w asked (Event m ∷ cs)
+    → StandsBy (with_client p (after_event p.client m n (teaches m entry))) w' asked cs → LinkedBy (with_client p (after_event p.client m n (teaches m entry))) w' asked cs
+event_links p w w' asked m cs n entry whole l s =
+    let tables = p.server.core.tables in
+    let fit = l.stands.events.fit.0 in
+    coming_links p w w' asked (Event m) cs n (ended_view client_end p.client.core.view m.ends) (after_event p.client m n (teaches m entry)).globals whole l
+    (λ here rest j. event_joins (by_event tables) m l.requests.later rest here p.client.core.view tables fit.fits j)
+    (λ told. learns (Advertised p) tables p.client.core.tables p.server.globals p.client.globals m l.stands.terms.same_tables fit (told_advertised tables p.server.globals (knows p) m told) l.follows.remembers
+    (teaches m entry) (λ h. (and_parts (is_registry m.target.born) _ h).0)) s
 
 delete_joins : (test : Born → Bool) (x : Known) (asked_later : List (Message Known)) (rest : List (Coming Known)) (here : Rows Row) (p : PairState) (n : ℕ)
     → Joins test (all_asks asked_later) (all_tells (Delete x ∷ rest)) here (client_rows p.client.core.view) → Joins test (all_asks asked_later) (all_tells rest) here (client_rows (after_delete p.client x n).core.view)
@@ -248,23 +239,5 @@ delete_joins test x asked_later rest here p n j =
 pub delete_links : (p : PairState) (w w' : World) (asked : List (Message Known)) (x : Known) (cs : List (Coming Known)) (n : ℕ) → in_front p.client.core.inbox ≡ Whole n
     → LinkedBy p w asked (Delete x ∷ cs) → StandsBy (with_client p (after_delete p.client x n)) w' asked cs → LinkedBy (with_client p (after_delete p.client x n)) w' asked cs
 delete_links p w w' asked x cs n whole l s =
-    let f = l.follows in
-    let tables = p.server.core.tables in
-    let seen = rest_seen spelled_coming (limit_of p) ToClient p.recording p.server.core.outbox p.client.core.inbox ((knows p).taken ToClient) n (Delete x) cs l.stands.events.in_boxes whole l.events in
-    let told = subst (λ (y : List (Coming Known)). Each (TellsAdvertised tables (knows p)) y) seen.seen_is f.tells in
-    let joins = subst (λ (y : List (Coming Known)). Joins (by_event tables) (all_asks l.requests.later) (all_tells y) f.here (client_rows p.client.core.view)) seen.seen_is f.joins in
-    record {
-      stands = s;
-      requests = l.requests;
-      events = record { seen = seen.rest; later = l.events.later; is = seen.others; recorded = seen.recorded };
-      follows = record {
-        passed = f.passed;
-        here = f.here;
-        known_as = f.known_as;
-        joins = delete_joins (by_event tables) x l.requests.later seen.rest f.here p n joins;
-        remembers = f.remembers;
-        tells = told.1;
-        binds = f.binds;
-      };
-      counted = each_rest (IsBelow p.server.core.view.births) (tells (Delete x)) (all_tells cs) l.counted;
-    }
+    coming_links p w w' asked (Delete x) cs n (closed p.client.core.view x.id) p.client.globals whole l
+    (λ here rest j. delete_joins (by_event p.server.core.tables) x l.requests.later rest here p n j) (λ told. l.follows.remembers) s

@@ -11,7 +11,7 @@ use Rattle.wl_check.specs.Rules.{reader, if_open}
 use Rattle.wl_world.specs.Meant.{Known, Arg, new_in, made_in}
 use Rattle.wl_world.specs.World.{Row, Open, Ending, Each, IfThere}
 use Rattle.wl_world.specs.Flight.{Rows, Held, Fresh}
-use Rattle.wl_world.proofs.Findings.{if_by}
+use Rattle.wl_world.proofs.Ended.{if_by}
 use Rattle.wl_world.proofs.Wholes.{OpenRow, each_by}
 use Rattle.wl_world.proofs.Readings.{HasObject}
 use Rattle.wl_link.specs.Follows.{KnownAs, entry_at}
@@ -50,11 +50,11 @@ IsMade all a = IfThere (λ x. made_in all ≡ Some x) (new_in a)
 pub news_free : (k : Knows) (places : List ℕ) (here : Rows Row) (args all : List (Arg Known)) → KnownAs k places here → IfThere (Fresh here) (made_in all) → Each (IsMade all) args → Each (IsFree (reader k ToServer)) args
 news_free k places here args all a g h =
     each_by (IsMade all) (IsFree (reader k ToServer))
-    (λ arg made. if_by (λ (x : Known). made_in all ≡ Some x) (λ (x : Known). (reader k ToServer).new_id x.id ≡ Free) (new_in arg)
-    (λ x e. fresh_known k places here x a (subst (IfThere (Fresh here)) e g)) made) args h
+    (λ arg made. if_by {P = λ (x : Known). made_in all ≡ Some x} {Q = λ (x : Known). (reader k ToServer).new_id x.id ≡ Free}
+    (λ x e. fresh_known k places here x a (subst (IfThere (Fresh here)) e g)) (new_in arg) made) args h
 
 -- none is new
 pub news_none : (r : Reader) (args all : List (Arg Known)) → made_in all ≡ None → Each (IsMade all) args → Each (IsFree r) args
 news_none r args all g h =
     each_by (IsMade all) (IsFree r)
-    (λ arg made. if_by (λ (x : Known). made_in all ≡ Some x) (λ (x : Known). r.new_id x.id ≡ Free) (new_in arg) (λ x e. absurd (cc (g, e))) made) args h
+    (λ arg made. if_by {P = λ (x : Known). made_in all ≡ Some x} {Q = λ (x : Known). r.new_id x.id ≡ Free} (λ x e. absurd (cc (g, e))) (new_in arg) made) args h

@@ -4,7 +4,7 @@ use Rattle.std.specs.Prelude.{option_map}
 use Rattle.std.specs.declared.option.Option.{Option}
 use Rattle.std.specs.declared.option.Option.TheVariants.{None, Some}
 use Rattle.std.proofs.lemmas.Bool.Decides.{nat_tests}
-use Rattle.wl_wire.specs.Argument.{Int, Uint, Fixed, Str, Obj, New, NewNamed, Array, Fd}
+use Rattle.wl_wire.specs.Argument.{Obj}
 use Rattle.wl_table.specs.declared.object.Entry.{Entry}
 use Rattle.wl_table.specs.declared.object.State.{State}
 use Rattle.wl_table.specs.declared.object.State.TheVariants as states
@@ -75,6 +75,15 @@ client_after v (Some y) (Some x) g h =
     ∙ ap (λ (b : Born). at (client_rows (opened_at v y.id y.born.iface y.born.version)) x.id (Some (Ending b))) h.same
     ∙ ap (λ (r : Rows Row). at r x.id (Some (Ending x.born))) (client_opened v y g.birth)
 
+-- ---- the count of births
+
+-- what is made is counted, and no count falls
+pub births_kept : (v : View) (n o : Option Known) → v.births ≤ (ended_view Server (opens v (option_map made_of n)) o).births
+births_kept v None None = omega arith
+births_kept v None (Some x) = omega arith
+births_kept v (Some y) None = omega arith
+births_kept v (Some y) (Some x) = omega arith
+
 -- ---- soundness
 
 server_opens_sound : (v : View) (n : Option Known) → Sound v → IfThere (Fresh (server_rows v)) n → Sound (opens v (option_map made_of n))
@@ -122,48 +131,24 @@ module _ {A B : Type 0} (f : A → B) where
   or_map (Some x) b = refl
 
   new_map : (a : Arg A) → new_in (rearg f a) ≡ option_map f (new_in a)
-  new_map (Int z) = refl
-  new_map (Uint z) = refl
-  new_map (Fixed z) = refl
-  new_map (Str z) = refl
   new_map (Obj None) = refl
-  new_map (Obj (Some x)) = refl
-  new_map (New x) = refl
-  new_map (NewNamed name own x) = refl
-  new_map (Array z) = refl
-  new_map (Fd z) = refl
+  new_map a = refl
 
   pub made_map : (args : List (Arg A)) → made_in (map (rearg f) args) ≡ option_map f (made_in args)
   made_map [] = refl
   made_map (a ∷ args) = rw (new_map a, made_map args) (or_map (new_in a) (made_in args))
 
   object_map : (a : Arg A) (xs : List A) → object_in (rearg f a) ++ map f xs ≡ map f (object_in a ++ xs)
-  object_map (Int z) xs = refl
-  object_map (Uint z) xs = refl
-  object_map (Fixed z) xs = refl
-  object_map (Str z) xs = refl
   object_map (Obj None) xs = refl
-  object_map (Obj (Some x)) xs = refl
-  object_map (New x) xs = refl
-  object_map (NewNamed name own x) xs = refl
-  object_map (Array z) xs = refl
-  object_map (Fd z) xs = refl
+  object_map a xs = refl
 
   pub objects_map : (args : List (Arg A)) → objects (map (rearg f) args) ≡ map f (objects args)
   objects_map [] = refl
   objects_map (a ∷ args) = rw (objects_map args) (object_map a (objects args))
 
   token_map : (a : Arg A) (xs : List ℕ) → token_in (rearg f a) ++ xs ≡ token_in a ++ xs
-  token_map (Int z) xs = refl
-  token_map (Uint z) xs = refl
-  token_map (Fixed z) xs = refl
-  token_map (Str z) xs = refl
   token_map (Obj None) xs = refl
-  token_map (Obj (Some x)) xs = refl
-  token_map (New x) xs = refl
-  token_map (NewNamed name own x) xs = refl
-  token_map (Array z) xs = refl
-  token_map (Fd z) xs = refl
+  token_map a xs = refl
 
   pub tokens_map : (args : List (Arg A)) → tokens (map (rearg f) args) ≡ tokens args
   tokens_map [] = refl

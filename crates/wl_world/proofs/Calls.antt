@@ -147,16 +147,8 @@ new_known view None = record { id = next_id view; born = record { birth = view.b
 new_known view (Some m) = record { id = next_id view; born = record { birth = view.births; iface = m.iface; version = m.version } }
 
 wire_one : (view : View) (new : Known) (a : Given) → wire (meant view new a) ≡ wired new.id a
-wire_one view new (Int z) = refl
-wire_one view new (Uint z) = refl
-wire_one view new (Fixed z) = refl
-wire_one view new (Str z) = refl
 wire_one view new (Obj None) = refl
-wire_one view new (Obj (Some x)) = refl
-wire_one view new (New x) = refl
-wire_one view new (NewNamed name own x) = refl
-wire_one view new (Array z) = refl
-wire_one view new (Fd z) = refl
+wire_one view new a = refl
 
 pub wire_all : (view : View) (new : Known) (given : List Given) → map wire (map (meant view new) given) ≡ map (wired new.id) given
 wire_all view new [] = refl
@@ -164,16 +156,9 @@ wire_all view new (a ∷ given) = rw (wire_one view new a, wire_all view new giv
 
 pub tokens_all : (view : View) (new : Known) (given : List Given) → tokens (map (meant view new) given) ≡ tokens_of given
 tokens_all view new [] = refl
-tokens_all view new (Int z ∷ given) = tokens_all view new given
-tokens_all view new (Uint z ∷ given) = tokens_all view new given
-tokens_all view new (Fixed z ∷ given) = tokens_all view new given
-tokens_all view new (Str z ∷ given) = tokens_all view new given
 tokens_all view new (Obj None ∷ given) = tokens_all view new given
-tokens_all view new (Obj (Some x) ∷ given) = tokens_all view new given
-tokens_all view new (New x ∷ given) = tokens_all view new given
-tokens_all view new (NewNamed name own x ∷ given) = tokens_all view new given
-tokens_all view new (Array z ∷ given) = tokens_all view new given
 tokens_all view new (Fd z ∷ given) = ap (λ (l : List ℕ). z ∷ l) (tokens_all view new given)
+tokens_all view new (a ∷ given) = tokens_all view new given
 
 -- each suits its kind, and can be named
 pub record Right (view : View) (kind : Kind) (a : Given) : Type 0 where
@@ -201,18 +186,13 @@ all_right view place (k ∷ ks) (a ∷ given) w l =
 -- ---- it names what was handed
 
 handed_one : (view : View) (new : Known) (births : ℕ) (k : Kind) (a : Given) → new.born.birth ≡ births → Right view k a → rearg birth_of (rearg born_of (meant view new a)) ≡ handed births a
-handed_one view new births k (Int z) e r = refl
-handed_one view new births k (Uint z) e r = refl
-handed_one view new births k (Fixed z) e r = refl
-handed_one view new births k (Str z) e r = refl
 handed_one view new births k (Obj None) e r = refl
 handed_one view new births k (Obj (Some x)) e r =
     let l = live_as x.birth (look view x.id) (and_parts _ _ r.named).0 in
     ap (λ (b : ℕ). Obj (Some b)) (ap (λ o. (born_at o).birth) l.there ∙ l.birth_is)
 handed_one view new births k (New x) e r = ap (λ (b : ℕ). New b) e
 handed_one view new births k (NewNamed name own x) e r = ap (λ (b : ℕ). NewNamed name own b) e
-handed_one view new births k (Array z) e r = refl
-handed_one view new births k (Fd z) e r = refl
+handed_one view new births k a e r = refl
 
 pub handed_all : (view : View) (new : Known) (births : ℕ) (ks : List Kind) (given : List Given) → new.born.birth ≡ births → AllRight view ks given
     → map (rearg birth_of) (map (rearg born_of) (map (meant view new) given)) ≡ map (handed births) given
@@ -237,16 +217,9 @@ pub all_live : (view : View) (new : Known) (ks : List Kind) (given : List Given)
 all_live view new [] [] r = tt
 all_live view new [] (a ∷ given) r = absurd r
 all_live view new (k ∷ ks) [] r = absurd r
-all_live view new (k ∷ ks) (Int z ∷ given) r = all_live view new ks given r.1
-all_live view new (k ∷ ks) (Uint z ∷ given) r = all_live view new ks given r.1
-all_live view new (k ∷ ks) (Fixed z ∷ given) r = all_live view new ks given r.1
-all_live view new (k ∷ ks) (Str z ∷ given) r = all_live view new ks given r.1
 all_live view new (k ∷ ks) (Obj None ∷ given) r = all_live view new ks given r.1
 all_live view new (k ∷ ks) (Obj (Some x) ∷ given) r = (live_at view k x r.0.named, all_live view new ks given r.1)
-all_live view new (k ∷ ks) (New x ∷ given) r = all_live view new ks given r.1
-all_live view new (k ∷ ks) (NewNamed name own x ∷ given) r = all_live view new ks given r.1
-all_live view new (k ∷ ks) (Array z ∷ given) r = all_live view new ks given r.1
-all_live view new (k ∷ ks) (Fd z ∷ given) r = all_live view new ks given r.1
+all_live view new (k ∷ ks) (a ∷ given) r = all_live view new ks given r.1
 
 -- ---- its new object
 
@@ -257,14 +230,8 @@ Matches new version _ = Unit {0}
 
 none_new : (new : Known) (version : ℕ) (ks : List Kind) → length (new_objects ks) ≤ 0 → Each (Matches new version) ks
 none_new new version [] h = tt
-none_new new version (kinds.Int ∷ ks) h = (tt, none_new new version ks h)
-none_new new version (kinds.Uint ∷ ks) h = (tt, none_new new version ks h)
-none_new new version (kinds.Fixed ∷ ks) h = (tt, none_new new version ks h)
-none_new new version (kinds.Str n ∷ ks) h = (tt, none_new new version ks h)
-none_new new version (kinds.Obj n i ∷ ks) h = (tt, none_new new version ks h)
 none_new new version (kinds.New i ∷ ks) h = absurd (omega arith)
-none_new new version (kinds.Array ∷ ks) h = (tt, none_new new version ks h)
-none_new new version (kinds.Fd ∷ ks) h = (tt, none_new new version ks h)
+none_new new version (kind ∷ ks) h = (tt, none_new new version ks h)
 
 unnamed_first : (k : Kind) (ks : List Kind) → All (λ x. x ≢ kinds.New None) (k ∷ ks) → k ≢ kinds.New None
 unnamed_first k ks h = h 0 k (omega arith)
@@ -345,15 +312,9 @@ NewIs new args = Each (λ a. IfThere (λ x. x ≡ new) (new_in a)) args
 
 pub new_all : (view : View) (new : Known) (given : List Given) → NewIs new (map (meant view new) given)
 new_all view new [] = tt
-new_all view new (Int z ∷ given) = (tt, new_all view new given)
-new_all view new (Uint z ∷ given) = (tt, new_all view new given)
-new_all view new (Fixed z ∷ given) = (tt, new_all view new given)
-new_all view new (Str z ∷ given) = (tt, new_all view new given)
-new_all view new (Obj z ∷ given) = (tt, new_all view new given)
 new_all view new (New x ∷ given) = (refl, new_all view new given)
 new_all view new (NewNamed name own x ∷ given) = (refl, new_all view new given)
-new_all view new (Array z ∷ given) = (tt, new_all view new given)
-new_all view new (Fd z ∷ given) = (tt, new_all view new given)
+new_all view new (a ∷ given) = (tt, new_all view new given)
 
 first_is : (new : Known) (o p : Option Known) → IfThere (λ x. x ≡ new) o → (p ≡ None) ⊎ (p ≡ Some new) → (or_else o p ≡ None) ⊎ (or_else o p ≡ Some new)
 first_is new None p h q = q
@@ -419,18 +380,13 @@ none_rest : (a : Arg Known) (args : List (Arg Known)) → made_in (a ∷ args) �
 none_rest a args h = (or_none (new_in a) (made_in args) h).1
 
 handed_if : (view : View) (new : Known) (births : ℕ) (k : Kind) (a : Given) → new_in (meant view new a) ≡ None → Right view k a → rearg birth_of (rearg born_of (meant view new a)) ≡ handed births a
-handed_if view new births k (Int z) e r = refl
-handed_if view new births k (Uint z) e r = refl
-handed_if view new births k (Fixed z) e r = refl
-handed_if view new births k (Str z) e r = refl
 handed_if view new births k (Obj None) e r = refl
 handed_if view new births k (Obj (Some x)) e r =
     let l = live_as x.birth (look view x.id) (and_parts _ _ r.named).0 in
     ap (λ (b : ℕ). Obj (Some b)) (ap (λ o. (born_at o).birth) l.there ∙ l.birth_is)
 handed_if view new births k (New x) e r = absurd (cc e)
 handed_if view new births k (NewNamed name own x) e r = absurd (cc e)
-handed_if view new births k (Array z) e r = refl
-handed_if view new births k (Fd z) e r = refl
+handed_if view new births k a e r = refl
 
 pub handed_none : (view : View) (new : Known) (births : ℕ) (ks : List Kind) (given : List Given) → made_in (map (meant view new) given) ≡ None → AllRight view ks given
     → map (rearg birth_of) (map (rearg born_of) (map (meant view new) given)) ≡ map (handed births) given

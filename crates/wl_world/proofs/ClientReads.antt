@@ -1,6 +1,6 @@
 -- The client reads.
-use Rattle.std.proofs.Common.{◌≡◌, ◌≢◌, ℕ, ◌+◌, ◌<◌, ◌≤◌, Bool, true, false, cond, List, [], ◌∷◌, ◌++◌, map, length, take, refl, sym, ap, subst, ◌∙◌, arith, min}
-use Rattle.std.specs.Prelude.{option_map, codes, is_some, nat_eq, not, ◌&&◌}
+use Rattle.std.proofs.Common.{◌≡◌, ◌≢◌, ℕ, ◌+◌, ◌<◌, ◌≤◌, Bool, true, false, cond, List, [], ◌∷◌, ◌++◌, map, length, refl, sym, ap, subst, ◌∙◌, arith, min}
+use Rattle.std.specs.Prelude.{option_map, codes, nat_eq, not, ◌&&◌}
 use Rattle.std.specs.declared.option.Option.{Option}
 use Rattle.std.specs.declared.option.Option.TheVariants.{None, Some}
 use Rattle.std.specs.declared.result.Result.TheVariants.{Ok}
@@ -15,13 +15,10 @@ use Rattle.wl_sigs.specs.Fixed.{display, registry, wl_display}
 use Rattle.wl_sigs.specs.Fixed as fixed
 use Rattle.wl_message.specs.Arrived.{without_first, in_front}
 use Rattle.wl_message.specs.Cut.{Whole}
-use Rattle.wl_message.specs.Outgoing as boxes
 use Rattle.wl_table.specs.declared.object.Entry.{Entry}
 use Rattle.wl_table.specs.declared.object.State.{State}
 use Rattle.wl_table.specs.declared.object.State.TheVariants as states
-use Rattle.wl_table.specs.View.{View, look, is_held, closed}
-use Rattle.wl_table.specs.Views.{look-closed, look-zombied}
-use Rattle.wl_table.specs.Sounds.{Sound-closed}
+use Rattle.wl_table.specs.View.{View, look, closed}
 use Rattle.wl_objects.specs.Writing.{is_live}
 use Rattle.wl_objects.specs.Reading.{descriptors}
 use Rattle.wl_objects.specs.Messages.{is_error, is_delete_id, same_iface, Client as client_end, after, ended_id, after_delete_id}
@@ -31,20 +28,20 @@ use Rattle.wl_client.specs.declared.globals.Global.{Global as Remembered}
 use Rattle.wl_client.specs.State as client
 use Rattle.wl_client.specs.Reports.{state_past, globals_told, report}
 use Rattle.wl_client.specs.Reports as reports
-use Rattle.wl_world.specs.Meant.{Born, Known, Message, Coming, Event, Delete, renamed, recoming, rearg, born_of, birth_of, wire, tokens, spelled, spelled_coming, objects, plain, live_entry, ended_by}
-use Rattle.wl_world.specs.World.{World, display_born, Row, Each, event_read, delete_read, ending, put, is_open, is_registry, learned, nameless, IfThere}
+use Rattle.wl_world.specs.Meant.{Born, Known, Message, Coming, Event, Delete, renamed, recoming, rearg, born_of, birth_of, wire, tokens, spelled, spelled_coming, objects, plain, live_entry}
+use Rattle.wl_world.specs.World.{World, display_born, Row, event_read, delete_read, is_open, is_registry, learned, nameless, IfThere}
 use Rattle.wl_world.specs.Pair.{PairState, with_client}
 use Rattle.wl_world.specs.Flight.{Rows, Held, Reads, all_tells, client_rows, row, as_row}
-use Rattle.wl_world.specs.Stands.{StandsBy, Fits, TellsFitly, TellsGiven, InFlight, Shows, birth_in}
+use Rattle.wl_world.specs.Stands.{StandsBy, Fits, WasGiven, InFlight, Shows, birth_in}
 use Rattle.wl_world.proofs.Wholes.{client_ends, TellsAt, tells_at, DeletesAt, deletes_at}
 use Rattle.wl_world.proofs.Bridges.{client_closed}
 use Rattle.wl_world.proofs.Afters.{held_row, client_after}
 use Rattle.wl_world.proofs.Stands.{client_message, client_delete, first_read}
 use Rattle.wl_world.proofs.Readings.{HeldAt, AllMet, tokens_taken}
 use Rattle.wl_world.proofs.Findings.{the_found, the_message, finds, all_met, news_none}
-use Rattle.wl_world.proofs.Learning.{Gave, told_same, told_keeps}
+use Rattle.wl_world.proofs.Learning.{told_same, learns}
 use Rattle.wl_world.proofs.ServerReads.{test_of}
-use Rattle.wl_world.proofs.Ended.{Mortal, ended_view, after_is, ends_as, ended_has, if_by, both_if}
+use Rattle.wl_world.proofs.Ended.{Mortal, ended_view, after_is, ends_as, ends_have, if_by, both_if}
 
 -- ---- what the client holds
 
@@ -161,23 +158,14 @@ learned_is p w m asked told s t =
     (λ i. cond (is_registry m.target.born && live i) (globals_told p.client.core.tables (s.globals.remembered i) m.opcode (map nameless (map (rearg born_of) m.args))) (s.globals.remembered i))
     ∙ ap (λ (l : List Remembered). cond (teaches m t.entry) l p.client.globals) same
 
-learns : (p : PairState) (w : World) (m : Message Known) (asked : List (Message Known)) (told : List (Coming Known)) (s : StandsBy p w asked told) (f : TellsFitly p.server.core.tables p.server.globals m)
-    → (b : Bool) → (b ≡ true → is_registry m.target.born ≡ true) → Each (Gave p.server.globals) (cond b (globals_told p.client.core.tables p.client.globals m.opcode (map wire m.args)) p.client.globals)
-learns p w m asked told s f false h = s.globals.remembers
-learns p w m asked told s f true h =
-    told_keeps p.client.core.tables p.server.globals p.client.globals m.opcode m.args
-    (λ e. subst (λ (t : List Interface). TellsGiven t p.server.globals m.args) (sym s.terms.same_tables) (f.tells (h refl) e))
-    s.globals.remembers (nat_eq m.opcode 0) (nat_eq m.opcode 1) refl
-
 pub event_stands : (p : PairState) (w : World) (m : Message Known) (cs : List (Coming Known)) (asked : List (Message Known)) (s : StandsBy p w asked (Event m ∷ cs)) (n : ℕ) (i : InEvent p w m cs asked s n)
     → IfThere Mortal m.ends
     → StandsBy (with_client p (after_event p.client m n (teaches m i.target.entry))) (event_read p.client.core.tables w (renamed born_of m) (map (recoming born_of) cs)) asked cs
 event_stands p w m cs asked s n i y =
     let f = s.events.fit.0.fits in
-    let d : ended_by f.signature.destroys m.target m.args ≡ m.ends = sym f.ends in
     let v = p.client.core.view in
     let t = i.tells_it in
-    let held : IfThere (Held (client_rows v)) m.ends = subst (λ (o : Option Known). IfThere (Held (client_rows v)) o) d (ended_has (Held (client_rows v)) f.signature.destroys m.target m.args t.target t.args) in
+    let held : IfThere (Held (client_rows v)) m.ends = ends_have (Held (client_rows v)) p.server.core.tables event_side m f t.target t.args in
     let rows : client_rows (ended_view client_end v m.ends) ≡ client_ends m.ends (client_rows v) = client_after v None m.ends tt (if_by (held_row v) m.ends held) in
     record {
       terms = s.terms;
@@ -194,7 +182,7 @@ event_stands p w m cs asked s n i y =
       globals = record {
         remembered = learned_is p w m asked (Event m ∷ cs) s i.target;
         given = s.globals.given;
-        remembers = learns p w m asked (Event m ∷ cs) s s.events.fit.0 (teaches m i.target.entry) (λ h. (and_parts (is_registry m.target.born) (is_live i.target.entry.state) h).0);
+        remembers = learns (λ g. WasGiven p.server.globals g.name g.iface g.version) p.server.core.tables p.client.core.tables p.server.globals p.client.globals m s.terms.same_tables s.events.fit.0 (λ h e t. t.was_given) s.globals.remembers (teaches m i.target.entry) (λ h. (and_parts (is_registry m.target.born) (is_live i.target.entry.state) h).0);
         globals = s.globals.globals;
         few_globals = s.globals.few_globals;
       };
@@ -221,7 +209,7 @@ event_mortal p w m cs asked s n i =
     let t = i.tells_it in
     let f = s.events.fit.0.fits in
     both_if (held_mortal p w asked (Event m ∷ cs) s) m.ends
-    (subst (λ (o : Option Known). IfThere (Held (client_rows p.client.core.view)) o) (sym f.ends) (ended_has (Held (client_rows p.client.core.view)) f.signature.destroys m.target m.args t.target t.args)) t.ends_it
+    (ends_have (Held (client_rows p.client.core.view)) p.server.core.tables event_side m f t.target t.args) t.ends_it
 
 abbrev pub deleting : Known → Message Known
 deleting x = record { target = record { id = 1; born = display_born }; opcode = 1; args = Uint x.id ∷ []; ends = None }

@@ -1,30 +1,26 @@
 -- The client writes a request.
-use Rattle.std.proofs.Common.{◌≡◌, ◌≤◌, ℕ, true, false, List, [], ◌∷◌, ◌++◌, map, inl, refl, sym, ap, subst, ◌∙◌}
-use Rattle.std.specs.Prelude.{option_map, nat_eq}
+use Rattle.std.proofs.Common.{◌≡◌, ◌≤◌, ℕ, true, false, List, [], ◌∷◌, ◌++◌, map, inl, refl, sym, subst}
+use Rattle.std.specs.Prelude.{option_map}
 use Rattle.std.specs.declared.option.Option.{Option}
 use Rattle.std.specs.declared.option.Option.TheVariants.{None, Some}
-use Rattle.std.proofs.lemmas.Bool.{ne_eqb}
-use Rattle.std.proofs.lemmas.List.{map-append}
-use Rattle.wl_message.specs.Outgoing as boxes
-use Rattle.wl_table.specs.declared.object.Entry.{Entry}
 use Rattle.wl_objects.specs.Writing.{message_len}
-use Rattle.wl_table.specs.View.{View, Sound, look, next_id, can_open, opened_at}
-use Rattle.wl_table.specs.Views.{look-opened_at, look-zombied}
+use Rattle.wl_table.specs.View.{View, Sound, next_id, can_open, opened_at}
 use Rattle.wl_table.specs.Sounds.{Sound-opened}
 use Rattle.wl_objects.specs.Messages.{Client as client_end, opens as opens_view}
 use Rattle.wl_end.specs.Core.{Core}
 use Rattle.wl_end.proofs.Messages.{whole_within}
-use Rattle.wl_world.specs.Meant.{Born, Known, Message, Coming, renamed, rearg, born_of, wire, spelled, made_in, objects, live_entry, ended_by}
-use Rattle.wl_world.specs.World.{World, display_born, Row, Open, Each, IfThere, request_written, born_into, ending, counted}
+use Rattle.wl_world.specs.Meant.{Known, Message, Coming, renamed, rearg, born_of, wire, spelled, made_in, objects}
+use Rattle.wl_world.specs.World.{World, Row, Each, IfThere, request_written}
 use Rattle.wl_world.specs.Pair.{PairState, with_client_core}
-use Rattle.wl_world.specs.Flight.{Rows, Fresh, Meets, asks, all_asks, all_tells, client_rows, server_rows, row}
-use Rattle.wl_world.specs.Stands.{StandsBy, AsksFitly, InFlight, Shows, birth_in}
-use Rattle.wl_world.proofs.Wholes.{OpenRow, client_makes, client_ends, ask_meets, all_asks_more, each_more, live_made_if}
+use Rattle.wl_world.specs.Flight.{Rows, Fresh, Meets, asks, all_asks, all_tells, client_rows, server_rows}
+use Rattle.wl_world.specs.Stands.{StandsBy, AsksFitly}
+use Rattle.wl_world.proofs.Wholes.{OpenRow, client_makes, client_ends, ask_meets, all_asks_more, live_made_if}
 use Rattle.wl_world.proofs.Afters.{held_row, client_after, made_map}
 use Rattle.wl_world.proofs.Stands.{client_message, travel_more}
 use Rattle.wl_world.proofs.Readings.{made_of}
 use Rattle.wl_world.proofs.ServerReads.{test_of}
-use Rattle.wl_world.proofs.Ended.{Mortal, ended_view, ended_has, if_by}
+use Rattle.wl_sigs.specs.declared.signature.Side.TheVariants.{Request}
+use Rattle.wl_world.proofs.Ended.{Mortal, ended_view, ends_have, if_by}
 
 -- ---- any request that fits and whose objects are open
 
@@ -58,12 +54,11 @@ pub ask_stands : (p : PairState) (w : World) (asked : List (Message Known)) (tol
     → StandsBy (asked_pair p m) (request_written w (renamed born_of m)) (asked ++ m ∷ []) told
 ask_stands p w asked told s m c =
     let f = c.fitly.fits in
-    let d : ended_by f.signature.destroys m.target m.args ≡ m.ends = sym f.ends in
     let v = p.client.core.view in
     let new = made_in m.args in
     let world_new : made_in (map (rearg born_of) m.args) ≡ option_map born_of new = made_map born_of m.args in
-    let opened : IfThere (OpenRow (client_rows v)) m.ends = subst (λ (o : Option Known). IfThere (OpenRow (client_rows v)) o) d (ended_has (OpenRow (client_rows v)) f.signature.destroys m.target m.args c.target c.args) in
-    let no_event : IfThere (λ x. test_of p x.born ≡ false) m.ends = subst (λ (o : Option Known). IfThere (λ x. test_of p x.born ≡ false) o) d (ended_has (λ x. test_of p x.born ≡ false) f.signature.destroys m.target m.args c.target_plain c.args_plain) in
+    let opened : IfThere (OpenRow (client_rows v)) m.ends = ends_have (OpenRow (client_rows v)) p.server.core.tables Request m f c.target c.args in
+    let no_event : IfThere (λ x. test_of p x.born ≡ false) m.ends = ends_have (λ x. test_of p x.born ≡ false) p.server.core.tables Request m f c.target_plain c.args_plain in
     let rows : client_rows (ended_view client_end (opens_view v (option_map made_of new)) m.ends) ≡ client_ends m.ends (client_makes (client_rows v) new) =
     client_after v new m.ends c.new (if_by (λ x h. held_row v x (inl h)) m.ends opened) in
     let objects_stand = client_message s.client new m.ends (opens_sound v new s.client.sound c.new_next c.new_can) c.new f.new_version (if_by (λ x h. inl h) m.ends opened)

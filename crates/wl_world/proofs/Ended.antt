@@ -28,14 +28,6 @@ pub at_has : {O : Type 0} (P : O → Type 0) (args : List (Arg O)) (place : ℕ)
 at_has P [] place k = tt
 at_has P (Obj (Some x) ∷ more) zero k = k.0
 at_has P (Obj None ∷ more) zero k = tt
-at_has P (Int z ∷ more) zero k = tt
-at_has P (Uint z ∷ more) zero k = tt
-at_has P (Fixed z ∷ more) zero k = tt
-at_has P (Str z ∷ more) zero k = tt
-at_has P (New z ∷ more) zero k = tt
-at_has P (NewNamed a b z ∷ more) zero k = tt
-at_has P (Array z ∷ more) zero k = tt
-at_has P (Fd z ∷ more) zero k = tt
 at_has P (Obj (Some x) ∷ more) (suc place) k = at_has P more place k.1
 at_has P (Obj None ∷ more) (suc place) k = at_has P more place k
 at_has P (Int z ∷ more) (suc place) k = at_has P more place k
@@ -46,19 +38,12 @@ at_has P (New z ∷ more) (suc place) k = at_has P more place k
 at_has P (NewNamed a b z ∷ more) (suc place) k = at_has P more place k
 at_has P (Array z ∷ more) (suc place) k = at_has P more place k
 at_has P (Fd z ∷ more) (suc place) k = at_has P more place k
+at_has P (a ∷ more) zero k = tt
 
 pub at_map : {A B : Type 0} (f : A → B) (args : List (Arg A)) (place : ℕ) → object_at (map (rearg f) args) place ≡ option_map f (object_at args place)
 at_map f [] place = refl
 at_map f (Obj (Some x) ∷ more) zero = refl
-at_map f (Obj None ∷ more) zero = refl
-at_map f (Int z ∷ more) zero = refl
-at_map f (Uint z ∷ more) zero = refl
-at_map f (Fixed z ∷ more) zero = refl
-at_map f (Str z ∷ more) zero = refl
-at_map f (New z ∷ more) zero = refl
-at_map f (NewNamed a b z ∷ more) zero = refl
-at_map f (Array z ∷ more) zero = refl
-at_map f (Fd z ∷ more) zero = refl
+at_map f (a ∷ more) zero = refl
 at_map f (a ∷ more) (suc place) = at_map f more place
 
 -- what holds of the target and of each object among the arguments holds of what is destroyed
@@ -107,14 +92,7 @@ argument_by : (tables : List Interface) (version : ℕ) (args : List (Arg Known)
 argument_by tables version [] a = absurd a
 argument_by tables version (Obj (Some x) ∷ []) a = record { it = x; are = refl; some = a.0.1.0; registers = sym (eqb-true 1 x.born.iface.0 a.0.1.1) }
 argument_by tables version (Obj None ∷ []) a = absurd (let no = a.0.0.1 refl in cc no)
-argument_by tables version (Int z ∷ []) a = absurd a.0.0
-argument_by tables version (Uint z ∷ []) a = absurd a.0.0
-argument_by tables version (Fixed z ∷ []) a = absurd a.0.0
-argument_by tables version (Str z ∷ []) a = absurd a.0.0
-argument_by tables version (New z ∷ []) a = absurd a.0.0
-argument_by tables version (NewNamed name own z ∷ []) a = absurd a.0.0
-argument_by tables version (Array z ∷ []) a = absurd a.0.0
-argument_by tables version (Fd z ∷ []) a = absurd a.0.0
+argument_by tables version (arg ∷ []) a = absurd a.0.0
 argument_by tables version (x ∷ y ∷ more) a = absurd a.1
 
 pub argument_is : (tables : List Interface) (side : Side) (m : Message Known) (f : Fits tables side m) (k : ℕ) → Valid tables → f.signature.destroys ≡ ends_arg k → (k ≡ 0) × IsArgument m.args
@@ -157,3 +135,7 @@ ends_as tables side m f v =
     by_what Nothing d = record { flag = refl; same = tt }
     by_what Target d = record { flag = refl; same = refl }
     by_what (ends_arg k) d = let a = argument_is tables side m f k v d in ends_argument m.target m.args k a.0 a.1.it a.1.are
+
+-- what is so of a message's target and of its objects is so of what it ends
+pub ends_have : (P : Known → Type 0) (tables : List Interface) (side : Side) (m : Message Known) → Fits tables side m → P m.target → Each P (objects m.args) → IfThere P m.ends
+ends_have P tables side m f x xs = subst (IfThere P) (sym f.ends) (ended_has P f.signature.destroys m.target m.args x xs)

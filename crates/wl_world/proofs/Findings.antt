@@ -5,7 +5,7 @@ use Rattle.std.specs.declared.option.Option.TheVariants.{None, Some}
 use Rattle.std.specs.declared.result.Result.TheVariants.{Ok}
 use Rattle.std.proofs.lemmas.List.{take-append-drop}
 use Rattle.wl_wire.specs.declared.kind.Kind.{Kind}
-use Rattle.wl_wire.specs.Argument.{Int, Uint, Fixed, Str, Obj, New, NewNamed, Array, Fd}
+use Rattle.wl_wire.specs.Argument.{Obj, New, NewNamed}
 use Rattle.wl_sigs.specs.declared.signature.Side.{Side}
 use Rattle.wl_sigs.specs.Tables.{Interface}
 use Rattle.wl_sigs.specs.Tables as sigs
@@ -23,6 +23,7 @@ use Rattle.wl_world.specs.Flight.{Fresh, server_rows}
 use Rattle.wl_world.specs.Stands.{Fits, AreOf}
 use Rattle.wl_world.proofs.Bridges.{fresh_free, fresh_room}
 use Rattle.wl_world.proofs.Wholes.{each_by}
+use Rattle.wl_world.proofs.Ended.{if_by}
 use Rattle.wl_world.proofs.Readings.{HeldAt, FreeAt, AllMet, received_right, parted}
 
 -- the message that is found
@@ -55,31 +56,22 @@ pub all_met : (tables : List Interface) (version : ℕ) (view : View) (rows : �
 all_met tables version view rows There f [] [] a o n = tt
 all_met tables version view rows There f (k ∷ ks) [] a o n = absurd a
 all_met tables version view rows There f [] (x ∷ args) a o n = absurd a
-all_met tables version view rows There f (k ∷ ks) (Int z ∷ args) a o n = (tt, all_met tables version view rows There f ks args a.1 o n.1)
-all_met tables version view rows There f (k ∷ ks) (Uint z ∷ args) a o n = (tt, all_met tables version view rows There f ks args a.1 o n.1)
-all_met tables version view rows There f (k ∷ ks) (Fixed z ∷ args) a o n = (tt, all_met tables version view rows There f ks args a.1 o n.1)
-all_met tables version view rows There f (k ∷ ks) (Str z ∷ args) a o n = (tt, all_met tables version view rows There f ks args a.1 o n.1)
 all_met tables version view rows There f (k ∷ ks) (Obj None ∷ args) a o n = (tt, all_met tables version view rows There f ks args a.1 o n.1)
 all_met tables version view rows There f (k ∷ ks) (Obj (Some x) ∷ args) a o n = (f x a.0.1.0 o.0, all_met tables version view rows There f ks args a.1 o.1 n.1)
 all_met tables version view rows There f (k ∷ ks) (New x ∷ args) a o n = (n.0, all_met tables version view rows There f ks args a.1 o n.1)
 all_met tables version view rows There f (k ∷ ks) (NewNamed name own x ∷ args) a o n = (n.0, all_met tables version view rows There f ks args a.1 o n.1)
-all_met tables version view rows There f (k ∷ ks) (Array z ∷ args) a o n = (tt, all_met tables version view rows There f ks args a.1 o n.1)
-all_met tables version view rows There f (k ∷ ks) (Fd z ∷ args) a o n = (tt, all_met tables version view rows There f ks args a.1 o n.1)
-
-pub if_by : {X : Type 0} (P Q : X → Type 0) (o : Option X) → ((x : X) → P x → Q x) → IfThere P o → IfThere Q o
-if_by P Q None f h = tt
-if_by P Q (Some x) f h = f x h
+all_met tables version view rows There f (k ∷ ks) (arg ∷ args) a o n = (tt, all_met tables version view rows There f ks args a.1 o n.1)
 
 pub news_free : (view : View) (args all : List (Arg Known)) → Sound view → IfThere (Fresh (server_rows view)) (made_in all) → Each (λ a. IfThere (λ x. made_in all ≡ Some x) (new_in a)) args
     → Each (λ a. IfThere (FreeAt view) (new_in a)) args
 news_free view args all s g h =
     each_by (λ (a : Arg Known). IfThere (λ x. made_in all ≡ Some x) (new_in a)) (λ (a : Arg Known). IfThere (FreeAt view) (new_in a))
-    (λ a k. if_by (λ (x : Known). made_in all ≡ Some x) (FreeAt view) (new_in a)
-    (λ x e. let f : Fresh (server_rows view) x = subst (IfThere (Fresh (server_rows view))) e g in record { free = fresh_free view x s f; room = fresh_room view x f; birth = f.birth }) k) args h
+    (λ a k. if_by {P = λ (x : Known). made_in all ≡ Some x} {Q = FreeAt view}
+    (λ x e. let f : Fresh (server_rows view) x = subst (IfThere (Fresh (server_rows view))) e g in record { free = fresh_free view x s f; room = fresh_room view x f; birth = f.birth }) (new_in a) k) args h
 
 -- none is new
 pub news_none : (view : View) (args all : List (Arg Known)) → made_in all ≡ None → Each (λ a. IfThere (λ x. made_in all ≡ Some x) (new_in a)) args
     → Each (λ a. IfThere (FreeAt view) (new_in a)) args
 news_none view args all g h =
     each_by (λ (a : Arg Known). IfThere (λ x. made_in all ≡ Some x) (new_in a)) (λ (a : Arg Known). IfThere (FreeAt view) (new_in a))
-    (λ a k. if_by (λ (x : Known). made_in all ≡ Some x) (FreeAt view) (new_in a) (λ x e. absurd (cc (g, e))) k) args h
+    (λ a k. if_by {P = λ (x : Known). made_in all ≡ Some x} {Q = FreeAt view} (λ x e. absurd (cc (g, e))) (new_in a) k) args h

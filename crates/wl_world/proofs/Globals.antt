@@ -20,6 +20,7 @@ use Rattle.wl_server.specs.declared.globals.GlobalError.TheVariants.{Failed, Bad
 use Rattle.wl_world.specs.Answers.{NotEnded, before}
 use Rattle.wl_world.specs.Stands.{StandsBy, WasGiven, AsksFitly, ComesFitly, IsGlobal}
 use Rattle.wl_world.proofs.Wholes.{each_by, each_more}
+use Rattle.wl_world.proofs.Stands.{travel_by}
 use Rattle.wl_world.proofs.Moves.{Moves, goes_on, stays, giving}
 
 -- each name has the interface and version that it had
@@ -72,16 +73,8 @@ given_stands p w asked told s more g e l = record {
   terms = s.terms;
   client = s.client;
   server = s.server;
-  requests = record {
-    in_world = s.requests.in_world;
-    in_boxes = s.requests.in_boxes;
-    fit = each_by (AsksFitly p.server.core.tables p.server.globals) (AsksFitly p.server.core.tables more) (asks_still p.server.globals more g p.server.core.tables) asked s.requests.fit;
-  };
-  events = record {
-    in_world = s.events.in_world;
-    in_boxes = s.events.in_boxes;
-    fit = each_by (ComesFitly p.server.core.tables p.server.globals) (ComesFitly p.server.core.tables more) (comes_still p.server.globals more g p.server.core.tables) told s.events.fit;
-  };
+  requests = travel_by (asks_still p.server.globals more g p.server.core.tables) s.requests;
+  events = travel_by (comes_still p.server.globals more g p.server.core.tables) s.events;
   deletes_follow = s.deletes_follow;
   meet = s.meet;
   globals = record {

@@ -84,10 +84,6 @@ strict r = record r { forgives = false }
 
 right : (tables : List Interface) (version place : ℕ) (r : Reader) (kind : Kind) (a : Arg Known) → NamesRightly tables version kind a → Finds r a
     → value_fault (strict r) place kind (wire a) ≡ None
-right tables version place r kind (Int v) n m = refl
-right tables version place r kind (Uint v) n m = refl
-right tables version place r kind (Fixed v) n m = refl
-right tables version place r kind (Str v) n m = refl
 right tables version place r kind (Obj None) n m = refl
 right tables version place r kind (Obj (Some x)) n m =
     let some : nat_eq x.id 0 ≡ false = ne_eqb x.id 0 (λ h. omega (arith, n.0)) in
@@ -95,8 +91,7 @@ right tables version place r kind (Obj (Some x)) n m =
     rw (some, m.there, of) refl
 right tables version place r kind (New x) n m = rw m refl
 right tables version place r kind (NewNamed name own x) n m = rw m refl
-right tables version place r kind (Array v) n m = refl
-right tables version place r kind (Fd v) n m = refl
+right tables version place r kind a n m = refl
 
 read_one : (r : Reader) (place : ℕ) (kind : Kind) (ks : List Kind) (v : Argument) (rest : List ℕ) (vs : List Argument) → Suits kind v → value_fault (strict r) place kind v ≡ None
     → arguments_at (strict r) (suc place) ks rest ≡ Ok (vs, []) → arguments_at (strict r) place (kind ∷ ks) (canonical v ++ rest) ≡ Ok (v ∷ vs, [])
@@ -164,12 +159,7 @@ one_found view rows (Obj None) m = tt
 one_found view rows (Obj (Some x)) m = object_held view rows x m
 one_found view rows (New x) m = rw (m.free, m.room) refl
 one_found view rows (NewNamed name own x) m = rw (m.free, m.room) refl
-one_found view rows (Int z) m = tt
-one_found view rows (Uint z) m = tt
-one_found view rows (Fixed z) m = tt
-one_found view rows (Str z) m = tt
-one_found view rows (Array z) m = tt
-one_found view rows (Fd z) m = tt
+one_found view rows a m = tt
 
 all_found : (view : View) (rows : ℕ → Option Row) (args : List (Arg Known)) → AllMet view rows args → Each (Finds (reader_of view)) args
 all_found view rows [] m = tt
@@ -188,10 +178,6 @@ received_right tables side view rows m header waiting entry f ho hp l s k w =
 
 pub report_one : (view : View) (rows : ℕ → Option Row) (a : Arg Known) (args : List (Arg Known)) (more : List ℕ) → Met view rows a
     → reshaped seen birth_at (λ t. t) (report_of (reader_of view) (first_or (tokens (a ∷ args) ++ more) 0) (wire a)) ≡ reshaped (seen_by rows) birth_of (λ t. t) (rearg born_of a)
-report_one view rows (Int z) args more m = refl
-report_one view rows (Uint z) args more m = refl
-report_one view rows (Fixed z) args more m = refl
-report_one view rows (Str z) args more m = refl
 report_one view rows (Obj None) args more m = refl
 report_one view rows (Obj (Some x)) args more m =
     let some : nat_eq x.id 0 ≡ false = ne_eqb x.id 0 (λ h. omega (arith, m.some)) in
@@ -202,20 +188,11 @@ report_one view rows (Obj (Some x)) args more m =
     by_state states.Zombie object b birth e = ap Dead e
 report_one view rows (New x) args more m = ap (λ (b : ℕ). New b) (sym m.birth)
 report_one view rows (NewNamed name own x) args more m = ap (λ (b : ℕ). NewNamed name own b) (sym m.birth)
-report_one view rows (Array z) args more m = refl
-report_one view rows (Fd z) args more m = refl
+report_one view rows a args more m = refl
 
 tokens_left : (a : Arg Known) (args : List (Arg Known)) (more : List ℕ) → tokens_after (wire a) (tokens (a ∷ args) ++ more) ≡ tokens args ++ more
-tokens_left (Int z) args more = refl
-tokens_left (Uint z) args more = refl
-tokens_left (Fixed z) args more = refl
-tokens_left (Str z) args more = refl
 tokens_left (Obj None) args more = refl
-tokens_left (Obj (Some x)) args more = refl
-tokens_left (New x) args more = refl
-tokens_left (NewNamed name own x) args more = refl
-tokens_left (Array z) args more = refl
-tokens_left (Fd z) args more = refl
+tokens_left a args more = refl
 
 pub reports_right : (view : View) (rows : ℕ → Option Row) (args : List (Arg Known)) (more : List ℕ) → AllMet view rows args
     → map (reshaped seen birth_at (λ t. t)) (reports_of (reader_of view) (tokens args ++ more) (map wire args)) ≡ map (reshaped (seen_by rows) birth_of (λ t. t)) (map (rearg born_of) args)

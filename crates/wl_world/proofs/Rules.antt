@@ -12,7 +12,7 @@ use Rattle.std.proofs.lemmas.List.Folds.{list_any_at}
 use Rattle.wl_wire.specs.declared.kind.Kind.{Kind}
 use Rattle.wl_wire.specs.declared.kind.Kind.TheVariants as kinds
 use Rattle.wl_wire.specs.declared.kind.Iface.{Iface}
-use Rattle.wl_wire.specs.Argument.{Int, Uint, Fixed, Str, Obj, New, NewNamed, Array, Fd}
+use Rattle.wl_wire.specs.Argument.{Int, Obj, New}
 use Rattle.wl_sigs.specs.declared.signature.Side.{Side}
 use Rattle.wl_sigs.specs.declared.signature.Side.TheVariants.{Request, Event}
 use Rattle.wl_sigs.specs.Tables.{Message, Interface, interface_at, signature_at, messages_of, message_of, new_objects, has_destroying_event, destroys_target}
@@ -83,25 +83,15 @@ named_plain tables view k id birth (Some iface) null e n p h =
     ap (λ o. by_event tables (born_at o)) l.there ∙ argument_plain tables iface l.entry.iface (interface_at tables l.entry.iface.0) refl of (λ i q. p null iface i e q)
 
 object_kind : (k : Kind) (x : Object) → suits k (Obj (Some x)) ≡ true → (null : Bool) × (iface : Option Iface) × (k ≡ kinds.Obj null iface)
-object_kind kinds.Int x h = absurd (cc h)
-object_kind kinds.Uint x h = absurd (cc h)
-object_kind kinds.Fixed x h = absurd (cc h)
-object_kind (kinds.Str n) x h = absurd (cc h)
 object_kind (kinds.Obj null iface) x h = (null, iface, refl)
 object_kind (kinds.New None) x h = absurd (cc h)
-object_kind (kinds.New (Some i)) x h = absurd (cc h)
-object_kind kinds.Array x h = absurd (cc h)
-object_kind kinds.Fd x h = absurd (cc h)
+object_kind kind x h = absurd (cc h)
 
 pub objects_plain : (tables : List Interface) (view : View) (new : Known) (ks : List Kind) (given : List Given) → AllRight view ks given → All NamedKind ks → All (PlainKind tables) ks
     → Each (λ x. by_event tables x.born ≡ false) (objects (map (meant view new) given))
 objects_plain tables view new [] [] r n p = tt
 objects_plain tables view new [] (a ∷ given) r n p = absurd r
 objects_plain tables view new (k ∷ ks) [] r n p = absurd r
-objects_plain tables view new (k ∷ ks) (Int z ∷ given) r n p = objects_plain tables view new ks given r.1 (All-tail NamedKind k ks n) (All-tail (PlainKind tables) k ks p)
-objects_plain tables view new (k ∷ ks) (Uint z ∷ given) r n p = objects_plain tables view new ks given r.1 (All-tail NamedKind k ks n) (All-tail (PlainKind tables) k ks p)
-objects_plain tables view new (k ∷ ks) (Fixed z ∷ given) r n p = objects_plain tables view new ks given r.1 (All-tail NamedKind k ks n) (All-tail (PlainKind tables) k ks p)
-objects_plain tables view new (k ∷ ks) (Str z ∷ given) r n p = objects_plain tables view new ks given r.1 (All-tail NamedKind k ks n) (All-tail (PlainKind tables) k ks p)
 objects_plain tables view new (k ∷ ks) (Obj None ∷ given) r n p = objects_plain tables view new ks given r.1 (All-tail NamedKind k ks n) (All-tail (PlainKind tables) k ks p)
 objects_plain tables view new (k ∷ ks) (Obj (Some x) ∷ given) r n p =
     let o = object_kind k x r.0.suit in (
@@ -109,10 +99,7 @@ objects_plain tables view new (k ∷ ks) (Obj (Some x) ∷ given) r n p =
           (subst (λ (y : Kind). (is_live_as x.birth (look view x.id) && row_is_of (iface_of y) (look view x.id)) ≡ true) o.2 r.0.named),
       objects_plain tables view new ks given r.1 (All-tail NamedKind k ks n) (All-tail (PlainKind tables) k ks p),
     )
-objects_plain tables view new (k ∷ ks) (New x ∷ given) r n p = objects_plain tables view new ks given r.1 (All-tail NamedKind k ks n) (All-tail (PlainKind tables) k ks p)
-objects_plain tables view new (k ∷ ks) (NewNamed name own x ∷ given) r n p = objects_plain tables view new ks given r.1 (All-tail NamedKind k ks n) (All-tail (PlainKind tables) k ks p)
-objects_plain tables view new (k ∷ ks) (Array z ∷ given) r n p = objects_plain tables view new ks given r.1 (All-tail NamedKind k ks n) (All-tail (PlainKind tables) k ks p)
-objects_plain tables view new (k ∷ ks) (Fd z ∷ given) r n p = objects_plain tables view new ks given r.1 (All-tail NamedKind k ks n) (All-tail (PlainKind tables) k ks p)
+objects_plain tables view new (k ∷ ks) (a ∷ given) r n p = objects_plain tables view new ks given r.1 (All-tail NamedKind k ks n) (All-tail (PlainKind tables) k ks p)
 
 -- what `send` writes makes no object without an interface in its signature
 pub unnamed_none : (tables : List Interface) → Valid tables → (iface : Iface) (side : Side) (opcode : ℕ) (m : Message) → signature_at tables iface.0 side opcode ≡ Some m → is_hidden side iface opcode ≡ false

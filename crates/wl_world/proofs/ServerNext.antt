@@ -22,7 +22,7 @@ use Rattle.wl_world.specs.Stands.{StandsBy}
 use Rattle.wl_world.proofs.Channels.{pops, never_bad}
 use Rattle.wl_world.proofs.Readings.{reports_right}
 use Rattle.wl_world.proofs.Findings.{the_found}
-use Rattle.wl_world.proofs.Ended.{ends_as, some_map, ended_has, if_by}
+use Rattle.wl_world.proofs.Ended.{ends_as, some_map, ends_have, if_by}
 use Rattle.wl_world.proofs.Wholes.{ThereRow}
 use Rattle.wl_world.specs.Flight.{server_rows}
 use Rattle.wl_world.proofs.ServerReads.{InRequest, in_request, left_state, left_is, server_read_stands}
@@ -83,7 +83,7 @@ request_there : (p : PairState) (w : World) (m : Message Known) (ms : List (Mess
 request_there p w m ms told s n i =
     let there = ThereRow (server_rows p.server.core.view) in
     let f = s.requests.fit.0.fits in
-    subst (IfThere there) (sym f.ends) (ended_has there f.signature.destroys m.target m.args i.asks_it.target i.asks_it.args)
+    ends_have there p.server.core.tables request_side m f i.asks_it.target i.asks_it.args
 
 keeps_read : (p : PairState) (w : World) (m : Message Known) (ms : List (Message Known)) (told : List (Coming Known)) (s : StandsBy p w (m ∷ ms) told) (n : ℕ) → NotEnded p w
     → in_front p.server.core.inbox ≡ Whole n → (i : InRequest p w m ms told s n) → (reply : Result (Option Report) NextError) (p' : PairState)

@@ -1,11 +1,11 @@
 -- The server reads.
-use Rattle.std.proofs.Common.{◌≡◌, ℕ, ◌+◌, ◌<◌, ◌≤◌, Bool, true, false, List, [], ◌∷◌, ◌++◌, map, length, take, refl, sym, ap, subst, ◌∙◌, arith, min}
+use Rattle.std.proofs.Common.{◌≡◌, ℕ, ◌+◌, ◌<◌, ◌≤◌, Bool, true, false, List, [], ◌∷◌, ◌++◌, map, length, refl, sym, ap, subst, ◌∙◌, arith, min}
 use Rattle.std.proofs.lemmas.Bool.{ne_eqb}
-use Rattle.std.specs.Prelude.{option_map, nat_eq, not, ◌&&◌, is_some, slice_get}
+use Rattle.std.specs.Prelude.{option_map, not, ◌&&◌, is_some, slice_get}
 use Rattle.std.specs.declared.option.Option.{Option}
 use Rattle.std.specs.declared.option.Option.TheVariants.{None, Some}
 use Rattle.std.specs.declared.result.Result.TheVariants.{Ok}
-use Rattle.std.proofs.lemmas.List.{append-nil, map-append}
+use Rattle.std.proofs.lemmas.List.{append-nil}
 use Rattle.wl_sigs.specs.declared.signature.Side.TheVariants.{Request as request_side}
 use Rattle.wl_sigs.specs.declared.signature.Destroys.{Destroys}
 use Rattle.wl_sigs.specs.declared.signature.Destroys.TheVariants.{Nothing, Target, Arg as ends_arg}
@@ -19,7 +19,6 @@ use Rattle.wl_message.specs.Outgoing as boxes
 use Rattle.wl_wire.specs.Argument.{Uint, Obj}
 use Rattle.wl_table.specs.declared.object.Entry.{Entry}
 use Rattle.wl_table.specs.View.{View, Sound, look}
-use Rattle.wl_table.specs.Views.{look-opened_at, look-closed}
 use Rattle.wl_objects.specs.Messages.{opens, made as made_message, is_bind, reader_of, Server as server_end, after}
 use Rattle.wl_objects.specs.Reading.{descriptors, reports_of}
 use Rattle.wl_end.specs.Core.{Core, past, with_view}
@@ -28,14 +27,14 @@ use Rattle.wl_end.specs.Sending.{with_following}
 use Rattle.wl_server.specs.State as server
 use Rattle.wl_server.specs.Requests.{judged, request, is_good_bind, made_in as made_by_message, state_past, registries_after, object_in, ended_object, ended, report}
 use Rattle.wl_server.specs.Registries.{without_registry, registry_birth}
-use Rattle.wl_world.specs.Meant.{Event, Delete, Born, Known, Message, Coming, Arg, renamed, recoming, rearg, born_of, birth_of, wire, tokens, spelled, spelled_coming, made_in, objects, plain, live_entry, ended_by}
-use Rattle.wl_world.specs.World.{World, display_born, Open, Each, IfThere, delete, request_read, gone, born_into, same, registries_without, registries_after as marks_after}
+use Rattle.wl_world.specs.Meant.{Event, Delete, Born, Known, Message, Coming, Arg, renamed, recoming, rearg, born_of, birth_of, wire, tokens, spelled, spelled_coming, made_in, objects, plain, ended_by}
+use Rattle.wl_world.specs.World.{World, Open, Each, IfThere, delete, request_read, same, registries_without, registries_after as marks_after}
 use Rattle.wl_world.specs.Pair.{PairState, with_server}
 use Rattle.wl_world.specs.Answers.{rows_of_server}
 use Rattle.wl_world.specs.Flight.{Rows, Fresh, Tied, all_asks, server_rows, as_row}
-use Rattle.wl_world.specs.Stands.{DeletesFollow, BeginsWithDelete, StandsBy, Fits, ComesFitly, InFlight, by_event, Shows}
+use Rattle.wl_world.specs.Stands.{DeletesFollow, BeginsWithDelete, StandsBy, Fits, ComesFitly, InFlight, by_event}
 use Rattle.wl_world.proofs.Flight.{reads_more}
-use Rattle.wl_world.proofs.Wholes.{ThereRow, server_makes, asks_at, AsksAt, all_tells_more, each_more}
+use Rattle.wl_world.proofs.Wholes.{ThereRow, asks_at, AsksAt, all_tells_more}
 use Rattle.wl_world.proofs.Afters.{there_row, server_after, made_map}
 use Rattle.wl_world.proofs.Stands.{server_message, first_read, travel_more}
 use Rattle.wl_world.proofs.Registries.{marks_with, marks_left, left_are, registries_left, fresh_row, has_read}
@@ -44,7 +43,7 @@ use Rattle.wl_table.specs.declared.object.Object.{Object}
 use Rattle.wl_end.proofs.Messages.{whole_within}
 use Rattle.wl_world.proofs.Calls.{row_low}
 use Rattle.wl_world.proofs.Findings.{the_found, the_message, finds, all_met, news_free}
-use Rattle.wl_world.proofs.Ended.{Mortal, EndsAs, ended_view, after_is, argument_is, ended_has, if_by}
+use Rattle.wl_world.proofs.Ended.{EndsAs, ended_view, after_is, argument_is, ends_have, if_by}
 use Rattle.wl_server.proofs.Fronts.{named_object}
 
 -- ---- what is found
@@ -209,12 +208,11 @@ pub server_read_stands : (p : PairState) (w : World) (m : Message Known) (ms : L
     → StandsBy (with_server p (left_state p.server m n)) (request_read w (renamed born_of m) (map (renamed born_of) ms)) ms (told ++ delete m.ends)
 server_read_stands p w m ms told s n a up =
     let f = s.requests.fit.0.fits in
-    let d : ended_by f.signature.destroys m.target m.args ≡ m.ends = sym f.ends in
     let v = p.server.core.view in
     let new = made_in m.args in
     let rows = server_after v new m.ends a.new in
     let world_new : made_in (map (rearg born_of) m.args) ≡ option_map born_of new = made_map born_of m.args in
-    let there : IfThere (ThereRow (server_rows v)) m.ends = subst (λ (o : Option Known). IfThere (ThereRow (server_rows v)) o) d (ended_has (ThereRow (server_rows v)) f.signature.destroys m.target m.args a.target a.args) in
+    let there : IfThere (ThereRow (server_rows v)) m.ends = ends_have (ThereRow (server_rows v)) p.server.core.tables request_side m f a.target a.args in
     let low : IfThere (λ x. x.id ≤ 1048576) m.ends = if_by (low_there v s.server.sound) m.ends there in
     record {
       terms = s.terms;

@@ -41,7 +41,7 @@ use Rattle.wl_world.proofs.Calls.{Checked, is_checked, LiveAt, live_as, handed_n
 use Rattle.wl_world.proofs.Rules.{ends_so, no_event_new}
 use Rattle.wl_world.proofs.Written.{the_new, the_args, the_call, CallIs, call_is, call_ends, accepted_call, opens, no_delete}
 use Rattle.wl_world.proofs.ClientSend.{made_same}
-use Rattle.wl_world.proofs.Ended.{ended_view, ended_has, after_is, if_by, born_ends}
+use Rattle.wl_world.proofs.Ended.{ended_view, ends_have, after_is, if_by, born_ends}
 use Rattle.wl_world.proofs.ServerTells.{CanTell, told_core, dropped_core, tell_stands, drop_stands}
 use Rattle.wl_world.proofs.Moves.{LeadsTo, Moves, Outcome, goes_on, ends_it, stays, telling, event_below, delete_below}
 
@@ -121,8 +121,7 @@ tells_one : (p : PairState) (w : World) (asked : List (Message Known)) (told : L
 tells_one p w asked told s m c =
     let v = p.server.core.view in
     let f = c.fitly.fits in
-    let there : IfThere (ThereRow (server_rows v)) m.ends =
-    subst (λ (o : Option Known). IfThere (ThereRow (server_rows v)) o) (sym f.ends) (ended_has (ThereRow (server_rows v)) f.signature.destroys m.target m.args c.target c.args) in
+    let there : IfThere (ThereRow (server_rows v)) m.ends = ends_have (ThereRow (server_rows v)) p.server.core.tables Event m f c.target c.args in
     let news = event_of m ∷ delete m.ends in
     let below = s.server.sets.below in
     let ended : IfThere (λ x. x.born.birth < v.births) m.ends = if_by (λ x h. below x.id x.born h) m.ends there in

@@ -1,30 +1,27 @@
 -- The server writes an event, or ends an object without one.
 use Rattle.std.proofs.Common.{◌≡◌, ◌≢◌, ◌≤◌, ℕ, true, false, List, [], ◌∷◌, ◌++◌, map, refl, sym, ap, subst, ◌∙◌}
-use Rattle.std.specs.Prelude.{nat_eq, option_map, Option}
 use Rattle.std.specs.declared.option.Option.TheVariants.{None, Some}
-use Rattle.std.proofs.lemmas.Bool.{ne_eqb}
-use Rattle.std.proofs.lemmas.List.{append_assoc, map-append}
-use Rattle.wl_message.specs.Outgoing as boxes
+use Rattle.std.proofs.lemmas.List.{append_assoc}
+use Rattle.wl_sigs.specs.declared.signature.Side.TheVariants.{Event as event_side}
 use Rattle.wl_objects.specs.Writing.{message_len}
 use Rattle.wl_table.specs.View.{look, closed}
-use Rattle.wl_table.specs.Views.{look-closed}
 use Rattle.wl_objects.specs.Messages.{Server as server_end}
 use Rattle.wl_end.specs.Core.{Core}
 use Rattle.wl_end.proofs.Messages.{whole_within}
 use Rattle.wl_server.proofs.Registries.{has_fewer}
-use Rattle.wl_world.specs.Meant.{Born, Known, Message, Coming, Event, Delete, renamed, recoming, born_of, birth_of, wire, spelled, spelled_coming, objects, plain, live_entry, ended_by}
-use Rattle.wl_world.specs.World.{World, display_born, Each, delete, event_written, dropped, gone, put, IfThere}
+use Rattle.wl_world.specs.Meant.{Born, Known, Message, Coming, Event, Delete, renamed, born_of, wire, spelled, spelled_coming, objects, plain, live_entry}
+use Rattle.wl_world.specs.World.{World, display_born, Each, delete, event_written, dropped, IfThere}
 use Rattle.wl_world.specs.Pair.{PairState, with_server_core}
 use Rattle.wl_world.specs.Flight.{Rows, Meets, tells, all_asks, all_tells, client_rows, server_rows}
-use Rattle.wl_world.specs.Stands.{StandsBy, TellsFitly, ComesFitly, InFlight, Shows}
-use Rattle.wl_world.proofs.Wholes.{ThereRow, server_ends, tell_meets, drop_meets, all_tells_more, each_more}
+use Rattle.wl_world.specs.Stands.{StandsBy, TellsFitly}
+use Rattle.wl_world.proofs.Wholes.{ThereRow, server_ends, tell_meets, drop_meets, all_tells_more}
 use Rattle.wl_world.proofs.Bridges.{server_closed}
 use Rattle.wl_world.proofs.Afters.{there_row, server_after}
 use Rattle.wl_world.proofs.Stands.{server_message, travel_more}
 use Rattle.wl_world.proofs.Registries.{no_registry, has_told_one}
 use Rattle.wl_world.proofs.Rules.{display_plain}
 use Rattle.wl_world.proofs.ServerReads.{follow_more, follow_delete, begins_delete, test_of, delete_whole, map_delete, delete_fits, low_there}
-use Rattle.wl_world.proofs.Ended.{Mortal, ended_view, ended_has, if_by, both_if}
+use Rattle.wl_world.proofs.Ended.{Mortal, ended_view, ends_have, if_by, both_if}
 
 pub record CanTell (p : PairState) (m : Message Known) : Type 0 where
   pub fitly : TellsFitly p.server.core.tables p.server.globals m
@@ -54,10 +51,8 @@ pub tell_stands : (p : PairState) (w : World) (asked : List (Message Known)) (to
     → StandsBy (with_server_core p (told_core p.server.core m)) (event_written w (renamed born_of m)) asked (told ++ (Event m ∷ delete m.ends))
 tell_stands p w asked told s m c =
     let f = c.fitly.fits in
-    let d : ended_by f.signature.destroys m.target m.args ≡ m.ends = sym f.ends in
     let v = p.server.core.view in
-    let there : IfThere (ThereRow (server_rows v)) m.ends =
-    subst (λ (o : Option Known). IfThere (ThereRow (server_rows v)) o) d (ended_has (ThereRow (server_rows v)) f.signature.destroys m.target m.args c.target c.args) in
+    let there : IfThere (ThereRow (server_rows v)) m.ends = ends_have (ThereRow (server_rows v)) p.server.core.tables event_side m f c.target c.args in
     let mortal : IfThere Mortal m.ends = both_if (there_mortal p w asked told s) m.ends there c.ends in
     let rows : server_rows (ended_view server_end v m.ends) ≡ server_ends m.ends (server_rows v) = server_after v None m.ends tt in
     let news = Event m ∷ delete m.ends in

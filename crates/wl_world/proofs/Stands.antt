@@ -1,5 +1,5 @@
 -- How a move changes each part of what stands.
-use Rattle.std.proofs.Common.{◌≡◌, ◌≢◌, ℕ, Bool, true, false, List, [], ◌∷◌, ◌++◌, map, length, take, ◌≤◌, refl, sym, ap, subst, ◌∙◌, arith}
+use Rattle.std.proofs.Common.{◌≡◌, ◌≢◌, ℕ, Bool, false, List, ◌∷◌, ◌++◌, map, length, take, ◌≤◌, refl, sym, ap, subst, ◌∙◌, arith}
 use Rattle.std.specs.Prelude.{option_map, nat_eq, is_some}
 use Rattle.std.specs.declared.option.Option.{Option}
 use Rattle.std.specs.declared.option.Option.TheVariants.{None, Some}
@@ -14,11 +14,11 @@ use Rattle.wl_table.specs.View.{View, Sound, look, closed}
 use Rattle.wl_table.specs.Views.{look-opened_at, look-closed, look-zombied}
 use Rattle.wl_table.specs.Sounds.{Sound-closed}
 use Rattle.wl_objects.specs.Messages.{End, Client, Server, opens}
-use Rattle.wl_world.specs.Meant.{Born, Known, born_of, birth_of, plain, live_entry}
-use Rattle.wl_world.specs.World.{Row, Open, Each, IfThere, display_born, born_into, same, ending, gone, put, counted}
+use Rattle.wl_world.specs.Meant.{Born, Known, born_of, birth_of, plain}
+use Rattle.wl_world.specs.World.{Row, Open, Each, IfThere, born_into, same, ending, gone, put, counted}
 use Rattle.wl_world.specs.Flight.{Rows, Fresh, Held, client_rows, server_rows, row}
 use Rattle.wl_world.specs.Stands.{ClientStands, ServerStands, Travel, InFlight, Shows, birth_in}
-use Rattle.wl_world.proofs.Wholes.{ThereRow, client_makes, server_makes, each_more}
+use Rattle.wl_world.proofs.Wholes.{ThereRow, client_makes, server_makes, each_more, each_by}
 use Rattle.wl_world.proofs.Sets.{births_ends, births_makes, client_made, client_ended, client_deleted, server_made, server_ended, there_kept}
 use Rattle.wl_world.proofs.Channels.{pops, pushed}
 use Rattle.wl_world.proofs.Bridges.{client_closed}
@@ -129,3 +129,8 @@ module _ {M W : Type 0} {as_born : M → W} {as_sent : M → boxes.Message} {Fit
     in_boxes = subst (λ (ms : List boxes.Message). InFlight after to ms) (sym (map-append as_sent messages more)) (pushed from after to (map as_sent messages) (map as_sent more) t.in_boxes l e w);
     fit = each_more Fitly messages more t.fit f;
   }
+
+  -- The messages in flight, each fit as before, are each fit otherwise.
+  pub travel_by : {Other : M → Type 0} {from : Outgoing} {to : Arrived} {births : List W} {messages : List M} → ((m : M) → Fitly m → Other m)
+      → Travel as_born as_sent Fitly from to births messages → Travel as_born as_sent Other from to births messages
+  travel_by {Other = Other} {messages = messages} f t = record { in_world = t.in_world; in_boxes = t.in_boxes; fit = each_by Fitly Other f messages t.fit }
