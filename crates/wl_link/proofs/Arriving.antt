@@ -65,6 +65,7 @@ begun_behind limit (s ∷ seen) later (m ∷ begun) others x left e b w =
 
 -- ---- the other direction
 
+-- what a carry in one direction leaves of what was recorded in the other
 pub recorded_other : (limit : ℕ) (tables : List Interface) (d y : Direction) (ps qs : List Piece) (bytes : List ℕ) (n : ℕ) (inbox : Arrived) (seen : List boxes.Message) → Brings limit tables d ps qs bytes n
     → same_direction d y ≡ false → (knowledge tables (judgements limit tables qs)).taken y ≡ (knowledge tables (judgements limit tables ps)).taken y
     → Recorded limit y ps inbox ((knowledge tables (judgements limit tables ps)).taken y) seen → Recorded limit y qs inbox ((knowledge tables (judgements limit tables qs)).taken y) seen
@@ -91,6 +92,7 @@ module _ {M : Type 0} (sp : M → boxes.Message) (limit : ℕ) (tables : List In
     pub other : (y : Direction) → same_direction d y ≡ false → (knowledge tables (judgements limit tables qs)).taken y ≡ (knowledge tables (judgements limit tables ps)).taken y
     pub next : F (judgements limit tables qs) (seen ++ fresh) still
 
+  -- What a carry brings is recorded, and each message that it completes keeps what one keeps.
   pub carry_recorded : (from : Outgoing) (inbox inbox' : Arrived) (seen later : List M) → Brings limit tables d ps qs bytes n → KeepsOne sp limit tables d (λ x. stream_of x qs) (tokens_of d ps + n) F
       → Recorded limit d ps inbox ((knowledge tables (judgements limit tables ps)).taken d) (map sp seen) → F (judgements limit tables ps) seen later → InFlight from inbox' (map sp (seen ++ later))
       → inbox'.bytes ≡ inbox.bytes ++ bytes → length inbox'.tokens ≡ length inbox.tokens + n → inbox'.limit ≡ inbox.limit → CarryRecorded inbox' seen later

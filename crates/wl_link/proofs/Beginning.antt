@@ -88,6 +88,7 @@ none_recorded : (limit : ℕ) (tables : List Interface) (d : Direction) (sizes :
 unfolding cutting
 none_recorded limit tables d sizes same = record { same_limit = same; part = []; sound = refl; rest = refl; waits = refl; tokens = let t = none_taken limit tables d in omega (arith, t) }
 
+-- a new pair is linked with the opening world
 pub new_linked : (tables : List Interface) (client_sizes server_sizes : Sizes) → client_sizes.limit.bytes ≡ server_sizes.limit.bytes → Valid tables → Linked (new_pair tables client_sizes server_sizes) opening
 new_linked tables client_sizes server_sizes one v = linked [] [] (refl, refl) (record {
   stands = new_stands_by tables client_sizes server_sizes one v;

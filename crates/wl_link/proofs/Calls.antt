@@ -37,6 +37,7 @@ pub record One (limit : ℕ) (tables : List Interface) (d : Direction) (stream :
   pub other : (x : Direction) → same_direction d x ≡ false → (knowledge tables (e ++ Ok call ∷ [])).taken x ≡ (knowledge tables e).taken x
   pub next : Next (e ++ Ok call ∷ [])
 
+-- one more message goes on
 pub go_on_more : (e : List Judged) (j : Judged) → AllGoOn e → GoesOn j → AllGoOn (e ++ j ∷ [])
 go_on_more [] j a g zero one is = let same : j ≡ one = cc in subst GoesOn same g
 go_on_more [] j a g (suc k) one is = absurd (cc)
@@ -53,6 +54,7 @@ goes_on_as tables d m entry f iface = record {
 
 -- ---- the tokens, and what is advertised
 
+-- a message adds its tokens to those taken in its direction
 pub own_taken : (tables : List Interface) (e : List Judged) (d : Direction) (m : Message Known) (entry : Entry) (f : Fits tables (side_of d) m)
     → (knowledge tables (e ++ Ok (call_as d m entry f.signature) ∷ [])).taken d ≡ (knowledge tables e).taken d + length (tokens m.args)
 own_taken tables e d m entry f =
@@ -61,12 +63,14 @@ own_taken tables e d m entry f =
     let count = tokens_taken tables m.target.born.version f.signature.kinds m.args f.args in
     b ∙ rw (same_is d) (ap (λ (n : ℕ). (knowledge tables e).taken d + n) count)
 
+-- a message takes no tokens of the other direction
 pub other_taken : (tables : List Interface) (e : List Judged) (call : Call) (x : Direction) → same_direction call.direction x ≡ false
     → (knowledge tables (e ++ Ok call ∷ [])).taken x ≡ (knowledge tables e).taken x
 other_taken tables e call x apart =
     let b = (behind_one tables e call).taken_is x in
     b ∙ rw apart (omega arith)
 
+-- no message makes what was advertised of a global less
 pub call_grows : (tables : List Interface) (e : List Judged) (call : Call) → Grows (knowledge tables e) (knowledge tables (e ++ Ok call ∷ []))
 call_grows tables e call name iface =
     let is = (behind_one tables e call).advertised_is name iface in
@@ -79,6 +83,7 @@ destroyed_as : (b : Bool) (id : ℕ) (o : Option Known) → b ≡ is_some o → 
 destroyed_as b id None f h = ap (λ (t : Bool). destroyed t id) f
 destroyed_as b id (Some x) f h = λ i. destroyed (f i) (sym h i)
 
+-- behind a message that fits, the checker knows the rows that it leaves
 pub known_call : (tables : List Interface) (e : List Judged) (here : Rows Row) (d : Direction) (m : Message Known) (entry : Entry) (f : Fits tables (side_of d) m) (n : Option Known)
     → Valid tables → KnownAs (knowledge tables e) (places tables e) here → IfThere (Fresh here) n → Held here m.target → Each (Held here) (objects m.args)
     → (effect tables (call_as d m entry f.signature)).made ≡ option_map made_of n → (effect tables (call_as d m entry f.signature)).deleted ≡ None

@@ -44,6 +44,7 @@ asking_one limit tables given told_seen client remembered streams t valid global
     one_with (λ e'. Follows tables e' later told_seen client remembered) (λ e'. Asking tables given told_seen client remembered e' (seen ++ m ∷ []) later) (λ e' g. (g, f.1.1))
     (ask_one limit tables given told_seen client remembered (streams ToServer) more t p e m later valid globals f.0 f.1.0 whole at enough)
 
+-- a carry to the server keeps a pair linked
 pub carry_to_server_links : (p : PairState) (w : World) (asked : List (Message Known)) (told : List (Coming Known)) (most : ℕ) → LinkedBy p w asked told
     → StandsBy (after_carry_to_server p (carries p.client.core p.server.core most)) w asked told
     → LinkedBy (after_carry_to_server p (carries p.client.core p.server.core most)) w asked told
@@ -106,6 +107,7 @@ whereabouts p w asked told l =
       display = ap (option_map flight.row) l.stands.client.display;
     }
 
+-- a carry to the client keeps a pair linked
 pub carry_to_client_links : (p : PairState) (w : World) (asked : List (Message Known)) (told : List (Coming Known)) (most : ℕ) → LinkedBy p w asked told
     → StandsBy (after_carry_to_client p (carries p.server.core p.client.core most)) w asked told
     → LinkedBy (after_carry_to_client p (carries p.server.core p.client.core most)) w asked told

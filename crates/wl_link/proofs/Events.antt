@@ -199,6 +199,7 @@ delete_one limit tables asked_seen asked_later told client server remembered str
 
 -- ---- either
 
+-- what comes to the client goes on once it is recorded, and the checker follows the ends behind it
 pub tell_one : (limit : ℕ) (tables : List Interface) (given : List Global) (asked_seen asked_later : List (Message Known)) (told : List (Coming Known)) (client : Rows Row) (server : Rows Born) (remembered : List Remembered)
     (stream more : List ℕ) (t p : ℕ) (e : List Judged) (seen later : List (Coming Known)) (c : Coming Known) → Valid tables → Whereabouts tables asked_seen asked_later told client server → told ≡ seen ++ c ∷ later
     → Follows tables e asked_later seen client remembered → ComesFitly tables given c → IsMessage limit (spelled_coming c).bytes → drop p stream ≡ (spelled_coming c).bytes ++ more

@@ -34,9 +34,11 @@ use Rattle.wl_link.proofs.Judging.{call_as}
 
 -- ---- what is advertised stays so
 
+-- what was advertised of a global never becomes less
 abbrev pub Grows : Knows → Knows → Type 0
 Grows k k' = (name iface : ℕ) → k.advertised_version name iface ≤ k'.advertised_version name iface
 
+-- each global that the client remembers is still advertised
 pub remembers_on : (k k' : Knows) → Grows k k' → (gs : List Remembered) → Each (λ g. IsAdvertised k g.name g.iface.0 g.version) gs → Each (λ g. IsAdvertised k' g.name g.iface.0 g.version) gs
 remembers_on k k' grows gs h =
     each_by (λ (g : Remembered). IsAdvertised k g.name g.iface.0 g.version) (λ (g : Remembered). IsAdvertised k' g.name g.iface.0 g.version)
@@ -46,12 +48,14 @@ tells_one : (tables : List Interface) (k k' : Knows) → Grows k k' → (c : Com
 tells_one tables k k' grows (Event m) h = λ is name version text iface args place. (let l = h is name version text iface args place in let more = grows name iface.0 in omega (arith, l, more))
 tells_one tables k k' grows (Delete x) h = tt
 
+-- each global that is told is still advertised
 pub tells_on : (tables : List Interface) (k k' : Knows) → Grows k k' → (cs : List (Coming Known)) → Each (TellsAdvertised tables k) cs → Each (TellsAdvertised tables k') cs
 tells_on tables k k' grows cs h = each_by (TellsAdvertised tables k) (TellsAdvertised tables k') (tells_one tables k k' grows) cs h
 
 binds_one : (k k' : Knows) → Grows k k' → (m : Message Known) → BindsAdvertised k m → BindsAdvertised k' m
 binds_one k k' grows m h = λ is name x first made. (let l = h is name x first made in let more = grows name x.born.iface.0 in omega (arith, l, more))
 
+-- each global that is bound is still advertised
 pub binds_on : (k k' : Knows) → Grows k k' → (ms : List (Message Known)) → Each (BindsAdvertised k) ms → Each (BindsAdvertised k') ms
 binds_on k k' grows ms h = each_by (BindsAdvertised k) (BindsAdvertised k') (binds_one k k' grows) ms h
 
@@ -134,6 +138,7 @@ bad_bind_at tables given k m entry fit true v c iface version told is =
     let may = fine_bind tables k g.name g.new low high (told bind g.name g.new first new) in
     rw (is, first, makes, may) refl
 
+-- a bind that fits, of a global that was advertised, is not a bad one
 pub no_bad_bind : (tables : List Interface) (given : List Global) (k : Knows) (m : Message Known) (entry : Entry) (fit : AsksFitly tables given m) → Valid tables → Each (IsGlobal tables) given
     → entry.iface ≡ m.target.born.iface → entry.version ≡ m.target.born.version → BindsAdvertised k m
     → is_bad_bind tables k Request m.opcode (call_as ToServer m entry fit.fits.signature).received ≡ false

@@ -26,6 +26,7 @@ use Rattle.wl_world.specs.World.{Each, IfThere}
 use Rattle.wl_world.specs.Stands.{Fits}
 use Rattle.wl_world.proofs.Readings.{HasObject, Finds, received_by_any, parted}
 
+-- the checker finds each argument whose object it has and whose new id is free
 pub all_found : (r : Reader) (args : List (Arg Known)) → Each (HasObject r) (objects args) → Each (λ a. IfThere (λ x. r.new_id x.id ≡ Free) (new_in a)) args → Each (Finds r) args
 all_found r [] o n = tt
 all_found r (Obj None ∷ args) o n = (tt, all_found r args o n.1)

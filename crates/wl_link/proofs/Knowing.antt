@@ -186,6 +186,7 @@ below_deleted v i below = λ id r e. elim (put_tells v.rows i None id) [
   | inr p ↦ below id r (sym p.1 ∙ e)
 ]
 
+-- behind the delete of an object the checker no longer knows it
 pub known_deleted : (k k' : Knows) (places : List ℕ) (here : Rows Row) (x : Known) → KnownAs k places here → x.id ≢ 1
     → ((id : ℕ) → k'.object id ≡ unless_deleted (frees (Some x.id) id) false (k.object id)) → k'.used ≡ k.used → KnownAs k' places (at here x.id None)
 known_deleted k k' places here x a ne objects used = record {
@@ -208,6 +209,7 @@ makers_same f g (suc n) h =
     let last = h n (omega arith) in
     λ i. front i ++ maker (last i) n
 
+-- behind one more message there is one more place where it makes an object
 pub places_behind : (tables : List Interface) (e : List Judged) (call : Call) → places tables (e ++ Ok call ∷ []) ≡ places tables e ++ maker (effect tables call).made (suc (length e))
 unfolding makers
 places_behind tables e call =
@@ -223,5 +225,6 @@ unfolding makers
 makers_some made zero first e = rw e (omega arith)
 makers_some made (suc n) first e = let r = makers_some made n first e in omega (arith, r, length-append (makers made (suc n)) (maker (made (suc n)) (suc n)))
 
+-- wl_display is always made
 pub some_place : (tables : List Interface) (e : List Judged) → 0 < length (places tables e)
 some_place tables e = makers_some (λ place. (effects tables e place).made) (length e) _ refl

@@ -59,6 +59,7 @@ by_outcome p w asked told l p' w' (ends_it e m) = ended e (marked_lawful p p' m 
 
 -- ---- all moves
 
+-- a step of a linked pair: the world allows the reply, and the pair is linked again
 pub step_links : (p : PairState) (w : World) → Linked p w → (move : Move) (reply : Reply) (p' : PairState) → IsMove move → Does p move reply p' → LinksOn p w move reply p'
 step_links p w (ended e l) move reply p' m d =
     let k = keeps_record p move reply p' d in
@@ -67,6 +68,7 @@ step_links p w (linked asked told z l) move reply p' m d =
     let s = does_moves p w asked told l.stands z move reply p' m d in
     record { world = s.world; answers = s.answers; links = by_outcome p w asked told l p' s.world s.outcome }
 
+-- so it is with each step of a run
 pub run_links : (p : PairState) (w : World) (moves : List Move) (replies : List Reply) (last : PairState) → Linked p w → Each IsMove moves → DoesAll p moves replies last → RunsLinked p w moves replies last
 run_links p w [] [] last l m d = d
 run_links p w [] (reply ∷ replies) last l m d = absurd d

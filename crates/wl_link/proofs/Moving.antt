@@ -45,9 +45,11 @@ use Rattle.wl_link.proofs.Seen.{rest_seen}
 
 -- ---- nothing in flight changes
 
+-- a pair is linked as before where only its world is another
 pub again : (p : PairState) (w w' : World) (asked : List (Message Known)) (told : List (Coming Known)) → LinkedBy p w asked told → StandsBy p w' asked told → LinkedBy p w' asked told
 again p w w' asked told l s = record { stands = s; requests = l.requests; events = l.events; follows = l.follows; counted = l.counted }
 
+-- a pair stays linked when globals are given or withdrawn
 pub given_links : (p : PairState) (w w' : World) (asked : List (Message Known)) (told : List (Coming Known)) (more : List Global) → LinkedBy p w asked told
     → StandsBy (with_server p (record p.server { globals = more })) w' asked told → LinkedBy (with_server p (record p.server { globals = more })) w' asked told
 given_links p w w' asked told more l s = record { stands = s; requests = l.requests; events = l.events; follows = l.follows; counted = l.counted }
@@ -89,6 +91,7 @@ asked_joins p m c asked_later told_seen here j =
       reads = subst (λ (x : Rows Row). Reads test (all_tells told_seen) x more.common) (sym rows) more.reads;
     }
 
+-- a pair stays linked when the client writes a request, which is not yet recorded
 pub asked_links : (p : PairState) (w w' : World) (asked : List (Message Known)) (told : List (Coming Known)) (m : Message Known) (c : CanAsk p m)
     → (is_bind request_side m.target.born.iface m.opcode ≡ true → BindsRemembered p.client.globals m.args) → LinkedBy p w asked told
     → StandsBy (asked_pair p m) w' (asked ++ m ∷ []) told → LinkedBy (asked_pair p m) w' (asked ++ m ∷ []) told
@@ -121,6 +124,7 @@ more_counted : (births : ℕ) (told news : List (Coming Known)) → Each (IsBelo
 more_counted births told news h below =
     rw (all_tells_more told news) (each_more (IsBelow births) (all_tells told) (all_tells news) h below)
 
+-- a pair stays linked when the server writes, none of which is yet recorded
 pub told_links : (p : PairState) (w w' : World) (asked : List (Message Known)) (told : List (Coming Known)) (view : View) (outbox : Outgoing) (registries : List Registry) (news : List (Coming Known))
     → view.births ≡ p.server.core.view.births → Each (IsBelow p.server.core.view.births) (all_tells news) → LinkedBy p w asked told
     → StandsBy (told_pair p view outbox registries) w' asked (told ++ news) → LinkedBy (told_pair p view outbox registries) w' asked (told ++ news)
@@ -142,6 +146,7 @@ told_links p w w' asked told view outbox registries news births below l s = reco
 below_more : (few many : ℕ) → few ≤ many → (t : Tell) → IsBelow few t → IsBelow many t
 below_more few many h t l = omega (arith, h, l)
 
+-- a pair stays linked when the server reads the first request
 pub request_links : (p : PairState) (w w' : World) (m : Message Known) (ms : List (Message Known)) (told : List (Coming Known)) (n : ℕ)
     → in_front p.server.core.inbox ≡ Whole n → IfThere (λ x. x.born.birth < p.server.core.view.births) m.ends → LinkedBy p w (m ∷ ms) told
     → StandsBy (with_server p (left_state p.server m n)) w' ms (told ++ delete m.ends)
@@ -219,6 +224,7 @@ coming_links p w w' asked c cs n view globals whole l joins learned s =
       counted = each_rest (IsBelow p.server.core.view.births) (tells c) (all_tells cs) l.counted;
     }
 
+-- a pair stays linked when the client reads an event
 pub event_links : (p : PairState) (w w' : World) (asked : List (Message Known)) (m : Message Known) (cs : List (Coming Known)) (n : ℕ) (entry : Entry)
     → in_front p.client.core.inbox ≡ Whole n → LinkedBy p w asked (Event m ∷ cs)
     → StandsBy (with_client p (after_event p.client m n (teaches m entry))) w' asked cs → LinkedBy (with_client p (after_event p.client m n (teaches m entry))) w' asked cs
@@ -236,6 +242,7 @@ delete_joins test x asked_later rest here p n j =
     let t = deletes_at x j.reads in
     record { common = j.common; leads = j.leads; reads = subst (λ (y : Rows Row). Reads test (all_tells rest) y j.common) (sym (client_closed p.client.core.view x.id)) t.rest }
 
+-- a pair stays linked when the client reads a delete
 pub delete_links : (p : PairState) (w w' : World) (asked : List (Message Known)) (x : Known) (cs : List (Coming Known)) (n : ℕ) → in_front p.client.core.inbox ≡ Whole n
     → LinkedBy p w asked (Delete x ∷ cs) → StandsBy (with_client p (after_delete p.client x n)) w' asked cs → LinkedBy (with_client p (after_delete p.client x n)) w' asked cs
 delete_links p w w' asked x cs n whole l s =

@@ -47,6 +47,7 @@ IsFree r a = IfThere (λ x. r.new_id x.id ≡ Free) (new_in a)
 abbrev IsMade : List (Arg Known) → Arg Known → Type 0
 IsMade all a = IfThere (λ x. made_in all ≡ Some x) (new_in a)
 
+-- a new id that is fresh to the rows is free to the checker
 pub news_free : (k : Knows) (places : List ℕ) (here : Rows Row) (args all : List (Arg Known)) → KnownAs k places here → IfThere (Fresh here) (made_in all) → Each (IsMade all) args → Each (IsFree (reader k ToServer)) args
 news_free k places here args all a g h =
     each_by (IsMade all) (IsFree (reader k ToServer))

@@ -25,6 +25,7 @@ use Rattle.wl_link.proofs.Reading.{open_known, news_free}
 use Rattle.wl_link.proofs.Globals.{no_bad_bind, remembers_on, tells_on, binds_on}
 use Rattle.wl_link.proofs.Calls.{One, go_on_more, goes_on_as, own_taken, other_taken, call_grows, known_call}
 
+-- a request goes on once it is recorded, and the checker follows the ends behind it
 pub ask_one : (limit : ℕ) (tables : List Interface) (given : List Global) (told_seen : List (Coming Known)) (client : Rows Row) (remembered : List Remembered) (stream more : List ℕ) (t p : ℕ) (e : List Judged)
     (m : Message Known) (ms : List (Message Known)) → Valid tables → Each (IsGlobal tables) given → Follows tables e (m ∷ ms) told_seen client remembered → AsksFitly tables given m
     → IsMessage limit (spelled m).bytes → drop p stream ≡ (spelled m).bytes ++ more → (knowledge tables e).taken ToServer + length (tokens m.args) ≤ t

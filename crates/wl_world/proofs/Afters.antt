@@ -23,6 +23,7 @@ use Rattle.wl_world.proofs.Ended.{Mortal, ended_view}
 
 -- ---- what stands under a row
 
+-- what is mapped to something is something
 pub map_some : {X Y : Type 0} (f : X → Y) (o : Option X) (y : Y) → option_map f o ≡ Some y → (x : X) × (o ≡ Some x) × (f x ≡ y)
 map_some f None y h = absurd (cc h)
 map_some f (Some x) y h = (x, refl, cc h)
@@ -40,17 +41,20 @@ pub record HeldRow (v : View) (x : Known) : Type 0 where
   pub there : look v x.id ≡ Some entry
   pub same : plain entry ≡ x.born
 
+-- the entry of what the client holds
 pub held_row : (v : View) (x : Known) → Held (client_rows v) x → HeldRow v x
 held_row v x h = elim h [
   | inl p ↦ (let m = map_some row (look v x.id) (Open x.born) p in record { entry = m.0; there = m.1; same = row_born m.0.state (plain m.0) x.born (inl m.2) })
   | inr p ↦ (let m = map_some row (look v x.id) (Ending x.born) p in record { entry = m.0; there = m.1; same = row_born m.0.state (plain m.0) x.born (inr m.2) })
 ]
 
+-- the entry of what is open at the server
 pub there_row : (v : View) (x : Known) → ThereRow (server_rows v) x → HeldRow v x
 there_row v x h = let m = map_some plain (look v x.id) x.born h in record { entry = m.0; there = m.1; same = m.2 }
 
 -- ---- the rows
 
+-- the server's rows after a message that makes this and ends that
 pub server_after : (v : View) (n o : Option Known) → IfThere (Fresh (server_rows v)) n
     → server_rows (ended_view Server (opens v (option_map made_of n)) o) ≡ server_ends o (server_makes (server_rows v) n)
 server_after v None None g = refl
@@ -65,6 +69,7 @@ apart v y id e f h =
     let b : eqb id y.id ≡ false = grind (arith, nat_tests) in
     look-opened_at v y.id y.born.iface y.born.version id ∙ rw b h
 
+-- the client's rows after a message that makes this and ends that
 pub client_after : (v : View) (n o : Option Known) → IfThere (Fresh (client_rows v)) n → IfThere (HeldRow v) o
     → client_rows (ended_view Client (opens v (option_map made_of n)) o) ≡ client_ends o (client_makes (client_rows v) n)
 client_after v None None g h = refl
@@ -94,6 +99,7 @@ server_opens_rows : (v : View) (n : Option Known) → IfThere (Fresh (server_row
 server_opens_rows v None g = refl
 server_opens_rows v (Some y) g = server_opened v y g.birth
 
+-- the server's view stays sound
 pub server_sound : (v : View) (n o : Option Known) → Sound v → IfThere (Fresh (server_rows v)) n → IfThere (ThereRow (server_rows v)) o → IfThere Mortal o
     → Sound (ended_view Server (opens v (option_map made_of n)) o)
 server_sound v n None s g h y = server_opens_sound v n s g
@@ -116,6 +122,7 @@ opens_live : (v : View) (n : Option Known) → AllLive v → AllLive (opens v (o
 opens_live v None l = l
 opens_live v (Some y) l = λ id e h. ⊎_elim (λ p. ap (λ (d : Entry). d.state) p.1) (λ p. l id e p.1) (row-opened_at v y.id y.born.iface y.born.version id e h)
 
+-- the server's rows stay live
 pub server_live : (v : View) (n o : Option Known) → AllLive v → AllLive (ended_view Server (opens v (option_map made_of n)) o)
 server_live v n None l = opens_live v n l
 server_live v n (Some x) l = λ id e h. opens_live v n l id e (row-closed (opens v (option_map made_of n)) x.id id e h).1
@@ -134,6 +141,7 @@ module _ {A B : Type 0} (f : A → B) where
   new_map (Obj None) = refl
   new_map a = refl
 
+  -- what arguments make, with objects named otherwise
   pub made_map : (args : List (Arg A)) → made_in (map (rearg f) args) ≡ option_map f (made_in args)
   made_map [] = refl
   made_map (a ∷ args) = rw (new_map a, made_map args) (or_map (new_in a) (made_in args))
@@ -142,6 +150,7 @@ module _ {A B : Type 0} (f : A → B) where
   object_map (Obj None) xs = refl
   object_map a xs = refl
 
+  -- the objects of arguments, named otherwise
   pub objects_map : (args : List (Arg A)) → objects (map (rearg f) args) ≡ map f (objects args)
   objects_map [] = refl
   objects_map (a ∷ args) = rw (objects_map args) (object_map a (objects args))
@@ -150,16 +159,19 @@ module _ {A B : Type 0} (f : A → B) where
   token_map (Obj None) xs = refl
   token_map a xs = refl
 
+  -- the tokens are the same, however objects are named
   pub tokens_map : (args : List (Arg A)) → tokens (map (rearg f) args) ≡ tokens args
   tokens_map [] = refl
   tokens_map (a ∷ args) = rw (tokens_map args) (token_map a (tokens args))
 
+-- what is so of each of these, seen through a function
 pub each_map : {X Y : Type 0} (f : X → Y) (P : Y → Type 0) (xs : List X) → Each (λ x. P (f x)) xs → Each P (map f xs)
 each_map f P [] h = tt
 each_map f P (x ∷ xs) h = (h.0, each_map f P xs h.1)
 
 -- ---- versions are from 1
 
+-- each entry has a version from 1
 abbrev pub Aged : View → Type 0
 Aged v = (id : ℕ) (e : Entry) → look v id ≡ Some e → 1 ≤ e.version
 
@@ -171,6 +183,7 @@ kept_version : (b : Bool) (d : Entry) → (cond b (zombie d) d).version ≡ d.ve
 kept_version true d = refl
 kept_version false d = refl
 
+-- versions stay from 1 at the client
 pub client_aged : (v : View) (n o : Option Known) → IfThere (λ y. 1 ≤ y.born.version) n → Aged v → Aged (ended_view Client (opens v (option_map made_of n)) o)
 client_aged v n None g a = opens_aged v n g a
 client_aged v n (Some x) g a = λ id e h.
@@ -179,9 +192,11 @@ client_aged v n (Some x) g a = λ id e h.
     let q = ap (λ (d : Entry). d.version) z.1.1 ∙ kept_version (eqb id x.id) z.0 in
     omega (arith, k, q)
 
+-- versions stay from 1 at the server
 pub server_aged : (v : View) (n o : Option Known) → IfThere (λ y. 1 ≤ y.born.version) n → Aged v → Aged (ended_view Server (opens v (option_map made_of n)) o)
 server_aged v n None g a = opens_aged v n g a
 server_aged v n (Some x) g a = λ id e h. opens_aged v n g a id e (row-closed (opens v (option_map made_of n)) x.id id e h).1
 
+-- versions stay from 1 where an id is closed
 pub closed_aged : (v : View) (x : ℕ) → Aged v → Aged (closed v x)
 closed_aged v x a = λ id e h. a id e (row-closed v x id e h).1

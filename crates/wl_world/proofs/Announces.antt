@@ -61,6 +61,7 @@ each_owing P test owing from (g ∷ gs) f =
     each_if P (test from g) (owing from g) (owings test owing (suc from) gs) (subst (λ (n : ℕ). P (owing n g)) e (f 0 g refl))
     (each_owing P test owing (suc from) gs (λ k h q. (let j : from + suc k ≡ suc from + k = omega arith in subst (λ (n : ℕ). P (owing n h)) j (f (suc k) h q))))
 
+-- what is so of each is so of the one at a place
 pub each_get : {X : Type 0} (P : X → Type 0) (xs : List X) (k : ℕ) (x : X) → Each P xs → slice_get xs k ≡ Some x → P x
 each_get P [] k x h e = absurd (cc e)
 each_get P (y ∷ xs) zero x h e = subst P (cc e) h.0
@@ -367,6 +368,7 @@ pub only_sent : (c : Core) (ds : List Due) → with_dues c ds ≡ record c { out
 only_sent c [] = refl
 only_sent c (d ∷ ds) = only_sent (with_sent c d.object.id (opcode_of d.owing) (values_of c.tables d.owing) []) ds
 
+-- an announcement keeps what stands
 pub announce_keeps : (p : PairState) (w : World) (asked : List (Message Known)) (told : List (Coming Known)) → StandsBy p w asked told → NotEnded p w → (reply : Result ℕ SendError) (p' : PairState) → Announces p reply p'
     → Moves p w asked told Announce (Announce reply) p'
 announce_keeps p w asked told s z reply p' (announced {count = count} l f) =

@@ -35,6 +35,7 @@ use Rattle.wl_world.specs.Runs.{IsGiven}
 
 -- ---- what stands where nothing stands against a write
 
+-- what the checks of a call say where nothing stands against it
 pub record Checked (limit : ℕ) (tables : List Interface) (side : Side) (view : View) (target : Object) (opcode : ℕ) (given : List Given) (signature : sigs.Message) : Type 0 where
   pub entry : Entry
   pub there : look view target.id ≡ Some entry
@@ -57,6 +58,7 @@ pub record LiveAs (birth : ℕ) (o : Option Entry) : Type 0 where
   pub birth_is : entry.birth ≡ birth
   pub live : entry.state ≡ states.Live
 
+-- a live entry with this birth
 pub live_as : (birth : ℕ) (o : Option Entry) → is_live_as birth o ≡ true → LiveAs birth o
 live_as birth None h = absurd (cc h)
 live_as birth (Some e) h = let k = and_parts (nat_eq e.birth birth) (is_live e.state) h in record { entry = e; there = refl; birth_is = eqb-true e.birth birth k.0; live = is_live-state e.state k.1 }
@@ -124,12 +126,14 @@ by_checked limit tables side view target opcode given s (Some entry) e h =
       len = c.len;
     }
 
+-- a call that nothing stands against is checked
 pub is_checked : (limit : ℕ) (tables : List Interface) (side : Side) (view : View) (target : Object) (opcode : ℕ) (given : List Given) (s : sigs.Message) → checked limit tables side view target opcode given ≡ Ok s
     → Checked limit tables side view target opcode given s
 is_checked limit tables side view target opcode given s h = by_checked limit tables side view target opcode given s _ refl h
 
 -- ---- the message
 
+-- what an object was born as, by its entry
 abbrev pub born_at : Option Entry → Born
 born_at None = record { birth = 0; iface = record { 0 = 0 }; version = 0 }
 born_at (Some e) = plain e
@@ -138,6 +142,7 @@ abbrev pub resolve : View → Option Object → Option Known
 resolve view None = None
 resolve view (Some object) = Some (record { id = object.id; born = born_at (look view object.id) })
 
+-- what a given argument means, with this new object
 abbrev pub meant : View → Known → Given → Arg Known
 meant view new a = reshaped (resolve view) (λ _. new) (λ t. t) a
 
@@ -150,10 +155,12 @@ wire_one : (view : View) (new : Known) (a : Given) → wire (meant view new a) �
 wire_one view new (Obj None) = refl
 wire_one view new a = refl
 
+-- what is meant goes out as what was given
 pub wire_all : (view : View) (new : Known) (given : List Given) → map wire (map (meant view new) given) ≡ map (wired new.id) given
 wire_all view new [] = refl
 wire_all view new (a ∷ given) = rw (wire_one view new a, wire_all view new given) refl
 
+-- its tokens are those given
 pub tokens_all : (view : View) (new : Known) (given : List Given) → tokens (map (meant view new) given) ≡ tokens_of given
 tokens_all view new [] = refl
 tokens_all view new (Obj None ∷ given) = tokens_all view new given
@@ -165,6 +172,7 @@ pub record Right (view : View) (kind : Kind) (a : Given) : Type 0 where
   pub suit : suits kind a ≡ true
   pub named : can_name (look view) kind a ≡ true
 
+-- each given argument is as its kind asks, and names an object that is there
 abbrev pub AllRight : View → List Kind → List Given → Type 0
 AllRight view [] [] = Unit {0}
 AllRight view (k ∷ ks) (a ∷ given) = Right view k a × AllRight view ks given
@@ -174,6 +182,7 @@ if_none : (b : Bool) (o : Option ℕ) (p : ℕ) → cond b o (Some p) ≡ None �
 if_none true o p h = (refl, h)
 if_none false o p h = absurd (cc h)
 
+-- with no wrong and no lost place all arguments are right
 pub all_right : (view : View) (place : ℕ) (ks : List Kind) (given : List Given) → wrong_place place ks given ≡ None → lost_place (look view) place ks given ≡ None → AllRight view ks given
 all_right view place [] [] w l = tt
 all_right view place [] (a ∷ given) w l = absurd (cc w)
@@ -194,6 +203,7 @@ handed_one view new births k (New x) e r = ap (λ (b : ℕ). New b) e
 handed_one view new births k (NewNamed name own x) e r = ap (λ (b : ℕ). NewNamed name own b) e
 handed_one view new births k a e r = refl
 
+-- what is meant, by births, is what was handed
 pub handed_all : (view : View) (new : Known) (births : ℕ) (ks : List Kind) (given : List Given) → new.born.birth ≡ births → AllRight view ks given
     → map (rearg birth_of) (map (rearg born_of) (map (meant view new) given)) ≡ map (handed births) given
 handed_all view new births [] [] e r = refl
@@ -213,6 +223,7 @@ pub record LiveAt (view : View) (x : Known) : Type 0 where
 pub live_at : (view : View) (k : Kind) (x : Object) → can_name (look view) k (Obj (Some x)) ≡ true → LiveAt view (record { id = x.id; born = born_at (look view x.id) })
 live_at view k x h = let l = live_as x.birth (look view x.id) (and_parts _ _ h).0 in record { entry = l.entry; there = l.there; same = ap born_at (sym l.there); live = l.live }
 
+-- each object that is meant is live
 pub all_live : (view : View) (new : Known) (ks : List Kind) (given : List Given) → AllRight view ks given → Each (LiveAt view) (objects (map (meant view new) given))
 all_live view new [] [] r = tt
 all_live view new [] (a ∷ given) r = absurd r
@@ -239,6 +250,7 @@ unnamed_first k ks h = h 0 k (omega arith)
 unnamed_rest : (k : Kind) (ks : List Kind) → All (λ x. x ≢ kinds.New None) (k ∷ ks) → All (λ x. x ≢ kinds.New None) ks
 unnamed_rest k ks h = All-tail (λ (x : Kind). x ≢ kinds.New None) k ks h
 
+-- each kind that makes an object makes just the new one
 pub matches : (tables : List Interface) (view : View) (version id : ℕ) (ks : List Kind) (given : List Given) → AllRight view ks given → length (new_objects ks) ≤ 1 → All (λ x. x ≢ kinds.New None) ks
     → Each (Matches (new_known view (made tables version ks (map (wired id) given))) version) ks
 matches tables view version id [] [] r h u = tt
@@ -297,6 +309,7 @@ fit_one tables view new version kinds.Array (Array z) s n r m g l = (omega arith
 fit_one tables view new version kinds.Fd (Fd z) s n r m g l = (tt, tt)
 fit_one tables view new version _ _ s n r m g l = absurd (cc r.suit)
 
+-- what is meant fits the kinds
 pub fit_all : (tables : List Interface) (view : View) (new : Known) (version : ℕ) (ks : List Kind) (given : List Given) → Sound view → new.id < 2 ^ 32 → AllRight view ks given → Each (Matches new version) ks
     → Each IsGiven given → message_len (map (wired 0) given) ≤ greatest_limit → AreOf tables version ks (map (meant view new) given)
 fit_all tables view new version [] [] s n r m g l = tt
@@ -310,6 +323,7 @@ fit_all tables view new version (k ∷ ks) (a ∷ given) s n r m g l =
 abbrev pub NewIs : Known → List (Arg Known) → Type 0
 NewIs new args = Each (λ a. IfThere (λ x. x ≡ new) (new_in a)) args
 
+-- each new object that is meant is this one
 pub new_all : (view : View) (new : Known) (given : List Given) → NewIs new (map (meant view new) given)
 new_all view new [] = tt
 new_all view new (New x ∷ given) = (refl, new_all view new given)
@@ -320,6 +334,7 @@ first_is : (new : Known) (o p : Option Known) → IfThere (λ x. x ≡ new) o �
 first_is new None p h q = q
 first_is new (Some x) p h q = inr (ap Some h)
 
+-- arguments make nothing or this object
 pub made_new : (new : Known) (args : List (Arg Known)) → NewIs new args → (made_in args ≡ None) ⊎ (made_in args ≡ Some new)
 made_new new [] h = inl refl
 made_new new (a ∷ args) h = first_is new (new_in a) (made_in args) h.0 (made_new new args h.1)
@@ -340,9 +355,11 @@ some_in new all (a ∷ args) h n = (step (new_in a) n.0, some_in new all args h 
     step None k = tt
     step (Some x) k = h ∙ ap Some (sym k)
 
+-- they make at most one
 pub one_new : (new : Known) (args : List (Arg Known)) → NewIs new args → Each (λ a. IfThere (λ x. made_in args ≡ Some x) (new_in a)) args
 one_new new args h = elim (made_new new args h) [ inl p ↦ none_in args args p | inr p ↦ some_in new args args p h ]
 
+-- a new object has the version that its kind asks for
 pub version_of : (view : View) (new : Known) (version : ℕ) (ks : List Kind) (given : List Given) → AllRight view ks given → Each (Matches new version) ks → (made_in (map (meant view new) given) ≡ None → ⊥)
     → new.born.version ≡ version
 version_of view new version [] [] r m h = absurd (h refl)
@@ -361,6 +378,7 @@ version_of view new version (_ ∷ ks) (_ ∷ given) r m h = absurd (cc r.0.suit
 
 -- ---- a call that makes no object
 
+-- kinds that make nothing make no object
 pub no_made : (view : View) (new : Known) (ks : List Kind) (given : List Given) → AllRight view ks given → length (new_objects ks) ≤ 0 → made_in (map (meant view new) given) ≡ None
 no_made view new [] [] r h = refl
 no_made view new [] (a ∷ given) r h = absurd r
@@ -388,6 +406,7 @@ handed_if view new births k (New x) e r = absurd (cc e)
 handed_if view new births k (NewNamed name own x) e r = absurd (cc e)
 handed_if view new births k a e r = refl
 
+-- where nothing is made, no argument hands a new object
 pub handed_none : (view : View) (new : Known) (births : ℕ) (ks : List Kind) (given : List Given) → made_in (map (meant view new) given) ≡ None → AllRight view ks given
     → map (rearg birth_of) (map (rearg born_of) (map (meant view new) given)) ≡ map (handed births) given
 handed_none view new births [] [] e r = refl

@@ -23,6 +23,7 @@ flies o i ms b t f =
     subst (λ (n : ℕ). InFlight (after_taking o (goes o b t).bytes) (with_more i (take (goes o b t).bytes (waiting_bytes o)) (take n (waiting_tokens o))) ms) (sym (goes_tokens o b t))
     (carried o i ms (goes o b t).bytes f (goes_there o b t))
 
+-- a pair stands again after a carry to the server
 pub to_server_stands : (p : PairState) (w : World) (asked : List (Message Known)) (told : List (Coming Known)) (most : ℕ) → StandsBy p w asked told
     → StandsBy (after_carry_to_server p (carries p.client.core p.server.core most)) w asked told
 to_server_stands p w asked told most s = record {
@@ -37,6 +38,7 @@ to_server_stands p w asked told most s = record {
   registries = s.registries;
 }
 
+-- a pair stands again after a carry to the client
 pub to_client_stands : (p : PairState) (w : World) (asked : List (Message Known)) (told : List (Coming Known)) (most : ℕ) → StandsBy p w asked told
     → StandsBy (after_carry_to_client p (carries p.server.core p.client.core most)) w asked told
 to_client_stands p w asked told most s = record {
@@ -51,11 +53,13 @@ to_client_stands p w asked told most s = record {
   registries = s.registries;
 }
 
+-- a carry to the server keeps what stands
 pub carry_to_server_keeps : (p : PairState) (w : World) (asked : List (Message Known)) (told : List (Coming Known)) → StandsBy p w asked told → NotEnded p w → (most : ℕ) (reply : Carried) (p' : PairState)
     → Carries (carries p.client.core p.server.core most) p (after_carry_to_server p (carries p.client.core p.server.core most)) reply p' → Moves p w asked told (CarryToServer most) (CarryToServer reply) p'
 carry_to_server_keeps p w asked told s z most reply p' moved = record { world = w; answers = before z moved refl; outcome = goes_on asked told z (to_server_stands p w asked told most s) (carrying_to_server most) }
 carry_to_server_keeps p w asked told s z most reply p' (no_memory h) = record { world = w; answers = before z (no_memory h) refl; outcome = goes_on asked told z s stays }
 
+-- a carry to the client keeps what stands
 pub carry_to_client_keeps : (p : PairState) (w : World) (asked : List (Message Known)) (told : List (Coming Known)) → StandsBy p w asked told → NotEnded p w → (most : ℕ) (reply : Carried) (p' : PairState)
     → Carries (carries p.server.core p.client.core most) p (after_carry_to_client p (carries p.server.core p.client.core most)) reply p' → Moves p w asked told (CarryToClient most) (CarryToClient reply) p'
 carry_to_client_keeps p w asked told s z most reply p' moved = record { world = w; answers = before z moved refl; outcome = goes_on asked told z (to_client_stands p w asked told most s) (carrying_to_client most) }
@@ -69,6 +73,7 @@ pub record Fitting (from to : Core) (most : ℕ) : Type 0 where
   pub bytes_there : length (carried_bytes from (carries from to most)) ≡ (carries from to most).bytes
   pub tokens_there : length (carried_tokens from (carries from to most)) ≡ (carries from to most).tokens
 
+-- no more tokens begin than wait
 pub begun_few : (o : Outgoing) (n : ℕ) → length (all_tokens (newly_begun o n)) ≤ length (waiting_tokens o)
 begun_few o n =
     let m = begun_front (n - length o.left) o.messages in
@@ -76,6 +81,7 @@ begun_few o n =
     let k : all_tokens o.messages ≡ all_tokens (newly_begun o n) ++ all_tokens (drop (length (newly_begun o n)) o.messages) = ap all_tokens e ∙ all_tokens_more (newly_begun o n) (drop (length (newly_begun o n)) o.messages) in
     let l = ap length k in omega (arith, l, length-append (all_tokens (newly_begun o n)) (all_tokens (drop (length (newly_begun o n)) o.messages)))
 
+-- what is carried is there, and within the room
 pub carry_fits : (from to : Core) (most : ℕ) → Fitting from to most
 carry_fits from to most =
     let g = goes_goes from.outbox (min most (in_room to).bytes) (in_room to).tokens in
@@ -104,6 +110,7 @@ taken_whole to false bytes tokens nb nt e p q h k =
     let some : min (length tokens) (free_tokens to.inbox) ≡ nt = omega (arith, q, y) in
     rw (e, all, few, some) refl
 
+-- what is carried is all taken in
 pub carry_whole : (from to : Core) (most : ℕ) → feeds to (carried_bytes from (carries from to most)) (carried_tokens from (carries from to most)) ≡ all_of (carries from to most)
 carry_whole from to most =
     let f = carry_fits from to most in

@@ -11,10 +11,12 @@ use Rattle.wl_world.specs.World.{Each}
 use Rattle.wl_world.specs.Stands.{InFlight}
 use Rattle.wl_world.proofs.Wholes.{each_more, each_rest}
 
+-- the bytes of more messages
 pub all_bytes_more : (xs ys : List Message) → all_bytes (xs ++ ys) ≡ all_bytes xs ++ all_bytes ys
 all_bytes_more [] ys = refl
 all_bytes_more (x ∷ xs) ys = rw (all_bytes_more xs ys) (sym (append_assoc x.bytes (all_bytes xs) (all_bytes ys)))
 
+-- the tokens of more messages
 pub all_tokens_more : (xs ys : List Message) → all_tokens (xs ++ ys) ≡ all_tokens xs ++ all_tokens ys
 all_tokens_more [] ys = refl
 all_tokens_more (x ∷ xs) ys = rw (all_tokens_more xs ys) (sym (append_assoc x.tokens (all_tokens xs) (all_tokens ys)))
@@ -55,6 +57,7 @@ gone_at o n b ms rest e f h =
       ap (λ (x : List Message). take (length (all_tokens b)) (all_tokens x)) e ∙ ap (take (length (all_tokens b))) (all_tokens_more b rest) ∙ take_at (all_tokens b) (all_tokens rest) (length (all_tokens b)) refl,
     )
 
+-- what goes when this many bytes go
 pub gone : (o : Outgoing) (n : ℕ) → n ≤ length (waiting_bytes o) → Gone o n
 gone o n h =
     let b = newly_begun o n in
@@ -85,6 +88,7 @@ pub goes_there : (o : Outgoing) (b t : ℕ) → (goes o b t).bytes ≤ length (w
 unfolding goes
 goes_there o b t = let g = going_there (b - length o.left) t o.messages in omega (arith, g, length-append o.left (all_bytes o.messages))
 
+-- the tokens that go are those of the messages begun
 pub goes_tokens : (o : Outgoing) (b t : ℕ) → (goes o b t).tokens ≡ length (all_tokens (newly_begun o (goes o b t).bytes))
 unfolding goes
 goes_tokens o b t = refl
@@ -108,6 +112,7 @@ split xs ys ms zs n e h l =
       sym (drop-append-le n xs ys l) ∙ ap (drop n) e ∙ drop-append-le n ms zs m ∙ ap (λ k. k ++ zs) (drop_all n ms (omega arith)),
     )
 
+-- what is in front of nothing is nothing
 pub front_nil : (xs ys : List ℕ) → xs ++ ys ≡ [] → xs ≡ []
 front_nil [] ys h = refl
 front_nil (x ∷ xs) ys h = cc
@@ -142,6 +147,7 @@ pops_at o i ms n f (b ∷ bs) e h =
       stay = record { begun = bs; all = refl; bytes = cutting.1; tokens = sym (append-nil (drop (length b.tokens) i.tokens)) ∙ taking.1; whole = w.1 };
     }
 
+-- a whole message in front of the inbox is the first in flight
 pub pops : (o : Outgoing) (i : Arrived) (ms : List Message) (n : ℕ) → InFlight o i ms → in_front i ≡ Whole n → Pops o i ms n
 pops o i ms n f h = pops_at o i ms n f f.begun refl h
 
@@ -159,6 +165,7 @@ never_bad_at o i ms (b ∷ bs) n f e h =
     let q : front i.limit.bytes (i.bytes ++ o.left) ≡ Bad n = bad_stays i.limit.bytes i.bytes o.left n h in
     cc (p, q, ap (front i.limit.bytes) eq)
 
+-- no bad header comes
 pub never_bad : (o : Outgoing) (i : Arrived) (ms : List Message) (n : ℕ) → InFlight o i ms → in_front i ≡ Bad n → ⊥
 never_bad o i ms n f h = never_bad_at o i ms f.begun n f refl h
 
@@ -182,6 +189,7 @@ back_nil : (xs ys : List ℕ) → xs ++ ys ≡ [] → ys ≡ []
 back_nil [] ys h = h
 back_nil (x ∷ xs) ys h = cc
 
+-- with empty boxes nothing is in flight
 pub none_in_flight : (o : Outgoing) (i : Arrived) (ms : List Message) → InFlight o i ms → i.bytes ≡ [] → waiting_bytes o ≡ [] → ms ≡ []
 none_in_flight o i ms f x y =
     let l = front_nil o.left (all_bytes o.messages) y in

@@ -121,6 +121,7 @@ found_if : (P : Remembered → Type 0) (test : Remembered → Bool) (x g : Remem
 found_if P test x g rest true t p f k = let q : x ≡ g = cc k in (subst P q p, ap test (sym q) ∙ t)
 found_if P test x g rest false t p f k = f k
 
+-- what is found passes the test and is as each is
 pub find_at : (P : Remembered → Type 0) (test : Remembered → Bool) (gs : List Remembered) (g : Remembered) → Each P gs → find test gs ≡ Some g → P g × (test g ≡ true)
 find_at P test [] g h e = absurd (cc e)
 find_at P test (x ∷ gs) g h e = found_if P test x g (find test gs) (test x) refl h.0 (λ k. find_at P test gs g h.1 k) e
@@ -219,6 +220,7 @@ left_by st entry target name iface version g e =
       };
     }
 
+-- a bind by the client keeps what stands
 pub client_bind_keeps : (p : PairState) (w : World) (asked : List (Message Known)) (told : List (Coming Known)) → StandsBy p w asked told → NotEnded p w → (target : Object) (name : ℕ) (iface : List ℕ) (version : ℕ)
     → (reply : Result (Option Object) SendError) (p' : PairState)
     → Writes (bind_answer p.client target name iface version) true p (with_client p (after_bind p.client target name iface version)) reply p'

@@ -168,6 +168,7 @@ at_front p w asked told s z reply p' d More e =
 at_front p w asked told s z reply p' d (Bad n) e = absurd (never_bad p.server.core.outbox p.client.core.inbox _ n s.events.in_boxes e)
 at_front p w asked told s z reply p' d (Whole n) e = at_whole p w asked told s n z e reply p' d
 
+-- a read by the client keeps what stands
 pub client_next_keeps : (p : PairState) (w : World) (asked : List (Message Known)) (told : List (Coming Known)) → StandsBy p w asked told → NotEnded p w
     → (reply : Result (Option Report) NextError) (p' : PairState) → (Nexts needs_memory (next_answer p.client) p (with_client p (after_next p.client)) reply p')
     → Moves p w asked told ClientNext (ClientNext reply) p'

@@ -67,6 +67,7 @@ held_at_client v sets s x some h = let r = seen_at v sets s x h in record { some
 
 -- ---- an event
 
+-- an event in front: its objects are held, it is found, and the rest is in flight
 pub record InEvent (p : PairState) (w : World) (m : Message Known) (cs : List (Coming Known)) (asked : List (Message Known)) (s : StandsBy p w asked (Event m ∷ cs)) (n : ℕ) : Type 0 where
   pub target : SeenAt p.client.core.view w.client m.target
   pub met : AllMet p.client.core.view w.client m.args
@@ -79,6 +80,7 @@ pub record InEvent (p : PairState) (w : World) (m : Message Known) (cs : List (C
 fits_at : (t u : List Interface) (m : Message Known) → t ≡ u → Fits t event_side m → Fits u event_side m
 fits_at t u m e f = subst (λ (x : List Interface). Fits x event_side m) e f
 
+-- the first of what comes, where it is an event and whole
 pub in_event : (p : PairState) (w : World) (m : Message Known) (cs : List (Coming Known)) (asked : List (Message Known)) (s : StandsBy p w asked (Event m ∷ cs)) (n : ℕ)
     → in_front p.client.core.inbox ≡ Whole n → InEvent p w m cs asked s n
 in_event p w m cs asked s n e =
@@ -112,6 +114,7 @@ after_event st m n teaches = record {
   globals = cond teaches (globals_told st.core.tables st.globals m.opcode (map wire m.args)) st.globals;
 }
 
+-- an event of a live registry teaches the client
 abbrev pub teaches : Message Known → Entry → Bool
 teaches m entry = is_registry m.target.born && is_live entry.state
 
@@ -120,6 +123,7 @@ pub record EventAnswer (p : PairState) (m : Message Known) (n : ℕ) (entry : En
   pub tells_it : report p.client.core (the_found n m entry signature) ≡ reports.plain_report p.client.core m.opcode (the_message m entry signature) entry.state
   pub leaves : state_past p.client (the_found n m entry signature) ≡ after_event p.client m n (teaches m entry)
 
+-- what the client says of an event, and how it leaves the client
 pub event_answer : (p : PairState) (m : Message Known) (n : ℕ) (entry : Entry) (tables : List Interface) (f : Fits tables event_side m) → Valid tables → is_delete_id event_side m.target.born.iface m.opcode ≡ false → plain entry ≡ m.target.born
     → EventAnswer p m n entry f.signature
 event_answer p m n entry tables f valid d s =
@@ -158,6 +162,7 @@ learned_is p w m asked told s t =
     (λ i. cond (is_registry m.target.born && live i) (globals_told p.client.core.tables (s.globals.remembered i) m.opcode (map nameless (map (rearg born_of) m.args))) (s.globals.remembered i))
     ∙ ap (λ (l : List Remembered). cond (teaches m t.entry) l p.client.globals) same
 
+-- a pair stands again after the client has read an event
 pub event_stands : (p : PairState) (w : World) (m : Message Known) (cs : List (Coming Known)) (asked : List (Message Known)) (s : StandsBy p w asked (Event m ∷ cs)) (n : ℕ) (i : InEvent p w m cs asked s n)
     → IfThere Mortal m.ends
     → StandsBy (with_client p (after_event p.client m n (teaches m i.target.entry))) (event_read p.client.core.tables w (renamed born_of m) (map (recoming born_of) cs)) asked cs
@@ -203,6 +208,7 @@ held_mortal p w asked told s x h d one =
     let no : true ≡ false = sym d ∙ ap (test_of p) born ∙ plain_display in
     cc no
 
+-- no event ends wl_display
 pub event_mortal : (p : PairState) (w : World) (m : Message Known) (cs : List (Coming Known)) (asked : List (Message Known)) (s : StandsBy p w asked (Event m ∷ cs)) (n : ℕ) → InEvent p w m cs asked s n
     → IfThere Mortal m.ends
 event_mortal p w m cs asked s n i =
@@ -211,9 +217,11 @@ event_mortal p w m cs asked s n i =
     both_if (held_mortal p w asked (Event m ∷ cs) s) m.ends
     (ends_have (Held (client_rows p.client.core.view)) p.server.core.tables event_side m f t.target t.args) t.ends_it
 
+-- the event wl_display.delete_id of an object
 abbrev pub deleting : Known → Message Known
 deleting x = record { target = record { id = 1; born = display_born }; opcode = 1; args = Uint x.id ∷ []; ends = None }
 
+-- it fits the signature of wl_display.delete_id
 pub delete_signature : (tables : List Interface) → signature_at tables 0 event_side 1 ≡ Some (fixed.message (codes "delete_id") 1 (fixed.uint ∷ []) Nothing) → (x : Known) → x.id ≤ 1048576 → Fits tables event_side (deleting x)
 delete_signature tables e x h = record {
   signature = fixed.message (codes "delete_id") 1 (fixed.uint ∷ []) Nothing;
@@ -229,6 +237,7 @@ delete_signature tables e x h = record {
   no_error = refl;
 }
 
+-- a delete in front: its object is held, it is found, and the rest is in flight
 pub record InDelete (p : PairState) (x : Known) (cs : List (Coming Known)) (middle : Rows Row) (n : ℕ) : Type 0 where
   pub entry : Entry
   pub there : look p.client.core.view x.id ≡ Some entry
@@ -241,6 +250,7 @@ pub record InDelete (p : PairState) (x : Known) (cs : List (Coming Known)) (midd
   pub deletes_it : DeletesAt (test_of p) (all_tells cs) (client_rows p.client.core.view) middle x
   pub down : InFlight p.server.core.outbox (without_first p.client.core.inbox n 0) (map spelled_coming cs)
 
+-- the first of what comes, where it is a delete and whole
 pub in_delete : (p : PairState) (w : World) (x : Known) (cs : List (Coming Known)) (asked : List (Message Known)) (s : StandsBy p w asked (Delete x ∷ cs)) (n : ℕ)
     → in_front p.client.core.inbox ≡ Whole n → InDelete p x cs s.meet.middle n
 unfolding delete_signature
@@ -280,6 +290,7 @@ pub record DeleteAnswer (p : PairState) (x : Known) (n : ℕ) (entry : Entry) (s
   pub tells_it : report p.client.core (the_found n (deleting x) (live_entry display_born) signature) ≡ reports.Deleted (record { id = x.id; birth = entry.birth })
   pub leaves : state_past p.client (the_found n (deleting x) (live_entry display_born) signature) ≡ after_delete p.client x n
 
+-- what the client says of a delete, and how it leaves the client
 pub delete_answer : (p : PairState) (x : Known) (n : ℕ) (entry : Entry) (signature : sigs.Message) → x.id ≢ 1 → look p.client.core.view x.id ≡ Some entry → descriptors signature.kinds ≡ 0 → DeleteAnswer p x n entry signature
 delete_answer p x n entry signature y l c =
     let b : nat_eq x.id 1 ≡ false = ne_eqb x.id 1 y in
@@ -297,6 +308,7 @@ delete_answer p x n entry signature y l c =
       };
     }
 
+-- a pair stands again after the client has read a delete
 pub delete_stands : (p : PairState) (w : World) (x : Known) (cs : List (Coming Known)) (asked : List (Message Known)) (s : StandsBy p w asked (Delete x ∷ cs)) (n : ℕ) (i : InDelete p x cs s.meet.middle n)
     → StandsBy (with_client p (after_delete p.client x n)) (delete_read w x.born (map (recoming born_of) cs)) asked cs
 delete_stands p w x cs asked s n i =

@@ -86,6 +86,7 @@ not_display p w asked told s id opcode entry signature l h d one =
 pub valid_client : (p : PairState) (w : World) (asked : List (Message Known)) (told : List (Coming Known)) → StandsBy p w asked told → Valid p.client.core.tables
 valid_client p w asked told s = subst Valid (sym s.terms.same_tables) s.terms.valid
 
+-- what a call makes, by the entry of its target
 pub made_same : (core : Core) (target : Object) (given : List Given) (signature : sigs.Message) (entry : Entry) → look core.view target.id ≡ Some entry → made_at core target signature given ≡ the_made core entry given signature
 made_same core target given signature entry h = ap (λ o. made core.tables (version_at o) signature.kinds (map (wired (next_id core.view)) given)) h
 
@@ -209,6 +210,7 @@ sends_that p w asked told s target opcode given signature new c k o can =
       steps = asks_world p w asked told s m can;
     }
 
+-- a call of the client keeps what stands
 pub client_send_keeps : (p : PairState) (w : World) (asked : List (Message Known)) (told : List (Coming Known)) → StandsBy p w asked told → NotEnded p w → (target : Object) (opcode : ℕ) (given : List Given) → Each IsGiven given
     → (reply : Result (Option Object) SendError) (p' : PairState)
     → Writes (send_answer p.client.core Request target opcode given) (opens_object (checked p.client.core.outbox.limit.bytes p.client.core.tables Request p.client.core.view target opcode given)) p

@@ -24,6 +24,7 @@ use Rattle.wl_world.proofs.Ended.{Mortal, ended_view, ends_have, if_by}
 
 -- ---- any request that fits and whose objects are open
 
+-- a request that fits, whose objects are open at the client and whose new object is fresh
 pub record CanAsk (p : PairState) (m : Message Known) : Type 0 where
   pub fitly : AsksFitly p.server.core.tables p.server.globals m
   pub target : OpenRow (client_rows p.client.core.view) m.target
@@ -43,6 +44,7 @@ asked_core c m = record c {
   outbox = record c.outbox { messages = c.outbox.messages ++ spelled m ∷ [] };
 }
 
+-- the pair with it
 abbrev pub asked_pair : PairState → Message Known → PairState
 asked_pair p m = with_client_core p (asked_core p.client.core m)
 
@@ -50,6 +52,7 @@ opens_sound : (v : View) (n : Option Known) → Sound v → IfThere (λ x. x.id 
 opens_sound v None s e c = s
 opens_sound v (Some x) s e c = subst (λ (i : ℕ). Sound (opened_at v i x.born.iface x.born.version)) (sym e) (Sound-opened v x.born.iface x.born.version s c)
 
+-- a pair stands again after the client has written a request
 pub ask_stands : (p : PairState) (w : World) (asked : List (Message Known)) (told : List (Coming Known)) (s : StandsBy p w asked told) (m : Message Known) (c : CanAsk p m)
     → StandsBy (asked_pair p m) (request_written w (renamed born_of m)) (asked ++ m ∷ []) told
 ask_stands p w asked told s m c =

@@ -61,10 +61,12 @@ pub if_map : {A B : Type 0} (P : B → Type 0) (f : A → B) (o : Option A) → 
 if_map P f None h = tt
 if_map P f (Some x) h = h
 
+-- what is so of something, seen through a function
 pub if_by : {X : Type 0} {P Q : X → Type 0} (f : (x : X) → P x → Q x) (o : Option X) → IfThere P o → IfThere Q o
 if_by f None h = tt
 if_by f (Some x) h = f x h
 
+-- two things that are so of something give a third
 pub both_if : {X : Type 0} {P Q R : X → Type 0} (f : (x : X) → P x → Q x → R x) (o : Option X) → IfThere P o → IfThere Q o → IfThere R o
 both_if f None h k = tt
 both_if f (Some x) h k = f x h k
@@ -73,10 +75,12 @@ pub if_all : {X : Type 0} {P : X → Type 0} (f : (x : X) → P x) (o : Option X
 if_all f None = tt
 if_all f (Some x) = f x
 
+-- a function keeps something
 pub some_map : {A B : Type 0} (f : A → B) (o : Option A) → is_some (option_map f o) ≡ is_some o
 some_map f None = refl
 some_map f (Some x) = refl
 
+-- what a message ends, by births
 pub born_ends : (m : Message Known) (what : Destroys) → m.ends ≡ ended_by what m.target m.args → option_map born_of m.ends ≡ ended_by what m.target.born (map (rearg born_of) m.args)
 born_ends m what e = ap (option_map born_of) e ∙ sym (ended_map born_of what m.target m.args)
 
@@ -95,6 +99,7 @@ argument_by tables version (Obj None ∷ []) a = absurd (let no = a.0.0.1 refl i
 argument_by tables version (arg ∷ []) a = absurd a.0.0
 argument_by tables version (x ∷ y ∷ more) a = absurd a.1
 
+-- an argument that a message destroys is its first and only one, and a registry
 pub argument_is : (tables : List Interface) (side : Side) (m : Message Known) (f : Fits tables side m) (k : ℕ) → Valid tables → f.signature.destroys ≡ ends_arg k → (k ≡ 0) × IsArgument m.args
 argument_is tables side m f k v d =
     let same : f.signature ≡ the_destroy = is_the_destroy tables m.target.born.iface.0 side m.opcode f.signature k v f.there d in
@@ -113,6 +118,7 @@ abbrev pub ended_view : End → View → Option Known → View
 ended_view end v None = v
 ended_view end v (Some x) = destroyed end v x.id
 
+-- the view after a message is that with what it ends ended
 pub after_is : (end : End) (v : View) (new : Option NewObject) (what : Destroys) (id : ℕ) (o : Option Known) → EndsAs what id o → after end v new what id ≡ ended_view end (opens v new) o
 after_is end v new Nothing id None e = refl
 after_is end v new Nothing id (Some x) e = absurd (let f = e.flag in cc f)
@@ -127,6 +133,7 @@ ends_argument target args k z x e =
     subst (λ (l : List (Arg Known)). EndsAs (ends_arg k) (ended_id (ends_arg k) target.id (map wire l)) (ended_by (ends_arg k) target l)) (sym e)
     (subst (λ (n : ℕ). EndsAs (ends_arg n) (ended_id (ends_arg n) target.id (map wire (Obj (Some x) ∷ []))) (ended_by (ends_arg n) target (Obj (Some x) ∷ []))) (sym z) (record { flag = refl; same = refl }))
 
+-- what a message ends is what its signature destroys
 pub ends_as : (tables : List Interface) (side : Side) (m : Message Known) (f : Fits tables side m) → Valid tables → EndsAs f.signature.destroys (ended_id f.signature.destroys m.target.id (map wire m.args)) m.ends
 ends_as tables side m f v =
     subst (λ (o : Option Known). EndsAs f.signature.destroys (ended_id f.signature.destroys m.target.id (map wire m.args)) o) (sym f.ends) (by_what f.signature.destroys refl)

@@ -30,9 +30,11 @@ use Rattle.wl_world.proofs.Readings.{HeldAt, FreeAt, AllMet, received_right, par
 abbrev pub the_message : Message Known → Entry → sigs.Message → Received
 the_message m entry signature = record { target = record { id = m.target.id; birth = entry.birth }; entry = entry; signature = signature; values = map wire m.args }
 
+-- this many bytes, with that message
 abbrev pub the_found : ℕ → Message Known → Entry → sigs.Message → Found
 the_found n m entry signature = record { size = n; opcode = m.opcode; message = the_message m entry signature }
 
+-- a message in front that fits, whose objects are held, is found
 pub finds : (core : Core) (side : Side) (m : Message Known) (n : ℕ) (rows : ℕ → Option Row) (entry : Entry) (f : Fits core.tables side m)
     → in_front core.inbox ≡ Whole n → take n core.inbox.bytes ≡ (spelled m).bytes → look core.view m.target.id ≡ Some entry → plain entry ≡ m.target.born
     → AllMet core.view rows m.args → length (tokens m.args) ≤ length core.inbox.tokens
@@ -51,6 +53,7 @@ finds core side m n rows entry f e b l s k t =
 
 -- ---- all is there
 
+-- each argument meets its object or a free id
 pub all_met : (tables : List Interface) (version : ℕ) (view : View) (rows : ℕ → Option Row) (There : Known → Type 0) → ((x : Known) → 0 < x.id → There x → HeldAt view rows x)
     → (ks : List Kind) (args : List (Arg Known)) → AreOf tables version ks args → Each There (objects args) → Each (λ a. IfThere (FreeAt view) (new_in a)) args → AllMet view rows args
 all_met tables version view rows There f [] [] a o n = tt
@@ -62,6 +65,7 @@ all_met tables version view rows There f (k ∷ ks) (New x ∷ args) a o n = (n.
 all_met tables version view rows There f (k ∷ ks) (NewNamed name own x ∷ args) a o n = (n.0, all_met tables version view rows There f ks args a.1 o n.1)
 all_met tables version view rows There f (k ∷ ks) (arg ∷ args) a o n = (tt, all_met tables version view rows There f ks args a.1 o n.1)
 
+-- what is fresh is free to the server's tests
 pub news_free : (view : View) (args all : List (Arg Known)) → Sound view → IfThere (Fresh (server_rows view)) (made_in all) → Each (λ a. IfThere (λ x. made_in all ≡ Some x) (new_in a)) args
     → Each (λ a. IfThere (FreeAt view) (new_in a)) args
 news_free view args all s g h =

@@ -13,22 +13,27 @@ module _ {X : Type 0} where
   unfolding put
   put_tells f i o j = grind (arith, nat_tests)
 
+  -- what was put stands there
   pub put_same : (f : ℕ → Option X) (i : ℕ) (o : Option X) → put f i o i ≡ o
   put_same f i o = grind (arith, put_tells)
 
+  -- two puts at different places change places
   pub put_swap : (f : ℕ → Option X) (i j : ℕ) (a b : Option X) → i ≢ j → put (put f i a) j b ≡ put (put f j b) i a
   put_swap f i j a b ne =
       let each : (q : ℕ) → put (put f i a) j b q ≡ put (put f j b) i a q = λ q. grind (arith, put_tells) in
       λ k q. each q k
 
+  -- of two puts at a place the last stands
   pub put_over : (f : ℕ → Option X) (i : ℕ) (a b : Option X) → put (put f i a) i b ≡ put f i b
   put_over f i a b =
       let each : (q : ℕ) → put (put f i a) i b q ≡ put f i b q = λ q. grind (arith, put_tells) in
       λ k q. each q k
 
+-- what is held stays held when another id changes
 pub held_other : (v : Rows Row) (n : Known) (i : ℕ) (o : Option Row) → Held v n → n.id ≢ i → Held (at v i o) n
 held_other v n i o h ne = grind (arith, put_tells)
 
+-- what is held has a row
 pub held_some : (v : Rows Row) (n : Known) (i : ℕ) → Held v n → v.rows i ≡ None → n.id ≢ i
 held_some v n i h e = grind arith
 
@@ -139,6 +144,7 @@ module _ {test : Born → Bool} where
   use_more n (make a t) h f = make a (use_more n t h f)
   use_more n (destroy z a b c t) h f = destroy z a b c (use_more n t (grind (arith, put_tells)) f)
 
+  -- requests still tie where one more makes an object
   pub make_more : {qs : List Ask} {s : Rows Born} {m : Rows Row} (n : Known) → Tied test qs s m → Fresh m n
       → Tied test (qs ++ Make n ∷ []) s (made m n.id (Open n.born))
   make_more n (drained {s = s} {m = m} rows u b) g =
@@ -151,6 +157,7 @@ module _ {test : Born → Bool} where
       destroy z a b (grind (arith, put_tells)) (tied_client (put_swap _ _ _ _ _ ne)
       (make_more n t (record { free = grind (arith, put_tells, g.free); some = g.some; next = g.next; birth = g.birth; low = g.low; left = g.left })))
 
+  -- requests still tie where one more destroys an object
   pub destroy_more : {qs : List Ask} {s : Rows Born} {m : Rows Row} (n : Known) → Tied test qs s m → m.rows n.id ≡ Some (Open n.born) → test n.born ≡ false → n.id ≢ 1
       → Tied test (qs ++ Destroy n ∷ []) s (at m n.id (Some (Ending n.born)))
   destroy_more n (drained {s = s} {m = m} rows u b) h f y =

@@ -110,6 +110,7 @@ can_add s iface version false false c l e f h = absurd (cc h)
 can_add s iface version false true false l e f h = absurd (cc h)
 can_add s iface version false true true l e f h = record { can = e; few = ltb-true _ _ f }
 
+-- a new global keeps what stands
 pub add_global_keeps : (p : PairState) (w : World) (asked : List (Message Known)) (told : List (Coming Known)) → StandsBy p w asked told → NotEnded p w → (iface : Iface) (version : ℕ) → version < 2 ^ 32
     → (reply : Result ℕ GlobalError) (p' : PairState) → Adds (add_refusal p.server iface version) (next_name p.server) p (with_server p (with_global p.server iface version)) reply p'
     → Moves p w asked told (AddGlobal iface version) (AddGlobal reply) p'
@@ -171,6 +172,7 @@ withdraw_stands p w asked told s name (Some x) e =
     (each_without (IsGlobal p.server.core.tables) (λ g h. record { can_be = h.can_be; word = h.word }) p.server.globals name x e s.globals.globals)
     (let l = length_set p.server.globals (name - 1) (withdrawn x) in omega (arith, l, s.globals.few_globals))
 
+-- the withdrawal of a global keeps what stands
 pub withdraw_keeps : (p : PairState) (w : World) (asked : List (Message Known)) (told : List (Coming Known)) → StandsBy p w asked told → NotEnded p w → (name : ℕ) (reply : Result (Unit {0}) GlobalError) (p' : PairState)
     → Calls (withdraw_refusal p.server name) p (with_server p (after_withdraw p.server name)) reply p' → Moves p w asked told (Withdraw name) (Withdraw reply) p'
 withdraw_keeps p w asked told s z name reply p' (done h) = record {

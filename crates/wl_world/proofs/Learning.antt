@@ -35,6 +35,7 @@ module _ {Y : Type 0} (f : Argument → Y) (same : (a : Arg Known) → f (wire a
       ap (λ o. f (unwrap_or o (Uint 0))) (slice_get-map wire args k) ∙ at_place (slice_get args k)
       ∙ sym (ap (λ o. f (unwrap_or o (Uint 0))) (slice_get-map nameless (map (rearg born_of) args) k ∙ ap (option_map nameless) (slice_get-map (rearg born_of) args k)))
 
+-- what is learned does not hang on how objects are named
 pub told_same : (tables : List Interface) (globals : List Global) (opcode : ℕ) (args : List (Arg Known))
     → globals_told tables globals opcode (map wire args) ≡ globals_told tables globals opcode (map nameless (map (rearg born_of) args))
 told_same tables globals opcode args =
@@ -53,6 +54,7 @@ module _ (P : Global → Type 0) where
   keep_if true g gs p h = (p, h)
   keep_if false g gs p h = h
 
+  -- what is so of each is so of those that pass a test
   pub each_filter : (test : Global → Bool) (gs : List Global) → Each P gs → Each P (filter test gs)
   each_filter test [] h = tt
   each_filter test (g ∷ gs) h = keep_if (test g) g (filter test gs) h.0 (each_filter test gs h.1)
@@ -73,6 +75,7 @@ module _ (P : Global → Type 0) where
   lists_of true xs ys p q = p
   lists_of false xs ys p q = q
 
+  -- what is so of each and of one more is so of all that are then remembered
   pub each_remembered : (g : Global) (gs : List Global) → P g → Each P gs → Each P (remembered g gs)
   each_remembered g gs p h =
       lists_of (is_some (global_of gs g.name)) (replaced g gs) (cond (nat_lt (length gs) max_globals) (gs ++ g ∷ []) gs) (each_replaced g gs p h)

@@ -51,6 +51,7 @@ ends_below : (births : ℕ) (o : Option Known) → IfThere (λ x. x.born.birth <
 ends_below births None h = tt
 ends_below births (Some x) h = (h, tt)
 
+-- a delete is of a birth that was counted
 pub delete_below : (births : ℕ) (o : Option Known) → IfThere (λ x. x.born.birth < births) o → Each (IsBelow births) (all_tells (delete o))
 delete_below births None h = tt
 delete_below births (Some x) h = (h, tt)
@@ -113,5 +114,6 @@ outcome_stands : {p p' : PairState} {w' : World} {asked : List (Message Known)} 
 outcome_stands (goes_on a t z s h) = stands a t z s
 outcome_stands (ends_it e m) = ended e
 
+-- a step of a pair that stands, without what it did
 pub forget : {p p' : PairState} {w : World} {asked : List (Message Known)} {told : List (Coming Known)} {move : Move} {reply : Reply} → Moves p w asked told move reply p' → Keeps p w move reply p'
 forget m = record { world = m.world; answers = m.answers; stands = outcome_stands m.outcome }

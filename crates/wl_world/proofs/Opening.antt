@@ -61,6 +61,7 @@ opening_aged false e h = absurd (cc h)
 nothing_flies : (from : Outgoing) (to : Arrived) → from.left ≡ [] → from.messages ≡ [] → to.bytes ≡ [] → to.tokens ≡ [] → InFlight from to []
 nothing_flies from to a b c d = record { begun = []; all = sym b; bytes = rw (c, a) refl; tokens = d; whole = tt }
 
+-- a new pair stands, with nothing in flight
 pub new_stands_by : (tables : List Interface) (client_sizes server_sizes : Sizes) → client_sizes.limit.bytes ≡ server_sizes.limit.bytes → Valid tables → StandsBy (new_pair tables client_sizes server_sizes) opening [] []
 new_stands_by tables client_sizes server_sizes one v = record {
   terms = record { same_tables = refl; valid = v; up_limit = one; down_limit = sym one; one_limit = one };
@@ -96,6 +97,7 @@ new_stands_by tables client_sizes server_sizes one v = record {
     both None h = refl
     both (Some e) h = ap Some (live_row e e.state (h e refl))
 
+-- a new pair stands for the opening world
 pub new_stands : (tables : List Interface) (client_sizes server_sizes : Sizes) → client_sizes.limit.bytes ≡ server_sizes.limit.bytes → Valid tables → Stands (new_pair tables client_sizes server_sizes) opening
 new_stands tables client_sizes server_sizes one v = stands [] [] (refl, refl) (new_stands_by tables client_sizes server_sizes one v)
 
@@ -144,6 +146,7 @@ agree_by p w asked told s d =
     let same : (id : ℕ) → look p.client.core.view id ≡ look p.server.core.view id = λ id. rows_same (look p.client.core.view id) (look p.server.core.view id) (s.server.live id) (rows id) in
     record { same = same; live = λ id e h. s.server.live id e (sym (same id) ∙ h) }
 
+-- drained ends that stand have the same objects
 pub agree_drained : (p : PairState) (w : World) → Stands p w → w.ended ≡ false → drained p → Agree p.client.core.view p.server.core.view
 agree_drained p w (ended e) z d = absurd (cc (e, z))
 agree_drained p w (stands asked told e s) z d = agree_by p w asked told s d
@@ -159,6 +162,7 @@ pub record Extended (p : PairState) (w : World) (moves : List Move) (replies : L
   pub stands : Stands last world
   pub extends : (move : Move) (reply : Reply) (next : PairState) → Keeps last world move reply next → Runs p w (moves ++ move ∷ []) (replies ++ reply ∷ []) next
 
+-- a run can be followed by one more step
 pub run_more : (p : PairState) (w : World) (moves : List Move) (replies : List Reply) (last : PairState) → Stands p w → Runs p w moves replies last → Extended p w moves replies last
 run_more p w [] [] last s r = record {
   world = w;

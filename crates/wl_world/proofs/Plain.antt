@@ -8,12 +8,14 @@ use Rattle.wl_world.specs.Flight.{Rows, at, Ask, Make, Destroy, Tell, Delete, at
 use Rattle.wl_world.specs.Plain.{tell_id, ask_id, In}
 use Rattle.wl_world.proofs.Flight.{put_tells, put_same, held_at_client, held_other, held_some, free_after}
 
+-- what is held when another ends was held before
 pub kept_end : (v : Rows Row) (x y : Known) → Held v y → Held (at v y.id (Some (Ending y.born))) x → Held v x
 kept_end v x y a h = elim (put_tells v.rows y.id (Some (Ending y.born)) x.id) [
   | inl p ↦ (let e : x.born ≡ y.born = grind arith in let k : ◌≡◌ {A = Known} y x = λ i. record { id = sym p.0 i; born = sym e i } in subst (Held v) k a)
   | inr p ↦ elim h [ inl q ↦ inl (sym p.1 ∙ q) | inr q ↦ inr (sym p.1 ∙ q) ]
 ]
 
+-- what is held when an id is closed was held before
 pub kept_delete : (v : Rows Row) (x : Known) (i : ℕ) → Held (at v i None) x → Held v x
 kept_delete v x i h = elim (put_tells v.rows i None x.id) [
   | inl p ↦ elim h [ inl q ↦ absurd (cc (p.1, q)) | inr q ↦ absurd (cc (p.1, q)) ]
@@ -47,6 +49,7 @@ module _ {test : Born → Bool} where
   free_asks i (make {s = s} {m = m} {x = n} a t) h = (held_some m n i (held_at_client n t (put_same s.rows n.id (Some n.born))) h, free_asks i t h)
   free_asks i (destroy {m = m} {x = n} z a b c t) h = (held_some m n i (inr c) h, free_asks i t (grind (arith, put_tells)))
 
+  -- an id with no row at the client is named nowhere in flight
   pub free_nowhere : {es : List Tell} {qs : List Ask} {v : Rows Row} {s : Rows Born} (i : ℕ) → Meets test es qs v s → v.rows i ≡ None → Each (λ t. tell_id t ≢ i) es × Each (λ a. ask_id a ≢ i) qs
   free_nowhere i m h = (free_tells i m.reads h, free_asks i m.tied (free_after i m.reads h))
 
@@ -64,6 +67,7 @@ module _ {test : Born → Bool} where
     | inr p ↦ elim (deleted_or n r (held_other v n x.id _ h p.0)) [ inl q ↦ inl (inr q) | inr q ↦ inr q ]
   ]
 
+  -- what the client holds is deleted on the way, open at the server, or made on the way
   pub held_where : {es : List Tell} {qs : List Ask} {v : Rows Row} {s : Rows Born} (n : Known) → Meets test es qs v s → Held v n → In (Delete n) es ⊎ (s.rows n.id ≡ Some n.born) ⊎ In (Make n) qs
   held_where n m h = elim (deleted_or n m.reads h) [ inl p ↦ inl p | inr p ↦ inr (open_or_made n m.tied p) ]
     where
@@ -133,18 +137,22 @@ module _ {test : Born → Bool} where
   ]
   make_new x (destroy z a b c t) i = elim i [ inl p ↦ absurd (cc p) | inr p ↦ make_new x t p ]
 
+  -- and what is one of these the client holds
   pub held_back : {es : List Tell} {qs : List Ask} {v : Rows Row} {s : Rows Born} (x : Known) → Meets test es qs v s → In (Delete x) es ⊎ (s.rows x.id ≡ Some x.born) ⊎ In (Make x) qs → Held v x
   held_back x m h = elim h [
     | inl p ↦ (deleted_held x m.reads p).0
     | inr p ↦ elim p [ inl q ↦ held_before x m.reads (held_at_client x m.tied q) | inr q ↦ held_before x m.reads (make_held x m.tied q) ]
   ]
 
+  -- what is open at the server has no delete on the way
   pub not_open_deleted : {es : List Tell} {qs : List Ask} {v : Rows Row} {s : Rows Born} (x : Known) → Meets test es qs v s → s.rows x.id ≡ Some x.born → In (Delete x) es → ⊥
   not_open_deleted x m h d = held_some_row m.middle x (held_at_client x m.tied h) (deleted_held x m.reads d).1
 
+  -- what is made on the way has no delete on the way
   pub not_made_deleted : {es : List Tell} {qs : List Ask} {v : Rows Row} {s : Rows Born} (x : Known) → Meets test es qs v s → In (Make x) qs → In (Delete x) es → ⊥
   not_made_deleted x m h d = held_some_row m.middle x (make_held x m.tied h) (deleted_held x m.reads d).1
 
+  -- what is made on the way was not counted by the server
   pub not_made_counted : {es : List Tell} {qs : List Ask} {v : Rows Row} {s : Rows Born} (x : Known) → Meets test es qs v s → In (Make x) qs → x.born.birth < s.births → ⊥
   not_made_counted x m h l = let k = make_new x m.tied h in absurd (omega (arith, k, l))
 
@@ -177,6 +185,7 @@ module _ {test : Born → Bool} where
     | inr p ↦ inr (ending_asked n t (p.1 ∙ h))
   ]
 
+  -- what is ending at the client is deleted or destroyed on the way
   pub ending_where : {es : List Tell} {qs : List Ask} {v : Rows Row} {s : Rows Born} (n : Known) → Meets test es qs v s → v.rows n.id ≡ Some (Ending n.born) → In (Delete n) es ⊎ In (Destroy n) qs
   ending_where n m h = elim (ending_read n m.reads h) [ inl p ↦ inl p | inr p ↦ inr (ending_asked n m.tied p) ]
 
@@ -204,6 +213,7 @@ module _ {test : Born → Bool} where
     | inr p ↦ open_read n r (p.1 ∙ h) k
   ]
 
+  -- no request on the way destroys what is open at the client
   pub open_unasked : {es : List Tell} {qs : List Ask} {v : Rows Row} {s : Rows Born} (n : Known) → Meets test es qs v s → v.rows n.id ≡ Some (Open n.born) → In (Destroy n) qs → ⊥
   open_unasked n m h i = let k = asked_ending n m.tied i in cc (open_read n m.reads h k.ending, k.test_is)
 
@@ -233,5 +243,6 @@ module _ {test : Born → Bool} where
   pub destroyed_held : {es : List Tell} {qs : List Ask} {v : Rows Row} {s : Rows Born} (n : Known) → Meets test es qs v s → In (Destroy n) qs → Held v n
   destroyed_held n m i = held_before n m.reads (inr (asked_ending n m.tied i).ending)
 
+  -- nothing is both destroyed and deleted on the way
   pub not_destroyed_deleted : {es : List Tell} {qs : List Ask} {v : Rows Row} {s : Rows Born} (n : Known) → Meets test es qs v s → In (Destroy n) qs → In (Delete n) es → ⊥
   not_destroyed_deleted n m i d = let k = (asked_ending n m.tied i).ending in let g = (deleted_held n m.reads d).1 in cc (k, g)

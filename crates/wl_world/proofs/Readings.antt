@@ -54,6 +54,7 @@ Met view rows (New x) = FreeAt view x
 Met view rows (NewNamed name own x) = FreeAt view x
 Met view rows _ = Unit {0}
 
+-- each argument meets its object or a free id
 abbrev pub AllMet : View → (ℕ → Option Row) → List (Arg Known) → Type 0
 AllMet view rows [] = Unit {0}
 AllMet view rows (a ∷ args) = Met view rows a × AllMet view rows args
@@ -127,6 +128,7 @@ tokens_one kinds.Array (Array z) s = refl
 tokens_one kinds.Fd (Fd z) s = refl
 tokens_one _ _ s = absurd s
 
+-- the kinds take as many tokens as the arguments have
 pub tokens_taken : (tables : List Interface) (version : ℕ) (ks : List Kind) (args : List (Arg Known)) → AreOf tables version ks args → descriptors ks ≡ length (tokens args)
 tokens_taken tables version [] [] f = refl
 tokens_taken tables version (kind ∷ ks) [] f = absurd f
@@ -194,6 +196,7 @@ tokens_left : (a : Arg Known) (args : List (Arg Known)) (more : List ℕ) → to
 tokens_left (Obj None) args more = refl
 tokens_left a args more = refl
 
+-- the reports of arguments, by births
 pub reports_right : (view : View) (rows : ℕ → Option Row) (args : List (Arg Known)) (more : List ℕ) → AllMet view rows args
     → map (reshaped seen birth_at (λ t. t)) (reports_of (reader_of view) (tokens args ++ more) (map wire args)) ≡ map (reshaped (seen_by rows) birth_of (λ t. t)) (map (rearg born_of) args)
 reports_right view rows [] more m = refl
@@ -202,6 +205,7 @@ reports_right view rows (a ∷ args) more m =
 
 -- ---- the object that it makes
 
+-- a new object as its end opens it
 abbrev pub made_of : Known → NewObject
 made_of x = record { id = x.id; iface = x.born.iface; version = x.born.version }
 
@@ -222,6 +226,7 @@ or_made : (a b : Option Known) → made_or_else (option_map made_of a) (option_m
 or_made None b = refl
 or_made (Some x) b = refl
 
+-- what arguments make is what the kinds make of them
 pub made_read : (tables : List Interface) (version : ℕ) (ks : List Kind) (args : List (Arg Known)) → AreOf tables version ks args → made tables version ks (map wire args) ≡ option_map made_of (made_in args)
 made_read tables version [] [] f = refl
 made_read tables version (kind ∷ ks) [] f = absurd f
@@ -236,6 +241,7 @@ pub record Parted (bytes : List ℕ) (id opcode : ℕ) (vs : List Argument) : Ty
   pub object : (header_at bytes).object ≡ id
   pub opcode_is : (header_at bytes).opcode ≡ opcode
 
+-- a message's bytes are its header and its arguments
 pub parted : (bytes more : List ℕ) (id opcode : ℕ) (vs : List Argument) → bytes ≡ message_bytes id opcode vs ++ more → id < 2 ^ 32 → opcode < 65536 → message_len vs ≤ greatest_limit → Parted bytes id opcode vs
 parted bytes more id opcode vs e i o h =
     let header : Header = record { object = id; size = message_len vs; opcode = opcode } in

@@ -57,6 +57,7 @@ mark_stays (Some first) n count h = h
 posted : (p p' : PairState) (n : ℕ) → p'.recording ≡ p.recording → p'.ended_at ≡ marked p.ended_at n → KeepsRecord p p'
 posted p p' n r e = record { more = []; pieces = r ∙ sym (append-nil p.recording); mark = λ count h. e ∙ mark_stays p.ended_at n count h }
 
+-- a move keeps the pieces recorded and the first mark
 pub keeps_record : (p : PairState) (move : Move) (reply : Reply) (p' : PairState) → Does p move reply p' → KeepsRecord p p'
 keeps_record p (ClientSend target opcode given) (ClientSend reply) p' d = by_write _ _ p _ reply p' (same p _ refl refl) d
 keeps_record p (ClientBind target name iface version) (ClientBind reply) p' d = by_write _ _ p _ reply p' (same p _ refl refl) d

@@ -42,6 +42,7 @@ of_at tables place side opcode m (Some i) e h = record { interface = i; there = 
 pub of_message : (tables : List Interface) (place : ℕ) (side : Side) (opcode : ℕ) (m : Message) → signature_at tables place side opcode ≡ Some m → Of tables place side opcode m
 of_message tables place side opcode m h = of_at tables place side opcode m (interface_at tables place) refl h
 
+-- an opcode that has a signature is below 65536
 pub opcode_low : (tables : List Interface) → Valid tables → (place : ℕ) (side : Side) (opcode : ℕ) (m : Message) → signature_at tables place side opcode ≡ Some m → opcode < 65536
 opcode_low tables v place side opcode m h =
     let o = of_message tables place side opcode m h in
@@ -57,6 +58,7 @@ with_event i true opcode m e h k =
     let q : ◌≡◌ {A = Option Message} None (Some m) = sym n ∙ ap (λ (l : List Message). slice_get l opcode) (sym (h e)) ∙ k in
     absurd (cc q)
 
+-- an interface with a request has no destroying event
 pub target_plain : (tables : List Interface) → Valid tables → (x : Born) (opcode : ℕ) (m : Message) → signature_at tables x.iface.0 Request opcode ≡ Some m → by_event tables x ≡ false
 target_plain tables v x opcode m h =
     let o = of_message tables x.iface.0 Request opcode m h in
@@ -87,6 +89,7 @@ object_kind (kinds.Obj null iface) x h = (null, iface, refl)
 object_kind (kinds.New None) x h = absurd (cc h)
 object_kind kind x h = absurd (cc h)
 
+-- an object that a request can name has no destroying event
 pub objects_plain : (tables : List Interface) (view : View) (new : Known) (ks : List Kind) (given : List Given) → AllRight view ks given → All NamedKind ks → All (PlainKind tables) ks
     → Each (λ x. by_event tables x.born ≡ false) (objects (map (meant view new) given))
 objects_plain tables view new [] [] r n p = tt
@@ -113,6 +116,7 @@ unnamed_none tables v iface Event opcode m h hid = elim (v.unnamed_new_in_bind_a
   | inr a ↦ a
 ]
 
+-- a signature makes at most one object
 pub few_new : (tables : List Interface) → Valid tables → (place : ℕ) (side : Side) (opcode : ℕ) (m : Message) → signature_at tables place side opcode ≡ Some m → length (new_objects m.kinds) ≤ 1
 few_new tables v place Request opcode m h = v.few_objects_made.requests place opcode m h
 few_new tables v place Event opcode m h = let e = ap length (v.few_objects_made.events place opcode m h) in omega (arith, e)
@@ -127,6 +131,7 @@ display_keeps zero m h = subst KeepsTarget h refl
 display_keeps (suc zero) m h = subst KeepsTarget h refl
 display_keeps (suc (suc n)) m h = absurd (cc h)
 
+-- no request of wl_display destroys it
 pub display_lasts : (tables : List Interface) → Valid tables → (opcode : ℕ) (m : Message) → signature_at tables 0 Request opcode ≡ Some m → destroys_target m.destroys ≡ false
 display_lasts tables v opcode m h = display_keeps opcode m (ap (option_and_then (message_of Request opcode)) (sym v.fixed_four.display) ∙ h)
 
@@ -135,13 +140,16 @@ event_ends : (i : Interface) (opcode : ℕ) (m : Message) → slice_get i.events
 event_ends i opcode m h d =
     list_any_at (λ (x : Message). destroys_target x.destroys) i.events opcode m (slice_get_within i.events opcode m h) (ap (λ (x : Message). destroys_target x.destroys) (get_or_from_slice_get i.events opcode m m h) ∙ d)
 
+-- an interface with an event that destroys its target has a destroying event
 pub ends_so : (tables : List Interface) (x : Born) (opcode : ℕ) (m : Message) → signature_at tables x.iface.0 Event opcode ≡ Some m → destroys_target m.destroys ≡ true → by_event tables x ≡ true
 ends_so tables x opcode m h d =
     let o = of_message tables x.iface.0 Event opcode m h in
     ap is_ended_by_event o.there ∙ event_ends o.interface opcode m o.message d
 
+-- no event makes an object
 pub no_event_new : (tables : List Interface) → Valid tables → (place opcode : ℕ) (m : Message) → signature_at tables place Event opcode ≡ Some m → length (new_objects m.kinds) ≤ 0
 no_event_new tables v place opcode m h = let e = ap length (v.few_objects_made.events place opcode m h) in omega (arith, e)
 
+-- wl_display has no destroying event
 pub display_plain : (tables : List Interface) → Valid tables → is_ended_by_event (interface_at tables 0) ≡ false
 display_plain tables v = rw v.fixed_four.display refl

@@ -152,6 +152,7 @@ at_front p w asked told s z reply p' d More e =
 at_front p w asked told s z reply p' d (Bad n) e = absurd (never_bad p.client.core.outbox p.server.core.inbox _ n s.requests.in_boxes e)
 at_front p w asked told s z reply p' d (Whole n) e = at_whole p w asked told s n z e reply p' d
 
+-- a read by the server keeps what stands
 pub server_next_keeps : (p : PairState) (w : World) (asked : List (Message Known)) (told : List (Coming Known)) → StandsBy p w asked told → NotEnded p w
     → (reply : Result (Option Report) NextError) (p' : PairState) → (Nexts needs_memory (next_answer p.server) p (with_server p (after_next p.server)) reply p')
     → Moves p w asked told ServerNext (ServerNext reply) p'

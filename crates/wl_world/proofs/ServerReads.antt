@@ -69,6 +69,7 @@ held_at_server p w asked told s x some h =
       shown = ap (option_map Open) shown ∙ ap (λ (b : Born). Some (Open b)) (sym r.same) ∙ ap (λ st. Some (as_row st (plain r.entry))) (sym live);
     }
 
+-- the test for a destroying event, by the pair's tables
 abbrev pub test_of : PairState → Born → Bool
 test_of p = by_event p.server.core.tables
 
@@ -91,15 +92,18 @@ no_bad_bind true g h = rw (h refl) refl
 
 -- ---- the end after it
 
+-- the delete of what ends follows in the outbox
 pub followed : (b : Bool) (id : ℕ) (o : Option Known) (c : Core) → b ≡ is_some o → IfThere (λ x. x.id ≡ id) o
     → with_following b id c ≡ record c { outbox = record c.outbox { messages = c.outbox.messages ++ map spelled_coming (delete o) } }
 followed b id None c f h = ap (λ (k : Bool). with_following k id c) f ∙ (λ i. record c { outbox = record c.outbox { messages = sym (append-nil c.outbox.messages) i } })
 followed b id (Some x) c f h = λ i. with_following (f i) (sym h i) c
 
+-- a delete is a whole message within the limit
 pub delete_whole : (limit : Limit) (o : Option Known) → Each (λ (m : boxes.Message). IsMessage limit.bytes m.bytes) (map spelled_coming (delete o))
 delete_whole limit None = tt
 delete_whole limit (Some x) = (whole_within limit 1 1 (Uint x.id ∷ []) (omega arith) (omega (arith, limit.in_range.0)), tt)
 
+-- the delete of what ends, by births
 pub map_delete : (o : Option Known) → map (recoming born_of) (delete o) ≡ delete (option_map born_of o)
 map_delete None = refl
 map_delete (Some x) = refl
@@ -108,6 +112,7 @@ births_of : (v : View) (n : Option Known) → IfThere (Fresh (server_rows v)) n 
 births_of v None g = tt
 births_of v (Some x) g = g.birth
 
+-- a delete of a low id fits
 pub delete_fits : (p : PairState) (o : Option Known) → IfThere (λ x. x.id ≤ 1048576) o → Each (ComesFitly p.server.core.tables p.server.globals) (delete o)
 delete_fits p None h = tt
 delete_fits p (Some x) h = (h, tt)
@@ -121,6 +126,7 @@ left_core c m n = record c {
   read = min (c.read + n) 18446744073709551615;
 }
 
+-- the server as it is left
 abbrev pub left_state : server.State → Message Known → ℕ → server.State
 left_state st m n = record st {
   core = left_core st.core m n;
@@ -153,6 +159,7 @@ ends_rightly st m n entry f v s h hs = subst (EndsRightly f.signature.destroys (
         let there : ThereRow (server_rows st.core.view) a.1.it = (subst (λ (l : List (Arg Known)). Each (ThereRow (server_rows st.core.view)) (objects l)) a.1.are hs).0 in
         ends_named st.core m.target m.args k a.1.it st.core.inbox.tokens a.0 a.1.are a.1.some there
 
+-- reading a request leaves the server so
 pub left_is : (st : server.State) (m : Message Known) (n : ℕ) (entry : Entry) (f : Fits st.core.tables request_side m) → Valid st.core.tables → plain entry ≡ m.target.born
     → ThereRow (server_rows st.core.view) m.target → Each (ThereRow (server_rows st.core.view)) (objects m.args)
     → state_past st (the_found n m entry f.signature) ≡ left_state st m n
@@ -183,15 +190,18 @@ begins_more x [] ds h = absurd h
 begins_more x (Event m ∷ cs) ds h = absurd h
 begins_more x (Delete y ∷ cs) ds h = h
 
+-- deletes still follow in a longer list
 pub follow_more : (cs ds : List (Coming Known)) → DeletesFollow cs → DeletesFollow ds → DeletesFollow (cs ++ ds)
 follow_more [] ds h k = k
 follow_more (Event m ∷ cs) ds h k = (if_by (λ x. begins_more x cs ds) m.ends h.0, follow_more cs ds h.1 k)
 follow_more (Delete x ∷ cs) ds h k = follow_more cs ds h k
 
+-- deletes follow in a delete alone
 pub follow_delete : (o : Option Known) → DeletesFollow (delete o)
 follow_delete None = tt
 follow_delete (Some x) = tt
 
+-- what ends is followed by its delete
 pub begins_delete : (o : Option Known) → IfThere (λ x. BeginsWithDelete x (delete o)) o
 begins_delete None = tt
 begins_delete (Some x) = refl
@@ -202,6 +212,7 @@ begins_delete (Some x) = refl
 pub low_there : (v : View) → Sound v → (x : Known) → ThereRow (server_rows v) x → x.id ≤ 1048576
 low_there v s x h = let r = there_row v x h in (row_low v x.id r.entry s r.there).1
 
+-- a pair stands again after the server has read a request
 pub server_read_stands : (p : PairState) (w : World) (m : Message Known) (ms : List (Message Known)) (told : List (Coming Known)) (s : StandsBy p w (m ∷ ms) told) (n : ℕ)
     → AsksAt (test_of p) (all_asks ms) (server_rows p.server.core.view) s.meet.middle m.target (objects m.args) (made_in m.args) m.ends
     → InFlight p.client.core.outbox (without_first p.server.core.inbox n (length (tokens m.args))) (map spelled ms)
@@ -238,6 +249,7 @@ server_read_stands p w m ms told s n a up =
 
 -- ---- what is answered
 
+-- a request in front: its objects are open, it is found, and the rest is in flight
 pub record InRequest (p : PairState) (w : World) (m : Message Known) (ms : List (Message Known)) (told : List (Coming Known)) (s : StandsBy p w (m ∷ ms) told) (n : ℕ) : Type 0 where
   pub entry : Entry
   pub same_target : plain entry ≡ m.target.born
@@ -251,6 +263,7 @@ pub record InRequest (p : PairState) (w : World) (m : Message Known) (ms : List 
 judge : (st : server.State) (f : Found) → (is_bind request_side f.message.entry.iface f.opcode && not (is_good_bind st f.message.values)) ≡ false → found st.core request_side ≡ Ok (Some f) → request st ≡ Ok (Some f)
 judge st f h e = ap (judged st) e ∙ rw h refl
 
+-- the first request, where it is whole
 pub in_request : (p : PairState) (w : World) (m : Message Known) (ms : List (Message Known)) (told : List (Coming Known)) (s : StandsBy p w (m ∷ ms) told) (n : ℕ)
     → in_front p.server.core.inbox ≡ Whole n → InRequest p w m ms told s n
 in_request p w m ms told s n e =

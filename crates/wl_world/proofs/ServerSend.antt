@@ -129,6 +129,7 @@ tells_one p w asked told s m c =
     (each_more (IsBelow v.births) (tells (event_of m)) (all_tells (delete m.ends)) (event_below (server_rows v) v.births below m c.target c.args ended)
     (delete_below v.births m.ends ended))
 
+-- a call of the server keeps what stands
 pub server_send_keeps : (p : PairState) (w : World) (asked : List (Message Known)) (told : List (Coming Known)) → StandsBy p w asked told → NotEnded p w → (target : Object) (opcode : ℕ) (given : List Given) → Each IsGiven given
     → (reply : Result (Option Object) SendError) (p' : PairState)
     → Writes (send_answer p.server.core Event target opcode given) (opens_object (checked p.server.core.outbox.limit.bytes p.server.core.tables Event p.server.core.view target opcode given)) p
@@ -193,6 +194,7 @@ droppable : (core : Core) (object : Object) → core.failed ≡ false → drop_r
 droppable core object l h =
     droppable_at core object (live_row core.view object) refl (sym (ap (λ (b : Bool). cond b (Some refusals.Failed) (drop_at core (live_row core.view object))) l) ∙ h)
 
+-- the drop of an object keeps what stands
 pub server_drop_keeps : (p : PairState) (w : World) (asked : List (Message Known)) (told : List (Coming Known)) → StandsBy p w asked told → NotEnded p w → (object : Object) (reply : Result (Unit {0}) SendError) (p' : PairState)
     → Calls (drop_refusal p.server.core object) p (with_server_core p (after_drop p.server.core object)) reply p' → Moves p w asked told (ServerDrop object) (ServerDrop reply) p'
 server_drop_keeps p w asked told s z object reply p' (done h) =
@@ -210,6 +212,7 @@ server_drop_keeps p w asked told s z object reply p' (refused h) = record { worl
 
 -- ---- an error
 
+-- an error that is posted ends the world
 pub post_error_keeps : (p : PairState) (w : World) (asked : List (Message Known)) (told : List (Coming Known)) → StandsBy p w asked told → NotEnded p w → (object : Object) (code : ℕ) (text : List ℕ) (reply : Result (Unit {0}) SendError) (p' : PairState)
     → Calls (error_refusal p.server.core object text) p (after_post p object code text) reply p' → Moves p w asked told (PostError object code text) (PostError reply) p'
 post_error_keeps p w asked told s z object code text reply p' (done h) = record { world = record w { ended = true }; answers = before z (done h) refl; outcome = ends_it refl (record { tables = refl; limit = refl; pieces = refl; mark = ap (λ (o : Option ℕ). marked o (length p.recording)) z.1 }) }

@@ -23,6 +23,7 @@ use Rattle.wl_world.proofs.Rules.{display_plain}
 use Rattle.wl_world.proofs.ServerReads.{follow_more, follow_delete, begins_delete, test_of, delete_whole, map_delete, delete_fits, low_there}
 use Rattle.wl_world.proofs.Ended.{Mortal, ended_view, ends_have, if_by, both_if}
 
+-- an event that fits, whose objects are open at the server
 pub record CanTell (p : PairState) (m : Message Known) : Type 0 where
   pub fitly : TellsFitly p.server.core.tables p.server.globals m
   pub target : ThereRow (server_rows p.server.core.view) m.target
@@ -47,6 +48,7 @@ told_core c m = record c {
   outbox = record c.outbox { messages = (c.outbox.messages ++ spelled m ∷ []) ++ map spelled_coming (delete m.ends) };
 }
 
+-- a pair stands again after the server has written an event
 pub tell_stands : (p : PairState) (w : World) (asked : List (Message Known)) (told : List (Coming Known)) (s : StandsBy p w asked told) (m : Message Known) (c : CanTell p m)
     → StandsBy (with_server_core p (told_core p.server.core m)) (event_written w (renamed born_of m)) asked (told ++ (Event m ∷ delete m.ends))
 tell_stands p w asked told s m c =
@@ -78,12 +80,14 @@ tell_stands p w asked told s m c =
 
 -- ---- an object is dropped
 
+-- the server's core with an object closed and its delete written
 abbrev pub dropped_core : Core → Known → Core
 dropped_core c x = record c {
   view = closed c.view x.id;
   outbox = record c.outbox { messages = c.outbox.messages ++ spelled_coming (Delete x) ∷ [] };
 }
 
+-- a pair stands again after the server has dropped an object
 pub drop_stands : (p : PairState) (w : World) (asked : List (Message Known)) (told : List (Coming Known)) (s : StandsBy p w asked told) (x : Known) → ThereRow (server_rows p.server.core.view) x → test_of p x.born ≡ true → x.id ≤ 1048576
     → StandsBy (with_server_core p (dropped_core p.server.core x)) (dropped w x.born) asked (told ++ Delete x ∷ [])
 drop_stands p w asked told s x h e low =

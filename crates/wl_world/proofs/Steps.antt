@@ -26,6 +26,7 @@ use Rattle.wl_world.proofs.ServerNext.{server_next_keeps}
 use Rattle.wl_world.proofs.Records.{keeps_record}
 use Rattle.wl_world.proofs.Moves.{Moves, forget}
 
+-- each move of a pair that stands is a step of its world
 pub does_moves : (p : PairState) (w : World) (asked : List (Message Known)) (told : List (Coming Known)) → StandsBy p w asked told → NotEnded p w → (move : Move) (reply : Reply) (p' : PairState) → IsMove move → Does p move reply p'
     → Moves p w asked told move reply p'
 does_moves p w asked told s z (ClientSend target opcode given) (ClientSend reply) p' m d = client_send_keeps p w asked told s z target opcode given m reply p' d
@@ -42,6 +43,7 @@ does_moves p w asked told s z ClientNext (ClientNext reply) p' m d = client_next
 does_moves p w asked told s z ServerNext (ServerNext reply) p' m d = server_next_keeps p w asked told s z reply p' d
 does_moves p w asked told s z _ _ p' m d = absurd d
 
+-- a pair that stands still stands after a step
 pub step_keeps : (p : PairState) (w : World) → Stands p w → (move : Move) (reply : Reply) (p' : PairState) → IsMove move → Does p move reply p' → Keeps p w move reply p'
 step_keeps p w (ended e) move reply p' m d = record { world = w; answers = after e e (keeps_record p move reply p' d); stands = ended e }
 step_keeps p w (stands asked told z s) move reply p' m d = forget (does_moves p w asked told s z move reply p' m d)
@@ -61,6 +63,7 @@ fault_at : (p : PairState) (w world : World) (reply : Result (Option events.Repo
 fault_at p w world reply what offset p' z (before e d m) h = subst (λ r. ReadsAtClient p.client.core.tables p w r world) h m
 fault_at p w world reply what offset p' z (after e f k) h = absurd (cc (e, z))
 
+-- the client of a pair that stands meets no fault
 pub client_meets_none : (p : PairState) (w : World) (what : Fault) (offset : ℕ) → Stands p w → w.ended ≡ false → next_answer p.client ≡ Err (errors.Fault what offset) → ⊥
 client_meets_none p w what offset s z h =
     let k = step_keeps p w s ClientNext (ClientNext (next_answer p.client)) (with_client p (after_next p.client)) tt answered in
@@ -70,6 +73,7 @@ fault_in : (p : PairState) (w world : World) (reply : Result (Option requests.Re
 fault_in p w world reply what offset p' z (before e d m) h = subst (λ r. ReadsAtServer p.server.core.tables p w r world) h m
 fault_in p w world reply what offset p' z (after e f k) h = absurd (cc (e, z))
 
+-- the server of a pair that stands meets no fault
 pub server_meets_none : (p : PairState) (w : World) (what : Fault) (offset : ℕ) → Stands p w → w.ended ≡ false → requests.next_answer p.server ≡ Err (errors.Fault what offset) → ⊥
 server_meets_none p w what offset s z h =
     let k = step_keeps p w s ServerNext (ServerNext (requests.next_answer p.server)) (with_server p (requests.after_next p.server)) tt answered in

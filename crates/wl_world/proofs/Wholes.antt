@@ -9,24 +9,30 @@ use Rattle.wl_world.specs.Flight.{Rows, at, made, Ask, Use, Tell, Name, Delete, 
 use Rattle.wl_world.proofs.Ended.{Mortal}
 use Rattle.wl_world.proofs.Flight.{put_tells, put_over, live_after, free_after, counts_after, make_before, destroy_before, reads_more, held_at_client, end_before, use_more, make_more, destroy_more}
 
+-- it is open at the client
 abbrev pub OpenRow : Rows Row → Known → Type 0
 OpenRow v x = v.rows x.id ≡ Some (Open x.born)
 
+-- it is open at the server
 abbrev pub ThereRow : Rows Born → Known → Type 0
 ThereRow s x = s.rows x.id ≡ Some x.born
 
+-- the client's rows with what is made
 abbrev pub client_makes : Rows Row → Option Known → Rows Row
 client_makes v None = v
 client_makes v (Some x) = made v x.id (Open x.born)
 
+-- the client's rows with what is ending
 abbrev pub client_ends : Option Known → Rows Row → Rows Row
 client_ends None v = v
 client_ends (Some x) v = at v x.id (Some (Ending x.born))
 
+-- the server's rows with what is made
 abbrev pub server_makes : Rows Born → Option Known → Rows Born
 server_makes s None = s
 server_makes s (Some x) = made s x.id x.born
 
+-- the server's rows without what ends
 abbrev pub server_ends : Option Known → Rows Born → Rows Born
 server_ends None s = s
 server_ends (Some x) s = at s x.id None
@@ -35,6 +41,7 @@ pub live_made : (v : Rows Row) (n : Option Known) (x : Known) → IfThere (Fresh
 live_made v None x c h = h
 live_made v (Some n) x c h = grind (arith, put_tells, c.free)
 
+-- what is open stays open when another is made
 pub live_made_if : (v : Rows Row) (n o : Option Known) → IfThere (Fresh v) n → IfThere (OpenRow v) o → IfThere (OpenRow (client_makes v n)) o
 live_made_if v n None c h = tt
 live_made_if v n (Some x) c h = live_made v n x c h
@@ -48,6 +55,7 @@ pub record Past (test : Born → Bool) (qs : List Ask) (s : Rows Born) (m : Rows
   pub reads : Reads test es m middle
   pub tied : Tied test qs s middle
 
+-- the first request, where its turn has come
 pub record AsksAt (test : Born → Bool) (qs : List Ask) (s : Rows Born) (m : Rows Row) (x : Known) (xs : List Known) (n : Option Known) (o : Option Known) : Type 0 where
   pub target : ThereRow s x
   pub args : Each (ThereRow s) xs
@@ -55,12 +63,14 @@ pub record AsksAt (test : Born → Bool) (qs : List Ask) (s : Rows Born) (m : Ro
   pub past : Past test qs (server_ends o (server_makes s n)) m (all_tells (following o))
   pub mortal : IfThere Mortal o
 
+-- the first event, where its turn has come
 pub record TellsAt (test : Born → Bool) (es : List Tell) (v w : Rows Row) (x : Known) (xs : List Known) (o : Option Known) : Type 0 where
   pub target : Held v x
   pub args : Each (Held v) xs
   pub rest : Reads test es (client_ends o v) w
   pub ends_it : IfThere (λ x. test x.born ≡ true) o
 
+-- the first delete, where its turn has come
 pub record DeletesAt (test : Born → Bool) (es : List Tell) (v w : Rows Row) (x : Known) : Type 0 where
   pub mortal : x.id ≢ 1
   pub held : Held v x
@@ -75,6 +85,7 @@ module _ {test : Born → Bool} where
   uses_more {qs} {s} {m} (x ∷ xs) t h f =
       subst (λ (l : List Ask). Tied test l s m) (append_assoc qs (Use x ∷ []) (map Use xs)) (uses_more xs (use_more x t h.0 f.0) h.1 f.1)
 
+  -- what is open and ends by no event is open after what comes is read
   pub all_live_after : {es : List Tell} {v m : Rows Row} (xs : List Known) → Reads test es v m → Each (OpenRow v) xs → Each (λ x. test x.born ≡ false) xs → Each (OpenRow m) xs
   all_live_after [] r h f = tt
   all_live_after (x ∷ xs) r h f = (live_after x.id x.born r h.0 f.0, all_live_after xs r h.1 f.1)
@@ -99,6 +110,7 @@ module _ {test : Born → Bool} where
     tied = destroy_more x g.tied (live_after x.id x.born g.reads h f) f y;
   }
 
+  -- the ends still meet after a request is written
   pub ask_meets : {es : List Tell} {qs : List Ask} {v : Rows Row} {s : Rows Born} (x : Known) (xs : List Known) (n : Option Known) (o : Option Known)
       → Meets test es qs v s → OpenRow v x → test x.born ≡ false → Each (OpenRow v) xs → Each (λ o. test o.born ≡ false) xs → IfThere (Fresh v) n
       → IfThere (OpenRow v) o → IfThere (λ x. test x.born ≡ false) o → IfThere Mortal o
@@ -128,6 +140,7 @@ module _ {test : Born → Bool} where
   asks_new {s = s} x xs None b h k c = let p = past_ends b c in record { target = h; args = k; new = tt; past = p.0; mortal = p.1 }
   asks_new {s = s} x xs (Some n) b h k (make g c) = let p = past_ends b c in record { target = h; args = k; new = g; past = p.0; mortal = p.1 }
 
+  -- a request in front is about what is open at the server
   pub asks_at : {qs : List Ask} {s : Rows Born} {m : Rows Row} (x : Known) (xs : List Known) (n : Option Known) (b : Option Known)
       → Tied test ((Use x ∷ (map Use xs ++ (makes n ++ destroys b))) ++ qs) s m → AsksAt test qs s m x xs n b
   asks_at {qs} {s} {m} x xs n b (use_ h f t) =
@@ -159,6 +172,7 @@ module _ {test : Born → Bool} where
         tied = end_before x.id x.born g.tied h f;
       }
 
+  -- the ends still meet after an event is written
   pub tell_meets : {es : List Tell} {qs : List Ask} {v : Rows Row} {s : Rows Born} (x : Known) (xs : List Known) (o : Option Known)
       → Meets test es qs v s → ThereRow s x → Each (ThereRow s) xs → IfThere (λ x. test x.born ≡ true) o → IfThere Mortal o → IfThere (ThereRow s) o
       → Meets test (es ++ ((Name x ∷ (map Name xs ++ ends o)) ++ all_tells (following o))) qs v (server_ends o s)
@@ -168,6 +182,7 @@ module _ {test : Born → Bool} where
       let d = ends_meets o f y oh e in
       subst (λ (l : List Tell). Meets test l qs v (server_ends o s)) (simp (append_assoc, append-nil)) d
 
+  -- the ends still meet after an object is dropped
   pub drop_meets : {es : List Tell} {qs : List Ask} {v : Rows Row} {s : Rows Born} (x : Known)
       → Meets test es qs v s → x.id ≢ 1 → ThereRow s x → test x.born ≡ true → Meets test (es ++ Delete x ∷ []) qs v (at s x.id None)
   drop_meets x g y h f = record {
@@ -178,6 +193,7 @@ module _ {test : Born → Bool} where
 
   -- ---- the client reads what comes
 
+  -- what is named is held, and the rest is read on
   pub reads_all : {es : List Tell} {v w : Rows Row} (xs : List Known) → Reads test (map Name xs ++ es) v w → Each (Held v) xs × Reads test es v w
   reads_all [] r = (tt, r)
   reads_all (x ∷ xs) (name h r) = let k = reads_all xs r in ((h, k.0), k.1)
@@ -187,40 +203,49 @@ module _ {test : Born → Bool} where
   rest_ends None r = (r, tt)
   rest_ends (Some x) (end a b r) = (r, a)
 
+  -- an event in front is about what the client holds
   pub tells_at : {es : List Tell} {v w : Rows Row} (x : Known) (xs : List Known) (b : Option Known) → Reads test ((Name x ∷ (map Name xs ++ ends b)) ++ es) v w → TellsAt test es v w x xs b
   tells_at {es} {v} {w} x xs b (name h r) =
       let k = reads_all xs (subst (λ (l : List Tell). Reads test l v w) (simp append_assoc) r) in
       let e = rest_ends b k.1 in record { target = h; args = k.0; rest = e.0; ends_it = e.1 }
 
+  -- a delete in front is of what the client holds
   pub deletes_at : {es : List Tell} {v w : Rows Row} (x : Known) → Reads test (Delete x ∷ es) v w → DeletesAt test es v w x
   deletes_at x (delete z h c r) = record { mortal = z; held = h; rest = r }
 
 -- ---- lists of messages
 
+-- what is asked with one request more
 pub all_asks_more : (rs : List (Message Known)) (r : Message Known) → all_asks (rs ++ r ∷ []) ≡ all_asks rs ++ asks r
 all_asks_more [] r = append-nil (asks r)
 all_asks_more (x ∷ xs) r = rw (all_asks_more xs r) (sym (append_assoc (asks x) (all_asks xs) (asks r)))
 
+-- what is asked in two parts
 pub all_asks_both : (rs qs : List (Message Known)) → all_asks (rs ++ qs) ≡ all_asks rs ++ all_asks qs
 all_asks_both [] qs = refl
 all_asks_both (x ∷ xs) qs = rw (all_asks_both xs qs) (sym (append_assoc (asks x) (all_asks xs) (all_asks qs)))
 
+-- what is told in two parts
 pub all_tells_more : (es fs : List (Coming Known)) → all_tells (es ++ fs) ≡ all_tells es ++ all_tells fs
 all_tells_more [] fs = refl
 all_tells_more (x ∷ xs) fs = rw (all_tells_more xs fs) (sym (append_assoc (tells x) (all_tells xs) (all_tells fs)))
 
+-- what is so of each in two lists is so in both together
 pub each_more : {X : Type 0} (P : X → Type 0) (xs ys : List X) → Each P xs → Each P ys → Each P (xs ++ ys)
 each_more P [] ys h p = p
 each_more P (x ∷ xs) ys h p = (h.0, each_more P xs ys h.1 p)
 
+-- what is so of each is so of each in front
 pub each_front : {X : Type 0} (P : X → Type 0) (xs ys : List X) → Each P (xs ++ ys) → Each P xs
 each_front P [] ys h = tt
 each_front P (x ∷ xs) ys h = (h.0, each_front P xs ys h.1)
 
+-- what is so of each is so of each of the rest
 pub each_rest : {X : Type 0} (P : X → Type 0) (xs ys : List X) → Each P (xs ++ ys) → Each P ys
 each_rest P [] ys h = h
 each_rest P (x ∷ xs) ys h = each_rest P xs ys h.1
 
+-- what is so of each, seen through a function
 pub each_by : {X : Type 0} (P Q : X → Type 0) (f : (x : X) → P x → Q x) (xs : List X) → Each P xs → Each Q xs
 each_by P Q f [] h = tt
 each_by P Q f (x ∷ xs) h = (f x h.0, each_by P Q f xs h.1)

@@ -356,6 +356,7 @@ module _ (p : PairState) (w : World) (asked : List (Message Known)) (told : List
 
   -- ---- the laws
 
+  -- what the client holds is somewhere on the way or at the server
   pub where_held : (x : Born) → IsHeld w x → IsSomewhere w x
   where_held x h =
       let k = held_known x h in
@@ -370,6 +371,7 @@ module _ (p : PairState) (w : World) (asked : List (Message Known)) (told : List
   deleted_is_held : (k : Known) → In (Delete k) (all_tells told) → Held v k
   deleted_is_held k a = plain.held_back k s.meet (inl a)
 
+  -- and what is there the client holds
   pub back_held : (x : Born) → IsSomewhere w x → IsHeld w x
   back_held x h = elim h [
     | inl a ↦ (let k = delete_known x a in subst (IsHeld w) k.1.1 (held_world k.0 (deleted_is_held k.0 k.1.0)))
@@ -379,6 +381,7 @@ module _ (p : PairState) (w : World) (asked : List (Message Known)) (told : List
     ]
   ]
 
+  -- what is open at the server has no delete on the way
   pub open_not_deleted : (x : Born) → IsThere w.server x → DeleteComes w x → ⊥
   open_not_deleted x h i =
       let j = there_known x h in
@@ -386,6 +389,7 @@ module _ (p : PairState) (w : World) (asked : List (Message Known)) (told : List
       let e = one_id k.0 j.0 (deleted_is_held k.0 k.1.0) (plain.held_back j.0 s.meet (inr (inl j.1.0))) (k.1.1 ∙ sym j.1.1) in
       plain.not_open_deleted j.0 s.meet j.1.0 (subst (λ (n : Known). In (Delete n) (all_tells told)) e k.1.0)
 
+  -- what is made on the way has no delete on the way
   pub made_not_deleted : (x : Born) → MakeComes w x → DeleteComes w x → ⊥
   made_not_deleted x h i =
       let j = make_known x h in
@@ -393,23 +397,27 @@ module _ (p : PairState) (w : World) (asked : List (Message Known)) (told : List
       let e = one_id k.0 j.0 (deleted_is_held k.0 k.1.0) (plain.held_back j.0 s.meet (inr (inr j.1.0))) (k.1.1 ∙ sym j.1.1) in
       plain.not_made_deleted j.0 s.meet j.1.0 (subst (λ (n : Known). In (Delete n) (all_tells told)) e k.1.0)
 
+  -- what is made on the way is not yet open at the server
   pub made_not_open : (x : Born) → MakeComes w x → IsThere w.server x → ⊥
   made_not_open x h i =
       let j = make_known x h in
       let k = there_known x i in
       plain.not_made_counted j.0 s.meet j.1.0 (let l = s.server.sets.below k.0.id k.0.born k.1.0 in let b = ap birth_of (j.1.1 ∙ sym k.1.1) in omega (arith, l, b))
 
+  -- what is made on the way was not counted by the server
   pub made_not_counted : (x : Born) → MakeComes w x → x.birth < p.server.core.view.births → ⊥
   made_not_counted x h l =
       let k = make_known x h in
       plain.not_made_counted k.0 s.meet k.1.0 (subst (λ (b : Born). b.birth < p.server.core.view.births) (sym k.1.1) l)
 
+  -- what is ending at the client is deleted or destroyed on the way
   pub where_ending : (x : Born) → w.client x.birth ≡ Some (Ending x) → DeleteComes w x ⊎ DestroyComes w x
   where_ending x h =
       let r = (s.client.sets.only x.birth (Ending x) h).1 in
       let k : Known = record { id = r.0; born = x } in
       elim (plain.ending_where k s.meet r.1) [ inl a ↦ inl (delete_comes k a) | inr a ↦ inr (destroy_comes k a) ]
 
+  -- nothing is both deleted and destroyed on the way
   pub not_both : (x : Born) → DeleteComes w x → DestroyComes w x → ⊥
   not_both x h i =
       let j = delete_known x h in
@@ -423,21 +431,25 @@ module _ (p : PairState) (w : World) (asked : List (Message Known)) (told : List
       let n : Known = record { id = r.0; born = x } in
       subst (λ (m : Known). v.rows m.id ≡ Some (Open m.born)) (one_id n k (inl r.1) i (sym e)) r.1
 
+  -- no request on the way destroys what is open at the client
   pub open_not_destroyed : (x : Born) → w.client x.birth ≡ Some (Open x) → DestroyComes w x → ⊥
   open_not_destroyed x h i =
       let k = destroy_known x i in
       plain.open_unasked k.0 s.meet (open_row x h k.0 (plain.destroyed_held k.0 s.meet k.1.0) k.1.1) k.1.0
 
+  -- what is open at the client and deleted on the way has a destroying event
   pub open_deleted : (x : Born) → w.client x.birth ≡ Some (Open x) → DeleteComes w x → by_event p.server.core.tables x ≡ true
   open_deleted x h i =
       let k = delete_known x i in
       subst (λ (b : Born). by_event p.server.core.tables b ≡ true) k.1.1 (plain.open_deleted k.0 s.meet.reads (open_row x h k.0 (deleted_is_held k.0 k.1.0) k.1.1) k.1.0)
 
+  -- nothing is about an id behind its delete
   pub last_of_id : (k : Known) (front rest : List (Coming Known)) → told ≡ front ++ delete_of k ∷ rest → IsUnnamed k.id rest
   last_of_id k front rest e =
       let all : all_tells told ≡ all_tells front ++ (Delete k ∷ all_tells rest) = ap all_tells e ∙ all_tells_more front (delete_of k ∷ rest) in
       plain.deleted_last (all_tells front) (all_tells rest) k (subst (λ (l : List Tell). Reads (by_event p.server.core.tables) l v s.meet.middle) all s.meet.reads)
 
+  -- no event names an object behind its delete
   pub last_deleted : (before after : List (Coming Born)) (x : Born) → w.events ≡ before ++ delete_of x ∷ after → (c : Coming Born) → In c after → Names x c → ⊥
   last_deleted before after x h c i n =
       let t = parted (recoming born_of) told before (delete_of x) after (sym s.events.in_world ∙ h) in
@@ -475,6 +487,7 @@ module _ (p : PairState) (w : World) (asked : List (Message Known)) (told : List
   make_news : (x : Known) → In (Make x) (all_asks asked) → In x (news asked)
   make_news x i = let a = asks_in (Make x) (λ m. made_in m.args ≡ Some x) (make_asked x) asked i in made_news x a.message asked a.there a.is
 
+  -- the ids used at the client are those used at the server and those made on the way
   pub ids_counted : (id : ℕ) → 0 < id → (id ≤ p.client.core.view.used) ↔ ((id ≤ p.server.core.view.used) ⊎ In id (map id_of (news asked)))
   ids_counted id some =
       let c = (counts_after s.meet.reads).0 in (
@@ -488,6 +501,7 @@ module _ (p : PairState) (w : World) (asked : List (Message Known)) (told : List
         ],
       )
 
+  -- the births counted at the client are those counted at the server and those made on the way
   pub births_counted : (birth : ℕ) → (birth < p.client.core.view.births) ↔ ((birth < p.server.core.view.births) ⊎ In birth (map birth_of (news w.requests)))
   births_counted birth =
       let c = (counts_after s.meet.reads).1 in (
@@ -508,6 +522,7 @@ module _ (p : PairState) (w : World) (asked : List (Message Known)) (told : List
   among_marks x [] h = absurd h
   among_marks x (r ∷ rs) h = elim h [ inl a ↦ inl (ap (λ (k : Object). k.birth) (sym a)) | inr a ↦ inr (among_marks x rs a) ]
 
+  -- a registry that is open at the server is told of globals
   pub registry_told : (x : Born) → IsThere w.server x → x.iface ≡ registry → In x.birth (map marks_birth w.registries)
   registry_told x h i =
       let k = there_known x h in
@@ -519,6 +534,7 @@ module _ (p : PairState) (w : World) (asked : List (Message Known)) (told : List
 
 -- ---- a pair that stands in a world
 
+-- what follows from what stands follows in a world that goes on
 pub in_world : {A : Type 0} (p : PairState) (w : World) → StandsIn p w → ((asked : List (Message Known)) (told : List (Coming Known)) → StandsBy p w asked told → A) → A
 in_world {A} p w h f = by_stands h.stands
   where

@@ -36,15 +36,19 @@ use Rattle.wl_world.proofs.Readings.{made_of, made_read}
 use Rattle.wl_world.proofs.Calls.{Checked, AllRight, all_right, meant, new_known, wire_all, LiveAt, all_live, matches, fit_all, row_low, new_all, one_new, made_new, version_of}
 use Rattle.wl_world.proofs.Rules.{opcode_low, few_new, unnamed_none}
 
+-- what a call makes
 abbrev pub the_made : Core → Entry → List Given → sigs.Message → Option NewObject
 the_made core entry given signature = made core.tables entry.version signature.kinds (map (wired (next_id core.view)) given)
 
+-- the new object of a call
 abbrev pub the_new : Core → Entry → List Given → sigs.Message → Known
 the_new core entry given signature = new_known core.view (the_made core entry given signature)
 
+-- the arguments of a call, as they are meant
 abbrev pub the_args : Core → Entry → List Given → sigs.Message → List (Arg Known)
 the_args core entry given signature = map (meant core.view (the_new core entry given signature)) given
 
+-- the message of a call
 abbrev pub the_call : Core → Entry → Object → ℕ → List Given → sigs.Message → Message Known
 the_call core entry target opcode given signature = record {
   target = record { id = target.id; born = plain entry };
@@ -53,10 +57,12 @@ the_call core entry target opcode given signature = record {
   ends = ended_by signature.destroys (record { id = target.id; born = plain entry }) (the_args core entry given signature);
 }
 
+-- a new object gets the next id
 pub new_id : (view : View) (o : Option NewObject) → (new_known view o).id ≡ next_id view
 new_id view None = refl
 new_id view (Some m) = refl
 
+-- a new object gets the next birth
 pub new_birth : (view : View) (o : Option NewObject) → (new_known view o).born.birth ≡ view.births
 new_birth view None = refl
 new_birth view (Some m) = refl
@@ -65,10 +71,12 @@ no_error : (side : Side) (iface : Iface) (opcode : ℕ) → is_hidden side iface
 no_error Request iface opcode h = refl
 no_error Event iface opcode h = and_left (same_iface iface display) (nat_eq opcode 0) (or_parts (same_iface iface display) (same_iface iface registry) h).0
 
+-- what can be called is no delete_id
 pub no_delete : (side : Side) (iface : Iface) (opcode : ℕ) → is_hidden side iface opcode ≡ false → is_delete_id side iface opcode ≡ false
 no_delete Request iface opcode h = refl
 no_delete Event iface opcode h = and_left (same_iface iface display) (nat_eq opcode 1) (or_parts (same_iface iface display) (same_iface iface registry) h).0
 
+-- what is so of the message of a call
 pub record CallIs (core : Core) (side : Side) (target : Object) (opcode : ℕ) (given : List Given) (signature : sigs.Message) (entry : Entry) : Type 0 where
   pub right : AllRight core.view signature.kinds given
   pub fits_it : Fits core.tables side (the_call core entry target opcode given signature)
@@ -82,6 +90,7 @@ if_made : (P : Known → Type 0) (o : Option Known) (x : Known) → (o ≡ None)
 if_made P None x h f = tt
 if_made P (Some y) x h f = elim h [ inl p ↦ absurd (cc p) | inr p ↦ subst (IfThere P) (sym p) (f (λ e. cc e)) ]
 
+-- the message of a call that nothing stands against is so
 pub call_is : (core : Core) (side : Side) (target : Object) (opcode : ℕ) (given : List Given) (signature : sigs.Message) → Valid core.tables → Sound core.view → Each IsGiven given
     → (c : Checked core.outbox.limit.bytes core.tables side core.view target opcode given signature) → CallIs core side target opcode given signature c.entry
 call_is core side target opcode given signature v s g c =
@@ -171,6 +180,7 @@ accepted_by : (core : Core) (side : Side) (target : Object) (opcode : ℕ) (give
 accepted_by core side target opcode given new (Err why) e h = absurd (cc h)
 accepted_by core side target opcode given new (Ok signature) e h = record { signature = signature; checks = e; opens_it = fitting _ _ new _ h }
 
+-- an accepted call was checked, and opens what it says
 pub accepted_call : (core : Core) (side : Side) (target : Object) (opcode : ℕ) (given : List Given) (new : Option Object) → core.failed ≡ false → send_answer core side target opcode given ≡ Ok new
     → Accepted core side target opcode given new
 accepted_call core side target opcode given new l h =
@@ -186,6 +196,7 @@ opens_if : (core : Core) (m : NewObject) (new : Option Object) (b : Bool) (why :
 opens_if core m new true why e h = record { can = e; is = cc h }
 opens_if core m new false why e h = absurd (cc h)
 
+-- a call that returns this object opens it
 pub opens : (core : Core) (o : Option NewObject) (new : Option Object) → opening_answer core o ≡ Ok new → Opens core o new
 opens core None new h = record { can = tt; is = cc h }
 opens core (Some m) new h = opens_if core m new (can_open core.view) _ refl h
