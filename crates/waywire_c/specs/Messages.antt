@@ -78,6 +78,6 @@ place_or_any (Some iface) = iface.0
 
 -- A kind is told.
 pub record TellsKind (kind : Kind) (told : CKind) : Type 0 where
-  pub kind : told.kind ≡ kind_number kind
+  pub number : told.kind ≡ kind_number kind
   pub nullable : told.nullable ≡ may_be_null kind
   pub interface : told.interface ≡ place_or_any (asked_of kind)

@@ -130,6 +130,17 @@ impl CSizes {
     ghost use Rattle.wl_message.specs.Cut.{IsLimit};
     ghost use Rattle.waywire_c.specs.Sizes.{limit_of, AreAllowed, AreOf};
 
+    /// The limit, where messages can have it.
+    fn limit(&self) -> Option<Limit>
+        ensures some { IsSome result ↔ IsLimit (limit_of self.now) }
+        ensures same { IfSome result (λ limit. limit.bytes ≡ limit_of self.now) }
+    {
+        if self.limit == 0 {
+            return Some(Limit::USUAL);
+        }
+        Limit::new(self.limit)
+    }
+
     /// The sizes, where an end can have them.
     pub fn sizes(&self) -> Option<Sizes>
         ensures some { IsSome result ↔ AreAllowed self.now }
@@ -148,18 +159,6 @@ impl CSizes {
         } else {
             None
         }
-    }
-}
-
-impl CSizes {
-    fn limit(&self) -> Option<Limit>
-        ensures some { IsSome result ↔ IsLimit (limit_of self.now) }
-        ensures same { IfSome result (λ limit. limit.bytes ≡ limit_of self.now) }
-    {
-        if self.limit == 0 {
-            return Some(Limit::USUAL);
-        }
-        Limit::new(self.limit)
     }
 }
 
