@@ -20,6 +20,10 @@ uint32_t waywire_c_tables_interface(const struct handle *, const void *name, siz
 uint32_t waywire_c_tables_name(const struct handle *, uint16_t interface, const void **name,
 	size_t *length);
 uint32_t waywire_c_tables_version(const struct handle *, uint16_t interface, uint32_t *version);
+uint32_t waywire_c_tables_message(const struct handle *, uint16_t interface, uint32_t sender,
+	uint16_t opcode, waywire_message *message, const void **name, size_t *length);
+uint32_t waywire_c_tables_kind(const struct handle *, uint16_t interface, uint32_t sender,
+	uint16_t opcode, size_t place, waywire_kind *kind);
 
 #define EXPORTS_OF_BOTH(end) \
 	uint32_t waywire_c_##end##_new(const struct handle *tables, const waywire_sizes *, void **made); \
@@ -66,13 +70,23 @@ uint32_t waywire_c_inspector_verdict(struct handle *, const void **line, size_t 
 
 SAME(object, sizeof(waywire_object) == 16 && offsetof(waywire_object, id) == 8);
 SAME(amounts, sizeof(waywire_amounts) == 16 && offsetof(waywire_amounts, tokens) == 8);
-SAME(sizes, sizeof(waywire_sizes) == 32 && offsetof(waywire_sizes, in_tokens) == 24);
+SAME(sizes, sizeof(waywire_sizes) == 40 && offsetof(waywire_sizes, out_tokens) == 8
+	&& offsetof(waywire_sizes, in_bytes) == 16 && offsetof(waywire_sizes, in_tokens) == 24
+	&& offsetof(waywire_sizes, limit) == 32);
+SAME(message, sizeof(waywire_message) == 24 && offsetof(waywire_message, destroys) == 4
+	&& offsetof(waywire_message, destroyed) == 8 && offsetof(waywire_message, arg_count) == 16);
+SAME(kind, sizeof(waywire_kind) == 8 && offsetof(waywire_kind, nullable) == 4
+	&& offsetof(waywire_kind, interface) == 6);
 SAME(arg, sizeof(waywire_arg) == 48 && offsetof(waywire_arg, i) == 4 && offsetof(waywire_arg, u) == 8);
 SAME(arg_parts, offsetof(waywire_arg, object) == 16 && offsetof(waywire_arg, bytes) == 32
 	&& offsetof(waywire_arg, length) == 40);
-SAME(report, offsetof(waywire_report, target) == 8 && offsetof(waywire_report, arg_count) == 24
-	&& offsetof(waywire_report, tokens) == 32 && offsetof(waywire_report, id) == 48);
-SAME(report_parts, offsetof(waywire_report, text) == 64 && offsetof(waywire_report, place) == 80
+SAME(report, offsetof(waywire_report, opcode) == 4 && offsetof(waywire_report, target) == 8
+	&& offsetof(waywire_report, arg_count) == 24 && offsetof(waywire_report, tokens) == 32
+	&& offsetof(waywire_report, token_count) == 40 && offsetof(waywire_report, id) == 48
+	&& offsetof(waywire_report, code) == 52 && offsetof(waywire_report, named) == 56
+	&& offsetof(waywire_report, spelling) == 60);
+SAME(report_parts, offsetof(waywire_report, text) == 64 && offsetof(waywire_report, text_length) == 72
+	&& offsetof(waywire_report, place) == 80 && offsetof(waywire_report, offset) == 88
 	&& offsetof(waywire_report, args) == 96 && sizeof(waywire_report) == 96 + 20 * 48);
 
 /* ---- what C may pass wrongly */
@@ -316,6 +330,33 @@ waywire_status waywire_tables_version(const waywire_tables *tables, uint16_t int
 		return WAYWIRE_NULL;
 	struct handle handle = take_handle(tables);
 	waywire_status status = waywire_c_tables_version(&handle, interface, version);
+	give_handle(tables);
+	return status;
+}
+
+waywire_status waywire_tables_message(const waywire_tables *tables, uint16_t interface,
+	waywire_sender sender, uint16_t opcode, waywire_message *message, const char **name, size_t *length)
+{
+	if (!tables || !message)
+		return WAYWIRE_NULL;
+	const void *found = NULL;
+	size_t no_length;
+	struct handle handle = take_handle(tables);
+	waywire_status status = waywire_c_tables_message(&handle, interface, sender, opcode, message, &found,
+		length ? length : &no_length);
+	give_handle(tables);
+	if (!status && name)
+		*name = found;
+	return status;
+}
+
+waywire_status waywire_tables_kind(const waywire_tables *tables, uint16_t interface,
+	waywire_sender sender, uint16_t opcode, size_t place, waywire_kind *kind)
+{
+	if (!tables || !kind)
+		return WAYWIRE_NULL;
+	struct handle handle = take_handle(tables);
+	waywire_status status = waywire_c_tables_kind(&handle, interface, sender, opcode, place, kind);
 	give_handle(tables);
 	return status;
 }

@@ -832,7 +832,7 @@ mod tests {
     fn declarations_are_those_of_the_header() {
         let mut wanted = layout! {
             Amounts, "waywire_amounts": bytes tokens;
-            Sizes, "waywire_sizes": out_bytes out_tokens in_bytes in_tokens;
+            Sizes, "waywire_sizes": out_bytes out_tokens in_bytes in_tokens limit;
             RawArg, "waywire_arg": kind i u object bytes length;
             Report, "waywire_report": kind opcode target arg_count tokens token_count id code named
                 spelling text text_length place offset args;
