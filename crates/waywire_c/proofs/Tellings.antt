@@ -40,11 +40,12 @@ tells-one all before slots after place got left rest it so same is stored room =
     let within : place < length slots = omega (arith, so.0, room) in
     let taken = next-taken all place got rest e in
     let told = take_more_set slots place it within in
-    let dropped : drop (place + 1) slots ≡ drop (place + 1) before = grind (arith, common_steps, so.0, so.3, within) in
-    (grind (arith, common_steps, stored, so.0),
-    next-left all place got rest e,
-    grind (arith, common_steps, stored, told, taken, same, so.2),
-    grind (arith, common_steps, stored, dropped, within))
+    let dropped : drop (place + 1) slots ≡ drop (place + 1) before = grind (arith, common_steps, so.0, so.3, within) in (
+      grind (arith, common_steps, stored, so.0),
+      next-left all place got rest e,
+      grind (arith, common_steps, stored, told, taken, same, so.2),
+      grind (arith, common_steps, stored, dropped, within),
+    )
 
 pub none-left : (all : List Reported) (left : List Reported) (place : ℕ) → left ≡ drop place all → left ≡ [] → place < length all → ⊥
 none-left all left place so is lt = omega (arith, ap length (sym so ∙ is), length-drop place all, lt)

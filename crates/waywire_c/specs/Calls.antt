@@ -1,15 +1,14 @@
 -- What C is told of a call, and what the call leaves.
-use Rattle.std.specs.Prelude.{◌≡◌, ◌≢◌, ℕ, List, Option, Some, None, IfSome, MatchOption}
+use Rattle.std.specs.Prelude.{◌≡◌, ◌≢◌, ℕ, List, Option, Some, None, MatchOption}
 use Rattle.std.specs.declared.result.Result.{Result}
 use Rattle.std.specs.declared.result.Result.TheVariants.{Ok, Err}
-use Rattle.wl_wire.specs.declared.kind.Iface.{Iface}
 use Rattle.wl_sigs.specs.declared.signature.Side.{Side}
 use Rattle.wl_table.specs.declared.object.Object.{Object}
 use Rattle.wl_objects.specs.declared.error.SendError.{SendError}
 use Rattle.wl_objects.specs.Writing.{Given}
 use Rattle.wl_objects.specs.Messages.{checked}
 use Rattle.wl_end.specs.Core.{Core}
-use Rattle.wl_end.specs.Sending.{send_answer, opens_object, after_send}
+use Rattle.wl_end.specs.Sending.{send_answer, opens_object}
 use Rattle.waywire_c.specs.Statuses.{made_outcome, refused_place, OrMemory}
 use Rattle.waywire_c.specs.Values.{made_object}
 
@@ -40,13 +39,8 @@ pub record IsSent (core : Core) (side : Side) (target : Object) (opcode : ℕ) (
   pub not_made : status ≡ 11 → made ≡ before
   pub place_is : place ≡ place_left place_before (send_answer core side target opcode given)
 
--- The end after a `send` of these arguments that was accepted.
-abbrev pub LeftBySend : Core → Side → Object → ℕ → Option (List Given) → Core → Type 0
-LeftBySend core side target opcode given left =
-    IfSome given (λ args. left ≡ after_send core side target opcode args)
-
--- What C is told of a `send`: that an argument is of a kind that no call takes, and nothing else; or
--- what is told of a `send` of its arguments.
+-- What C is told of a `send`: that an argument is of a kind that no call takes, and nothing else;
+-- or what is told of a `send` of its arguments.
 abbrev pub SendTells : Core → Side → Object → ℕ → Option (List Given) → ℕ → Object → Object
     → ℕ → ℕ → Type 0
 SendTells core side target opcode given status before made place_before place =

@@ -1,5 +1,5 @@
 -- What values of C stand for.
-use Rattle.std.specs.Prelude.{◌≡◌, ℕ, ◌≤◌, nat_eq, if◌then◌else◌, List, [], ◌∷◌, take, map}
+use Rattle.std.specs.Prelude.{ℕ, nat_eq, if◌then◌else◌, List, [], ◌∷◌, take}
 use Rattle.std.specs.Prelude.{Option, Some, None}
 use Rattle.wl_wire.specs.declared.kind.Iface.{Iface}
 use Rattle.wl_wire.specs.Argument.{Int, Uint, Fixed, Str, Obj, New, Array, Fd}

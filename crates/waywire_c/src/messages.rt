@@ -19,7 +19,8 @@ const ANY: u16 = 65_535;
 pub struct CMessage {
     /// The first version of its interface that has it.
     pub since: u32,
-    /// 0 where it destroys nothing, 1 its target, 2 the object that the argument at `destroyed` names.
+    /// 0 where it destroys nothing, 1 its target, 2 the object that the argument at `destroyed`
+    /// names.
     pub destroys: u32,
     pub destroyed: usize,
     pub arg_count: usize,

@@ -1,7 +1,8 @@
 //! An end reads a message, and what it reports is shown to C.
 ghost use Rattle.std.specs.Prelude.{◌≡◌, ◌≢◌, length};
 ghost use Rattle.wl_client.specs.Reports.{after_next as after_event, next_answer};
-ghost use Rattle.wl_server.specs.Requests.{after_next as after_request, next_answer as request_answer};
+ghost use Rattle.wl_server.specs.Requests.{after_next as after_request};
+ghost use Rattle.wl_server.specs.Requests.{next_answer as request_answer};
 ghost use Rattle.wl_server.specs.Requests.{opens_object, request as found_request};
 ghost use Rattle.waywire_c.specs.Statuses.{read_outcome, OrMemory};
 ghost use Rattle.waywire_c.specs.Reports.{event_args, of_kind, request_args, TellsArgs, told_by};

@@ -1,14 +1,18 @@
 //! What C calls of a server.
-ghost use Rattle.std.specs.Prelude.{◌≡◌, ◌≢◌, ◌↔◌, ◌++◌, length, take, drop, true, Ok, IfSome, MatchOption};
+ghost use Rattle.std.specs.Prelude.{◌≡◌, ◌≢◌, ◌↔◌, ◌++◌, length, take, drop, true, Ok, IfSome};
+ghost use Rattle.std.specs.Prelude.{MatchOption};
 ghost use Rattle.wl_sigs.specs.declared.signature.Side.TheVariants.{Event as event_side};
 ghost use Rattle.wl_message.specs.Outgoing.{goes, waiting_bytes, waiting_tokens};
-ghost use Rattle.wl_end.specs.Core.{in_room, is_drained, live, display_object, feeds, with_arrived, with_gone};
+ghost use Rattle.wl_end.specs.Core.{in_room, is_drained, live, display_object, feeds, with_arrived};
+ghost use Rattle.wl_end.specs.Core.{with_gone};
 ghost use Rattle.wl_end.specs.Sending.{after_send};
 ghost use Rattle.wl_server.specs.State.{with_core};
 ghost use Rattle.wl_server.specs.Announcing.{after_announce, Fitting};
-ghost use Rattle.wl_server.specs.Calls.{add_answer, after_drop, after_error, after_withdraw, drop_refusal, error_refusal, with_global, withdraw_refusal};
+ghost use Rattle.wl_server.specs.Calls.{add_answer, after_drop, after_error, after_withdraw};
+ghost use Rattle.wl_server.specs.Calls.{drop_refusal, error_refusal, with_global, withdraw_refusal};
 ghost use Rattle.wl_server.specs.Requests.{after_next, next_answer, opens_object, request};
-ghost use Rattle.waywire_c.specs.Statuses.{failed_outcome, find_outcome, global_outcome, name_outcome, read_outcome, send_outcome, OrMemory};
+ghost use Rattle.waywire_c.specs.Statuses.{failed_outcome, find_outcome, global_outcome};
+ghost use Rattle.waywire_c.specs.Statuses.{name_outcome, read_outcome, send_outcome, OrMemory};
 ghost use Rattle.waywire_c.specs.Values.{fed_of, given_in, iface_at, object_of, taken_of};
 ghost use Rattle.waywire_c.specs.Calls.{SendTells};
 ghost use Rattle.waywire_c.specs.Inspecting.{IsTried};
@@ -21,9 +25,7 @@ use crate::reading::read_request;
 use crate::reports::Report;
 use crate::sending::tell_made;
 use crate::server_handle::ServerHandle;
-use crate::statuses::{
-    BAD_SIZES, BAD_VALUE, NO_MEMORY, NOT_FOUND, OK, global_status, send_status,
-};
+use crate::statuses::{BAD_SIZES, BAD_VALUE, NO_MEMORY, NOT_FOUND, OK, global_status, send_status};
 use crate::tables_handle::TablesHandle;
 use crate::values::{CAmounts, CObject, CSizes, CallArg, MAX_GIVEN, ReportArg, put_args};
 use std::alloc::Global;

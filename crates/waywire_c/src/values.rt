@@ -1,5 +1,6 @@
 //! Values as C has them: objects, arguments, numbers of bytes and tokens.
-ghost use Rattle.std.specs.Prelude.{◌≡◌, ◌≤◌, length, take, option_map, IfSome, None, Some, MatchOption};
+ghost use Rattle.std.specs.Prelude.{◌≡◌, ◌≤◌, length, take, option_map, IfSome, None, Some};
+ghost use Rattle.std.specs.Prelude.{MatchOption};
 ghost use Rattle.wl_message.specs.Arrived.{AreSizes};
 ghost use Rattle.wl_objects.specs.Writing.{given, given_of};
 ghost use Rattle.wl_objects.specs.Parsed.{lent_got};
