@@ -87,7 +87,8 @@ SAME(report, offsetof(waywire_report, opcode) == 4 && offsetof(waywire_report, t
 	&& offsetof(waywire_report, spelling) == 60);
 SAME(report_parts, offsetof(waywire_report, text) == 64 && offsetof(waywire_report, text_length) == 72
 	&& offsetof(waywire_report, place) == 80 && offsetof(waywire_report, offset) == 88
-	&& offsetof(waywire_report, args) == 96 && sizeof(waywire_report) == 96 + 20 * 48);
+	&& offsetof(waywire_report, user) == 96 && offsetof(waywire_report, args) == 104
+	&& sizeof(waywire_report) == 104 + 20 * 48); /* an export writes what stands before `user` */
 
 /* ---- what C may pass wrongly */
 
@@ -361,13 +362,61 @@ waywire_status waywire_tables_kind(const waywire_tables *tables, uint16_t interf
 	return status;
 }
 
+/* ---- pointers of the caller's
+ *
+ * They lie beside an end, by the id of their object, and hold for the object that has the birth. A birth never
+ * comes twice, so a pointer of an object that ended is never that of another, and nothing need be undone. */
+
+struct user {
+	uint64_t birth;
+	void *pointer;
+};
+
+struct users {
+	struct user *at; /* by ids */
+	size_t count;
+};
+
+static void *user_of(const struct users *users, waywire_object object)
+{
+	if (object.id >= users->count || users->at[object.id].birth != object.birth)
+		return NULL;
+	return users->at[object.id].pointer;
+}
+
+/* Makes room for the pointer of an id. */
+static waywire_status reach(struct users *users, uint32_t id)
+{
+	if (id < users->count)
+		return WAYWIRE_OK;
+	size_t count = (size_t)id < 2 * users->count ? 2 * users->count : (size_t)id + 1;
+	struct user *more = realloc(users->at, count * sizeof *more);
+	if (!more)
+		return WAYWIRE_NO_MEMORY;
+	memset(more + users->count, 0, (count - users->count) * sizeof *more);
+	users->at = more;
+	users->count = count;
+	return WAYWIRE_OK;
+}
+
+static waywire_status set_user(struct users *users, waywire_object object, void *pointer)
+{
+	waywire_status status = pointer || user_of(users, object) ? reach(users, object.id) : WAYWIRE_OK;
+	if (!status && object.id < users->count) {
+		users->at[object.id].birth = object.birth;
+		users->at[object.id].pointer = pointer;
+	}
+	return status;
+}
+
 /* ---- what both ends have */
 
 #define CALLS_OF_BOTH(end) \
-	/* An end, and the tables that it lends. */ \
+	/* An end, the tables that it lends, and the pointers of its objects. */ \
 	struct waywire_##end { \
 		struct handle handle; \
 		const waywire_tables *tables; \
+		struct users users; \
 	}; \
 \
 	waywire_status waywire_##end##_new(const waywire_tables *tables, const waywire_sizes *sizes, \
@@ -387,6 +436,8 @@ waywire_status waywire_tables_kind(const waywire_tables *tables, uint16_t interf
 		} \
 		add_user(tables); \
 		it->tables = tables; \
+		it->users.at = NULL; \
+		it->users.count = 0; \
 		*made = it; \
 		return WAYWIRE_OK; \
 	} \
@@ -397,6 +448,7 @@ waywire_status waywire_tables_kind(const waywire_tables *tables, uint16_t interf
 			return; \
 		waywire_c_##end##_free(it->handle); \
 		waywire_tables_free((waywire_tables *)it->tables); \
+		free(it->users.at); \
 		free(it); \
 	} \
 \
@@ -429,6 +481,19 @@ waywire_status waywire_tables_kind(const waywire_tables *tables, uint16_t interf
 			return WAYWIRE_NULL; \
 		return waywire_c_##end##_live(&it->handle, object, interface ? interface : &no_interface, \
 			version ? version : &no_version); \
+	} \
+\
+	waywire_status waywire_##end##_set_user(waywire_##end *it, waywire_object object, void *user) \
+	{ \
+		waywire_status status = waywire_##end##_live(it, object, NULL, NULL); \
+		if (status) \
+			return status == WAYWIRE_NOT_FOUND ? WAYWIRE_STALE : status; \
+		return set_user(&it->users, object, user); \
+	} \
+\
+	void *waywire_##end##_user(const waywire_##end *it, waywire_object object) \
+	{ \
+		return it ? user_of(&it->users, object) : NULL; \
 	} \
 \
 	waywire_status waywire_##end##_in_room(const waywire_##end *it, waywire_amounts *room) \
@@ -511,6 +576,7 @@ waywire_status waywire_tables_kind(const waywire_tables *tables, uint16_t interf
 		waywire_status status = waywire_c_##end##_next(&it->handle, report, report->args, \
 			WAYWIRE_MAX_ARGS); \
 		finish(report); \
+		report->user = user_of(&it->users, report->target); \
 		return status; \
 	}
 

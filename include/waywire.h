@@ -321,6 +321,7 @@ typedef struct waywire_report {
 	size_t text_length;
 	size_t place;
 	uint64_t offset;
+	void *user; /* what the caller has set of the target, as by waywire_client_set_user; else null */
 	waywire_arg args[WAYWIRE_MAX_ARGS];
 } waywire_report;
 
@@ -424,6 +425,17 @@ waywire_status waywire_client_display(const waywire_client *client, waywire_obje
 waywire_status waywire_client_live(const waywire_client *client, waywire_object object,
 	uint16_t *interface, uint32_t *version);
 
+/* Sets the caller's own pointer of an object that is live, null for none, in place of what was set before. The
+ * reports of the client give it back with the object as target, also the last one, by which the object ends
+ * (WAYWIRE_DELETED), or which the object had sent before it did (WAYWIRE_DISCARDED). The library never follows
+ * it: what it points to is freed by the caller, at the object's last report, and for the objects that are left
+ * before the client is freed. WAYWIRE_STALE where the object is not live, WAYWIRE_NO_MEMORY. */
+waywire_status waywire_client_set_user(waywire_client *client, waywire_object object, void *user);
+
+/* The pointer that was set of an object, also once it has ended, as long as none was set of a later object with
+ * its id; else null. */
+void *waywire_client_user(const waywire_client *client, waywire_object object);
+
 /* The free bytes and tokens of the inbox; zeros at a failed client. */
 waywire_status waywire_client_in_room(const waywire_client *client, waywire_amounts *room);
 
@@ -482,6 +494,8 @@ void waywire_server_free(waywire_server *server);
 waywire_status waywire_server_display(const waywire_server *server, waywire_object *display);
 waywire_status waywire_server_live(const waywire_server *server, waywire_object object,
 	uint16_t *interface, uint32_t *version);
+waywire_status waywire_server_set_user(waywire_server *server, waywire_object object, void *user);
+void *waywire_server_user(const waywire_server *server, waywire_object object);
 waywire_status waywire_server_in_room(const waywire_server *server, waywire_amounts *room);
 waywire_status waywire_server_is_drained(const waywire_server *server, bool *drained);
 waywire_status waywire_server_feed(waywire_server *server, const void *bytes, size_t length,
