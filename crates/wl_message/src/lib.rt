@@ -7,6 +7,7 @@
 #![tactic(auto)]
 
 mod amounts;
+mod encode;
 mod front;
 mod header;
 mod inbox;
@@ -14,10 +15,12 @@ mod laws;
 mod limit;
 mod marks;
 mod outbox;
+mod ring;
 mod script;
 mod streams;
 
 pub use amounts::{Fed, Full, MAX_BOX_BYTES, MAX_BOX_TOKENS, Piece, Sizes, Taken};
+pub use encode::Encode;
 pub use inbox::{BadSize, Frame, Inbox};
 pub use laws::{
     any_cut, front_stays, headed_message, joined_messages, next_message, one_amount, one_cut,
