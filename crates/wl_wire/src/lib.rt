@@ -26,4 +26,4 @@ pub use owning::read_value;
 pub use reading::read_ref;
 pub use text::has_nul;
 pub use value::{Value, ValueRef};
-pub use writing::encode_value;
+pub use writing::{encode_value, write_value};
