@@ -276,7 +276,10 @@ impl<'t, T: Table> Core<'t, T> {
             return Err(SendError::Failed);
         }
         let limit = self.outbox.limit().bytes;
-        let call = check_call(self.tables, side, &self.table, target, opcode, args, limit)?;
+        let call = match check_call(self.tables, side, &self.table, target, opcode, args, limit) {
+            Ok(call) => call,
+            Err(refusal) => return Err(refusal),
+        };
         self.write_checked(side, target, opcode, args, call)
     }
 }
