@@ -20,6 +20,10 @@ uint32_t waywire_c_tables_interface(const struct handle *, const void *name, siz
 uint32_t waywire_c_tables_name(const struct handle *, uint16_t interface, const void **name,
 	size_t *length);
 uint32_t waywire_c_tables_version(const struct handle *, uint16_t interface, uint32_t *version);
+uint32_t waywire_c_tables_message(const struct handle *, uint16_t interface, uint32_t sender,
+	uint16_t opcode, waywire_message *message, const void **name, size_t *length);
+uint32_t waywire_c_tables_kind(const struct handle *, uint16_t interface, uint32_t sender,
+	uint16_t opcode, size_t place, waywire_kind *kind);
 
 #define EXPORTS_OF_BOTH(end) \
 	uint32_t waywire_c_##end##_new(const struct handle *tables, const waywire_sizes *, void **made); \
@@ -66,14 +70,25 @@ uint32_t waywire_c_inspector_verdict(struct handle *, const void **line, size_t 
 
 SAME(object, sizeof(waywire_object) == 16 && offsetof(waywire_object, id) == 8);
 SAME(amounts, sizeof(waywire_amounts) == 16 && offsetof(waywire_amounts, tokens) == 8);
-SAME(sizes, sizeof(waywire_sizes) == 32 && offsetof(waywire_sizes, in_tokens) == 24);
+SAME(sizes, sizeof(waywire_sizes) == 40 && offsetof(waywire_sizes, out_tokens) == 8
+	&& offsetof(waywire_sizes, in_bytes) == 16 && offsetof(waywire_sizes, in_tokens) == 24
+	&& offsetof(waywire_sizes, limit) == 32);
+SAME(message, sizeof(waywire_message) == 24 && offsetof(waywire_message, destroys) == 4
+	&& offsetof(waywire_message, destroyed) == 8 && offsetof(waywire_message, arg_count) == 16);
+SAME(kind, sizeof(waywire_kind) == 8 && offsetof(waywire_kind, nullable) == 4
+	&& offsetof(waywire_kind, interface) == 6);
 SAME(arg, sizeof(waywire_arg) == 48 && offsetof(waywire_arg, i) == 4 && offsetof(waywire_arg, u) == 8);
 SAME(arg_parts, offsetof(waywire_arg, object) == 16 && offsetof(waywire_arg, bytes) == 32
 	&& offsetof(waywire_arg, length) == 40);
-SAME(report, offsetof(waywire_report, target) == 8 && offsetof(waywire_report, arg_count) == 24
-	&& offsetof(waywire_report, tokens) == 32 && offsetof(waywire_report, id) == 48);
-SAME(report_parts, offsetof(waywire_report, text) == 64 && offsetof(waywire_report, place) == 80
-	&& offsetof(waywire_report, args) == 96 && sizeof(waywire_report) == 96 + 20 * 48);
+SAME(report, offsetof(waywire_report, opcode) == 4 && offsetof(waywire_report, target) == 8
+	&& offsetof(waywire_report, arg_count) == 24 && offsetof(waywire_report, tokens) == 32
+	&& offsetof(waywire_report, token_count) == 40 && offsetof(waywire_report, id) == 48
+	&& offsetof(waywire_report, code) == 52 && offsetof(waywire_report, named) == 56
+	&& offsetof(waywire_report, spelling) == 60);
+SAME(report_parts, offsetof(waywire_report, text) == 64 && offsetof(waywire_report, text_length) == 72
+	&& offsetof(waywire_report, place) == 80 && offsetof(waywire_report, offset) == 88
+	&& offsetof(waywire_report, user) == 96 && offsetof(waywire_report, args) == 104
+	&& sizeof(waywire_report) == 104 + 20 * 48); /* an export writes what stands before `user` */
 
 /* ---- what C may pass wrongly */
 
@@ -320,13 +335,88 @@ waywire_status waywire_tables_version(const waywire_tables *tables, uint16_t int
 	return status;
 }
 
+waywire_status waywire_tables_message(const waywire_tables *tables, uint16_t interface,
+	waywire_sender sender, uint16_t opcode, waywire_message *message, const char **name, size_t *length)
+{
+	if (!tables || !message)
+		return WAYWIRE_NULL;
+	const void *found = NULL;
+	size_t no_length;
+	struct handle handle = take_handle(tables);
+	waywire_status status = waywire_c_tables_message(&handle, interface, sender, opcode, message, &found,
+		length ? length : &no_length);
+	give_handle(tables);
+	if (!status && name)
+		*name = found;
+	return status;
+}
+
+waywire_status waywire_tables_kind(const waywire_tables *tables, uint16_t interface,
+	waywire_sender sender, uint16_t opcode, size_t place, waywire_kind *kind)
+{
+	if (!tables || !kind)
+		return WAYWIRE_NULL;
+	struct handle handle = take_handle(tables);
+	waywire_status status = waywire_c_tables_kind(&handle, interface, sender, opcode, place, kind);
+	give_handle(tables);
+	return status;
+}
+
+/* ---- pointers of the caller's
+ *
+ * They lie beside an end, by the id of their object, and hold for the object that has the birth. A birth never
+ * comes twice, so a pointer of an object that ended is never that of another, and nothing need be undone. */
+
+struct user {
+	uint64_t birth;
+	void *pointer;
+};
+
+struct users {
+	struct user *at; /* by ids */
+	size_t count;
+};
+
+static void *user_of(const struct users *users, waywire_object object)
+{
+	if (object.id >= users->count || users->at[object.id].birth != object.birth)
+		return NULL;
+	return users->at[object.id].pointer;
+}
+
+/* Makes room for the pointer of an id. */
+static waywire_status reach(struct users *users, uint32_t id)
+{
+	if (id < users->count)
+		return WAYWIRE_OK;
+	size_t count = (size_t)id < 2 * users->count ? 2 * users->count : (size_t)id + 1;
+	struct user *more = realloc(users->at, count * sizeof *more);
+	if (!more)
+		return WAYWIRE_NO_MEMORY;
+	memset(more + users->count, 0, (count - users->count) * sizeof *more);
+	users->at = more;
+	users->count = count;
+	return WAYWIRE_OK;
+}
+
+static waywire_status set_user(struct users *users, waywire_object object, void *pointer)
+{
+	waywire_status status = pointer || user_of(users, object) ? reach(users, object.id) : WAYWIRE_OK;
+	if (!status && object.id < users->count) {
+		users->at[object.id].birth = object.birth;
+		users->at[object.id].pointer = pointer;
+	}
+	return status;
+}
+
 /* ---- what both ends have */
 
 #define CALLS_OF_BOTH(end) \
-	/* An end, and the tables that it lends. */ \
+	/* An end, the tables that it lends, and the pointers of its objects. */ \
 	struct waywire_##end { \
 		struct handle handle; \
 		const waywire_tables *tables; \
+		struct users users; \
 	}; \
 \
 	waywire_status waywire_##end##_new(const waywire_tables *tables, const waywire_sizes *sizes, \
@@ -346,6 +436,8 @@ waywire_status waywire_tables_version(const waywire_tables *tables, uint16_t int
 		} \
 		add_user(tables); \
 		it->tables = tables; \
+		it->users.at = NULL; \
+		it->users.count = 0; \
 		*made = it; \
 		return WAYWIRE_OK; \
 	} \
@@ -356,6 +448,7 @@ waywire_status waywire_tables_version(const waywire_tables *tables, uint16_t int
 			return; \
 		waywire_c_##end##_free(it->handle); \
 		waywire_tables_free((waywire_tables *)it->tables); \
+		free(it->users.at); \
 		free(it); \
 	} \
 \
@@ -388,6 +481,19 @@ waywire_status waywire_tables_version(const waywire_tables *tables, uint16_t int
 			return WAYWIRE_NULL; \
 		return waywire_c_##end##_live(&it->handle, object, interface ? interface : &no_interface, \
 			version ? version : &no_version); \
+	} \
+\
+	waywire_status waywire_##end##_set_user(waywire_##end *it, waywire_object object, void *user) \
+	{ \
+		waywire_status status = waywire_##end##_live(it, object, NULL, NULL); \
+		if (status) \
+			return status == WAYWIRE_NOT_FOUND ? WAYWIRE_STALE : status; \
+		return set_user(&it->users, object, user); \
+	} \
+\
+	void *waywire_##end##_user(const waywire_##end *it, waywire_object object) \
+	{ \
+		return it ? user_of(&it->users, object) : NULL; \
 	} \
 \
 	waywire_status waywire_##end##_in_room(const waywire_##end *it, waywire_amounts *room) \
@@ -470,6 +576,7 @@ waywire_status waywire_tables_version(const waywire_tables *tables, uint16_t int
 		waywire_status status = waywire_c_##end##_next(&it->handle, report, report->args, \
 			WAYWIRE_MAX_ARGS); \
 		finish(report); \
+		report->user = user_of(&it->users, report->target); \
 		return status; \
 	}
 

@@ -73,24 +73,23 @@ struct waywire_wl_display_events {
 static inline bool waywire_wl_display_dispatch_event(const struct waywire_wl_display_events *calls,
 	void *data, const waywire_report *report)
 {
-	const waywire_arg *args = report->args;
-	if (report->kind != WAYWIRE_MESSAGE)
+	const waywire_object display = { 0, 1 };
+	if (report->kind == WAYWIRE_ERROR && calls->error)
+		calls->error(data, display, report->target, report->code, report->text);
+	else if (report->kind == WAYWIRE_DELETED && calls->delete_id)
+		calls->delete_id(data, display, report->target.id);
+	else if (report->kind == WAYWIRE_STRAY && calls->delete_id)
+		calls->delete_id(data, display, report->id);
+	else
 		return false;
-	switch (report->opcode) {
-	case WAYWIRE_WL_DISPLAY_EVENT_ERROR:
-		if (!calls->error)
-			return false;
-		calls->error(data, report->target, args[0].object, args[1].u,
-			(const char *)args[2].bytes);
-		return true;
-	case WAYWIRE_WL_DISPLAY_EVENT_DELETE_ID:
-		if (!calls->delete_id)
-			return false;
-		calls->delete_id(data, report->target, args[0].u);
-		return true;
-	default:
-		return false;
-	}
+	return true;
+}
+
+static inline bool waywire_wl_display_event_dispatcher(const void *calls, void *data,
+	const waywire_report *report)
+{
+	return waywire_wl_display_dispatch_event((const struct waywire_wl_display_events *)calls,
+		data, report);
 }
 
 struct waywire_wl_display_requests {
@@ -120,6 +119,13 @@ static inline bool waywire_wl_display_dispatch_request(
 	default:
 		return false;
 	}
+}
+
+static inline bool waywire_wl_display_request_dispatcher(const void *calls, void *data,
+	const waywire_report *report)
+{
+	return waywire_wl_display_dispatch_request(
+		(const struct waywire_wl_display_requests *)calls, data, report);
 }
 
 /* ---- wl_registry */
@@ -179,6 +185,13 @@ static inline bool waywire_wl_registry_dispatch_event(
 	}
 }
 
+static inline bool waywire_wl_registry_event_dispatcher(const void *calls, void *data,
+	const waywire_report *report)
+{
+	return waywire_wl_registry_dispatch_event((const struct waywire_wl_registry_events *)calls,
+		data, report);
+}
+
 struct waywire_wl_registry_requests {
 	/* makes an object of a global */
 	void (*bind)(void *data, waywire_object wl_registry, uint32_t name, const char *interface,
@@ -201,6 +214,13 @@ static inline bool waywire_wl_registry_dispatch_request(
 	default:
 		return false;
 	}
+}
+
+static inline bool waywire_wl_registry_request_dispatcher(const void *calls, void *data,
+	const waywire_report *report)
+{
+	return waywire_wl_registry_dispatch_request(
+		(const struct waywire_wl_registry_requests *)calls, data, report);
 }
 
 /* ---- wl_callback */
@@ -242,6 +262,13 @@ static inline bool waywire_wl_callback_dispatch_event(
 	default:
 		return false;
 	}
+}
+
+static inline bool waywire_wl_callback_event_dispatcher(const void *calls, void *data,
+	const waywire_report *report)
+{
+	return waywire_wl_callback_dispatch_event((const struct waywire_wl_callback_events *)calls,
+		data, report);
 }
 
 /* ---- wl_compositor */
@@ -313,6 +340,13 @@ static inline bool waywire_wl_compositor_dispatch_request(
 	default:
 		return false;
 	}
+}
+
+static inline bool waywire_wl_compositor_request_dispatcher(const void *calls, void *data,
+	const waywire_report *report)
+{
+	return waywire_wl_compositor_dispatch_request(
+		(const struct waywire_wl_compositor_requests *)calls, data, report);
 }
 
 /* ---- wl_shm */
@@ -501,6 +535,13 @@ static inline bool waywire_wl_shm_dispatch_event(const struct waywire_wl_shm_eve
 	}
 }
 
+static inline bool waywire_wl_shm_event_dispatcher(const void *calls, void *data,
+	const waywire_report *report)
+{
+	return waywire_wl_shm_dispatch_event((const struct waywire_wl_shm_events *)calls, data,
+		report);
+}
+
 struct waywire_wl_shm_requests {
 	/* makes a pool of the memory behind a descriptor */
 	void (*create_pool)(void *data, waywire_object wl_shm, waywire_object id, int fd,
@@ -529,6 +570,13 @@ static inline bool waywire_wl_shm_dispatch_request(const struct waywire_wl_shm_r
 	default:
 		return false;
 	}
+}
+
+static inline bool waywire_wl_shm_request_dispatcher(const void *calls, void *data,
+	const waywire_report *report)
+{
+	return waywire_wl_shm_dispatch_request((const struct waywire_wl_shm_requests *)calls, data,
+		report);
 }
 
 /* ---- wl_shm_pool */
@@ -621,6 +669,13 @@ static inline bool waywire_wl_shm_pool_dispatch_request(
 	}
 }
 
+static inline bool waywire_wl_shm_pool_request_dispatcher(const void *calls, void *data,
+	const waywire_report *report)
+{
+	return waywire_wl_shm_pool_dispatch_request(
+		(const struct waywire_wl_shm_pool_requests *)calls, data, report);
+}
+
 /* ---- wl_buffer */
 
 /* the content of a surface */
@@ -669,6 +724,13 @@ static inline bool waywire_wl_buffer_dispatch_event(const struct waywire_wl_buff
 	}
 }
 
+static inline bool waywire_wl_buffer_event_dispatcher(const void *calls, void *data,
+	const waywire_report *report)
+{
+	return waywire_wl_buffer_dispatch_event((const struct waywire_wl_buffer_events *)calls,
+		data, report);
+}
+
 struct waywire_wl_buffer_requests {
 	/* ends the buffer */
 	void (*destroy)(void *data, waywire_object wl_buffer);
@@ -688,6 +750,13 @@ static inline bool waywire_wl_buffer_dispatch_request(
 	default:
 		return false;
 	}
+}
+
+static inline bool waywire_wl_buffer_request_dispatcher(const void *calls, void *data,
+	const waywire_report *report)
+{
+	return waywire_wl_buffer_dispatch_request((const struct waywire_wl_buffer_requests *)calls,
+		data, report);
 }
 
 /* ---- wl_surface */
@@ -938,6 +1007,13 @@ static inline bool waywire_wl_surface_dispatch_event(const struct waywire_wl_sur
 	}
 }
 
+static inline bool waywire_wl_surface_event_dispatcher(const void *calls, void *data,
+	const waywire_report *report)
+{
+	return waywire_wl_surface_dispatch_event((const struct waywire_wl_surface_events *)calls,
+		data, report);
+}
+
 struct waywire_wl_surface_requests {
 	/* ends the surface */
 	void (*destroy)(void *data, waywire_object wl_surface);
@@ -1034,6 +1110,13 @@ static inline bool waywire_wl_surface_dispatch_request(
 	}
 }
 
+static inline bool waywire_wl_surface_request_dispatcher(const void *calls, void *data,
+	const waywire_report *report)
+{
+	return waywire_wl_surface_dispatch_request(
+		(const struct waywire_wl_surface_requests *)calls, data, report);
+}
+
 /* ---- wl_region */
 
 /* an area made of rectangles */
@@ -1117,6 +1200,13 @@ static inline bool waywire_wl_region_dispatch_request(
 	default:
 		return false;
 	}
+}
+
+static inline bool waywire_wl_region_request_dispatcher(const void *calls, void *data,
+	const waywire_report *report)
+{
+	return waywire_wl_region_dispatch_request((const struct waywire_wl_region_requests *)calls,
+		data, report);
 }
 
 /* ---- wl_seat */
@@ -1249,6 +1339,13 @@ static inline bool waywire_wl_seat_dispatch_event(const struct waywire_wl_seat_e
 	}
 }
 
+static inline bool waywire_wl_seat_event_dispatcher(const void *calls, void *data,
+	const waywire_report *report)
+{
+	return waywire_wl_seat_dispatch_event((const struct waywire_wl_seat_events *)calls, data,
+		report);
+}
+
 struct waywire_wl_seat_requests {
 	/* makes the pointer */
 	void (*get_pointer)(void *data, waywire_object wl_seat, waywire_object id);
@@ -1290,6 +1387,13 @@ static inline bool waywire_wl_seat_dispatch_request(const struct waywire_wl_seat
 	default:
 		return false;
 	}
+}
+
+static inline bool waywire_wl_seat_request_dispatcher(const void *calls, void *data,
+	const waywire_report *report)
+{
+	return waywire_wl_seat_dispatch_request((const struct waywire_wl_seat_requests *)calls,
+		data, report);
 }
 
 /* ---- wl_pointer */
@@ -1593,6 +1697,13 @@ static inline bool waywire_wl_pointer_dispatch_event(const struct waywire_wl_poi
 	}
 }
 
+static inline bool waywire_wl_pointer_event_dispatcher(const void *calls, void *data,
+	const waywire_report *report)
+{
+	return waywire_wl_pointer_dispatch_event((const struct waywire_wl_pointer_events *)calls,
+		data, report);
+}
+
 struct waywire_wl_pointer_requests {
 	/* sets the surface that shows the pointer */
 	void (*set_cursor)(void *data, waywire_object wl_pointer, uint32_t serial,
@@ -1622,6 +1733,13 @@ static inline bool waywire_wl_pointer_dispatch_request(
 	default:
 		return false;
 	}
+}
+
+static inline bool waywire_wl_pointer_request_dispatcher(const void *calls, void *data,
+	const waywire_report *report)
+{
+	return waywire_wl_pointer_dispatch_request(
+		(const struct waywire_wl_pointer_requests *)calls, data, report);
 }
 
 /* ---- wl_keyboard */
@@ -1803,6 +1921,13 @@ static inline bool waywire_wl_keyboard_dispatch_event(
 	}
 }
 
+static inline bool waywire_wl_keyboard_event_dispatcher(const void *calls, void *data,
+	const waywire_report *report)
+{
+	return waywire_wl_keyboard_dispatch_event((const struct waywire_wl_keyboard_events *)calls,
+		data, report);
+}
+
 struct waywire_wl_keyboard_requests {
 	/* the client is done with the object */
 	void (*release)(void *data, waywire_object wl_keyboard);
@@ -1822,6 +1947,13 @@ static inline bool waywire_wl_keyboard_dispatch_request(
 	default:
 		return false;
 	}
+}
+
+static inline bool waywire_wl_keyboard_request_dispatcher(const void *calls, void *data,
+	const waywire_report *report)
+{
+	return waywire_wl_keyboard_dispatch_request(
+		(const struct waywire_wl_keyboard_requests *)calls, data, report);
 }
 
 /* ---- wl_touch */
@@ -2003,6 +2135,13 @@ static inline bool waywire_wl_touch_dispatch_event(const struct waywire_wl_touch
 	}
 }
 
+static inline bool waywire_wl_touch_event_dispatcher(const void *calls, void *data,
+	const waywire_report *report)
+{
+	return waywire_wl_touch_dispatch_event((const struct waywire_wl_touch_events *)calls, data,
+		report);
+}
+
 struct waywire_wl_touch_requests {
 	/* the client is done with the object */
 	void (*release)(void *data, waywire_object wl_touch);
@@ -2022,6 +2161,13 @@ static inline bool waywire_wl_touch_dispatch_request(const struct waywire_wl_tou
 	default:
 		return false;
 	}
+}
+
+static inline bool waywire_wl_touch_request_dispatcher(const void *calls, void *data,
+	const waywire_report *report)
+{
+	return waywire_wl_touch_dispatch_request((const struct waywire_wl_touch_requests *)calls,
+		data, report);
 }
 
 /* ---- wl_output */
@@ -2210,6 +2356,13 @@ static inline bool waywire_wl_output_dispatch_event(const struct waywire_wl_outp
 	}
 }
 
+static inline bool waywire_wl_output_event_dispatcher(const void *calls, void *data,
+	const waywire_report *report)
+{
+	return waywire_wl_output_dispatch_event((const struct waywire_wl_output_events *)calls,
+		data, report);
+}
+
 struct waywire_wl_output_requests {
 	/* the client is done with the object */
 	void (*release)(void *data, waywire_object wl_output);
@@ -2229,6 +2382,13 @@ static inline bool waywire_wl_output_dispatch_request(
 	default:
 		return false;
 	}
+}
+
+static inline bool waywire_wl_output_request_dispatcher(const void *calls, void *data,
+	const waywire_report *report)
+{
+	return waywire_wl_output_dispatch_request((const struct waywire_wl_output_requests *)calls,
+		data, report);
 }
 
 /* ---- wl_subcompositor */
@@ -2302,6 +2462,13 @@ static inline bool waywire_wl_subcompositor_dispatch_request(
 	default:
 		return false;
 	}
+}
+
+static inline bool waywire_wl_subcompositor_request_dispatcher(const void *calls, void *data,
+	const waywire_report *report)
+{
+	return waywire_wl_subcompositor_dispatch_request(
+		(const struct waywire_wl_subcompositor_requests *)calls, data, report);
 }
 
 /* ---- wl_subsurface */
@@ -2440,6 +2607,13 @@ static inline bool waywire_wl_subsurface_dispatch_request(
 	}
 }
 
+static inline bool waywire_wl_subsurface_request_dispatcher(const void *calls, void *data,
+	const waywire_report *report)
+{
+	return waywire_wl_subsurface_dispatch_request(
+		(const struct waywire_wl_subsurface_requests *)calls, data, report);
+}
+
 /* ---- wl_shell */
 
 /* makes desktop windows; xdg_shell took its place */
@@ -2490,6 +2664,13 @@ static inline bool waywire_wl_shell_dispatch_request(const struct waywire_wl_she
 	default:
 		return false;
 	}
+}
+
+static inline bool waywire_wl_shell_request_dispatcher(const void *calls, void *data,
+	const waywire_report *report)
+{
+	return waywire_wl_shell_dispatch_request((const struct waywire_wl_shell_requests *)calls,
+		data, report);
 }
 
 /* ---- wl_shell_surface */
@@ -2729,6 +2910,13 @@ static inline bool waywire_wl_shell_surface_dispatch_event(
 	}
 }
 
+static inline bool waywire_wl_shell_surface_event_dispatcher(const void *calls, void *data,
+	const waywire_report *report)
+{
+	return waywire_wl_shell_surface_dispatch_event(
+		(const struct waywire_wl_shell_surface_events *)calls, data, report);
+}
+
 struct waywire_wl_shell_surface_requests {
 	/* answers a ping */
 	void (*pong)(void *data, waywire_object wl_shell_surface, uint32_t serial);
@@ -2822,6 +3010,13 @@ static inline bool waywire_wl_shell_surface_dispatch_request(
 	}
 }
 
+static inline bool waywire_wl_shell_surface_request_dispatcher(const void *calls, void *data,
+	const waywire_report *report)
+{
+	return waywire_wl_shell_surface_dispatch_request(
+		(const struct waywire_wl_shell_surface_requests *)calls, data, report);
+}
+
 /* ---- wl_fixes */
 
 /* mends the core protocol */
@@ -2878,6 +3073,13 @@ static inline bool waywire_wl_fixes_dispatch_request(const struct waywire_wl_fix
 	default:
 		return false;
 	}
+}
+
+static inline bool waywire_wl_fixes_request_dispatcher(const void *calls, void *data,
+	const waywire_report *report)
+{
+	return waywire_wl_fixes_dispatch_request((const struct waywire_wl_fixes_requests *)calls,
+		data, report);
 }
 
 #ifdef __cplusplus

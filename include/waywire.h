@@ -75,7 +75,7 @@ typedef enum waywire_status {
 	WAYWIRE_WRONG_ARGS = 5,      /* the argument at `place` does not fit the signature */
 	WAYWIRE_BAD_OBJECT = 6,      /* the object at `place` is not live, or of another interface */
 	WAYWIRE_BAD_BIND = 7,        /* no global of this name, interface and version was announced */
-	WAYWIRE_TOO_LONG = 8,        /* the message is longer than 4096 bytes */
+	WAYWIRE_TOO_LONG = 8,        /* the message is longer than the end's limit */
 	WAYWIRE_FULL = 9,            /* the outbox has no room for it: take, and send again */
 	WAYWIRE_NO_IDS = 10,         /* no more objects can be opened */
 	WAYWIRE_NO_MEMORY = 11,      /* out of memory */
@@ -262,15 +262,22 @@ typedef struct waywire_amounts {
 	size_t tokens;
 } waywire_amounts;
 
+/* The limit where the two ends have not agreed on another, in bytes. */
+#define WAYWIRE_USUAL_LIMIT 4096
+
 /* How large the outbox and the inbox of an end are, which never grow. An outbox has at most 16,777,216
- * bytes and 65,536 tokens; an inbox has 4096 to 16,777,216 bytes and 20 to 65,536 tokens. libwayland sends
+ * bytes and 65,536 tokens; an inbox has `limit` to 16,777,216 bytes and 20 to 65,536 tokens. libwayland sends
  * up to 28 descriptors at once, and those of a message may come before its bytes are whole: an inbox of 64
- * tokens has room for both. */
+ * tokens has room for both.
+ * `limit` is the most bytes that a message may have, its header counted: a multiple of 4 from 4,096 to 65,532,
+ * or 0 for WAYWIRE_USUAL_LIMIT. Both ends of a connection have to have the same, since none is told on the
+ * wire; libwayland has the usual one. */
 typedef struct waywire_sizes {
 	size_t out_bytes;
 	size_t out_tokens;
 	size_t in_bytes;
 	size_t in_tokens;
+	uint32_t limit;
 } waywire_sizes;
 
 /* ---- reports */
@@ -314,6 +321,7 @@ typedef struct waywire_report {
 	size_t text_length;
 	size_t place;
 	uint64_t offset;
+	void *user; /* what the caller has set of the target, as by waywire_client_set_user; else null */
 	waywire_arg args[WAYWIRE_MAX_ARGS];
 } waywire_report;
 
@@ -352,6 +360,49 @@ waywire_status waywire_tables_name(const waywire_tables *tables, uint16_t interf
 waywire_status waywire_tables_version(const waywire_tables *tables, uint16_t interface,
 	uint32_t *version);
 
+/* Who sent a piece, or writes a message. */
+typedef enum waywire_sender {
+	WAYWIRE_FROM_CLIENT = 0, /* requests */
+	WAYWIRE_FROM_SERVER = 1  /* events */
+} waywire_sender;
+
+/* What a message destroys. */
+typedef enum waywire_destroys {
+	WAYWIRE_DESTROYS_NOTHING = 0,
+	WAYWIRE_DESTROYS_TARGET = 1,
+	WAYWIRE_DESTROYS_ARG = 2 /* the object that its argument at `destroyed` names */
+} waywire_destroys;
+
+/* What tables say of a message. */
+typedef struct waywire_message {
+	uint32_t since;    /* the first version of its interface that has it */
+	uint32_t destroys; /* a waywire_destroys */
+	size_t destroyed;  /* a place, or 0 */
+	size_t arg_count;
+} waywire_message;
+
+/* What an object argument asks for where any interface will do, or only the bytes say which. */
+#define WAYWIRE_ANY_INTERFACE 65535
+
+/* What tables say of an argument. `kind` is WAYWIRE_INT, _UINT, _FIXED, _STRING, _OBJECT, _NEW, _ARRAY or
+ * _FD. A new object whose interface only the bytes say is that of wl_registry.bind. */
+typedef struct waywire_kind {
+	uint32_t kind; /* a waywire_arg_kind */
+	bool nullable; /* whether the null string or the null object is allowed */
+	uint16_t interface; /* the place of that of an object, or WAYWIRE_ANY_INTERFACE */
+} waywire_kind;
+
+/* The message of an interface with this opcode: a request, or an event, as the sender is. Its name is written
+ * to `name` and `length`, as waywire_tables_name does; both may be null. WAYWIRE_NOT_FOUND past the tables, past
+ * the interface's messages, or where `sender` is none. */
+waywire_status waywire_tables_message(const waywire_tables *tables, uint16_t interface,
+	waywire_sender sender, uint16_t opcode, waywire_message *message, const char **name, size_t *length);
+
+/* The kind of the argument at a place of a message, counted from 0. WAYWIRE_NOT_FOUND as above, or past its
+ * arguments. */
+waywire_status waywire_tables_kind(const waywire_tables *tables, uint16_t interface,
+	waywire_sender sender, uint16_t opcode, size_t place, waywire_kind *kind);
+
 /* ---- a client */
 
 /* The client's end of a connection: its objects, its inbox and outbox, the globals that it was told of. It
@@ -373,6 +424,17 @@ waywire_status waywire_client_display(const waywire_client *client, waywire_obje
  * where it is not live. `interface` and `version` may be null. */
 waywire_status waywire_client_live(const waywire_client *client, waywire_object object,
 	uint16_t *interface, uint32_t *version);
+
+/* Sets the caller's own pointer of an object that is live, null for none, in place of what was set before. The
+ * reports of the client give it back with the object as target, also the last one, by which the object ends
+ * (WAYWIRE_DELETED), or which the object had sent before it did (WAYWIRE_DISCARDED). The library never follows
+ * it: what it points to is freed by the caller, at the object's last report, and for the objects that are left
+ * before the client is freed. WAYWIRE_STALE where the object is not live, WAYWIRE_NO_MEMORY. */
+waywire_status waywire_client_set_user(waywire_client *client, waywire_object object, void *user);
+
+/* The pointer that was set of an object, also once it has ended, as long as none was set of a later object with
+ * its id; else null. */
+void *waywire_client_user(const waywire_client *client, waywire_object object);
 
 /* The free bytes and tokens of the inbox; zeros at a failed client. */
 waywire_status waywire_client_in_room(const waywire_client *client, waywire_amounts *room);
@@ -432,6 +494,8 @@ void waywire_server_free(waywire_server *server);
 waywire_status waywire_server_display(const waywire_server *server, waywire_object *display);
 waywire_status waywire_server_live(const waywire_server *server, waywire_object object,
 	uint16_t *interface, uint32_t *version);
+waywire_status waywire_server_set_user(waywire_server *server, waywire_object object, void *user);
+void *waywire_server_user(const waywire_server *server, waywire_object object);
 waywire_status waywire_server_in_room(const waywire_server *server, waywire_amounts *room);
 waywire_status waywire_server_is_drained(const waywire_server *server, bool *drained);
 waywire_status waywire_server_feed(waywire_server *server, const void *bytes, size_t length,
@@ -491,15 +555,6 @@ waywire_status waywire_server_next(waywire_server *server, waywire_report *repor
  * of them. Its memory grows with the objects that are open and the bytes of messages that are not whole yet,
  * and not with the length of the session. */
 typedef struct waywire_inspector waywire_inspector;
-
-/* Who sent a piece. */
-typedef enum waywire_sender {
-	WAYWIRE_FROM_CLIENT = 0, /* requests */
-	WAYWIRE_FROM_SERVER = 1  /* events */
-} waywire_sender;
-
-/* The limit where the two ends have not agreed on another: what the ends of this library have. */
-#define WAYWIRE_USUAL_LIMIT 4096
 
 /* Makes an inspector that has seen nothing. `limit` is the most bytes that a message may have, its header
  * counted: a multiple of 4 from 4,096 to 65,532. The caller frees it. WAYWIRE_BAD_SIZES, WAYWIRE_NO_MEMORY. */

@@ -1,4 +1,5 @@
-/* What the programs that tests/c/every-stub writes share: a pair of ends, and what is to come. */
+/* What the programs that tests/c/every-stub writes share: a pair of ends, an inspector of what passes between
+ * them, and what is to come. */
 #ifndef EVERY_STUB_H
 #define EVERY_STUB_H
 
@@ -16,6 +17,7 @@ struct value {
 static waywire_tables *tables;
 static waywire_client *client;
 static waywire_server *server;
+static waywire_inspector *inspector;
 static waywire_object registry, target, made_here, made_there;
 static const waywire_object no_object = { 0, 0 };
 static waywire_status status;
@@ -50,6 +52,7 @@ static inline void carry_to_server(void)
 	MUST(!waywire_client_take(client, bytes, sizeof bytes, tokens, 28, &taken));
 	MUST(!waywire_server_feed(server, bytes, taken.bytes, tokens, taken.tokens, &fed));
 	MUST(fed.bytes == taken.bytes && fed.tokens == taken.tokens);
+	MUST(!waywire_inspector_pass(inspector, WAYWIRE_FROM_CLIENT, bytes, taken.bytes, taken.tokens));
 }
 
 static inline void carry_to_client(void)
@@ -60,6 +63,18 @@ static inline void carry_to_client(void)
 	MUST(!waywire_server_take(server, bytes, sizeof bytes, tokens, 28, &taken));
 	MUST(!waywire_client_feed(client, bytes, taken.bytes, tokens, taken.tokens, &fed));
 	MUST(fed.bytes == taken.bytes && fed.tokens == taken.tokens);
+	MUST(!waywire_inspector_pass(inspector, WAYWIRE_FROM_SERVER, bytes, taken.bytes, taken.tokens));
+}
+
+/* The message that passed last has this name in the tables. */
+static inline void must_be_called(const char *arrow, const char *interface, const char *message)
+{
+	char wanted[256];
+	const char *lines;
+	size_t length, most;
+	most = (size_t)snprintf(wanted, sizeof wanted, "%s %s@%u.%s(", arrow, interface, target.id, message);
+	MUST(!waywire_inspector_lines(inspector, &lines, &length));
+	MUST(most < sizeof wanted && most <= length && !memcmp(lines, wanted, most));
 }
 
 static inline void carry_and_read_at_server(void)
@@ -76,11 +91,12 @@ static inline void carry_and_read_at_client(void)
 
 static inline void open_pair(void)
 {
-	waywire_sizes sizes = { 65536, 64, 65536, 64 };
+	waywire_sizes sizes = { .out_bytes = 65536, .out_tokens = 64, .in_bytes = 65536, .in_tokens = 64 };
 	waywire_arg args[1];
 	waywire_object display;
 	MUST(!waywire_client_new(tables, &sizes, &client));
 	MUST(!waywire_server_new(tables, &sizes, &server));
+	MUST(!waywire_inspector_new(tables, WAYWIRE_USUAL_LIMIT, &inspector));
 	MUST(!waywire_client_display(client, &display));
 	args[0] = waywire_new();
 	MUST(!waywire_client_send(client, display, WAYWIRE_WL_DISPLAY_REQUEST_GET_REGISTRY, args, 1,
@@ -95,6 +111,7 @@ static inline void close_pair(void)
 {
 	waywire_client_free(client);
 	waywire_server_free(server);
+	waywire_inspector_free(inspector);
 }
 
 /* Advertises an interface at its newest version, and returns its name among the globals. */

@@ -174,6 +174,157 @@ static void more_tables(void)
 	waywire_tables_free(joined);
 }
 
+/* What tables say of messages and their arguments. */
+static void messages(void)
+{
+	waywire_message message = { 9, 9, 9, 9 };
+	waywire_kind kind = { 9, true, 9 };
+	uint16_t registry, surface, buffer, fixes, output;
+	const char *name = NULL;
+	size_t length = 9;
+	MUST(!waywire_tables_interface(tables, "wl_registry", &registry));
+	MUST(!waywire_tables_interface(tables, "wl_surface", &surface));
+	MUST(!waywire_tables_interface(tables, "wl_buffer", &buffer));
+	MUST(!waywire_tables_interface(tables, "wl_fixes", &fixes));
+	MUST(!waywire_tables_interface(tables, "wl_output", &output));
+	MUST(!waywire_tables_message(tables, surface, WAYWIRE_FROM_CLIENT, 1, &message, &name, &length));
+	MUST(length == 6 && !memcmp(name, "attach", 6) && message.arg_count == 3);
+	MUST(message.since == 1 && message.destroys == WAYWIRE_DESTROYS_NOTHING && message.destroyed == 0);
+	MUST(!waywire_tables_kind(tables, surface, WAYWIRE_FROM_CLIENT, 1, 0, &kind));
+	MUST(kind.kind == WAYWIRE_OBJECT && kind.nullable && kind.interface == buffer);
+	MUST(!waywire_tables_kind(tables, surface, WAYWIRE_FROM_CLIENT, 1, 2, &kind));
+	MUST(kind.kind == WAYWIRE_INT && !kind.nullable && kind.interface == WAYWIRE_ANY_INTERFACE);
+	MUST(waywire_tables_kind(tables, surface, WAYWIRE_FROM_CLIENT, 1, 3, &kind) == WAYWIRE_NOT_FOUND);
+	MUST(kind.kind == WAYWIRE_INT);
+	MUST(!waywire_tables_kind(tables, surface, WAYWIRE_FROM_SERVER, 0, 0, &kind));
+	MUST(kind.kind == WAYWIRE_OBJECT && !kind.nullable && kind.interface == output);
+	MUST(!waywire_tables_message(tables, surface, WAYWIRE_FROM_CLIENT, 0, &message, NULL, NULL));
+	MUST(message.destroys == WAYWIRE_DESTROYS_TARGET && message.arg_count == 0);
+	MUST(!waywire_tables_message(tables, fixes, WAYWIRE_FROM_CLIENT, 1, &message, NULL, &length));
+	MUST(length == strlen("destroy_registry"));
+	MUST(message.destroys == WAYWIRE_DESTROYS_ARG && message.destroyed == 0 && message.arg_count == 1);
+	MUST(!waywire_tables_kind(tables, registry, WAYWIRE_FROM_CLIENT, 0, 1, &kind));
+	MUST(kind.kind == WAYWIRE_NEW && kind.interface == WAYWIRE_ANY_INTERFACE);
+	MUST(waywire_tables_message(tables, 999, WAYWIRE_FROM_CLIENT, 0, &message, &name, &length)
+		== WAYWIRE_NOT_FOUND);
+	MUST(waywire_tables_message(tables, surface, (waywire_sender)2, 0, &message, &name, &length)
+		== WAYWIRE_NOT_FOUND);
+	MUST(waywire_tables_message(tables, surface, WAYWIRE_FROM_SERVER, 99, &message, &name, &length)
+		== WAYWIRE_NOT_FOUND);
+	MUST(message.arg_count == 1 && length == strlen("destroy_registry"));
+	MUST(waywire_tables_message(NULL, 0, WAYWIRE_FROM_CLIENT, 0, &message, NULL, NULL) == WAYWIRE_NULL);
+	MUST(waywire_tables_message(tables, 0, WAYWIRE_FROM_CLIENT, 0, NULL, NULL, NULL) == WAYWIRE_NULL);
+	MUST(waywire_tables_kind(NULL, 0, WAYWIRE_FROM_CLIENT, 0, 0, &kind) == WAYWIRE_NULL);
+	MUST(waywire_tables_kind(tables, 0, WAYWIRE_FROM_CLIENT, 0, 0, NULL) == WAYWIRE_NULL);
+}
+
+/* All that one end wrote is fed to the other, which reads a message. */
+static void carry(waywire_client *one, waywire_server *other, bool to_server, waywire_report *report)
+{
+	static unsigned char bytes[65536];
+	waywire_amounts taken, fed;
+	if (to_server) {
+		MUST(!waywire_client_take(one, bytes, sizeof bytes, NULL, 0, &taken));
+		MUST(!waywire_server_feed(other, bytes, taken.bytes, NULL, 0, &fed) && fed.bytes == taken.bytes);
+		MUST(!waywire_server_next(other, report));
+	} else {
+		MUST(!waywire_server_take(other, bytes, sizeof bytes, NULL, 0, &taken));
+		MUST(!waywire_client_feed(one, bytes, taken.bytes, NULL, 0, &fed) && fed.bytes == taken.bytes);
+		MUST(!waywire_client_next(one, report));
+	}
+	MUST(report->kind == WAYWIRE_MESSAGE);
+}
+
+/* A message of 60,012 bytes is too long for ends of the usual limit, and passes those of a greater one. */
+static void at_limit(const waywire_tables *more, uint32_t limit, waywire_status wanted)
+{
+	static char bytes[60000];
+	waywire_sizes wide = { 65536, 64, 65536, 64, limit };
+	waywire_client *one;
+	waywire_server *other;
+	waywire_object registry, thing;
+	waywire_report report;
+	waywire_arg arg = waywire_new();
+	uint16_t interface;
+	uint32_t name;
+	MUST(!waywire_client_new(more, &wide, &one) && !waywire_server_new(more, &wide, &other));
+	MUST(!waywire_tables_interface(more, "wp_thing", &interface));
+	MUST(!waywire_server_add_global(other, interface, 1, &name));
+	MUST(!waywire_client_send(one, display, WAYWIRE_WL_DISPLAY_REQUEST_GET_REGISTRY, &arg, 1, &registry, NULL));
+	carry(one, other, true, &report);
+	MUST(!waywire_server_announce(other, NULL));
+	carry(one, other, false, &report);
+	MUST(!waywire_client_bind(one, registry, name, "wp_thing", 1, &thing));
+	carry(one, other, true, &report);
+	arg = waywire_array(bytes, sizeof bytes);
+	MUST(waywire_client_send(one, thing, 0, &arg, 1, NULL, NULL) == wanted);
+	if (!wanted) {
+		carry(one, other, true, &report);
+		MUST(report.arg_count == 1 && report.args[0].length == sizeof bytes);
+	}
+	waywire_client_free(one);
+	waywire_server_free(other);
+}
+
+/* Limits that messages can have. */
+static void limits(void)
+{
+	static const char declared[] = "interface wp_thing 1\nrequest write a\n";
+	static const uint32_t wrong[] = { 1, 4095, 4098, 65533, 65536, UINT32_MAX };
+	waywire_sizes narrow = { 65536, 64, 4096, 64, 4100 };
+	waywire_tables *more;
+	waywire_client *one;
+	for (size_t each = 0; each < sizeof wrong / sizeof *wrong; each++) {
+		waywire_sizes bad = { 65536, 64, 65536, 64, wrong[each] };
+		MUST(waywire_client_new(tables, &bad, &one) == WAYWIRE_BAD_SIZES);
+	}
+	MUST(waywire_client_new(tables, &narrow, &one) == WAYWIRE_BAD_SIZES);
+	MUST(!waywire_tables_read(tables, declared, strlen(declared), &more, NULL, NULL));
+	at_limit(more, 0, WAYWIRE_TOO_LONG);
+	at_limit(more, WAYWIRE_USUAL_LIMIT, WAYWIRE_TOO_LONG);
+	at_limit(more, 60008, WAYWIRE_TOO_LONG);
+	at_limit(more, 60012, WAYWIRE_OK);
+	at_limit(more, 65532, WAYWIRE_OK);
+	waywire_tables_free(more);
+}
+
+/* Pointers of the caller's, at objects. */
+static void users(void)
+{
+	waywire_client *one;
+	waywire_server *other;
+	waywire_arg new = waywire_new(), serial = waywire_uint(7);
+	waywire_object callback, there, next;
+	waywire_report report;
+	waywire_amounts amounts;
+	unsigned char bytes[256];
+	int here, later;
+	MUST(!waywire_client_new(tables, &sizes, &one) && !waywire_server_new(tables, &sizes, &other));
+	MUST(!waywire_client_send(one, display, WAYWIRE_WL_DISPLAY_REQUEST_SYNC, &new, 1, &callback, NULL));
+	MUST(!waywire_client_user(one, callback) && !waywire_client_set_user(one, callback, &here));
+	MUST(waywire_client_user(one, callback) == &here && !waywire_client_user(one, display));
+	MUST(!waywire_client_take(one, bytes, sizeof bytes, NULL, 0, &amounts));
+	MUST(!waywire_server_feed(other, bytes, amounts.bytes, NULL, 0, &amounts));
+	MUST(!waywire_server_next(other, &report) && !report.user);
+	there = report.args[0].object;
+	MUST(!waywire_server_set_user(other, there, &later) && waywire_server_user(other, there) == &later);
+	MUST(!waywire_server_send(other, there, WAYWIRE_WL_CALLBACK_EVENT_DONE, &serial, 1, NULL, NULL));
+	MUST(waywire_server_set_user(other, there, NULL) == WAYWIRE_STALE);
+	MUST(!waywire_server_take(other, bytes, sizeof bytes, NULL, 0, &amounts));
+	MUST(!waywire_client_feed(one, bytes, amounts.bytes, NULL, 0, &amounts));
+	MUST(!waywire_client_next(one, &report) && report.kind == WAYWIRE_MESSAGE && report.user == &here);
+	MUST(waywire_client_set_user(one, callback, &later) == WAYWIRE_STALE);
+	MUST(!waywire_client_next(one, &report) && report.kind == WAYWIRE_DELETED && report.user == &here);
+	MUST(!waywire_client_next(one, &report) && report.kind == WAYWIRE_NOTHING && !report.user);
+	MUST(!waywire_client_send(one, display, WAYWIRE_WL_DISPLAY_REQUEST_SYNC, &new, 1, &next, NULL));
+	MUST(next.id == callback.id && !waywire_client_user(one, next));
+	MUST(!waywire_client_set_user(one, next, &later) && waywire_client_user(one, next) == &later);
+	MUST(!waywire_client_user(one, callback));
+	MUST(!waywire_client_set_user(one, next, NULL) && !waywire_client_user(one, next));
+	waywire_client_free(one);
+	waywire_server_free(other);
+}
+
 static void texts(void)
 {
 	static const int all[] = { 0, 1, 2, 3, 4, 5, 6, 7, 8, 9, 10, 11, 12, 22, 23, 25, 31, 32, 33, 34,
@@ -200,6 +351,9 @@ int main(void)
 	full();
 	misspelled();
 	more_tables();
+	messages();
+	limits();
+	users();
 	texts();
 	waywire_client_free(client);
 	waywire_server_free(server);

@@ -1,1 +1,3 @@
 pub mod AsBox
+mod Givens
+mod Tellings

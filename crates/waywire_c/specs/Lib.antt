@@ -3,3 +3,7 @@ pub mod Lending
 pub mod Statuses
 pub mod Values
 pub mod Inspecting
+pub mod Calls
+pub mod Reports
+pub mod Sizes
+pub mod Messages

@@ -1,7 +1,12 @@
 -- The number that stands for each refusal and each fault.
-use Rattle.std.specs.Prelude.{ℕ, Option, Some, None}
+use Rattle.std.specs.Prelude.{◌≡◌, ◌⊎◌, ℕ, Bool, true, false, Option, Some, None}
 use Rattle.std.specs.declared.result.Result.{Result}
 use Rattle.std.specs.declared.result.Result.TheVariants.{Ok, Err}
+use Rattle.wl_wire.specs.declared.kind.ArgFault.{ArgFault}
+use Rattle.wl_wire.specs.declared.kind.ArgFault.TheVariants as spellings
+use Rattle.wl_interface_text.specs.declared.fault.TableFault.{TableFault}
+use Rattle.wl_interface_text.specs.declared.fault.TableFault.TheVariants as tables
+use Rattle.wl_object_map.specs.declared.object.Object.{Object}
 use Rattle.wl_objects.specs.declared.error.SendError.{SendError}
 use Rattle.wl_objects.specs.declared.error.SendError.TheVariants as refusals
 use Rattle.wl_objects.specs.declared.error.NextError.{NextError}
@@ -71,3 +76,58 @@ read_outcome (Err why) = next_status why
 abbrev pub find_outcome : {X : Type 0} → Option X → ℕ
 find_outcome None = 64
 find_outcome (Some found) = 0
+
+-- the status of a call that may make an object, and that of one that gives a name
+abbrev pub made_outcome : Result (Option Object) SendError → ℕ
+made_outcome (Ok new) = 0
+made_outcome (Err why) = send_status why
+
+abbrev pub name_outcome : Result ℕ GlobalError → ℕ
+name_outcome (Ok name) = 0
+name_outcome (Err why) = global_status why
+
+-- the status of a call that refuses nothing but a failed end
+abbrev pub failed_outcome : Bool → ℕ
+failed_outcome true = 1
+failed_outcome false = 0
+
+-- TB1, TB2, TB3
+abbrev pub table_status : TableFault → ℕ
+table_status (tables.BadLine line) = 71
+table_status (tables.BadTable line rule) = 72
+table_status tables.Memory = 11
+
+abbrev pub table_outcome : {X : Type 0} → Result X TableFault → ℕ
+table_outcome (Ok found) = 0
+table_outcome (Err why) = table_status why
+
+-- The status of a call is this one; or, where that is an acceptance for which memory may be needed,
+-- that of out of memory.
+abbrev pub OrMemory : Bool → ℕ → ℕ → Type 0
+OrMemory wants status result =
+    (result ≡ status) ⊎ ((result ≡ 11) × (wants ≡ true) × (status ≡ 0))
+
+-- the place of the argument that a refusal names, if it names one
+abbrev pub refused_place : SendError → Option ℕ
+refused_place (refusals.WrongArgs place) = Some place
+refused_place (refusals.BadObject place) = Some place
+refused_place _ = None
+
+-- the place of the argument that a fault names; 0 where it names none
+abbrev pub fault_place : Fault → ℕ
+fault_place (faults.BadArgument place spelling) = place
+fault_place (faults.BadObject place) = place
+fault_place (faults.BadNewId place) = place
+fault_place _ = 0
+
+-- which of A1 to A4 an argument has
+abbrev pub spelling_number : ArgFault → ℕ
+spelling_number spellings.Short = 1
+spelling_number spellings.NullNotAllowed = 2
+spelling_number spellings.NoEndingNul = 3
+spelling_number spellings.InnerNul = 4
+
+-- the same of a fault; 0 of those that are no misspelling
+abbrev pub fault_spelling : Fault → ℕ
+fault_spelling (faults.BadArgument place spelling) = spelling_number spelling
+fault_spelling _ = 0

@@ -1,11 +1,15 @@
 -- What values of C stand for.
-use Rattle.std.specs.Prelude.{ℕ}
+use Rattle.std.specs.Prelude.{ℕ, nat_eq, if◌then◌else◌, List, [], ◌∷◌, take}
+use Rattle.std.specs.Prelude.{Option, Some, None}
 use Rattle.wl_wire.specs.declared.kind.Iface.{Iface}
+use Rattle.wl_wire.specs.Argument.{Int, Uint, Fixed, Str, Obj, New, Array, Fd}
 use Rattle.wl_message.specs.declared.amounts.Fed.{Fed}
 use Rattle.wl_message.specs.declared.amounts.Taken.{Taken}
 use Rattle.wl_object_map.specs.declared.object.Object.{Object}
+use Rattle.wl_objects.specs.Writing.{Given}
 use Rattle.waywire_c.specs.declared.values.CObject.{CObject}
 use Rattle.waywire_c.specs.declared.values.CAmounts.{CAmounts}
+use Rattle.waywire_c.specs.declared.values.CallArg.{CallArg}
 
 abbrev pub object_of : CObject → Object
 object_of c = record { id = c.id; birth = c.birth }
@@ -19,3 +23,38 @@ fed_of c = record { bytes = c.bytes; tokens = c.tokens }
 
 abbrev pub taken_of : CAmounts → Taken
 taken_of c = record { bytes = c.bytes; tokens = c.tokens }
+
+-- the object that stands where none is made
+abbrev pub made_object : Option Object → Object
+made_object None = record { id = 0; birth = 0 }
+made_object (Some object) = object
+
+-- ---- the arguments of a call
+
+-- What an argument is, by its kind; none of a kind that no call takes.
+abbrev pub given_by : CallArg → Option Given
+given_by arg =
+    if nat_eq arg.kind 1 then Some (Int arg.int)
+    else if nat_eq arg.kind 2 then Some (Uint arg.uint)
+    else if nat_eq arg.kind 3 then Some (Fixed arg.int)
+    else if nat_eq arg.kind 4 then Some (Str (Some arg.bytes.now))
+    else if nat_eq arg.kind 5 then Some (Str None)
+    else if nat_eq arg.kind 6 then Some (Obj (Some (object_of arg.object)))
+    else if nat_eq arg.kind 7 then Some (Obj None)
+    else if nat_eq arg.kind 8 then Some (New tt)
+    else if nat_eq arg.kind 9 then Some (Array arg.bytes.now)
+    else if nat_eq arg.kind 10 then Some (Fd arg.uint)
+    else None
+
+abbrev pub given_before : Option Given → Option (List Given) → Option (List Given)
+given_before (Some given) (Some more) = Some (given ∷ more)
+given_before _ _ = None
+
+-- what all arguments are; none where one of them is of a kind that no call takes
+abbrev pub all_given : List CallArg → Option (List Given)
+all_given [] = Some []
+all_given (arg ∷ args) = given_before (given_by arg) (all_given args)
+
+-- The arguments of a call, of which one more is looked at than a message can have.
+abbrev pub given_in : List CallArg → Option (List Given)
+given_in args = all_given (take 21 args)

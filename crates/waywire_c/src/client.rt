@@ -1,23 +1,33 @@
 //! What C calls of a client.
-ghost use Rattle.std.specs.Prelude.{◌≡◌, ◌≢◌, ◌++◌, length, take, drop};
+ghost use Rattle.std.specs.Prelude.{◌≡◌, ◌≢◌, ◌↔◌, ◌++◌, length, take, drop, true, Some, Ok};
+ghost use Rattle.std.specs.Prelude.{IfSome, MatchOption};
+ghost use Rattle.wl_sigs.specs.declared.signature.Side.TheVariants.{Request as request_side};
 ghost use Rattle.wl_message.specs.Outgoing.{goes, waiting_bytes, waiting_tokens};
 ghost use Rattle.wl_connection.specs.Core.{in_room, is_drained, live, display_object, feeds};
-ghost use Rattle.wl_connection.specs.Core.{with_arrived, with_gone};
+ghost use Rattle.wl_connection.specs.Core.{with_arrived};
+ghost use Rattle.wl_connection.specs.Core.{with_gone};
+ghost use Rattle.wl_connection.specs.Sending.{after_send};
 ghost use Rattle.wl_client.specs.State.{with_core};
-ghost use Rattle.wl_client.specs.Calls.{after_bind};
+ghost use Rattle.wl_client.specs.Calls.{after_bind, bind_answer};
 ghost use Rattle.wl_client.specs.Reports.{after_next, next_answer};
-ghost use Rattle.waywire_c.specs.Statuses.{find_outcome, read_outcome};
-ghost use Rattle.waywire_c.specs.Values.{fed_of, object_of, taken_of};
+ghost use Rattle.waywire_c.specs.Statuses.{find_outcome, made_outcome, read_outcome, OrMemory};
+ghost use Rattle.waywire_c.specs.Values.{fed_of, given_in, iface_at, object_of, taken_of};
+ghost use Rattle.waywire_c.specs.Calls.{SendTells};
+ghost use Rattle.waywire_c.specs.Inspecting.{IsTried};
+ghost use Rattle.waywire_c.specs.Sizes.{AreAllowed};
+ghost use Rattle.waywire_c.specs.Reports.{event_args, TellsArgs, told_by, told_event};
 
 use crate::client_handle::ClientHandle;
 use crate::making;
 use crate::parts::address;
 use crate::reading::read_event;
 use crate::reports::Report;
-use crate::statuses::{BAD_SIZES, BAD_VALUE, NO_MEMORY, NOT_FOUND, OK, send_place, send_status};
+use crate::sending::tell_made;
+use crate::statuses::{BAD_SIZES, BAD_VALUE, NO_MEMORY, NOT_FOUND, OK, send_status};
 use crate::tables_handle::TablesHandle;
 use crate::values::{CAmounts, CObject, CSizes, CallArg, MAX_GIVEN, ReportArg, put_args};
 use std::alloc::Global;
+use wl_connection::End;
 use wl_objects::Arg;
 
 /// Makes a client with wl_display alone and empty boxes, and writes where it is to `client`.
@@ -27,7 +37,11 @@ pub extern "C" fn waywire_c_client_new(
     tables: &mut TablesHandle,
     sizes: &CSizes,
     client: &mut *mut u8,
-) -> u32 {
+) -> u32
+    ensures sizes { (result ≢ 63) ↔ AreAllowed sizes.now }
+    ensures tried { result ≢ 63 → IsTried result }
+    ensures unchanged { tables.new.held ≡ tables.old.held }
+{
     let Some(sizes) = sizes.sizes() else {
         return BAD_SIZES;
     };
@@ -64,6 +78,9 @@ pub extern "C" fn waywire_c_client_live(
     version: &mut u32,
 ) -> u32
     ensures answer { result ≡ find_outcome (live client.old.held.client.core (object_of object)) }
+    ensures found { MatchOption (live client.old.held.client.core (object_of object))
+        ((interface.new ≡ interface.old) × (version.new ≡ version.old))
+        (λ found. (found.0 ≡ iface_at interface.new) × (found.1 ≡ version.new)) }
     ensures unchanged { client.new.held ≡ client.old.held }
 {
     match client.get_mut().client.live(object.object()) {
@@ -158,28 +175,23 @@ pub extern "C" fn waywire_c_client_send(
     made: &mut CObject,
     place: &mut usize,
 ) -> u32
+    ensures answer { SendTells client.old.held.client.core request_side (object_of target) opcode
+        (given_in args.now) result (object_of made.old) (object_of made.new) place.old place.new }
+    ensures state { result ≡ 0
+        → IfSome (given_in args.now) (λ given. client.new.held.client
+        ≡ with_core client.old.held.client
+        (after_send client.old.held.client.core request_side (object_of target) opcode given)) }
     ensures unchanged { result ≢ 0 → client.new.held ≡ client.old.held }
 {
     let mut slots = [Arg::New; MAX_GIVEN];
     let Some(count) = put_args(args, &mut slots) else {
         return BAD_VALUE;
     };
-    match client
+    let answer = client
         .get_mut()
         .client
-        .send(target.object(), opcode, &slots[..count])
-    {
-        Ok(new) => {
-            *made = new.map_or(CObject::none(), CObject::of);
-            OK
-        }
-        Err(why) => {
-            if let Some(refused) = send_place(why) {
-                *place = refused;
-            }
-            send_status(why)
-        }
-    }
+        .send(target.object(), opcode, &slots[..count]);
+    tell_made(answer, made, place)
 }
 
 /// Reads the next event, and writes its report and, as far as they hold them, its arguments.
@@ -190,6 +202,9 @@ pub extern "C" fn waywire_c_client_next(
     args: &mut [ReportArg],
 ) -> u32
     ensures answer { result ≡ read_outcome (next_answer client.old.held.client) }
+    ensures report { told_by report.new
+        ≡ told_event (length args.old) (next_answer client.old.held.client) }
+    ensures args { TellsArgs (event_args (next_answer client.old.held.client)) args.old args.new }
     ensures state { client.new.held.client ≡ after_next client.old.held.client }
 {
     read_event(&mut client.get_mut().client, report, args)
@@ -205,6 +220,14 @@ pub extern "C" fn waywire_c_client_bind(
     version: u32,
     bound: &mut CObject,
 ) -> u32
+    ensures answer { OrMemory true
+        (made_outcome
+        (bind_answer client.old.held.client (object_of registry) name interface.now version))
+        result }
+    ensures bound { result ≡ 0
+        → bind_answer client.old.held.client (object_of registry) name interface.now version
+        ≡ Ok (Some (object_of bound.new)) }
+    ensures unbound { result ≢ 0 → bound.new ≡ bound.old }
     ensures state { result ≡ 0
         → client.new.held.client
         ≡ after_bind client.old.held.client (object_of registry) name interface.now version }

@@ -1,5 +1,11 @@
 //! What handles lead to is made.
+ghost use Rattle.std.specs.Prelude.{◌≡◌, ◌⊎◌, Ok, Err, IfOk, MatchResult};
 ghost use Rattle.wl_message.specs.Arrived.{AreSizes};
+ghost use Rattle.wl_sigs.specs.Core.{core_tables};
+ghost use Rattle.wl_sigs.specs.Outcome.{outcome};
+ghost use Rattle.wl_interface_text.specs.declared.fault.TableFault.TheVariants.{Memory};
+ghost use Rattle.wl_client.specs.State.{new_state as new_client};
+ghost use Rattle.wl_server.specs.State.{new_state as new_server};
 
 use crate::held::{HeldClient, HeldInspector, HeldServer, HeldTables};
 use std::alloc::{AllocError, Global};
@@ -10,7 +16,9 @@ use wl_server::Server;
 use wl_sigs::{TableFault, Tables};
 
 // A value in a box.
-fn boxed<T: Drop>(alloc: Global, value: T) -> Result<Box<T>, AllocError> {
+fn boxed<T: Drop>(alloc: Global, value: T) -> Result<Box<T>, AllocError>
+    ensures { IfOk result (λ boxed. boxed.value ≡ value) }
+{
     match Box::new(alloc, value) {
         Ok(boxed) => Ok(boxed),
         Err(_) => Err(AllocError),
@@ -18,7 +26,9 @@ fn boxed<T: Drop>(alloc: Global, value: T) -> Result<Box<T>, AllocError> {
 }
 
 /// Tables, which are kept until the process ends.
-fn kept(alloc: Global, tables: Tables) -> Result<Box<HeldTables>, AllocError> {
+fn kept(alloc: Global, tables: Tables) -> Result<Box<HeldTables>, AllocError>
+    ensures { IfOk result (λ kept. kept.value.tables.now ≡ tables) }
+{
     let tables = boxed(alloc, tables)?;
     boxed(
         alloc,
@@ -29,7 +39,9 @@ fn kept(alloc: Global, tables: Tables) -> Result<Box<HeldTables>, AllocError> {
 }
 
 /// The core tables.
-pub fn core_tables(alloc: Global) -> Result<Box<HeldTables>, AllocError> {
+pub fn core_tables(alloc: Global) -> Result<Box<HeldTables>, AllocError>
+    ensures { IfOk result (λ kept. kept.value.tables.now ≡ core_tables) }
+{
     kept(alloc, Tables::core(alloc)?)
 }
 
@@ -38,7 +50,10 @@ pub fn more_tables(
     alloc: Global,
     tables: &Tables,
     text: &[u8],
-) -> Result<Box<HeldTables>, TableFault> {
+) -> Result<Box<HeldTables>, TableFault>
+    ensures { MatchResult result (λ kept. outcome tables.now text.now ≡ Ok kept.value.tables.now)
+        (λ why. (outcome tables.now text.now ≡ Err why) ⊎ (why ≡ Memory)) }
+{
     let joined = tables.read_more(text)?;
     match kept(alloc, joined) {
         Ok(boxed) => Ok(boxed),
@@ -53,6 +68,7 @@ pub fn client(
     sizes: Sizes,
 ) -> Result<Box<HeldClient>, AllocError>
     requires { AreSizes sizes }
+    ensures { IfOk result (λ made. made.value.client ≡ new_client tables.now sizes) }
 {
     let client = Client::new(alloc, tables, sizes)?;
     boxed(alloc, HeldClient { client })
@@ -65,6 +81,7 @@ pub fn server(
     sizes: Sizes,
 ) -> Result<Box<HeldServer>, AllocError>
     requires { AreSizes sizes }
+    ensures { IfOk result (λ made. made.value.server ≡ new_server tables.now sizes) }
 {
     let server = Server::new(alloc, tables, sizes)?;
     boxed(alloc, HeldServer { server })

@@ -1,8 +1,12 @@
 //! An end reads a message, and what it reports is shown to C.
-ghost use Rattle.std.specs.Prelude.{◌≡◌};
+ghost use Rattle.std.specs.Prelude.{◌≡◌, ◌≢◌, length};
 ghost use Rattle.wl_client.specs.Reports.{after_next as after_event, next_answer};
 ghost use Rattle.wl_server.specs.Requests.{after_next as after_request};
-ghost use Rattle.waywire_c.specs.Statuses.{read_outcome};
+ghost use Rattle.wl_server.specs.Requests.{next_answer as request_answer};
+ghost use Rattle.wl_server.specs.Requests.{opens_object, request as found_request};
+ghost use Rattle.waywire_c.specs.Statuses.{read_outcome, OrMemory};
+ghost use Rattle.waywire_c.specs.Reports.{event_args, of_kind, request_args, TellsArgs, told_by};
+ghost use Rattle.waywire_c.specs.Reports.{told_event, told_request};
 
 use crate::reports::{Report, incoming, nothing, request, unread};
 use crate::statuses::{OK, next_status};
@@ -18,6 +22,9 @@ pub fn read_event<'t>(
     args: &mut [ReportArg],
 ) -> u32
     ensures answer { result ≡ read_outcome (next_answer client.old) }
+    ensures report { told_by report.new
+        ≡ told_event (length args.old) (next_answer client.old) }
+    ensures args { TellsArgs (event_args (next_answer client.old)) args.old args.new }
     ensures state { client.new ≡ after_event client.old }
 {
     match client.next() {
@@ -42,7 +49,16 @@ pub fn read_request<'t>(
     report: &mut Report,
     args: &mut [ReportArg],
 ) -> u32
-    ensures state { result ≡ 0 → server.new ≡ after_request server.old }
+    ensures answer { OrMemory (opens_object server.old.core (found_request server.old))
+        (read_outcome (request_answer server.old)) result }
+    ensures report { result ≢ 11 → told_by report.new
+        ≡ told_request (length args.old) (request_answer server.old) }
+    ensures args { result ≢ 11
+        → TellsArgs (request_args (request_answer server.old)) args.old args.new }
+    ensures state { result ≢ 11 → server.new ≡ after_request server.old }
+    ensures no_report { result ≡ 11 → told_by report.new ≡ of_kind 0 }
+    ensures no_args { result ≡ 11 → args.new ≡ args.old }
+    ensures unchanged { result ≡ 11 → server.new ≡ server.old }
 {
     match server.next() {
         Ok(Some(mut read)) => {

@@ -1,4 +1,11 @@
 //! Reports as C has them.
+ghost use Rattle.std.specs.Prelude.{◌≡◌, min, length};
+ghost use Rattle.wl_objects.specs.Parsed.{seen_args};
+ghost use Rattle.wl_client.specs.Outlines.{lent_report as lent_event};
+ghost use Rattle.wl_server.specs.Seen.{lent_report as lent_request};
+ghost use Rattle.waywire_c.specs.Reports.{args_of, of_kind, TellsArgs, told_by, told_incoming};
+ghost use Rattle.waywire_c.specs.Reports.{told_message, told_unread};
+
 use crate::statuses::{fault_place, fault_spelling};
 use crate::values::{CObject, ReportArg, named, shown, start_of, start_of_tokens};
 use wl_client::Incoming;
@@ -48,7 +55,9 @@ pub struct Report {
 
 /// A report of this kind and no more.
 #[inline(always)]
-fn plain(kind: u32) -> Report {
+fn plain(kind: u32) -> Report
+    ensures { told_by result ≡ of_kind kind }
+{
     Report {
         kind,
         opcode: 0,
@@ -69,13 +78,18 @@ fn plain(kind: u32) -> Report {
 
 /// The report where no message is whole.
 #[inline(always)]
-pub fn nothing() -> Report {
+pub fn nothing() -> Report
+    ensures { told_by result ≡ of_kind 0 }
+{
     plain(NOTHING)
 }
 
 /// Puts arguments into the first slots, as many as there are slots, and returns their number.
 #[inline(always)]
-fn put_shown(args: &mut Args<'_>, slots: &mut [ReportArg]) -> usize {
+fn put_shown(args: &mut Args<'_>, slots: &mut [ReportArg]) -> usize
+    ensures count { result ≡ min (length (seen_args args.old)) (length slots.old) }
+    ensures told { TellsArgs (seen_args args.old) slots.old slots.new }
+{
     let count = args.len().min(slots.len());
     'places: for place in 0..count {
         if let Some(got) = args.next() {
@@ -87,7 +101,12 @@ fn put_shown(args: &mut Args<'_>, slots: &mut [ReportArg]) -> usize {
 
 /// The report of a request.
 #[inline(always)]
-pub fn request(read: &mut Request<'_>, slots: &mut [ReportArg]) -> Report {
+pub fn request(read: &mut Request<'_>, slots: &mut [ReportArg]) -> Report
+    ensures report { told_by result
+        ≡ told_message (length slots.old) (lent_request read.old).target
+        (lent_request read.old).opcode (lent_request read.old).args }
+    ensures args { TellsArgs (lent_request read.old).args slots.old slots.new }
+{
     Report {
         opcode: u32::from(read.opcode),
         target: CObject::of(read.target),
@@ -98,7 +117,11 @@ pub fn request(read: &mut Request<'_>, slots: &mut [ReportArg]) -> Report {
 
 /// The report of what a client read.
 #[inline(always)]
-pub fn incoming(read: Incoming<'_>, slots: &mut [ReportArg]) -> Report {
+pub fn incoming(read: Incoming<'_>, slots: &mut [ReportArg]) -> Report
+    ensures report { told_by result
+        ≡ told_incoming (length slots.old) (lent_event read.entry) }
+    ensures args { TellsArgs (args_of (lent_event read.entry)) slots.old slots.new }
+{
     match read {
         Incoming::Event {
             target,
@@ -147,7 +170,9 @@ pub fn incoming(read: Incoming<'_>, slots: &mut [ReportArg]) -> Report {
 }
 
 /// The report where no message can be read.
-pub fn unread(why: NextError) -> Report {
+pub fn unread(why: NextError) -> Report
+    ensures { told_by result ≡ told_unread why }
+{
     match why {
         NextError::Fault { fault, offset } => Report {
             spelling: fault_spelling(fault),

@@ -1,26 +1,36 @@
 //! What C calls of a server.
-ghost use Rattle.std.specs.Prelude.{◌≡◌, ◌≢◌, ◌++◌, length, take, drop};
+ghost use Rattle.std.specs.Prelude.{◌≡◌, ◌≢◌, ◌↔◌, ◌++◌, length, take, drop, true, Ok, IfSome};
+ghost use Rattle.std.specs.Prelude.{MatchOption};
+ghost use Rattle.wl_sigs.specs.declared.signature.Side.TheVariants.{Event as event_side};
 ghost use Rattle.wl_message.specs.Outgoing.{goes, waiting_bytes, waiting_tokens};
 ghost use Rattle.wl_connection.specs.Core.{in_room, is_drained, live, display_object, feeds};
-ghost use Rattle.wl_connection.specs.Core.{with_arrived, with_gone};
+ghost use Rattle.wl_connection.specs.Core.{with_arrived};
+ghost use Rattle.wl_connection.specs.Core.{with_gone};
+ghost use Rattle.wl_connection.specs.Sending.{after_send};
 ghost use Rattle.wl_server.specs.State.{with_core};
-ghost use Rattle.wl_server.specs.Calls.{after_drop, after_error, after_withdraw, drop_refusal};
-ghost use Rattle.wl_server.specs.Calls.{error_refusal, with_global, withdraw_refusal};
-ghost use Rattle.wl_server.specs.Requests.{after_next};
-ghost use Rattle.waywire_c.specs.Statuses.{find_outcome, global_outcome, send_outcome};
-ghost use Rattle.waywire_c.specs.Values.{fed_of, iface_at, object_of, taken_of};
+ghost use Rattle.wl_server.specs.Announcing.{after_announce, Fitting};
+ghost use Rattle.wl_server.specs.Calls.{add_answer, after_drop, after_error, after_withdraw};
+ghost use Rattle.wl_server.specs.Calls.{drop_refusal, error_refusal, with_global, withdraw_refusal};
+ghost use Rattle.wl_server.specs.Requests.{after_next, next_answer, opens_object, request};
+ghost use Rattle.waywire_c.specs.Statuses.{failed_outcome, find_outcome, global_outcome};
+ghost use Rattle.waywire_c.specs.Statuses.{name_outcome, read_outcome, send_outcome, OrMemory};
+ghost use Rattle.waywire_c.specs.Values.{fed_of, given_in, iface_at, object_of, taken_of};
+ghost use Rattle.waywire_c.specs.Calls.{SendTells};
+ghost use Rattle.waywire_c.specs.Inspecting.{IsTried};
+ghost use Rattle.waywire_c.specs.Sizes.{AreAllowed};
+ghost use Rattle.waywire_c.specs.Reports.{of_kind, request_args, TellsArgs, told_by, told_request};
 
 use crate::making;
 use crate::parts::address;
 use crate::reading::read_request;
 use crate::reports::Report;
+use crate::sending::tell_made;
 use crate::server_handle::ServerHandle;
-use crate::statuses::{
-    BAD_SIZES, BAD_VALUE, NO_MEMORY, NOT_FOUND, OK, global_status, send_place, send_status,
-};
+use crate::statuses::{BAD_SIZES, BAD_VALUE, NO_MEMORY, NOT_FOUND, OK, global_status, send_status};
 use crate::tables_handle::TablesHandle;
 use crate::values::{CAmounts, CObject, CSizes, CallArg, MAX_GIVEN, ReportArg, put_args};
 use std::alloc::Global;
+use wl_connection::End;
 use wl_objects::Arg;
 use wl_wire::Iface;
 
@@ -31,7 +41,11 @@ pub extern "C" fn waywire_c_server_new(
     tables: &mut TablesHandle,
     sizes: &CSizes,
     server: &mut *mut u8,
-) -> u32 {
+) -> u32
+    ensures sizes { (result ≢ 63) ↔ AreAllowed sizes.now }
+    ensures tried { result ≢ 63 → IsTried result }
+    ensures unchanged { tables.new.held ≡ tables.old.held }
+{
     let Some(sizes) = sizes.sizes() else {
         return BAD_SIZES;
     };
@@ -68,6 +82,9 @@ pub extern "C" fn waywire_c_server_live(
     version: &mut u32,
 ) -> u32
     ensures answer { result ≡ find_outcome (live server.old.held.server.core (object_of object)) }
+    ensures found { MatchOption (live server.old.held.server.core (object_of object))
+        ((interface.new ≡ interface.old) × (version.new ≡ version.old))
+        (λ found. (found.0 ≡ iface_at interface.new) × (found.1 ≡ version.new)) }
     ensures unchanged { server.new.held ≡ server.old.held }
 {
     match server.get_mut().server.live(object.object()) {
@@ -162,28 +179,23 @@ pub extern "C" fn waywire_c_server_send(
     made: &mut CObject,
     place: &mut usize,
 ) -> u32
+    ensures answer { SendTells server.old.held.server.core event_side (object_of target) opcode
+        (given_in args.now) result (object_of made.old) (object_of made.new) place.old place.new }
+    ensures state { result ≡ 0
+        → IfSome (given_in args.now) (λ given. server.new.held.server
+        ≡ with_core server.old.held.server
+        (after_send server.old.held.server.core event_side (object_of target) opcode given)) }
     ensures unchanged { result ≢ 0 → server.new.held ≡ server.old.held }
 {
     let mut slots = [Arg::New; MAX_GIVEN];
     let Some(count) = put_args(args, &mut slots) else {
         return BAD_VALUE;
     };
-    match server
+    let answer = server
         .get_mut()
         .server
-        .send(target.object(), opcode, &slots[..count])
-    {
-        Ok(new) => {
-            *made = new.map_or(CObject::none(), CObject::of);
-            OK
-        }
-        Err(why) => {
-            if let Some(refused) = send_place(why) {
-                *place = refused;
-            }
-            send_status(why)
-        }
-    }
+        .send(target.object(), opcode, &slots[..count]);
+    tell_made(answer, made, place)
 }
 
 /// Reads the next request, and writes its report and, as far as they hold them, its arguments.
@@ -193,8 +205,18 @@ pub extern "C" fn waywire_c_server_next(
     report: &mut Report,
     args: &mut [ReportArg],
 ) -> u32
-    ensures state { result ≡ 0
+    ensures answer { OrMemory
+        (opens_object server.old.held.server.core (request server.old.held.server))
+        (read_outcome (next_answer server.old.held.server)) result }
+    ensures report { result ≢ 11 → told_by report.new
+        ≡ told_request (length args.old) (next_answer server.old.held.server) }
+    ensures args { result ≢ 11
+        → TellsArgs (request_args (next_answer server.old.held.server)) args.old args.new }
+    ensures state { result ≢ 11
         → server.new.held.server ≡ after_next server.old.held.server }
+    ensures no_report { result ≡ 11 → told_by report.new ≡ of_kind 0 }
+    ensures no_args { result ≡ 11 → args.new ≡ args.old }
+    ensures unchanged { result ≡ 11 → server.new.held ≡ server.old.held }
 {
     read_request(&mut server.get_mut().server, report, args)
 }
@@ -248,6 +270,11 @@ pub extern "C" fn waywire_c_server_add_global(
     version: u32,
     name: &mut u32,
 ) -> u32
+    ensures answer { OrMemory true
+        (name_outcome (add_answer server.old.held.server (iface_at interface) version)) result }
+    ensures name { result ≡ 0
+        → add_answer server.old.held.server (iface_at interface) version ≡ Ok name.new }
+    ensures nameless { result ≢ 0 → name.new ≡ name.old }
     ensures state { result ≡ 0
         → server.new.held.server
         ≡ with_global server.old.held.server (iface_at interface) version }
@@ -284,6 +311,11 @@ pub extern "C" fn waywire_c_server_withdraw(server: &mut ServerHandle, name: u32
 /// events to `count`.
 #[unsafe(no_mangle)]
 pub extern "C" fn waywire_c_server_announce(server: &mut ServerHandle, count: &mut usize) -> u32
+    ensures answer { result ≡ failed_outcome server.old.held.server.core.failed }
+    ensures count { result ≡ 0 → Fitting server.old.held.server count.new }
+    ensures uncounted { result ≢ 0 → count.new ≡ count.old }
+    ensures state { result ≡ 0
+        → server.new.held.server ≡ after_announce server.old.held.server count.new }
     ensures unchanged { result ≢ 0 → server.new.held ≡ server.old.held }
 {
     match server.get_mut().server.announce() {

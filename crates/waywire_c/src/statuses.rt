@@ -4,6 +4,7 @@
 //! those of the faults F1 to F10 are 31 to 40.
 ghost use Rattle.std.specs.Prelude.{◌≡◌};
 ghost use Rattle.waywire_c.specs.Statuses.{send_status, global_status, fault_status, next_status};
+ghost use Rattle.waywire_c.specs.Statuses.{refused_place, fault_place, fault_spelling};
 
 use wl_objects::{Fault, NextError, SendError};
 use wl_server::GlobalError;
@@ -56,7 +57,9 @@ pub fn send_status(error: SendError) -> u32
 }
 
 /// The place of the argument that a refusal names, if it names one.
-pub fn send_place(error: SendError) -> Option<usize> {
+pub fn send_place(error: SendError) -> Option<usize>
+    ensures { result ≡ refused_place error }
+{
     match error {
         SendError::WrongArgs(place) | SendError::BadObject(place) => Some(place),
         _ => None,
@@ -107,7 +110,9 @@ pub fn next_status(error: NextError) -> u32
 }
 
 /// The place of the argument that a fault names; 0 where it names none.
-pub fn fault_place(fault: Fault) -> usize {
+pub fn fault_place(fault: Fault) -> usize
+    ensures { result ≡ fault_place fault }
+{
     match fault {
         Fault::BadArgument(place, _) | Fault::BadObject(place) | Fault::BadNewId(place) => place,
         _ => 0,
@@ -115,7 +120,9 @@ pub fn fault_place(fault: Fault) -> usize {
 }
 
 /// The number in the names A1 to A4 of what is wrong with a spelling; 0 of the other faults.
-pub fn fault_spelling(fault: Fault) -> u32 {
+pub fn fault_spelling(fault: Fault) -> u32
+    ensures { result ≡ fault_spelling fault }
+{
     match fault {
         Fault::BadArgument(_, ArgFault::Short) => 1,
         Fault::BadArgument(_, ArgFault::NullNotAllowed) => 2,

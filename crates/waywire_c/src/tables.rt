@@ -1,4 +1,15 @@
 //! What C calls of tables.
+ghost use Rattle.std.specs.Prelude.{◌≡◌, ◌⊎◌, ◌≢◌, Err, MatchOption, length as len};
+ghost use Rattle.wl_sigs.specs.Tables.{interface_at, place_of};
+ghost use Rattle.wl_sigs.specs.Outcome.{outcome};
+ghost use Rattle.wl_interface_text.specs.declared.fault.TableFault.TheVariants.{};
+ghost use Rattle.wl_interface_text.specs.declared.fault.TableFault.TheVariants.{BadLine as bad_line};
+ghost use Rattle.wl_interface_text.specs.declared.fault.TableFault.TheVariants.{};
+ghost use Rattle.wl_interface_text.specs.declared.fault.TableFault.TheVariants.{BadTable as bad_table};
+ghost use Rattle.waywire_c.specs.Inspecting.{IsTried};
+ghost use Rattle.waywire_c.specs.Statuses.{find_outcome, table_outcome};
+ghost use Rattle.waywire_c.specs.Values.{iface_at};
+
 use crate::making::{core_tables, more_tables};
 use crate::parts::address;
 use crate::statuses::{BAD_LINE, BAD_TABLE, NO_MEMORY, NOT_FOUND, OK};
@@ -10,7 +21,9 @@ use wl_wire::Iface;
 
 /// Makes the core tables, and writes where they are to `tables`.
 #[unsafe(no_mangle)]
-pub extern "C" fn waywire_c_tables_core(alloc: Global, tables: &mut *mut u8) -> u32 {
+pub extern "C" fn waywire_c_tables_core(alloc: Global, tables: &mut *mut u8) -> u32
+    ensures { IsTried result }
+{
     match core_tables(alloc) {
         Ok(boxed) => {
             *tables = address(boxed);
@@ -30,7 +43,17 @@ pub extern "C" fn waywire_c_tables_read(
     more: &mut *mut u8,
     line: &mut usize,
     rule: &mut u32,
-) -> u32 {
+) -> u32
+    ensures answer { (result ≡ table_outcome (outcome tables.old.held.tables.now text.now))
+        ⊎ (result ≡ 11) }
+    ensures bad_line { result ≡ 71
+        → outcome tables.old.held.tables.now text.now ≡ Err (bad_line line.new) }
+    ensures bad_table { result ≡ 72
+        → outcome tables.old.held.tables.now text.now ≡ Err (bad_table line.new rule.new) }
+    ensures line { result ≢ 71 → result ≢ 72 → line.new ≡ line.old }
+    ensures rule { result ≢ 72 → rule.new ≡ rule.old }
+    ensures unchanged { tables.new.held ≡ tables.old.held }
+{
     match more_tables(alloc, tables.get_mut().tables, text) {
         Ok(boxed) => {
             *more = address(boxed);
@@ -60,7 +83,12 @@ pub extern "C" fn waywire_c_tables_interface(
     tables: &mut TablesHandle,
     name: &[u8],
     interface: &mut u16,
-) -> u32 {
+) -> u32
+    ensures answer { result ≡ find_outcome (place_of tables.old.held.tables.now name.now) }
+    ensures found { MatchOption (place_of tables.old.held.tables.now name.now)
+        (interface.new ≡ interface.old) (λ iface. iface ≡ iface_at interface.new) }
+    ensures unchanged { tables.new.held ≡ tables.old.held }
+{
     match tables.get_mut().tables.interface(name) {
         Some(iface) => {
             *interface = iface.0;
@@ -77,7 +105,12 @@ pub extern "C" fn waywire_c_tables_name(
     interface: u16,
     name: &mut *const u8,
     length: &mut usize,
-) -> u32 {
+) -> u32
+    ensures answer { result ≡ find_outcome (interface_at tables.old.held.tables.now interface) }
+    ensures length { MatchOption (interface_at tables.old.held.tables.now interface)
+        ((length.new ≡ length.old) × (name.new ≡ name.old)) (λ i. length.new ≡ len i.name) }
+    ensures unchanged { tables.new.held ≡ tables.old.held }
+{
     match tables.get_mut().tables.name(Iface(interface)) {
         Some(text) => {
             *name = start_of(text);
@@ -94,7 +127,12 @@ pub extern "C" fn waywire_c_tables_version(
     tables: &mut TablesHandle,
     interface: u16,
     version: &mut u32,
-) -> u32 {
+) -> u32
+    ensures answer { result ≡ find_outcome (interface_at tables.old.held.tables.now interface) }
+    ensures version { MatchOption (interface_at tables.old.held.tables.now interface)
+        (version.new ≡ version.old) (λ i. version.new ≡ i.version) }
+    ensures unchanged { tables.new.held ≡ tables.old.held }
+{
     match tables.get_mut().tables.version(Iface(interface)) {
         Some(found) => {
             *version = found;

@@ -1,6 +1,11 @@
 //! Values as C has them: objects, arguments, numbers of bytes and tokens.
-ghost use Rattle.std.specs.Prelude.{◌≡◌, ◌≤◌, length, IfSome};
+ghost use Rattle.std.specs.Prelude.{◌≡◌, ◌≤◌, length, take, option_map, IfSome, None, Some};
+ghost use Rattle.std.specs.Prelude.{MatchOption};
 ghost use Rattle.wl_message.specs.Arrived.{AreSizes};
+ghost use Rattle.wl_objects.specs.Writing.{given, given_of};
+ghost use Rattle.wl_objects.specs.Parsed.{lent_got};
+ghost use Rattle.waywire_c.specs.Values.{all_given, given_by, object_of};
+ghost use Rattle.waywire_c.specs.Reports.{arg_named, arg_of_kind, arg_told, arg_told_by};
 
 use std::ptr;
 use wl_message::{Fed, Limit, Sizes, Taken};
@@ -73,7 +78,7 @@ pub struct ReportArg {
     pub length: usize,
 }
 
-/// How large the boxes of an end are.
+/// How large the boxes of an end are, and the limit of its messages: 0 is the usual one.
 #[repr(C)]
 #[derive(Clone, Copy)]
 pub struct CSizes {
@@ -81,6 +86,7 @@ pub struct CSizes {
     pub out_tokens: usize,
     pub in_bytes: usize,
     pub in_tokens: usize,
+    pub limit: u32,
 }
 
 /// Numbers of bytes and of tokens.
@@ -92,10 +98,12 @@ pub struct CAmounts {
 }
 
 impl CObject {
-    ghost use Rattle.waywire_c.specs.Values.{object_of};
+    ghost use Rattle.waywire_c.specs.Values.{made_object, object_of};
 
     /// What stands where there is no object.
-    pub const fn none() -> CObject {
+    pub const fn none() -> CObject
+        ensures { object_of result ≡ made_object None }
+    {
         CObject { birth: 0, id: 0 }
     }
 
@@ -119,16 +127,33 @@ impl CObject {
 }
 
 impl CSizes {
+    ghost use Rattle.std.specs.Prelude.{◌↔◌, IsSome};
+    ghost use Rattle.wl_message.specs.Cut.{IsLimit};
+    ghost use Rattle.waywire_c.specs.Sizes.{limit_of, AreAllowed, AreOf};
+
+    /// The limit, where messages can have it.
+    fn limit(&self) -> Option<Limit>
+        ensures some { IsSome result ↔ IsLimit (limit_of self.now) }
+        ensures same { IfSome result (λ limit. limit.bytes ≡ limit_of self.now) }
+    {
+        if self.limit == 0 {
+            return Some(Limit::USUAL);
+        }
+        Limit::new(self.limit)
+    }
+
     /// The sizes, where an end can have them.
     pub fn sizes(&self) -> Option<Sizes>
-        ensures { IfSome result (λ sizes. AreSizes sizes) }
+        ensures some { IsSome result ↔ AreAllowed self.now }
+        ensures same { IfSome result (λ sizes. AreOf self.now sizes) }
+        ensures allowed { IfSome result (λ sizes. AreSizes sizes) }
     {
         let sizes = Sizes {
             out_bytes: self.out_bytes,
             out_tokens: self.out_tokens,
             in_bytes: self.in_bytes,
             in_tokens: self.in_tokens,
-            limit: Limit::USUAL,
+            limit: self.limit()?,
         };
         if sizes.is_allowed() {
             Some(sizes)
@@ -179,7 +204,9 @@ pub fn start_of_tokens(tokens: &[u32]) -> *const u32 {
 
 /// The argument of a call, where its kind is one of those that a call takes.
 #[inline(always)]
-fn arg_of<'a>(arg: &CallArg<'a>) -> Option<Arg<'a>> {
+fn arg_of<'a>(arg: &CallArg<'a>) -> Option<Arg<'a>>
+    ensures { option_map given_of result ≡ given_by arg.now }
+{
     match arg.kind {
         INT => Some(Arg::Int(arg.int)),
         UINT => Some(Arg::Uint(arg.uint)),
@@ -199,6 +226,9 @@ fn arg_of<'a>(arg: &CallArg<'a>) -> Option<Arg<'a>> {
 /// number. None where one is of a kind that no call takes.
 #[inline(always)]
 pub fn put_args<'a>(args: &[CallArg<'a>], slots: &mut [Arg<'a>]) -> Option<usize>
+    ensures given { MatchOption result (all_given (take (length slots.old) args.now) ≡ None)
+        (λ count. all_given (take (length slots.old) args.now)
+        ≡ Some (given (take count slots.new))) }
     ensures within { IfSome result (λ count. count ≤ length slots.new) }
     ensures as_many { IfSome result (λ _. length slots.new ≡ length slots.old) }
 {
@@ -211,7 +241,9 @@ pub fn put_args<'a>(args: &[CallArg<'a>], slots: &mut [Arg<'a>]) -> Option<usize
 
 /// An argument of this kind and no more.
 #[inline(always)]
-fn plain(kind: u32) -> ReportArg {
+fn plain(kind: u32) -> ReportArg
+    ensures { arg_told_by result ≡ arg_of_kind kind }
+{
     ReportArg {
         kind,
         int: 0,
@@ -223,7 +255,9 @@ fn plain(kind: u32) -> ReportArg {
 }
 
 #[inline(always)]
-fn with_bytes(kind: u32, bytes: &[u8]) -> ReportArg {
+fn with_bytes(kind: u32, bytes: &[u8]) -> ReportArg
+    ensures { arg_told_by result ≡ record (arg_of_kind kind) { length = length bytes.now } }
+{
     ReportArg {
         bytes: start_of(bytes),
         length: bytes.len(),
@@ -232,7 +266,9 @@ fn with_bytes(kind: u32, bytes: &[u8]) -> ReportArg {
 }
 
 #[inline(always)]
-fn with_object(kind: u32, object: Object) -> ReportArg {
+fn with_object(kind: u32, object: Object) -> ReportArg
+    ensures { arg_told_by result ≡ record (arg_of_kind kind) { object = object } }
+{
     ReportArg {
         object: CObject::of(object),
         ..plain(kind)
@@ -240,7 +276,9 @@ fn with_object(kind: u32, object: Object) -> ReportArg {
 }
 
 #[inline(always)]
-fn with_uint(kind: u32, uint: u32) -> ReportArg {
+fn with_uint(kind: u32, uint: u32) -> ReportArg
+    ensures { arg_told_by result ≡ record (arg_of_kind kind) { uint = uint } }
+{
     ReportArg {
         uint,
         ..plain(kind)
@@ -248,12 +286,16 @@ fn with_uint(kind: u32, uint: u32) -> ReportArg {
 }
 
 #[inline(always)]
-fn with_int(kind: u32, int: i32) -> ReportArg {
+fn with_int(kind: u32, int: i32) -> ReportArg
+    ensures { arg_told_by result ≡ record (arg_of_kind kind) { int = int } }
+{
     ReportArg { int, ..plain(kind) }
 }
 
 /// An object that is named, as an argument.
-pub fn named(named: Named) -> ReportArg {
+pub fn named(named: Named) -> ReportArg
+    ensures { arg_told_by result ≡ arg_named named }
+{
     match named {
         Named::Null => plain(NULL_OBJECT),
         Named::Live(object) => with_object(OBJECT, object),
@@ -263,7 +305,9 @@ pub fn named(named: Named) -> ReportArg {
 
 /// The argument of a report as C sees it.
 #[inline(always)]
-pub fn shown(got: GotRef<'_>) -> ReportArg {
+pub fn shown(got: GotRef<'_>) -> ReportArg
+    ensures { arg_told_by result ≡ arg_told (lent_got got.entry) }
+{
     match got {
         GotRef::Int(number) => with_int(INT, number),
         GotRef::Uint(number) => with_uint(UINT, number),

@@ -12,8 +12,8 @@ pub struct Amounts {
 
 /// How large the outbox and the inbox of an end are. They never grow.
 ///
-/// An outbox has at most 16,777,216 bytes and 65,536 tokens; an inbox has 4096 to 16,777,216 bytes
-/// and 20 to 65,536 tokens.
+/// An outbox has at most 16,777,216 bytes and 65,536 tokens; an inbox has `limit` to 16,777,216
+/// bytes and 20 to 65,536 tokens.
 #[derive(Clone, Copy, Debug, PartialEq, Eq, Hash)]
 #[repr(C)]
 pub struct Sizes {
@@ -25,12 +25,20 @@ pub struct Sizes {
     pub in_bytes: usize,
     /// The tokens of the inbox.
     pub in_tokens: usize,
+    /// The most bytes that a message may have, its header counted: a multiple of 4 from 4,096 to
+    /// 65,532, or 0 for [`Sizes::USUAL_LIMIT`]. Both ends of a connection have to have the same.
+    pub limit: u32,
+}
+
+impl Sizes {
+    /// The limit where the two ends have not agreed on another, as of libwayland: 4,096 bytes.
+    pub const USUAL_LIMIT: u32 = 4096;
 }
 
 impl Default for Sizes {
     /// 65,536 bytes and 64 tokens each way: what one read of a socket brings, and the 28 descriptors
     /// that libwayland passes at once behind those that wait.
     fn default() -> Self {
-        Sizes { out_bytes: 65536, out_tokens: 64, in_bytes: 65536, in_tokens: 64 }
+        Sizes { out_bytes: 65536, out_tokens: 64, in_bytes: 65536, in_tokens: 64, limit: 0 }
     }
 }

@@ -165,6 +165,9 @@ pub struct Report {
     text_length: usize,
     place: usize,
     offset: u64,
+    /// For C alone.
+    #[allow(dead_code)]
+    user: *mut c_void,
     args: [RawArg; MAX_ARGS as usize],
 }
 
@@ -203,6 +206,7 @@ impl Report {
             text_length: 0,
             place: 0,
             offset: 0,
+            user: ptr::null_mut(),
             args: [NO_ARG; MAX_ARGS as usize],
         }
     }
@@ -832,10 +836,10 @@ mod tests {
     fn declarations_are_those_of_the_header() {
         let mut wanted = layout! {
             Amounts, "waywire_amounts": bytes tokens;
-            Sizes, "waywire_sizes": out_bytes out_tokens in_bytes in_tokens;
+            Sizes, "waywire_sizes": out_bytes out_tokens in_bytes in_tokens limit;
             RawArg, "waywire_arg": kind i u object bytes length;
             Report, "waywire_report": kind opcode target arg_count tokens token_count id code named
-                spelling text text_length place offset args;
+                spelling text text_length place offset user args;
         };
         wanted.push(("sizeof(waywire_object)".into(), size_of::<Object>()));
         wanted.push(("sizeof(waywire_status)".into(), size_of::<u32>()));

@@ -1,50 +1,14 @@
 //! Every message of the core between two ends, with arguments at the corners of their types; and the
 //! demonstration's session, whose bytes are those of the pair in Rattle.
 
+mod common;
+
+use common::{core_messages, repository, Core};
 use std::fs;
-use std::path::Path;
 use waywire::{
     event, request, Amounts, Arg, Client, Fixed, Incoming, Object, SendError, Server, Sizes,
     Tables, Value,
 };
-
-fn repository() -> &'static Path {
-    Path::new(env!("CARGO_MANIFEST_DIR")).ancestors().nth(2).unwrap()
-}
-
-/// A message of the core: its interface, its opcode, and the letters of its arguments.
-struct Core {
-    interface: String,
-    is_request: bool,
-    opcode: u16,
-    kinds: Vec<String>,
-}
-
-/// The messages of tools/core.tables.
-fn core_messages() -> Vec<Core> {
-    let text = fs::read_to_string(repository().join("tools/core.tables")).unwrap();
-    let mut found: Vec<Core> = Vec::new();
-    let mut interface = "";
-    let mut counts = [0, 0];
-    for line in text.lines().filter(|it| !it.starts_with('#')) {
-        let words: Vec<&str> = line.split(' ').collect();
-        if words[0] == "interface" {
-            interface = words[1];
-            counts = [0, 0];
-            continue;
-        }
-        let is_request = words[0] == "request";
-        let kinds = words[2..].iter().filter(|it| **it != "D" && !it.starts_with('@'));
-        found.push(Core {
-            interface: interface.into(),
-            is_request,
-            opcode: counts[usize::from(is_request)],
-            kinds: kinds.map(|it| it.to_string()).collect(),
-        });
-        counts[usize::from(is_request)] += 1;
-    }
-    found
-}
 
 /// A client and a server with nothing between.
 struct Pair {
@@ -145,8 +109,9 @@ fn passes(tables: &Tables, message: &Core, corner: usize) {
     let args: Vec<Arg<'_>> = message.kinds.iter().map(|it| pair.arg(it, corner)).collect();
     let target = pair.object(&message.interface);
     let check = |came: Vec<Value<'_>>, made| {
-        assert_eq!(came.len(), args.len());
-        assert!(args.iter().zip(&came).all(|(one, other)| is_sent(one, other, made)));
+        let Core { interface, name, .. } = message;
+        assert_eq!(came.len(), args.len(), "{interface}.{name}");
+        assert!(args.iter().zip(&came).all(|(one, other)| is_sent(one, other, made)), "{name}");
     };
     if message.is_request {
         let made = pair.client.send(target, message.opcode, &args).unwrap();

@@ -1,0 +1,48 @@
+-- What C is told of a call, and what the call leaves.
+use Rattle.std.specs.Prelude.{◌≡◌, ◌≢◌, ℕ, List, Option, Some, None, MatchOption}
+use Rattle.std.specs.declared.result.Result.{Result}
+use Rattle.std.specs.declared.result.Result.TheVariants.{Ok, Err}
+use Rattle.wl_sigs.specs.declared.signature.Side.{Side}
+use Rattle.wl_object_map.specs.declared.object.Object.{Object}
+use Rattle.wl_objects.specs.declared.error.SendError.{SendError}
+use Rattle.wl_objects.specs.Writing.{Given}
+use Rattle.wl_objects.specs.Messages.{checked}
+use Rattle.wl_connection.specs.Core.{Core}
+use Rattle.wl_connection.specs.Sending.{send_answer, opens_object}
+use Rattle.waywire_c.specs.Statuses.{made_outcome, refused_place, OrMemory}
+use Rattle.waywire_c.specs.Values.{made_object}
+
+-- what stands where the place of a refused argument goes: that place, where one is named
+abbrev pub place_or : ℕ → Option ℕ → ℕ
+place_or before None = before
+place_or before (Some place) = place
+
+abbrev pub place_left : ℕ → Result (Option Object) SendError → ℕ
+place_left before (Ok new) = before
+place_left before (Err why) = place_or before (refused_place why)
+
+-- what stands where a new object goes: it, or the object of id 0 where none is made; of a call that
+-- is refused, what stood there
+abbrev pub made_left : Object → Result (Option Object) SendError → Object
+made_left before (Ok new) = made_object new
+made_left before (Err why) = before
+
+-- What C is told of a `send` of these arguments: the status of its answer, and as that is an
+-- acceptance the object that it made, or the place of an argument that it refused.
+pub record IsSent (core : Core) (side : Side) (target : Object) (opcode : ℕ) (given : List Given)
+    (status : ℕ) (before made : Object) (place_before place : ℕ) : Type 0 where
+  pub answer : OrMemory
+      (opens_object
+      (checked core.outbox.limit.bytes core.tables side core.view target opcode given))
+      (made_outcome (send_answer core side target opcode given)) status
+  pub made_is : status ≢ 11 → made ≡ made_left before (send_answer core side target opcode given)
+  pub not_made : status ≡ 11 → made ≡ before
+  pub place_is : place ≡ place_left place_before (send_answer core side target opcode given)
+
+-- What C is told of a `send`: that an argument is of a kind that no call takes, and nothing else;
+-- or what is told of a `send` of its arguments.
+abbrev pub SendTells : Core → Side → Object → ℕ → Option (List Given) → ℕ → Object → Object
+    → ℕ → ℕ → Type 0
+SendTells core side target opcode given status before made place_before place =
+    MatchOption given ((status ≡ 62) × (made ≡ before) × (place ≡ place_before))
+    (λ args. IsSent core side target opcode args status before made place_before place)

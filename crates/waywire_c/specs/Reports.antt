@@ -1,0 +1,180 @@
+-- What C is told by a report, without where it lies in memory.
+use Rattle.std.specs.Prelude.{◌≡◌, ℕ, ℤ, pos, min, List, [], length, map, take, drop, Option, Some}
+use Rattle.std.specs.Prelude.{None}
+use Rattle.std.specs.declared.result.Result.{Result}
+use Rattle.std.specs.declared.result.Result.TheVariants.{Ok, Err}
+use Rattle.wl_wire.specs.Argument.{Int, Uint, Fixed, Str, Obj, New, NewNamed, Array, Fd}
+use Rattle.wl_object_map.specs.declared.object.Object.{Object}
+use Rattle.wl_objects.specs.declared.argument.Named.{Named}
+use Rattle.wl_objects.specs.declared.argument.Named.TheVariants as named_as
+use Rattle.wl_objects.specs.declared.error.NextError.{NextError}
+use Rattle.wl_objects.specs.declared.error.NextError.TheVariants as errors
+use Rattle.wl_objects.specs.Reading.{Reported}
+use Rattle.wl_client.specs.Reports as client
+use Rattle.wl_server.specs.Requests as server
+use Rattle.waywire_c.specs.declared.values.ReportArg.{ReportArg}
+use Rattle.waywire_c.specs.declared.reports.Report.{Report}
+use Rattle.waywire_c.specs.Statuses.{fault_place, fault_spelling}
+use Rattle.waywire_c.specs.Values.{made_object, object_of}
+
+abbrev pub no_object : Object
+no_object = made_object None
+
+-- ---- arguments
+
+-- What an argument of a report tells.
+pub record ToldArg : Type 0 where
+  pub kind : ℕ
+  pub int : ℤ
+  pub uint : ℕ
+  pub object : Object
+  pub length : ℕ
+
+abbrev pub arg_told_by : ReportArg → ToldArg
+arg_told_by arg = record {
+  kind = arg.kind;
+  int = arg.int;
+  uint = arg.uint;
+  object = object_of arg.object;
+  length = arg.length;
+}
+
+abbrev pub arg_of_kind : ℕ → ToldArg
+arg_of_kind kind = record { kind = kind; int = pos 0; uint = 0; object = no_object; length = 0 }
+
+abbrev pub arg_named : Named → ToldArg
+arg_named named_as.Null = arg_of_kind 7
+arg_named (named_as.Live object) = record (arg_of_kind 6) { object = object }
+arg_named (named_as.Dead object) = record (arg_of_kind 11) { object = object }
+
+-- What is told of a reported argument.
+abbrev pub arg_told : Reported → ToldArg
+arg_told (Int z) = record (arg_of_kind 1) { int = z }
+arg_told (Uint n) = record (arg_of_kind 2) { uint = n }
+arg_told (Fixed z) = record (arg_of_kind 3) { int = z }
+arg_told (Str (Some text)) = record (arg_of_kind 4) { length = length text }
+arg_told (Str None) = arg_of_kind 5
+arg_told (Obj object) = arg_named object
+arg_told (New object) = record (arg_of_kind 8) { object = object }
+arg_told (NewNamed iface version object) = record (arg_of_kind 12) {
+  uint = version;
+  object = object;
+  length = length iface;
+}
+arg_told (Array bytes) = record (arg_of_kind 9) { length = length bytes }
+arg_told (Fd token) = record (arg_of_kind 10) { uint = token }
+
+-- These arguments are told in the first places, as far as there are such, and the others are left.
+pub record TellsArgs (args : List Reported) (before after : List ReportArg) : Type 0 where
+  pub first : map arg_told_by (take (min (length args) (length before)) after)
+      ≡ map arg_told (take (min (length args) (length before)) args)
+  pub rest : drop (min (length args) (length before)) after
+      ≡ drop (min (length args) (length before)) before
+
+-- ---- reports
+
+-- What a report tells, but for its arguments.
+pub record Told : Type 0 where
+  pub kind : ℕ
+  pub opcode : ℕ
+  pub target : Object
+  pub arg_count : ℕ
+  pub token_count : ℕ
+  pub id : ℕ
+  pub code : ℕ
+  pub named : ℕ
+  pub spelling : ℕ
+  pub text_length : ℕ
+  pub place : ℕ
+  pub offset : ℕ
+
+abbrev pub told_by : Report → Told
+told_by report = record {
+  kind = report.kind;
+  opcode = report.opcode;
+  target = object_of report.target;
+  arg_count = report.arg_count;
+  token_count = report.token_count;
+  id = report.id;
+  code = report.code;
+  named = report.named;
+  spelling = report.spelling;
+  text_length = report.text_length;
+  place = report.place;
+  offset = report.offset;
+}
+
+abbrev pub of_kind : ℕ → Told
+of_kind kind = record {
+  kind = kind;
+  opcode = 0;
+  target = no_object;
+  arg_count = 0;
+  token_count = 0;
+  id = 0;
+  code = 0;
+  named = 0;
+  spelling = 0;
+  text_length = 0;
+  place = 0;
+  offset = 0;
+}
+
+-- of why no message was read
+abbrev pub told_unread : NextError → Told
+told_unread (errors.Fault fault offset) = record (of_kind 6) {
+  spelling = fault_spelling fault;
+  place = fault_place fault;
+  offset = offset;
+}
+told_unread _ = of_kind 0
+
+-- of a message for a live object, where there is room for so many arguments
+abbrev pub told_message : ℕ → Object → ℕ → List Reported → Told
+told_message room target opcode args = record (of_kind 1) {
+  opcode = opcode;
+  target = target;
+  arg_count = min (length args) room;
+}
+
+-- What is told of what a client read.
+abbrev pub told_incoming : ℕ → client.Report → Told
+told_incoming room (client.Event target opcode args) = told_message room target opcode args
+told_incoming room (client.Discarded target opcode tokens) = record (of_kind 2) {
+  opcode = opcode;
+  target = target;
+  token_count = length tokens;
+}
+told_incoming room (client.Deleted object) = record (of_kind 3) { target = object }
+told_incoming room (client.Stray id) = record (of_kind 4) { id = id }
+told_incoming room (client.Error id named code text) = record (of_kind 5) {
+  id = id;
+  code = code;
+  named = (arg_named named).kind;
+  target = (arg_named named).object;
+  text_length = length text;
+}
+
+abbrev pub told_event : ℕ → Result (Option client.Report) NextError → Told
+told_event room (Err why) = told_unread why
+told_event room (Ok None) = of_kind 0
+told_event room (Ok (Some report)) = told_incoming room report
+
+abbrev pub args_of : client.Report → List Reported
+args_of (client.Event target opcode args) = args
+args_of _ = []
+
+abbrev pub event_args : Result (Option client.Report) NextError → List Reported
+event_args (Ok (Some report)) = args_of report
+event_args _ = []
+
+-- What is told of what a server read.
+abbrev pub told_request : ℕ → Result (Option server.Report) NextError → Told
+told_request room (Err why) = told_unread why
+told_request room (Ok None) = of_kind 0
+told_request room (Ok (Some report)) =
+    told_message room report.target report.opcode report.args
+
+abbrev pub request_args : Result (Option server.Report) NextError → List Reported
+request_args (Ok (Some report)) = report.args
+request_args _ = []

@@ -1,0 +1,173 @@
+//! What C asks of the messages of the tables.
+ghost use Rattle.std.specs.Prelude.{◌≡◌, MatchOption};
+ghost use Rattle.waywire_c.specs.Messages.{destroyed_place, destroys_number, kind_at, message_at};
+ghost use Rattle.waywire_c.specs.Messages.{place_or_any, side_of, TellsKind, TellsMessage};
+ghost use Rattle.waywire_c.specs.Statuses.{find_outcome};
+
+use crate::statuses::{NOT_FOUND, OK};
+use crate::tables_handle::TablesHandle;
+use crate::values::{ARRAY, FD, FIXED, INT, NEW, OBJECT, STRING, UINT, start_of};
+use wl_sigs::{Destroys, Side};
+use wl_wire::{Iface, Kind};
+
+/// The place that stands for any interface.
+const ANY: u16 = 65_535;
+
+/// What the tables say of a message.
+#[repr(C)]
+#[derive(Clone, Copy)]
+pub struct CMessage {
+    /// The first version of its interface that has it.
+    pub since: u32,
+    /// 0 where it destroys nothing, 1 its target, 2 the object that the argument at `destroyed`
+    /// names.
+    pub destroys: u32,
+    pub destroyed: usize,
+    pub arg_count: usize,
+}
+
+/// What the tables say of an argument.
+#[repr(C)]
+#[derive(Clone, Copy)]
+pub struct CKind {
+    pub kind: u32,
+    pub nullable: bool,
+    /// The place of the interface of its object, or the one that stands for any.
+    pub interface: u16,
+}
+
+fn side_of(sender: u32) -> Option<Side>
+    ensures { result ≡ side_of sender }
+{
+    match sender {
+        0 => Some(Side::Request),
+        1 => Some(Side::Event),
+        _ => None,
+    }
+}
+
+fn destroys_number(destroys: Destroys) -> u32
+    ensures { result ≡ destroys_number destroys }
+{
+    match destroys {
+        Destroys::Nothing => 0,
+        Destroys::Target => 1,
+        Destroys::Arg(_) => 2,
+    }
+}
+
+fn destroyed_place(destroys: Destroys) -> usize
+    ensures { result ≡ destroyed_place destroys }
+{
+    match destroys {
+        Destroys::Arg(place) => place,
+        _ => 0,
+    }
+}
+
+fn told(kind: u32, nullable: bool, asked: Option<Iface>) -> CKind
+    ensures kind { result.kind ≡ kind }
+    ensures nullable { result.nullable ≡ nullable }
+    ensures interface { result.interface ≡ place_or_any asked }
+{
+    CKind {
+        kind,
+        nullable,
+        interface: match asked {
+            Some(iface) => iface.0,
+            None => ANY,
+        },
+    }
+}
+
+fn kind_told(kind: Kind) -> CKind
+    ensures { TellsKind kind result }
+{
+    match kind {
+        Kind::Int => told(INT, false, None),
+        Kind::Uint => told(UINT, false, None),
+        Kind::Fixed => told(FIXED, false, None),
+        Kind::Str { null } => told(STRING, null, None),
+        Kind::Obj { null, iface } => told(OBJECT, null, iface),
+        Kind::New(iface) => told(NEW, false, iface),
+        Kind::Array => told(ARRAY, false, None),
+        Kind::Fd => told(FD, false, None),
+    }
+}
+
+/// Writes what the tables say of a message to `message`, where its name begins to `name`, and its
+/// length to `length`.
+#[unsafe(no_mangle)]
+pub extern "C" fn waywire_c_tables_message(
+    tables: &mut TablesHandle,
+    interface: u16,
+    sender: u32,
+    opcode: u16,
+    message: &mut CMessage,
+    name: &mut *const u8,
+    length: &mut usize,
+) -> u32
+    ensures answer { result
+        ≡ find_outcome (message_at tables.old.held.tables.now interface sender opcode) }
+    ensures told { MatchOption (message_at tables.old.held.tables.now interface sender opcode)
+        ((message.new ≡ message.old) × (name.new ≡ name.old) × (length.new ≡ length.old))
+        (λ found. TellsMessage found message.new length.new) }
+    ensures unchanged { tables.new.held ≡ tables.old.held }
+{
+    let Some(side) = side_of(sender) else {
+        return NOT_FOUND;
+    };
+    match tables
+        .get_mut()
+        .tables
+        .message(Iface(interface), side, opcode)
+    {
+        Some(found) => {
+            *message = CMessage {
+                since: found.since(),
+                destroys: destroys_number(found.destroys()),
+                destroyed: destroyed_place(found.destroys()),
+                arg_count: found.kinds().len(),
+            };
+            *name = start_of(found.name());
+            *length = found.name().len();
+            OK
+        }
+        None => NOT_FOUND,
+    }
+}
+
+/// Writes what the tables say of the argument at a place of a message to `kind`.
+#[unsafe(no_mangle)]
+pub extern "C" fn waywire_c_tables_kind(
+    tables: &mut TablesHandle,
+    interface: u16,
+    sender: u32,
+    opcode: u16,
+    place: usize,
+    kind: &mut CKind,
+) -> u32
+    ensures answer { result
+        ≡ find_outcome (kind_at tables.old.held.tables.now interface sender opcode place) }
+    ensures told { MatchOption (kind_at tables.old.held.tables.now interface sender opcode place)
+        (kind.new ≡ kind.old) (λ found. TellsKind found kind.new) }
+    ensures unchanged { tables.new.held ≡ tables.old.held }
+{
+    let Some(side) = side_of(sender) else {
+        return NOT_FOUND;
+    };
+    let Some(message) = tables
+        .get_mut()
+        .tables
+        .message(Iface(interface), side, opcode)
+    else {
+        return NOT_FOUND;
+    };
+    match message.kinds().get(place) {
+        Some(found) => {
+            *kind = kind_told(*found);
+            OK
+        }
+        None => NOT_FOUND,
+    }
+}

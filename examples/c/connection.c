@@ -1,0 +1,259 @@
+/* The connection: see connection.h. */
+#define _GNU_SOURCE
+#include "connection.h"
+
+#include <errno.h>
+#include <stdio.h>
+#include <stdlib.h>
+#include <unistd.h>
+#include <waywire-core.h>
+
+static const waywire_sizes sizes = {
+	.out_bytes = 65536, .out_tokens = 64, .in_bytes = 65536, .in_tokens = 64 };
+
+/* Reads the tables of the core and of a text. */
+static waywire_status read_tables(struct connection *connection, const char *text)
+{
+	waywire_tables *core = NULL;
+	waywire_status status = waywire_tables_core(&core);
+	memset(connection, 0, sizeof *connection);
+	if (!status)
+		status = waywire_tables_read(core, text, strlen(text), &connection->tables, NULL, NULL);
+	waywire_tables_free(core);
+	return status;
+}
+
+bool connection_open(struct connection *connection, const char *text)
+{
+	waywire_status status = read_tables(connection, text);
+	if (!status)
+		status = waywire_client_new(connection->tables, &sizes, &connection->link.client);
+	if (status) {
+		errno = status == WAYWIRE_NO_MEMORY ? ENOMEM : EINVAL;
+		return false;
+	}
+	waywire_client_display(connection->link.client, &connection->display);
+	connection->link.socket = link_connect();
+	return connection->link.socket >= 0;
+}
+
+bool connection_serve(struct connection *connection, int socket, const char *text)
+{
+	waywire_status status = read_tables(connection, text);
+	if (!status)
+		status = waywire_server_new(connection->tables, &sizes, &connection->link.server);
+	if (status) {
+		errno = status == WAYWIRE_NO_MEMORY ? ENOMEM : EINVAL;
+		return false;
+	}
+	waywire_server_display(connection->link.server, &connection->display);
+	connection->link.socket = socket;
+	return true;
+}
+
+bool connection_add_global(struct connection *connection, const char *interface, uint32_t version)
+{
+	uint16_t place;
+	return !waywire_tables_interface(connection->tables, interface, &place)
+		&& !waywire_server_add_global(connection->link.server, place, version, NULL);
+}
+
+/* ---- objects */
+
+/* Room for so many entries at least; what is new is zeroed. */
+static void *with_room(void *entries, size_t size, size_t *count, size_t least)
+{
+	if (least <= *count)
+		return entries;
+	char *more = realloc(entries, 2 * least * size);
+	if (!more)
+		abort();
+	memset(more + *count * size, 0, (2 * least - *count) * size);
+	*count = 2 * least;
+	return more;
+}
+
+static struct known *find(const struct connection *connection, waywire_object object)
+{
+	if (object.id >= connection->known_count)
+		return NULL;
+	struct known *it = &connection->known[object.id];
+	return object.id && waywire_object_equal(it->object, object) ? it : NULL;
+}
+
+static void forget(struct known *it)
+{
+	struct known was = *it;
+	memset(it, 0, sizeof *it);
+	if (was.destroy)
+		was.destroy(was.data);
+}
+
+/* An object's entry, which is made where there is none. */
+static struct known *entry(struct connection *connection, waywire_object object)
+{
+	connection->known = with_room(connection->known, sizeof *connection->known,
+		&connection->known_count, (size_t)object.id + 1);
+	struct known *it = &connection->known[object.id];
+	if (!waywire_object_equal(it->object, object))
+		forget(it);
+	it->object = object;
+	return it;
+}
+
+void connection_listen(struct connection *connection, waywire_object object, dispatcher *dispatch,
+	const void *calls, void *data)
+{
+	struct known *it = entry(connection, object);
+	it->listener = (struct listener){ dispatch, calls };
+	it->data = data;
+}
+
+void connection_implement(struct connection *connection, const char *interface, dispatcher *dispatch,
+	const void *calls)
+{
+	uint16_t place;
+	if (waywire_tables_interface(connection->tables, interface, &place))
+		return;
+	connection->implemented = with_room(connection->implemented, sizeof *connection->implemented,
+		&connection->implemented_count, (size_t)place + 1);
+	connection->implemented[place] = (struct listener){ dispatch, calls };
+}
+
+void connection_set_data(struct connection *connection, waywire_object object, void *data,
+	void (*destroy)(void *data))
+{
+	struct known *it = entry(connection, object);
+	it->data = data;
+	it->destroy = destroy;
+}
+
+void *connection_data(const struct connection *connection, waywire_object object)
+{
+	struct known *it = find(connection, object);
+	return it ? it->data : NULL;
+}
+
+static bool is_live(const struct connection *connection, waywire_object object, uint16_t *interface)
+{
+	const struct link *link = &connection->link;
+	return !(link->client ? waywire_client_live(link->client, object, interface, NULL)
+		: waywire_server_live(link->server, object, interface, NULL));
+}
+
+/* Learns the listener of a live object's interface. It cannot be asked for once the object is gone. */
+static void learn(struct connection *connection, waywire_object object)
+{
+	uint16_t interface;
+	if (find(connection, object) || !is_live(connection, object, &interface))
+		return;
+	if (interface < connection->implemented_count)
+		entry(connection, object)->listener = connection->implemented[interface];
+}
+
+/* ---- messages */
+
+/* Closes the descriptors of a message that nobody listens to. */
+static void drop(const waywire_report *report)
+{
+	for (size_t each = 0; each < report->token_count; each++)
+		close((int)report->tokens[each]);
+	for (size_t each = 0; each < report->arg_count; each++)
+		if (report->args[each].kind == WAYWIRE_FD)
+			close((int)report->args[each].u);
+}
+
+/* Calls what a report is for, and forgets its object where that is gone with it. */
+static void hear(struct connection *connection, const waywire_report *report)
+{
+	for (size_t each = 0; each < report->arg_count; each++)
+		if (report->args[each].kind == WAYWIRE_NEW || report->args[each].kind == WAYWIRE_BOUND)
+			learn(connection, report->args[each].object);
+	learn(connection, report->target);
+	struct known *it = find(connection, report->target);
+	if (!it || !it->listener.dispatch
+		|| !it->listener.dispatch(it->listener.calls, it->data, report))
+		drop(report);
+	it = find(connection, report->target);
+	if (it && (report->kind == WAYWIRE_DELETED
+		|| (connection->link.server && !is_live(connection, report->target, NULL))))
+		forget(it);
+}
+
+/* Reads one report. 0, or -1 where one of the two ends broke a rule, or the other does not read. */
+static int next(struct connection *connection, waywire_report *report)
+{
+	struct link *link = &connection->link;
+	waywire_status status;
+	if (link->client) {
+		status = waywire_client_next(link->client, report);
+	} else {
+		/* What was written before is on its way, so that there is room for what this one asks for. */
+		if (link_drain(link, 5000) < 0)
+			return -1;
+		status = waywire_server_next(link->server, report);
+	}
+	if (!status && report->kind != WAYWIRE_ERROR)
+		return 0;
+	if (status)
+		fprintf(stderr, "connection: %s\n", waywire_strerror(status));
+	else
+		fprintf(stderr, "connection: error %u of object %u: %s\n", report->code, report->id,
+			report->text);
+	errno = EPROTO;
+	return -1;
+}
+
+int connection_dispatch(struct connection *connection, int milliseconds)
+{
+	waywire_report report;
+	int came = link_wait(&connection->link, milliseconds);
+	if (came <= 0)
+		return came;
+	do {
+		if (next(connection, &report) < 0)
+			return -1;
+		hear(connection, &report);
+		if (connection->link.server) /* it may have made a registry */
+			waywire_server_announce(connection->link.server, NULL);
+	} while (report.kind != WAYWIRE_NOTHING);
+	return 1;
+}
+
+static void on_done(void *data, waywire_object callback, uint32_t serial)
+{
+	(void)callback, (void)serial;
+	*(bool *)data = true;
+}
+
+int connection_roundtrip(struct connection *connection)
+{
+	static const struct waywire_wl_callback_events events = { .done = on_done };
+	bool done = false;
+	int came = 1;
+	waywire_object callback = waywire_wl_display_sync(connection->link.client, connection->display,
+		NULL);
+	errno = EPROTO;
+	if (!callback.id)
+		return -1;
+	connection_listen(connection, callback, waywire_wl_callback_event_dispatcher, &events, &done);
+	while (!done && came > 0)
+		came = connection_dispatch(connection, 20000);
+	struct known *it = find(connection, callback);
+	if (it) /* no answer came */
+		forget(it);
+	return done ? 0 : -1;
+}
+
+void connection_close(struct connection *connection)
+{
+	link_flush(&connection->link);
+	link_close(&connection->link);
+	waywire_client_free(connection->link.client);
+	waywire_server_free(connection->link.server);
+	waywire_tables_free(connection->tables);
+	for (size_t each = 0; each < connection->known_count; each++)
+		forget(&connection->known[each]);
+	free(connection->known);
+	free(connection->implemented);
+}

@@ -1,0 +1,131 @@
+/* What is dispatched of reports that are no messages, of messages that other calls write, and of messages
+ * without a callback. */
+#include "every_stub.h"
+
+static waywire_object named;
+static uint32_t number;
+static char heard[64];
+
+static void on_error(void *data, waywire_object display, waywire_object object, uint32_t code,
+	const char *text)
+{
+	target = display;
+	must_be_target(data, display);
+	MUST(display.id == 1 && display.birth == 0);
+	named = object;
+	number = code;
+	snprintf(heard, sizeof heard, "%s", text);
+}
+
+static void on_delete_id(void *data, waywire_object display, uint32_t id)
+{
+	target = display;
+	must_be_target(data, display);
+	number = id;
+}
+
+static void on_global(void *data, waywire_object it, uint32_t name, const char *interface, uint32_t version)
+{
+	must_be_target(data, it);
+	MUST(version == 6);
+	number = name;
+	snprintf(heard, sizeof heard, "%s", interface);
+}
+
+static void on_global_remove(void *data, waywire_object it, uint32_t name)
+{
+	must_be_target(data, it);
+	number = name;
+}
+
+static const struct waywire_wl_display_events display_events = { on_error, on_delete_id };
+static const struct waywire_wl_registry_events registry_events = { on_global, on_global_remove };
+
+static void globals(void)
+{
+	uint16_t place;
+	uint32_t name;
+	open_pair();
+	target = registry;
+	MUST(!waywire_tables_interface(tables, WAYWIRE_WL_COMPOSITOR_NAME, &place));
+	MUST(!waywire_server_add_global(server, place, 6, &name));
+	MUST(!waywire_server_announce(server, NULL));
+	carry_and_read_at_client();
+	MUST(waywire_wl_registry_dispatch_event(&registry_events, &mark, &report));
+	MUST(calls_that_came == 1 && number == name && !strcmp(heard, "wl_compositor"));
+	MUST(!waywire_server_withdraw(server, name));
+	MUST(!waywire_server_announce(server, NULL));
+	carry_and_read_at_client();
+	number = 0;
+	MUST(waywire_wl_registry_event_dispatcher(&registry_events, &mark, &report));
+	MUST(calls_that_came == 2 && number == name);
+	close_pair();
+}
+
+/* An object that the client destroys while an event for it is on its way. */
+static void deleted(void)
+{
+	static const struct waywire_wl_pointer_events none = { 0 };
+	waywire_object pointer, seat;
+	open_pair();
+	seat = object_of("wl_seat");
+	pointer = waywire_wl_seat_get_pointer(client, seat, &status);
+	MUST(!status);
+	carry_and_read_at_server();
+	MUST(!waywire_wl_pointer_send_frame(server, pointer));
+	MUST(!waywire_wl_pointer_send_frame(server, pointer));
+	carry_and_read_at_client();
+	MUST(report.kind == WAYWIRE_MESSAGE && report.opcode == WAYWIRE_WL_POINTER_EVENT_FRAME);
+	MUST(!waywire_wl_pointer_dispatch_event(&none, &mark, &report));
+	MUST(!waywire_wl_display_dispatch_event(&display_events, &mark, &report));
+	MUST(!waywire_wl_pointer_release(client, pointer));
+	carry_and_read_at_client();
+	MUST(report.kind == WAYWIRE_DISCARDED);
+	MUST(!waywire_wl_pointer_dispatch_event(&none, &mark, &report));
+	carry_and_read_at_server();
+	carry_and_read_at_client();
+	MUST(report.kind == WAYWIRE_DELETED);
+	MUST(waywire_wl_display_event_dispatcher(&display_events, &mark, &report));
+	MUST(calls_that_came == 1 && number == pointer.id);
+	carry_and_read_at_client();
+	MUST(report.kind == WAYWIRE_NOTHING);
+	MUST(!waywire_wl_display_dispatch_event(&display_events, &mark, &report));
+	close_pair();
+}
+
+static void stray(void)
+{
+	static const unsigned char delete_9[] = { 1, 0, 0, 0, 1, 0, 12, 0, 9, 0, 0, 0 };
+	waywire_amounts fed;
+	open_pair();
+	MUST(!waywire_client_feed(client, delete_9, sizeof delete_9, NULL, 0, &fed));
+	MUST(!waywire_client_next(client, &report) && report.kind == WAYWIRE_STRAY);
+	MUST(waywire_wl_display_dispatch_event(&display_events, &mark, &report));
+	MUST(calls_that_came == 1 && number == 9);
+	close_pair();
+}
+
+static void failed(void)
+{
+	static const struct waywire_wl_display_events none = { 0 };
+	open_pair();
+	MUST(!waywire_server_post_error(server, registry, 7, "a reason"));
+	carry_and_read_at_client();
+	MUST(report.kind == WAYWIRE_ERROR);
+	MUST(!waywire_wl_display_dispatch_event(&none, &mark, &report));
+	MUST(waywire_wl_display_dispatch_event(&display_events, &mark, &report));
+	MUST(calls_that_came == 1 && waywire_object_equal(named, registry));
+	MUST(number == 7 && !strcmp(heard, "a reason"));
+	close_pair();
+}
+
+int main(void)
+{
+	read_tables(NULL);
+	globals();
+	deleted();
+	stray();
+	failed();
+	waywire_tables_free(tables);
+	return 0;
+}

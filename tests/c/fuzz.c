@@ -1,0 +1,715 @@
+/* Random calls of both ends, right and wrong, against a model that was written apart: what each returns and
+ * writes, the bytes and tokens that go, and what the other end reports. Some allocations fail. The program is
+ * linked with `--wrap` for malloc and realloc.
+ *
+ *     fuzz MESSAGES [SEED] */
+#include "fuzz_model.h"
+
+/* ---- calls that write */
+
+/* What the model says of a call of an end: its status, and the place that a refusal names. */
+struct expected {
+	waywire_status status;
+	size_t place;
+};
+
+#define NO_PLACE 77
+
+/* An object of an end, as often as there is one a live one of fz_all. */
+static struct object *chosen(int by)
+{
+	struct object *object;
+	for (int tries = 0; tries < 12; tries++) {
+		object = &objects[by][2 + chance(MOST_IDS - 2)];
+		if (object->life == LIVE && object->is_all)
+			break;
+	}
+	return object;
+}
+
+static void fill_bytes(waywire_arg *arg, char *bytes)
+{
+	arg->length = chance(MOST_BYTES);
+	arg->bytes = bytes;
+	for (size_t at = 0; at < arg->length; at++)
+		bytes[at] = (char)(1 + chance(255));
+}
+
+/* Arguments for `all`, of their kinds, but for now and then one that is wrong. Says which place is refused first,
+ * and by which status. */
+static struct expected fill_all(struct message *message, int by)
+{
+	static const uint32_t kinds[MOST_ARGS + 1] = { WAYWIRE_INT, WAYWIRE_UINT, WAYWIRE_FIXED, WAYWIRE_STRING,
+		WAYWIRE_NULL_STRING, WAYWIRE_OBJECT, WAYWIRE_NULL_OBJECT, WAYWIRE_ARRAY, WAYWIRE_FD };
+	struct expected expected = { WAYWIRE_OK, NO_PLACE };
+	message->arg_count = MOST_ARGS;
+	for (size_t place = 0; place < MOST_ARGS; place++) {
+		waywire_arg *arg = &message->args[place];
+		*arg = waywire_no_object();
+		arg->kind = kinds[place];
+		arg->i = (int32_t)chance(UINT32_MAX);
+		arg->u = chance(UINT32_MAX);
+		if (arg->kind == WAYWIRE_NULL_STRING && chance(2))
+			arg->kind = WAYWIRE_STRING;
+		if (arg->kind == WAYWIRE_STRING || arg->kind == WAYWIRE_ARRAY)
+			fill_bytes(arg, message->bytes[place]);
+		if (arg->kind != WAYWIRE_OBJECT && (arg->kind != WAYWIRE_NULL_OBJECT || chance(2)))
+			continue;
+		const struct object *object = chosen(by);
+		*arg = waywire_of(object->it);
+		if ((object->life != LIVE || !object->is_all) && !expected.status)
+			expected = (struct expected){ WAYWIRE_BAD_OBJECT, place };
+	}
+	return expected;
+}
+
+/* One thing that is wrong with a call. */
+enum mistake { NONE, NULL_END, NULL_ARGS, NULL_BYTES, TOO_LARGE, NO_KIND, STALE, NO_MESSAGE, WRONG_KIND, FEWER,
+	MORE, MISTAKES };
+
+struct call {
+	waywire_object target;
+	uint16_t opcode;
+	size_t arg_count;
+	waywire_arg args[MOST_ARGS + 1];
+};
+
+static struct call call_of(const struct message *message, waywire_object target)
+{
+	struct call call = { target, message->opcode, message->arg_count, { { 0 } } };
+	memcpy(call.args, message->args, message->arg_count * sizeof *call.args);
+	return call;
+}
+
+/* Makes a mistake, and returns what is expected then. `expected` is what is expected without it. */
+static struct expected mistaken(struct call *call, enum mistake mistake, struct expected expected)
+{
+	size_t place = call->arg_count ? chance((uint32_t)call->arg_count) : 0;
+	waywire_arg *arg = &call->args[place];
+	switch (mistake) {
+	case NULL_BYTES: case TOO_LARGE:
+		*arg = waywire_array(mistake == TOO_LARGE ? text : NULL, mistake == TOO_LARGE ? SIZE_MAX / 2 + 1 : 1);
+		call->arg_count += call->arg_count == 0;
+		return (struct expected){ mistake == TOO_LARGE ? WAYWIRE_TOO_LARGE : WAYWIRE_NULL, NO_PLACE };
+	case NO_KIND:
+		arg->kind = chance(2) ? 0 : WAYWIRE_FD + 1 + chance(1000);
+		call->arg_count += call->arg_count == 0;
+		return (struct expected){ WAYWIRE_BAD_VALUE, NO_PLACE };
+	case STALE:
+		call->target.birth += 1000000;
+		return (struct expected){ WAYWIRE_STALE, NO_PLACE };
+	case NO_MESSAGE:
+		call->opcode = (uint16_t)(3 + chance(60000));
+		return (struct expected){ WAYWIRE_NO_SUCH_MESSAGE, NO_PLACE };
+	case WRONG_KIND:
+		if (!call->arg_count)
+			return expected;
+		*arg = arg->kind == WAYWIRE_UINT ? waywire_int(1) : waywire_uint(1);
+		return (struct expected){ WAYWIRE_WRONG_ARGS, place };
+	case FEWER:
+		if (!call->arg_count)
+			return expected;
+		call->arg_count--;
+		return (struct expected){ WAYWIRE_WRONG_ARGS, call->arg_count };
+	case MORE:
+		call->args[call->arg_count] = waywire_uint(1);
+		return (struct expected){ WAYWIRE_WRONG_ARGS, call->arg_count++ };
+	default:
+		return expected;
+	}
+}
+
+static size_t tokens_in(const struct message *message)
+{
+	size_t count = 0;
+	for (size_t place = 0; place < message->arg_count; place++)
+		count += message->args[place].kind == WAYWIRE_FD;
+	return count;
+}
+
+/* The message goes: its bytes and tokens stand last among those that are to be taken. */
+static void goes(struct way *way, const struct message *message)
+{
+	unsigned char bytes[OUT_BYTES];
+	size_t length = encode(message, bytes);
+	for (size_t place = 0; place < message->arg_count; place++)
+		if (message->args[place].kind == WAYWIRE_FD) {
+			way->tokens[way->token_count].at = way->length;
+			way->tokens[way->token_count++].token = message->args[place].u;
+		}
+	memcpy(way->bytes + way->length, bytes, length);
+	way->length += length;
+	MUST(way->count < MOST_MESSAGES);
+	struct message *last = &way->messages[(way->first + way->count++) % MOST_MESSAGES];
+	*last = *message;
+	for (size_t place = 0; place < last->arg_count; place++)
+		if (last->args[place].kind == WAYWIRE_STRING || last->args[place].kind == WAYWIRE_ARRAY)
+			last->args[place].bytes = last->bytes[place];
+}
+
+/* What stood where a call writes. */
+static const waywire_object stood = { 7, 7 };
+
+static waywire_status send_by(int by, bool null_end, const struct call *call, const waywire_arg *args,
+	waywire_object *made, size_t *place)
+{
+	if (by == BY_CLIENT)
+		return waywire_client_send(null_end ? NULL : client, call->target, call->opcode, args, call->arg_count, made,
+			place);
+	return waywire_server_send(null_end ? NULL : server, call->target, call->opcode, args, call->arg_count, made,
+		place);
+}
+
+/* Writes a message of an end, perhaps by a call that has a mistake, where without it this is expected.
+ * `following` is the delete_id that goes with it. Returns whether it was written, and in `new` what it made. */
+static bool sends(int by, const struct message *message, waywire_object target, struct expected expected,
+	size_t following, waywire_object *new)
+{
+	unsigned char bytes[OUT_BYTES];
+	enum mistake mistake = chance(4) ? NONE : (enum mistake)chance(MISTAKES);
+	struct call call = call_of(message, target);
+	size_t place = NO_PLACE;
+	bool makes = message->arg_count && message->args[0].kind == WAYWIRE_NEW;
+	bool asks_place = chance(8), asks_made = makes || chance(8);
+	settle(&ways[by]);
+	if (!expected.status && !fits(&ways[by], encode(message, bytes) + following, tokens_in(message)))
+		expected.status = WAYWIRE_FULL;
+	expected = mistaken(&call, mistake, expected);
+	if (mistake == NULL_END || (mistake == NULL_ARGS && call.arg_count))
+		expected = (struct expected){ WAYWIRE_NULL, NO_PLACE };
+	*new = stood;
+	refuse_some();
+	waywire_status status = send_by(by, mistake == NULL_END, &call, mistake == NULL_ARGS ? NULL : call.args,
+		asks_made ? new : NULL, asks_place ? &place : NULL);
+	refuse_none();
+	if (status == WAYWIRE_NO_MEMORY && was_refused && makes && !expected.status)
+		expected.status = status;
+	MUST(status == expected.status);
+	MUST(place == (asks_place ? expected.place : NO_PLACE));
+	if (status || !asks_made)
+		MUST(waywire_object_equal(*new, stood));
+	else
+		MUST((new->id != 0) == makes);
+	return !status;
+}
+
+static struct message message_to(waywire_object target, uint16_t opcode)
+{
+	struct message message = { .target = target.id, .opcode = opcode };
+	return message;
+}
+
+static const waywire_object display = { 0, 1 };
+static const struct expected right = { WAYWIRE_OK, NO_PLACE };
+
+/* An object is live at an end, with no pointer of the caller's. */
+static void opens(int by, waywire_object it, bool is_all)
+{
+	MUST(it.id > 1 && it.id < MOST_IDS && objects[by][it.id].life == FREE);
+	objects[by][it.id] = (struct object){ it, LIVE, is_all, NULL };
+}
+
+static bool has_free_id(void)
+{
+	size_t used = 0;
+	for (size_t id = 0; id < MOST_IDS; id++)
+		used += objects[BY_CLIENT][id].life != FREE;
+	return used < MOST_IDS - 4;
+}
+
+/* A request that makes an object: wl_display.sync, or `make`. */
+static void makes_one(bool is_all)
+{
+	const struct object *maker = chosen(BY_CLIENT);
+	waywire_object target = is_all ? maker->it : display, new;
+	struct message message = message_to(target, is_all ? MAKE : WAYWIRE_WL_DISPLAY_REQUEST_SYNC);
+	if (!has_free_id() || (is_all && (maker->life != LIVE || !maker->is_all)))
+		return;
+	message.arg_count = 1;
+	message.args[0] = waywire_new();
+	if (!sends(BY_CLIENT, &message, target, right, 0, &new))
+		return;
+	opens(BY_CLIENT, new, is_all);
+	message.args[0].object = new;
+	goes(&ways[BY_CLIENT], &message);
+}
+
+static void requests(void)
+{
+	struct object *object = chosen(BY_CLIENT);
+	waywire_object new;
+	if (chance(3) == 0) {
+		makes_one(chance(2));
+		return;
+	}
+	if (object->life != LIVE || !object->is_all)
+		return;
+	struct message message = message_to(object->it, chance(4) ? ALL : END);
+	struct expected expected = message.opcode == ALL ? fill_all(&message, BY_CLIENT) : right;
+	if (object->it.id == BOUND_ID && message.opcode == END)
+		return;
+	if (!sends(BY_CLIENT, &message, object->it, expected, 0, &new))
+		return;
+	goes(&ways[BY_CLIENT], &message);
+	if (message.opcode == END)
+		object->life = ZOMBIE;
+}
+
+static void delete_id_goes(uint32_t id)
+{
+	struct message message = message_to(display, WAYWIRE_WL_DISPLAY_EVENT_DELETE_ID);
+	message.arg_count = 1;
+	message.args[0] = waywire_uint(id);
+	goes(&ways[BY_SERVER], &message);
+}
+
+/* A callback ends, by its event or without it. */
+static void ends_callback(struct object *object)
+{
+	struct message message = message_to(object->it, WAYWIRE_WL_CALLBACK_EVENT_DONE);
+	waywire_object new;
+	message.arg_count = 1;
+	message.args[0] = waywire_uint(chance(1000));
+	settle(&ways[BY_SERVER]);
+	if (chance(2)) {
+		if (!sends(BY_SERVER, &message, object->it, right, 12, &new))
+			return;
+		goes(&ways[BY_SERVER], &message);
+	} else {
+		bool room = fits(&ways[BY_SERVER], 12, 0);
+		MUST(waywire_server_drop_object(server, object->it) == (room ? WAYWIRE_OK : WAYWIRE_FULL));
+		if (!room)
+			return;
+	}
+	object->life = FREE;
+	delete_id_goes(object->it.id);
+	MUST(waywire_server_drop_object(server, object->it) == WAYWIRE_STALE);
+}
+
+static void writes_events(void)
+{
+	struct object *object = chance(2) ? chosen(BY_SERVER) : &objects[BY_SERVER][2 + chance(MOST_IDS - 2)];
+	waywire_object new;
+	if (object->life != LIVE || object->it.id == REGISTRY_ID)
+		return;
+	if (!object->is_all) {
+		ends_callback(object);
+		return;
+	}
+	struct message message = message_to(object->it, chance(2) ? ALL : WORDS);
+	struct expected expected = right;
+	if (message.opcode == ALL) {
+		expected = fill_all(&message, BY_SERVER);
+	} else {
+		message.arg_count = 3;
+		message.args[0] = waywire_fd(chance(UINT32_MAX));
+		message.args[1] = waywire_fd(chance(UINT32_MAX));
+		message.args[2] = waywire_array(NULL, 0);
+		fill_bytes(&message.args[2], message.bytes[2]);
+	}
+	if (sends(BY_SERVER, &message, object->it, expected, 0, &new))
+		goes(&ways[BY_SERVER], &message);
+}
+
+/* ---- what goes */
+
+/* How many bytes and tokens `take` takes into memory for so many. */
+static waywire_amounts takes(const struct way *way, size_t bytes, size_t tokens)
+{
+	size_t most = way->length - way->sent < bytes ? way->length - way->sent : bytes, end = way->sent + most;
+	waywire_amounts amounts = { most, 0 };
+	for (size_t each = way->tokens_sent; each < way->token_count;) {
+		size_t start = way->tokens[each].at, next = each;
+		while (next < way->token_count && way->tokens[next].at == start)
+			next++;
+		if (start >= end)
+			break;
+		if (next - way->tokens_sent > tokens) {
+			amounts.bytes = start - way->sent;
+			break;
+		}
+		amounts.tokens = next - way->tokens_sent;
+		each = next;
+	}
+	return amounts;
+}
+
+static bool same_amounts(waywire_amounts one, waywire_amounts other)
+{
+	return one.bytes == other.bytes && one.tokens == other.tokens;
+}
+
+/* Takes from an end's outbox what the model has there. */
+static waywire_amounts take(int by, unsigned char *bytes, size_t length, uint32_t *tokens, size_t count)
+{
+	struct way *way = &ways[by];
+	waywire_amounts wanted = takes(way, length, count), told, taken;
+	MUST(!(by == BY_CLIENT ? waywire_client_goes(client, length, count, &told)
+		: waywire_server_goes(server, length, count, &told)));
+	MUST(!(by == BY_CLIENT ? waywire_client_take(client, bytes, length, tokens, count, &taken)
+		: waywire_server_take(server, bytes, length, tokens, count, &taken)));
+	MUST(same_amounts(told, wanted) && same_amounts(taken, wanted));
+	MUST(!memcmp(bytes, way->bytes + way->sent, taken.bytes));
+	for (size_t each = 0; each < taken.tokens; each++)
+		MUST(tokens[each] == way->tokens[way->tokens_sent + each].token);
+	way->sent += taken.bytes;
+	way->tokens_sent += taken.tokens;
+	return taken;
+}
+
+/* ---- what comes */
+
+/* Whether a reported argument is the one that was given, where a reader has its objects. */
+static bool is_reported(int reader, const waywire_arg *given, const waywire_arg *got)
+{
+	waywire_arg wanted = *given;
+	const struct object *object = &objects[reader][given->object.id < MOST_IDS ? given->object.id : 0];
+	if (given->kind == WAYWIRE_OBJECT) {
+		wanted.kind = object->life == LIVE ? WAYWIRE_OBJECT : WAYWIRE_DEAD_OBJECT;
+		wanted.object = object->it;
+	}
+	if (given->kind == WAYWIRE_NEW)
+		wanted.object.birth = got->object.birth;
+	bool has_int = given->kind == WAYWIRE_INT || given->kind == WAYWIRE_FIXED;
+	bool has_uint = given->kind == WAYWIRE_UINT || given->kind == WAYWIRE_FD;
+	return got->kind == wanted.kind && got->i == (has_int ? given->i : 0) && got->u == (has_uint ? given->u : 0)
+		&& waywire_object_equal(got->object, wanted.object) && got->length == given->length
+		&& (!given->length || !memcmp(got->bytes, given->bytes, given->length))
+		&& (got->kind != WAYWIRE_STRING || ((const char *)got->bytes)[got->length] == 0);
+}
+
+/* The report of a message for a live object, or at a client of one that was discarded. */
+static void is_told(int reader, const struct message *message, const waywire_report *report)
+{
+	const struct object *target = &objects[reader][message->target];
+	waywire_object it = message->target == 1 ? display : target->it;
+	bool live = message->target == 1 || target->life == LIVE;
+	MUST(report->kind == (live ? WAYWIRE_MESSAGE : WAYWIRE_DISCARDED) && report->opcode == message->opcode);
+	MUST(waywire_object_equal(report->target, it) && report->user == (message->target == 1 ? NULL : target->user));
+	MUST(!report->id && !report->code && !report->named && !report->spelling && !report->text_length
+		&& !report->place && !report->offset);
+	if (live) {
+		MUST(report->arg_count == message->arg_count && !report->token_count);
+		for (size_t place = 0; place < message->arg_count; place++)
+			MUST(is_reported(reader, &message->args[place], &report->args[place]));
+		return;
+	}
+	MUST(!report->arg_count && report->token_count == tokens_in(message));
+	for (size_t place = 0, each = 0; place < message->arg_count; place++)
+		if (message->args[place].kind == WAYWIRE_FD)
+			MUST(report->tokens[each++] == message->args[place].u);
+}
+
+/* What a server reads. */
+static void reads_request(const struct message *message, const waywire_report *report)
+{
+	struct object *target = &objects[BY_SERVER][message->target];
+	is_told(BY_SERVER, message, report);
+	if (message->arg_count && message->args[0].kind == WAYWIRE_NEW)
+		opens(BY_SERVER, report->args[0].object, message->target != 1);
+	if (message->target == 1 || message->opcode != END)
+		return;
+	target->life = FREE;
+	settle(&ways[BY_SERVER]);
+	delete_id_goes(message->target);
+}
+
+/* What a client reads. */
+static void reads_event(const struct message *message, const waywire_report *report)
+{
+	if (message->target != 1) {
+		struct object *target = &objects[BY_CLIENT][message->target];
+		is_told(BY_CLIENT, message, report);
+		if (!target->is_all)
+			target->life = ZOMBIE;
+		return;
+	}
+	struct object *ended = &objects[BY_CLIENT][message->args[0].u];
+	MUST(report->kind == WAYWIRE_DELETED && waywire_object_equal(report->target, ended->it));
+	MUST(report->user == ended->user && !report->arg_count && !report->token_count);
+	ended->life = FREE;
+}
+
+/* Whether the message in front is whole at its reader, of whose bytes so many came in. */
+static size_t came[2];
+
+static bool is_whole(int by, size_t *length)
+{
+	unsigned char bytes[OUT_BYTES];
+	const struct way *way = &ways[by];
+	if (!way->count)
+		return false;
+	*length = encode(&way->messages[way->first], bytes);
+	return came[by] >= *length;
+}
+
+/* An end reads once: what was written by the other. */
+static void reads(int by)
+{
+	struct way *way = &ways[by];
+	waywire_report report;
+	size_t length = 0;
+	bool whole = is_whole(by, &length), no_room;
+	const struct message *message = &way->messages[way->first];
+	settle(&ways[BY_SERVER]);
+	no_room = by == BY_CLIENT && whole && message->target != 1 && message->opcode == END
+		&& !fits(&ways[BY_SERVER], 12, 0);
+	refuse_some();
+	waywire_status status = by == BY_CLIENT ? waywire_server_next(server, &report)
+		: waywire_client_next(client, &report);
+	refuse_none();
+	if (status == WAYWIRE_NO_MEMORY)
+		MUST(was_refused && by == BY_CLIENT && whole && message->args[0].kind == WAYWIRE_NEW);
+	else
+		MUST(status == (no_room ? WAYWIRE_OUT_FULL : WAYWIRE_OK));
+	if (status || !whole) {
+		MUST(report.kind == WAYWIRE_NOTHING && !report.arg_count && !report.target.id && !report.user);
+		return;
+	}
+	came[by] -= length;
+	way->first = (way->first + 1) % MOST_MESSAGES;
+	way->count--;
+	read_messages++;
+	if (by == BY_CLIENT)
+		reads_request(message, &report);
+	else
+		reads_event(message, &report);
+}
+
+/* ---- a piece on its way from one end to the other */
+
+static waywire_amounts least(waywire_amounts room, size_t bytes, size_t tokens)
+{
+	waywire_amounts amounts = { 0, room.tokens < tokens ? room.tokens : tokens };
+	if (amounts.tokens == tokens)
+		amounts.bytes = room.bytes < bytes ? room.bytes : bytes;
+	return amounts;
+}
+
+/* Feeds a piece, and reads where there is no room for all of it. */
+static void feeds(int by, const unsigned char *bytes, size_t length, const uint32_t *tokens, size_t count)
+{
+	while (length || count) {
+		waywire_amounts room, fed;
+		MUST(!(by == BY_CLIENT ? waywire_server_in_room(server, &room) : waywire_client_in_room(client, &room)));
+		MUST(!(by == BY_CLIENT ? waywire_server_feed(server, length ? bytes : NULL, length, tokens, count, &fed)
+			: waywire_client_feed(client, bytes, length, count ? tokens : NULL, count, &fed)));
+		MUST(same_amounts(fed, least(room, length, count)));
+		came[by] += fed.bytes;
+		bytes += fed.bytes;
+		length -= fed.bytes;
+		tokens += fed.tokens;
+		count -= fed.tokens;
+		if (length || count)
+			reads(by);
+	}
+}
+
+/* An inspector is passed the same; where an allocation fails, once more. */
+static void passes(int by, const unsigned char *bytes, size_t length, size_t count)
+{
+	waywire_status status;
+	do {
+		refuse_some();
+		status = waywire_inspector_pass(inspector, by == BY_CLIENT ? WAYWIRE_FROM_CLIENT : WAYWIRE_FROM_SERVER,
+			length ? bytes : NULL, length, count);
+		refuse_none();
+		MUST(!status || (status == WAYWIRE_NO_MEMORY && was_refused));
+	} while (status);
+}
+
+static void carries(int by, size_t length, size_t count)
+{
+	unsigned char bytes[OUT_BYTES];
+	uint32_t tokens[MOST_TOKENS];
+	waywire_amounts taken = take(by, bytes, length, tokens, count);
+	passes(by, bytes, taken.bytes, taken.tokens);
+	feeds(by, bytes, taken.bytes, tokens, taken.tokens);
+}
+
+/* ---- other calls */
+
+static waywire_status set_user_of(int by, waywire_object object, void *user)
+{
+	return by == BY_CLIENT ? waywire_client_set_user(client, object, user)
+		: waywire_server_set_user(server, object, user);
+}
+
+static void *user_of(int by, waywire_object object)
+{
+	return by == BY_CLIENT ? waywire_client_user(client, object) : waywire_server_user(server, object);
+}
+
+static waywire_status live_of(int by, waywire_object object, uint16_t *interface, uint32_t *version)
+{
+	return by == BY_CLIENT ? waywire_client_live(client, object, interface, version)
+		: waywire_server_live(server, object, interface, version);
+}
+
+/* What is said of any object of an end, and its pointer is set. */
+static void asks(int by)
+{
+	struct object *object = &objects[by][2 + chance(MOST_IDS - 2)];
+	void *user = chance(3) ? &objects[chance(2)][chance(MOST_IDS)] : NULL;
+	uint16_t interface = 999, wanted;
+	uint32_t version = 999;
+	if (!object->it.id)
+		return;
+	waywire_status status = live_of(by, object->it, &interface, &version);
+	MUST(status == (object->life == LIVE ? WAYWIRE_OK : WAYWIRE_NOT_FOUND));
+	MUST(!waywire_tables_interface(tables, object->is_all ? "fz_all" : object->it.id == REGISTRY_ID ? "wl_registry"
+		: "wl_callback", &wanted));
+	MUST(interface == (status ? 999 : wanted) && version == (status ? 999 : 1));
+	if (object->life != FREE)
+		MUST(user_of(by, object->it) == object->user);
+	refuse_some();
+	status = set_user_of(by, object->it, user);
+	refuse_none();
+	if (status == WAYWIRE_NO_MEMORY)
+		MUST(was_refused && object->life == LIVE && user);
+	else
+		MUST(status == (object->life == LIVE ? WAYWIRE_OK : WAYWIRE_STALE));
+	if (!status)
+		object->user = user;
+}
+
+/* Null where a pointer is needed, and lengths that no slice has. */
+static void misuses(void)
+{
+	waywire_amounts amounts = { 9, 9 };
+	uint32_t token = 0;
+	char byte = 0;
+	bool drained;
+	MUST(waywire_client_feed(chance(2) ? NULL : client, &byte, SIZE_MAX, &token, 0, &amounts) != WAYWIRE_OK);
+	MUST(waywire_client_feed(client, NULL, 1, NULL, 0, &amounts) == WAYWIRE_NULL);
+	MUST(waywire_server_feed(server, NULL, 0, NULL, 1, &amounts) == WAYWIRE_NULL);
+	MUST(waywire_server_feed(server, &byte, 1, &token, 1, NULL) == WAYWIRE_NULL);
+	MUST(waywire_server_take(server, NULL, 1, NULL, 0, &amounts) == WAYWIRE_NULL);
+	MUST(waywire_client_take(client, &byte, 1, &token, (size_t)PTRDIFF_MAX, &amounts) == WAYWIRE_TOO_LARGE);
+	MUST(waywire_client_goes(client, 1, 1, NULL) == WAYWIRE_NULL);
+	MUST(waywire_server_next(server, NULL) == WAYWIRE_NULL);
+	MUST(waywire_client_set_user(NULL, display, &byte) == WAYWIRE_NULL);
+	MUST(!waywire_server_user(NULL, display));
+	MUST(amounts.bytes == 9 && amounts.tokens == 9);
+	MUST(!waywire_client_is_drained(client, &drained));
+	MUST(drained == (ways[BY_CLIENT].sent == ways[BY_CLIENT].length && !came[BY_SERVER]));
+	MUST(!waywire_server_is_drained(server, &drained));
+	MUST(drained == (ways[BY_SERVER].sent == ways[BY_SERVER].length && !came[BY_CLIENT]));
+}
+
+/* ---- the whole session */
+
+/* All that was written is carried over and read. */
+static void settles(void)
+{
+	for (int turn = 0; turn < 8; turn++)
+		for (int by = BY_CLIENT; by <= BY_SERVER; by++) {
+			carries(by, OUT_BYTES, MOST_TOKENS);
+			while (ways[by].count && ways[by].sent == ways[by].length) {
+				reads(by);
+				settle(&ways[1 - by]);
+				carries(1 - by, OUT_BYTES, MOST_TOKENS);
+			}
+		}
+	MUST(!ways[BY_CLIENT].count && !ways[BY_SERVER].count);
+}
+
+static void carry_raw(bool to_server)
+{
+	unsigned char bytes[OUT_BYTES];
+	waywire_amounts taken, fed;
+	MUST(!(to_server ? waywire_client_take(client, bytes, sizeof bytes, NULL, 0, &taken)
+		: waywire_server_take(server, bytes, sizeof bytes, NULL, 0, &taken)));
+	MUST(!waywire_inspector_pass(inspector, to_server ? WAYWIRE_FROM_CLIENT : WAYWIRE_FROM_SERVER, bytes, taken.bytes,
+		0));
+	MUST(!(to_server ? waywire_server_feed(server, bytes, taken.bytes, NULL, 0, &fed)
+		: waywire_client_feed(client, bytes, taken.bytes, NULL, 0, &fed)));
+	MUST(fed.bytes == taken.bytes);
+}
+
+/* A registry and an object of fz_all, at both ends. */
+static void begins(void)
+{
+	/* An inbox of tokens for all of a piece, and for a message that is not whole. */
+	waywire_sizes sizes = { OUT_BYTES, MOST_TOKENS, 4096, MOST_TOKENS + 4, 0 };
+	waywire_tables *core;
+	waywire_report report;
+	waywire_object registry, bound, other;
+	waywire_arg new = waywire_new();
+	uint16_t all;
+	uint32_t name;
+	size_t count;
+	MUST(!waywire_tables_core(&core) && !waywire_tables_read(core, text, strlen(text), &tables, NULL, NULL));
+	waywire_tables_free(core);
+	MUST(!waywire_client_new(tables, &sizes, &client) && !waywire_server_new(tables, &sizes, &server));
+	MUST(!waywire_inspector_new(tables, WAYWIRE_USUAL_LIMIT, &inspector));
+	MUST(!waywire_tables_interface(tables, "fz_all", &all) && !waywire_server_add_global(server, all, 1, &name));
+	MUST(!waywire_client_send(client, display, WAYWIRE_WL_DISPLAY_REQUEST_GET_REGISTRY, &new, 1, &registry, NULL));
+	carry_raw(true);
+	MUST(!waywire_server_next(server, &report) && registry.id == REGISTRY_ID);
+	other = report.args[0].object;
+	opens(BY_CLIENT, registry, false);
+	opens(BY_SERVER, other, false);
+	MUST(!waywire_server_announce(server, &count) && count == 1);
+	carry_raw(false);
+	MUST(!waywire_client_next(client, &report) && report.args[0].u == name);
+	MUST(waywire_client_bind(client, registry, name, "fz_all", 2, &bound) == WAYWIRE_BAD_BIND);
+	MUST(!waywire_client_bind(client, registry, name, "fz_all", 1, &bound) && bound.id == BOUND_ID);
+	carry_raw(true);
+	MUST(!waywire_server_next(server, &report) && report.args[1].kind == WAYWIRE_BOUND && report.args[1].u == 1);
+	opens(BY_CLIENT, bound, true);
+	opens(BY_SERVER, report.args[1].object, true);
+}
+
+/* The inspector saw a lawful session, of as many messages as were read. */
+static void judges(unsigned long before)
+{
+	const char *line;
+	size_t length;
+	int broken;
+	unsigned long requests_read, events_read;
+	char copy[200] = { 0 };
+	MUST(!waywire_inspector_verdict(inspector, &line, &length, &broken) && !broken && length < sizeof copy);
+	memcpy(copy, line, length);
+	MUST(sscanf(copy, "lawful: %lu requests, %lu events,", &requests_read, &events_read) == 2);
+	MUST(requests_read + events_read == read_messages + before);
+}
+
+/* A session of at least so many messages, with two new ends. Now and then one is read slowly. */
+static void session(unsigned long messages)
+{
+	bool slow = false;
+	memset(objects, 0, sizeof objects);
+	memset(ways, 0, sizeof ways);
+	read_messages = came[0] = came[1] = 0;
+	begins();
+	while (read_messages < messages) {
+		slow ^= !chance(600);
+		switch (chance(slow ? 7 : 12)) {
+		case 0: case 1: case 2: case 3: requests(); break;
+		case 4: case 5: writes_events(); break;
+		case 6: asks((int)chance(2)); break;
+		case 7: chance(40) ? reads((int)chance(2)) : misuses(); break;
+		case 8: case 9: reads((int)chance(2)); break;
+		default: carries((int)chance(2), chance(1500), chance(24));
+		}
+	}
+	settles();
+	judges(3);
+	waywire_client_free(client);
+	waywire_server_free(server);
+	waywire_inspector_free(inspector);
+	waywire_tables_free(tables);
+}
+
+int main(int count, char **words)
+{
+	unsigned long messages = count > 1 ? strtoul(words[1], NULL, 10) : 1000, read = 0;
+	state = count > 2 ? strtoul(words[2], NULL, 10) | 1 : 88172645463325252;
+	while (read < messages) {
+		session(1 + chance(4000));
+		read += read_messages;
+	}
+	printf("%lu messages\n", read);
+	return 0;
+}
