@@ -25,8 +25,7 @@ pub(crate) struct Change {
 /// Opens the object that a request makes, if it makes one, with this birth.
 pub(crate) fn open_new_object<T: Table>(
     core: &mut Core<'_, T>,
-    registries: &mut Vec<OpenRegistry<T::Alloc>, T::Alloc>,
-    alloc: &T::Alloc,
+    registries: &mut Vec<OpenRegistry, T::Alloc>,
     made: Option<NewObject>,
     birth: u64,
 ) -> Result<(), AllocError>
@@ -40,17 +39,16 @@ pub(crate) fn open_new_object<T: Table>(
     ensures fresh { OnOk result (IsFresh core.old.view made) }
 {
     match made {
-        Some(made) => open_object(core, registries, alloc, made, birth),
+        Some(made) => open_object(core, registries, made, birth),
         None => Ok(()),
     }
 }
 
-/// Opens an object, and where it is a registry makes room for its marks. Where there is no memory
-/// nothing changes.
+/// Opens an object, and where it is a registry makes room for it. Where there is no memory nothing
+/// changes.
 fn open_object<T: Table>(
     core: &mut Core<'_, T>,
-    registries: &mut Vec<OpenRegistry<T::Alloc>, T::Alloc>,
-    alloc: &T::Alloc,
+    registries: &mut Vec<OpenRegistry, T::Alloc>,
     made: NewObject,
     birth: u64,
 ) -> Result<(), AllocError>
@@ -64,10 +62,9 @@ fn open_object<T: Table>(
 {
     if made.iface == REGISTRY {
         let object = Object { id: made.id, birth };
-        let registry = OpenRegistry::new(alloc, object)?;
         registries.reserve(1)?;
         match core.open_at(made) {
-            Ok(_) => registries.push_reserved(registry),
+            Ok(_) => registries.push_reserved(OpenRegistry::new(object)),
             Err(_) => return Err(AllocError),
         }
     } else if core.open_at(made).is_err() {
@@ -79,7 +76,7 @@ fn open_object<T: Table>(
 /// Closes an object that a request destroys, and writes its delete_id.
 pub(crate) fn close_object<T: Table>(
     core: &mut Core<'_, T>,
-    registries: &mut Vec<OpenRegistry<T::Alloc>, T::Alloc>,
+    registries: &mut Vec<OpenRegistry, T::Alloc>,
     object: Object,
 )
     requires held { IsTrue (is_held core.old.view object.id) }
@@ -94,7 +91,7 @@ pub(crate) fn close_object<T: Table>(
 }
 
 /// Takes out the registry of this birth, if it is one.
-fn remove_registry<A: Allocator + Drop>(registries: &mut Vec<OpenRegistry<A>, A>, birth: u64)
+fn remove_registry<A: Allocator + Drop>(registries: &mut Vec<OpenRegistry, A>, birth: u64)
     ensures { registries.new.items
         ≡ without_registry registry_birth true birth registries.old.items }
 {
