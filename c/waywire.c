@@ -87,8 +87,9 @@ SAME(report, offsetof(waywire_report, opcode) == 4 && offsetof(waywire_report, t
 	&& offsetof(waywire_report, spelling) == 60);
 SAME(report_parts, offsetof(waywire_report, text) == 64 && offsetof(waywire_report, text_length) == 72
 	&& offsetof(waywire_report, place) == 80 && offsetof(waywire_report, offset) == 88
-	&& offsetof(waywire_report, user) == 96 && offsetof(waywire_report, args) == 104
-	&& sizeof(waywire_report) == 104 + 20 * 48); /* an export writes what stands before `user` */
+	&& offsetof(waywire_report, interface) == 96 && offsetof(waywire_report, version) == 100
+	&& offsetof(waywire_report, user) == 104 && offsetof(waywire_report, args) == 112
+	&& sizeof(waywire_report) == 112 + 20 * 48); /* an export writes what stands before `user` */
 
 /* ---- what C may pass wrongly */
 

@@ -321,6 +321,8 @@ typedef struct waywire_report {
 	size_t text_length;
 	size_t place;
 	uint64_t offset;
+	uint16_t interface; /* of the target, its place in the tables, and its version: as they were before the */
+	uint32_t version;   /* message, also where it ended the target; version 0 where there is no target */
 	void *user; /* what the caller has set of the target, as by waywire_client_set_user; else null */
 	waywire_arg args[WAYWIRE_MAX_ARGS];
 } waywire_report;
@@ -402,6 +404,14 @@ waywire_status waywire_tables_message(const waywire_tables *tables, uint16_t int
  * arguments. */
 waywire_status waywire_tables_kind(const waywire_tables *tables, uint16_t interface,
 	waywire_sender sender, uint16_t opcode, size_t place, waywire_kind *kind);
+
+/* Writes the line of a report as `waywire trace` prints its message, with a NUL behind it and no line feed, such
+ * as `<- wl_surface@4.enter(wl_output@7)`. `sender` is WAYWIRE_FROM_SERVER of what a client read. Returns the
+ * length of the whole line, of which as much is written as `room` bytes hold, as snprintf does; 0 where the
+ * report has no message. It knows less than a trace: an object whose interface the signature leaves open is
+ * `unknown@id`, a descriptor its token, and the arguments of WAYWIRE_DISCARDED two dots. */
+size_t waywire_report_line(const waywire_tables *tables, waywire_sender sender,
+	const waywire_report *report, char *line, size_t room);
 
 /* ---- a client */
 

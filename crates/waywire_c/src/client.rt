@@ -15,7 +15,8 @@ ghost use Rattle.waywire_c.specs.Values.{fed_of, given_in, iface_at, object_of, 
 ghost use Rattle.waywire_c.specs.Calls.{SendTells};
 ghost use Rattle.waywire_c.specs.Inspecting.{IsTried};
 ghost use Rattle.waywire_c.specs.Sizes.{AreAllowed};
-ghost use Rattle.waywire_c.specs.Reports.{event_args, TellsArgs, told_by, told_event};
+ghost use Rattle.waywire_c.specs.Reports.{entry_told, entry_told_by, event_args, event_entry};
+ghost use Rattle.waywire_c.specs.Reports.{TellsArgs, told_by, told_event};
 
 use crate::client_handle::ClientHandle;
 use crate::making;
@@ -204,6 +205,8 @@ pub extern "C" fn waywire_c_client_next(
     ensures answer { result ≡ read_outcome (next_answer client.old.held.client) }
     ensures report { told_by report.new
         ≡ told_event (length args.old) (next_answer client.old.held.client) }
+    ensures entry { entry_told_by report.new ≡ entry_told
+        (event_entry client.old.held.client.core.view (next_answer client.old.held.client)) }
     ensures args { TellsArgs (event_args (next_answer client.old.held.client)) args.old args.new }
     ensures state { client.new.held.client ≡ after_next client.old.held.client }
 {

@@ -16,9 +16,10 @@ mod registry;
 mod report;
 mod send;
 mod server;
+mod shown;
 
 pub use globals::GlobalError;
 pub use laws::{any_cut_reads, one_reading, own_messages_are_spelled, whole_messages_are_read};
-pub use report::{OwnedRequest, Request};
+pub use report::{OwnedRequest, OwnedRequestWithEntry, Request, RequestWithEntry};
 pub use server::Server;
 pub use wl_connection::ReadAll;

@@ -165,6 +165,8 @@ pub struct Report {
     text_length: usize,
     place: usize,
     offset: u64,
+    interface: u16,
+    version: u32,
     /// For C alone.
     #[allow(dead_code)]
     user: *mut c_void,
@@ -206,6 +208,8 @@ impl Report {
             text_length: 0,
             place: 0,
             offset: 0,
+            interface: 0,
+            version: 0,
             user: ptr::null_mut(),
             args: [NO_ARG; MAX_ARGS as usize],
         }
@@ -219,6 +223,16 @@ impl Report {
     #[inline]
     pub fn opcode(&self) -> u16 {
         self.opcode as u16
+    }
+
+    #[inline]
+    pub fn interface(&self) -> Interface {
+        Interface(self.interface)
+    }
+
+    #[inline]
+    pub fn version(&self) -> u32 {
+        self.version
     }
 
     #[inline]
@@ -839,7 +853,7 @@ mod tests {
             Sizes, "waywire_sizes": out_bytes out_tokens in_bytes in_tokens limit;
             RawArg, "waywire_arg": kind i u object bytes length;
             Report, "waywire_report": kind opcode target arg_count tokens token_count id code named
-                spelling text text_length place offset user args;
+                spelling text text_length place offset interface version user args;
         };
         wanted.push(("sizeof(waywire_object)".into(), size_of::<Object>()));
         wanted.push(("sizeof(waywire_status)".into(), size_of::<u32>()));
