@@ -6,14 +6,16 @@ use Rattle.std.specs.Prelude.{option_map}
 use Rattle.std.specs.declared.option.Option.{Option}
 use Rattle.std.specs.declared.option.Option.TheVariants.{None, Some}
 use Rattle.wl_object_map.specs.declared.object.Entry.{Entry}
-use Rattle.wl_object_map.specs.View.{View, Sound, look, opened_at, closed, zombied, zombie, next_id, can_open, has_room, free_or_next, max_ids}
+use Rattle.wl_object_map.specs.View.{View, Sound, look, opened_at, closed, zombied, zombie, next_id}
+use Rattle.wl_object_map.specs.View.{can_open, has_room, free_or_next, max_ids}
 use Rattle.wl_object_map.specs.Views.{look-opened_at, look-closed, look-zombied, free_is, is_free, free_or_next-next_id}
 use Rattle.theory_connection.specs.Meant.{Known, plain}
 use Rattle.theory_connection.specs.World.{Open, Ending, put}
 use Rattle.theory_connection.specs.Flight.{Rows, at, most, made, row, client_rows, server_rows, Fresh}
 
 module _ {X Y : Type 0} (f : X → Y) where
-  pub map_put : (g h : ℕ → Option X) (k : ℕ) (o : Option X) → ((q : ℕ) → g q ≡ cond (eqb q k) o (h q)) → (q : ℕ) → option_map f (g q) ≡ put (λ i. option_map f (h i)) k (option_map f o) q
+  pub map_put : (g h : ℕ → Option X) (k : ℕ) (o : Option X) → ((q : ℕ) → g q ≡ cond (eqb q k) o (h q)) → (q : ℕ)
+      → option_map f (g q) ≡ put (λ i. option_map f (h i)) k (option_map f o) q
   unfolding put
   map_put g h k o e q = ap (option_map f) (e q) ∙ map_cond (eqb q k) o (h q)
     where
@@ -33,8 +35,10 @@ pub client_opened : (v : View) (x : Known) → x.born.birth ≡ v.births
     → client_rows (opened_at v x.id x.born.iface x.born.version) ≡ made (client_rows v) x.id (Open x.born)
 client_opened v x e =
     same_rows_at (v.births + 1)
-    (λ q. map_put row (look (opened_at v x.id x.born.iface x.born.version)) (look v) x.id _ (look-opened_at v x.id x.born.iface x.born.version) q
-    ∙ ap (λ (n : ℕ). put (λ i. option_map row (look v i)) x.id (Some (Open (record { birth = n; iface = x.born.iface; version = x.born.version }))) q) (sym e))
+    (λ q. map_put row (look (opened_at v x.id x.born.iface x.born.version)) (look v) x.id _
+    (look-opened_at v x.id x.born.iface x.born.version) q
+    ∙ ap (λ (n : ℕ). put (λ i. option_map row (look v i)) x.id
+    (Some (Open (record { birth = n; iface = x.born.iface; version = x.born.version }))) q) (sym e))
     (most_max v.used x.id)
 
 -- the server's rows with one more open
@@ -42,8 +46,10 @@ pub server_opened : (v : View) (x : Known) → x.born.birth ≡ v.births
     → server_rows (opened_at v x.id x.born.iface x.born.version) ≡ made (server_rows v) x.id x.born
 server_opened v x e =
     same_rows_at (v.births + 1)
-    (λ q. map_put plain (look (opened_at v x.id x.born.iface x.born.version)) (look v) x.id _ (look-opened_at v x.id x.born.iface x.born.version) q
-    ∙ ap (λ (n : ℕ). put (λ i. option_map plain (look v i)) x.id (Some (record { birth = n; iface = x.born.iface; version = x.born.version })) q) (sym e))
+    (λ q. map_put plain (look (opened_at v x.id x.born.iface x.born.version)) (look v) x.id _
+    (look-opened_at v x.id x.born.iface x.born.version) q
+    ∙ ap (λ (n : ℕ). put (λ i. option_map plain (look v i)) x.id
+    (Some (record { birth = n; iface = x.born.iface; version = x.born.version })) q) (sym e))
     (most_max v.used x.id)
 
 -- the client's rows with an id closed
@@ -54,15 +60,18 @@ client_closed v id = same_rows_at v.births (map_put row (look (closed v id)) (lo
 pub server_closed : (v : View) (id : ℕ) → server_rows (closed v id) ≡ at (server_rows v) id None
 server_closed v id = same_rows_at v.births (map_put plain (look (closed v id)) (look v) id None (look-closed v id)) refl
 
-zombie_at : (v : View) (id : ℕ) (e : Entry) → look v id ≡ Some e → (q : ℕ) → look (zombied v id) q ≡ cond (eqb q id) (Some (zombie e)) (look v q)
+zombie_at : (v : View) (id : ℕ) (e : Entry) → look v id ≡ Some e → (q : ℕ)
+    → look (zombied v id) q ≡ cond (eqb q id) (Some (zombie e)) (look v q)
 zombie_at v id e h q = look-zombied v id q ∙ elim (cases_eq q id) [
   | inl same ↦ (let l = ap (look v) same ∙ h in rw (l, same) refl)
   | inr other ↦ (let b : eqb q id ≡ false = grind (arith, nat_tests) in rw b refl)
 ]
 
 -- the client's rows with an object ending
-pub client_zombied : (v : View) (id : ℕ) (e : Entry) → look v id ≡ Some e → client_rows (zombied v id) ≡ at (client_rows v) id (Some (Ending (plain e)))
-client_zombied v id e h = same_rows_at v.births (map_put row (look (zombied v id)) (look v) id (Some (zombie e)) (zombie_at v id e h)) refl
+pub client_zombied : (v : View) (id : ℕ) (e : Entry) → look v id ≡ Some e
+    → client_rows (zombied v id) ≡ at (client_rows v) id (Some (Ending (plain e)))
+client_zombied v id e h = same_rows_at v.births (map_put row (look (zombied v id)) (look v) id (Some (zombie e))
+    (zombie_at v id e h)) refl
 
 -- what is mapped to nothing is nothing
 pub map_none : {X Y : Type 0} (f : X → Y) (o : Option X) → option_map f o ≡ None → o ≡ None
@@ -70,7 +79,8 @@ map_none f None h = refl
 map_none f (Some x) h = absurd (cc h)
 
 -- the next id fits
-pub next_fresh : (v : View) (x : Known) → Sound v → can_open v ≡ true → x.id ≡ next_id v → x.born.birth ≡ v.births → Fresh (client_rows v) x
+pub next_fresh : (v : View) (x : Known) → Sound v → can_open v ≡ true → x.id ≡ next_id v → x.born.birth ≡ v.births
+    → Fresh (client_rows v) x
 next_fresh v x s o e b =
     let f = free_is v (next_id v) s (free_or_next-next_id v) in
     record {

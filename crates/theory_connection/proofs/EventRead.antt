@@ -1,5 +1,6 @@
 -- The client reads.
-use Rattle.std.proofs.Common.{◌≡◌, ◌≢◌, ℕ, ◌+◌, ◌<◌, ◌≤◌, Bool, true, false, cond, List, [], ◌∷◌, ◌++◌, map, length, refl, sym, ap, subst, ◌∙◌, arith, min}
+use Rattle.std.proofs.Common.{◌≡◌, ◌≢◌, ℕ, ◌+◌, ◌<◌, ◌≤◌, Bool, true, false, cond, List, [], ◌∷◌}
+use Rattle.std.proofs.Common.{◌++◌, map, length, refl, sym, ap, subst, ◌∙◌, arith, min}
 use Rattle.std.specs.Prelude.{option_map, codes, nat_eq, not, ◌&&◌}
 use Rattle.std.specs.declared.option.Option.{Option}
 use Rattle.std.specs.declared.option.Option.TheVariants.{None, Some}
@@ -21,15 +22,19 @@ use Rattle.wl_object_map.specs.declared.object.State.TheVariants as states
 use Rattle.wl_object_map.specs.View.{View, look, closed}
 use Rattle.wl_objects.specs.Writing.{is_live}
 use Rattle.wl_objects.specs.Reading.{descriptors}
-use Rattle.wl_objects.specs.Messages.{is_error, is_delete_id, same_iface, Client as client_end, after, ended_id, after_delete_id}
+use Rattle.wl_objects.specs.Messages.{is_error, is_delete_id, same_iface, Client as client_end}
+use Rattle.wl_objects.specs.Messages.{after, ended_id, after_delete_id}
 use Rattle.wl_connection.specs.Core.{Core}
 use Rattle.wl_connection.specs.Receiving.{found, is_none}
 use Rattle.wl_client.specs.declared.globals.Global.{Global as Remembered}
 use Rattle.wl_client.specs.State as client
 use Rattle.wl_client.specs.Reports.{state_past, globals_told, report}
 use Rattle.wl_client.specs.Reports as reports
-use Rattle.theory_connection.specs.Meant.{Born, Known, Message, Coming, Event, Delete, renamed, recoming, rearg, born_of, birth_of, wire, tokens, spelled, spelled_coming, objects, plain, live_entry}
-use Rattle.theory_connection.specs.World.{World, display_born, Row, event_read, delete_read, is_open, is_registry, learned, nameless, IfThere}
+use Rattle.theory_connection.specs.Meant.{Born, Known, Message, Coming, Event, Delete, renamed}
+use Rattle.theory_connection.specs.Meant.{recoming, rearg, born_of, birth_of, wire, tokens, spelled}
+use Rattle.theory_connection.specs.Meant.{spelled_coming, objects, plain, live_entry}
+use Rattle.theory_connection.specs.World.{World, display_born, Row, event_read, delete_read}
+use Rattle.theory_connection.specs.World.{is_open, is_registry, learned, nameless, IfThere}
 use Rattle.theory_connection.specs.Pair.{PairState, with_client}
 use Rattle.theory_connection.specs.Flight.{Rows, Held, Reads, all_tells, client_rows, row, as_row}
 use Rattle.theory_connection.specs.Stands.{StandsBy, Fits, WasGiven, InFlight, Shows, birth_in}
@@ -55,25 +60,31 @@ pub record SeenAt (v : View) (sets : ℕ → Option Row) (x : Known) : Type 0 wh
   pub same : plain entry ≡ x.born
   pub shown : sets x.born.birth ≡ Some (row entry)
 
-pub seen_at : (v : View) (sets : ℕ → Option Row) → Shows birth_in (client_rows v).rows v.births sets → (x : Known) → Held (client_rows v) x → SeenAt v sets x
+pub seen_at : (v : View) (sets : ℕ → Option Row) → Shows birth_in (client_rows v).rows v.births sets → (x : Known)
+    → Held (client_rows v) x → SeenAt v sets x
 seen_at v sets s x h =
     let r = held_row v x h in
     let shown = s.shown x.id (row r.entry) (ap (option_map row) r.there) in
     let b : birth_in (row r.entry) ≡ x.born.birth = birth_bare r.entry.state (plain r.entry) ∙ ap birth_of r.same in
     record { entry = r.entry; there = r.there; same = r.same; shown = ap sets (sym b) ∙ shown }
 
-pub held_at_client : (v : View) (sets : ℕ → Option Row) → Shows birth_in (client_rows v).rows v.births sets → (x : Known) → 0 < x.id → Held (client_rows v) x → HeldAt v sets x
-held_at_client v sets s x some h = let r = seen_at v sets s x h in record { some = some; entry = r.entry; there = r.there; same = r.same; shown = r.shown }
+pub held_at_client : (v : View) (sets : ℕ → Option Row) → Shows birth_in (client_rows v).rows v.births sets
+    → (x : Known) → 0 < x.id → Held (client_rows v) x → HeldAt v sets x
+held_at_client v sets s x some h = let r = seen_at v sets s x h
+    in record { some = some; entry = r.entry; there = r.there; same = r.same; shown = r.shown }
 
 -- ---- an event
 
 -- an event in front: its objects are held, it is found, and the rest is in flight
-pub record InEvent (p : PairState) (w : World) (m : Message Known) (cs : List (Coming Known)) (asked : List (Message Known)) (s : StandsBy p w asked (Event m ∷ cs)) (n : ℕ) : Type 0 where
+pub record InEvent (p : PairState) (w : World) (m : Message Known) (cs : List (Coming Known))
+    (asked : List (Message Known)) (s : StandsBy p w asked (Event m ∷ cs)) (n : ℕ) : Type 0 where
   pub target : SeenAt p.client.core.view w.client m.target
   pub met : AllMet p.client.core.view w.client m.args
   pub finds_it : found p.client.core event_side ≡ Ok (Some (the_found n m target.entry s.events.fit.0.fits.signature))
-  pub tells_it : TellsAt (test_of p) (all_tells cs) (client_rows p.client.core.view) s.meet.middle m.target (objects m.args) m.ends
-  pub down : InFlight p.server.core.outbox (without_first p.client.core.inbox n (length (tokens m.args))) (map spelled_coming cs)
+  pub tells_it : TellsAt (test_of p) (all_tells cs) (client_rows p.client.core.view) s.meet.middle m.target
+      (objects m.args) m.ends
+  pub down : InFlight p.server.core.outbox (without_first p.client.core.inbox n (length (tokens m.args)))
+      (map spelled_coming cs)
   pub more : List ℕ
   pub tokens_are : p.client.core.inbox.tokens ≡ tokens m.args ++ more
 
@@ -81,21 +92,26 @@ fits_at : (t u : List Interface) (m : Message Known) → t ≡ u → Fits t even
 fits_at t u m e f = subst (λ (x : List Interface). Fits x event_side m) e f
 
 -- the first of what comes, where it is an event and whole
-pub in_event : (p : PairState) (w : World) (m : Message Known) (cs : List (Coming Known)) (asked : List (Message Known)) (s : StandsBy p w asked (Event m ∷ cs)) (n : ℕ)
+pub in_event : (p : PairState) (w : World) (m : Message Known) (cs : List (Coming Known)) (asked : List (Message Known))
+    (s : StandsBy p w asked (Event m ∷ cs)) (n : ℕ)
     → in_front p.client.core.inbox ≡ Whole n → InEvent p w m cs asked s n
 in_event p w m cs asked s n e =
-    let q = first_read p.server.core.outbox p.client.core.inbox (spelled m) (map spelled_coming cs) n s.events.in_boxes e in
+    let q = first_read p.server.core.outbox p.client.core.inbox (spelled m)
+    (map spelled_coming cs) n s.events.in_boxes e in
     let t = tells_at m.target (objects m.args) m.ends s.meet.reads in
     let r = seen_at p.client.core.view w.client s.client.sets m.target t.target in
     let f = s.events.fit.0.fits in
-    let met = all_met p.server.core.tables m.target.born.version p.client.core.view w.client (Held (client_rows p.client.core.view)) (held_at_client p.client.core.view w.client s.client.sets)
-    f.signature.kinds m.args f.args t.args (news_none p.client.core.view m.args m.args s.events.fit.0.makes_none f.new_is) in
+    let met = all_met p.server.core.tables m.target.born.version p.client.core.view w.client
+    (Held (client_rows p.client.core.view)) (held_at_client p.client.core.view w.client s.client.sets)
+    f.signature.kinds m.args f.args t.args (news_none p.client.core.view m.args m.args s.events.fit.0.makes_none
+    f.new_is) in
     let core' : Core = record p.client.core { tables = p.server.core.tables } in
     let same_core : core' ≡ p.client.core = λ i. record p.client.core { tables = sym s.terms.same_tables i } in
     record {
       target = r;
       met = met;
-      finds_it = ap (λ (c : Core). found c event_side) (sym same_core) ∙ finds core' event_side m n w.client r.entry f e q.bytes r.there r.same met q.enough;
+      finds_it = ap (λ (c : Core). found c event_side) (sym same_core)
+          ∙ finds core' event_side m n w.client r.entry f e q.bytes r.there r.same met q.enough;
       tells_it = t;
       down = q.stay;
       more = q.more;
@@ -119,31 +135,42 @@ abbrev pub teaches : Message Known → Entry → Bool
 teaches m entry = is_registry m.target.born && is_live entry.state
 
 -- what is told of an event that is neither wl_display.error nor delete_id
-pub record EventAnswer (p : PairState) (m : Message Known) (n : ℕ) (entry : Entry) (signature : sigs.Message) : Type 0 where
-  pub tells_it : report p.client.core (the_found n m entry signature) ≡ reports.plain_report p.client.core m.opcode (the_message m entry signature) entry.state
+pub record EventAnswer (p : PairState) (m : Message Known) (n : ℕ) (entry : Entry)
+    (signature : sigs.Message) : Type 0 where
+  pub tells_it : report p.client.core (the_found n m entry signature)
+      ≡ reports.plain_report p.client.core m.opcode (the_message m entry signature) entry.state
   pub leaves : state_past p.client (the_found n m entry signature) ≡ after_event p.client m n (teaches m entry)
 
 -- what the client says of an event, and how it leaves the client
-pub event_answer : (p : PairState) (m : Message Known) (n : ℕ) (entry : Entry) (tables : List Interface) (f : Fits tables event_side m) → Valid tables → is_delete_id event_side m.target.born.iface m.opcode ≡ false → plain entry ≡ m.target.born
+pub event_answer : (p : PairState) (m : Message Known) (n : ℕ) (entry : Entry) (tables : List Interface)
+    (f : Fits tables event_side m) → Valid tables → is_delete_id event_side m.target.born.iface m.opcode ≡ false
+    → plain entry ≡ m.target.born
     → EventAnswer p m n entry f.signature
 event_answer p m n entry tables f valid d s =
-    let error : is_error event_side entry.iface m.opcode ≡ false = ap (λ (b : Born). is_error event_side b.iface m.opcode) s ∙ f.no_error in
-    let delete : is_delete_id event_side entry.iface m.opcode ≡ false = ap (λ (b : Born). is_delete_id event_side b.iface m.opcode) s ∙ d in
-    let count : descriptors f.signature.kinds ≡ length (tokens m.args) = tokens_taken tables m.target.born.version f.signature.kinds m.args f.args in
+    let error : is_error event_side entry.iface m.opcode ≡ false =
+    ap (λ (b : Born). is_error event_side b.iface m.opcode) s ∙ f.no_error in
+    let delete : is_delete_id event_side entry.iface m.opcode ≡ false =
+    ap (λ (b : Born). is_delete_id event_side b.iface m.opcode) s ∙ d in
+    let count : descriptors f.signature.kinds ≡ length (tokens m.args) =
+    tokens_taken tables m.target.born.version f.signature.kinds m.args f.args in
     let registers : same_iface entry.iface registry ≡ is_registry m.target.born = ap is_registry s in
     let v = p.client.core.view in
-    let a = after client_end v None f.signature.destroys (ended_id f.signature.destroys m.target.id (map wire m.args)) in
-    let left : a ≡ ended_view client_end v m.ends = after_is client_end v None f.signature.destroys _ m.ends (ends_as tables event_side m f valid) in
+    let a = after client_end v None f.signature.destroys
+    (ended_id f.signature.destroys m.target.id (map wire m.args)) in
+    let left : a ≡ ended_view client_end v m.ends =
+    after_is client_end v None f.signature.destroys _ m.ends (ends_as tables event_side m f valid) in
     record {
       tells_it = rw (error, delete) refl;
       leaves = λ i. record {
         core = record p.client.core {
-          view = cond (error i) v (cond (delete i) (after_delete_id v (reports.deleted_id (the_found n m entry f.signature))) (left i));
+          view = cond (error i) v (cond (delete i)
+              (after_delete_id v (reports.deleted_id (the_found n m entry f.signature))) (left i));
           inbox = without_first p.client.core.inbox n (count i);
           read = min (p.client.core.read + n) 18446744073709551615;
           failed = error i;
         };
-        globals = cond (registers i && is_live entry.state) (globals_told p.client.core.tables p.client.globals m.opcode (map wire m.args)) p.client.globals;
+        globals = cond (registers i && is_live entry.state)
+            (globals_told p.client.core.tables p.client.globals m.opcode (map wire m.args)) p.client.globals;
       };
     }
 
@@ -153,25 +180,36 @@ open_is : (s : State) (b : Born) → is_open (Some (as_row s b)) ≡ is_live s
 open_is states.Live b = refl
 open_is states.Zombie b = refl
 
-learned_is : (p : PairState) (w : World) (m : Message Known) (asked : List (Message Known)) (told : List (Coming Known)) (s : StandsBy p w asked told) (t : SeenAt p.client.core.view w.client m.target)
-    → learned p.client.core.tables w.client (renamed born_of m) w.remembered ≡ cond (teaches m t.entry) (globals_told p.client.core.tables p.client.globals m.opcode (map wire m.args)) p.client.globals
+learned_is : (p : PairState) (w : World) (m : Message Known) (asked : List (Message Known)) (told : List (Coming Known))
+    (s : StandsBy p w asked told) (t : SeenAt p.client.core.view w.client m.target)
+    → learned p.client.core.tables w.client (renamed born_of m) w.remembered
+    ≡ cond (teaches m t.entry) (globals_told p.client.core.tables p.client.globals m.opcode (map wire m.args))
+    p.client.globals
 learned_is p w m asked told s t =
-    let live : is_open (w.client m.target.born.birth) ≡ is_live t.entry.state = ap is_open t.shown ∙ open_is t.entry.state (plain t.entry) in
-    let same : globals_told p.client.core.tables p.client.globals m.opcode (map nameless (map (rearg born_of) m.args)) ≡ globals_told p.client.core.tables p.client.globals m.opcode (map wire m.args) =
+    let live : is_open (w.client m.target.born.birth) ≡ is_live t.entry.state =
+    ap is_open t.shown ∙ open_is t.entry.state (plain t.entry) in
+    let same : globals_told p.client.core.tables p.client.globals m.opcode (map nameless (map (rearg born_of) m.args))
+    ≡ globals_told p.client.core.tables p.client.globals m.opcode (map wire m.args) =
     sym (told_same p.client.core.tables p.client.globals m.opcode m.args) in
-    (λ i. cond (is_registry m.target.born && live i) (globals_told p.client.core.tables (s.globals.remembered i) m.opcode (map nameless (map (rearg born_of) m.args))) (s.globals.remembered i))
+    (λ i. cond (is_registry m.target.born && live i)
+    (globals_told p.client.core.tables (s.globals.remembered i) m.opcode
+    (map nameless (map (rearg born_of) m.args))) (s.globals.remembered i))
     ∙ ap (λ (l : List Remembered). cond (teaches m t.entry) l p.client.globals) same
 
 -- a pair stands again after the client has read an event
-pub event_stands : (p : PairState) (w : World) (m : Message Known) (cs : List (Coming Known)) (asked : List (Message Known)) (s : StandsBy p w asked (Event m ∷ cs)) (n : ℕ) (i : InEvent p w m cs asked s n)
+pub event_stands : (p : PairState) (w : World) (m : Message Known) (cs : List (Coming Known))
+    (asked : List (Message Known)) (s : StandsBy p w asked (Event m ∷ cs)) (n : ℕ) (i : InEvent p w m cs asked s n)
     → IfThere Mortal m.ends
-    → StandsBy (with_client p (after_event p.client m n (teaches m i.target.entry))) (event_read p.client.core.tables w (renamed born_of m) (map (recoming born_of) cs)) asked cs
+    → StandsBy (with_client p (after_event p.client m n (teaches m i.target.entry)))
+    (event_read p.client.core.tables w (renamed born_of m) (map (recoming born_of) cs)) asked cs
 event_stands p w m cs asked s n i y =
     let f = s.events.fit.0.fits in
     let v = p.client.core.view in
     let t = i.tells_it in
-    let held : IfThere (Held (client_rows v)) m.ends = ends_have (Held (client_rows v)) p.server.core.tables event_side m f t.target t.args in
-    let rows : client_rows (ended_view client_end v m.ends) ≡ client_ends m.ends (client_rows v) = client_after v None m.ends tt (if_by (held_row v) m.ends held) in
+    let held : IfThere (Held (client_rows v)) m.ends =
+    ends_have (Held (client_rows v)) p.server.core.tables event_side m f t.target t.args in
+    let rows : client_rows (ended_view client_end v m.ends) ≡ client_ends m.ends (client_rows v) =
+    client_after v None m.ends tt (if_by (held_row v) m.ends held) in
     record {
       terms = s.terms;
       client = client_message s.client None m.ends s.client.sound tt tt held held y false refl;
@@ -187,7 +225,10 @@ event_stands p w m cs asked s n i y =
       globals = record {
         remembered = learned_is p w m asked (Event m ∷ cs) s i.target;
         given = s.globals.given;
-        remembers = learns (λ g. WasGiven p.server.globals g.name g.iface g.version) p.server.core.tables p.client.core.tables p.server.globals p.client.globals m s.terms.same_tables s.events.fit.0 (λ h e t. t.was_given) s.globals.remembers (teaches m i.target.entry) (λ h. (and_parts (is_registry m.target.born) (is_live i.target.entry.state) h).0);
+        remembers = learns (λ g. WasGiven p.server.globals g.name g.iface g.version) p.server.core.tables
+            p.client.core.tables p.server.globals p.client.globals m s.terms.same_tables s.events.fit.0
+            (λ h e t. t.was_given) s.globals.remembers (teaches m i.target.entry)
+            (λ h. (and_parts (is_registry m.target.born) (is_live i.target.entry.state) h).0);
         globals = s.globals.globals;
         few_globals = s.globals.few_globals;
       };
@@ -197,11 +238,13 @@ event_stands p w m cs asked s n i y =
 -- ---- a delete
 
 -- wl_display does not end by an event, so what does is not id 1
-held_mortal : (p : PairState) (w : World) (asked : List (Message Known)) (told : List (Coming Known)) → StandsBy p w asked told → (x : Known) → Held (client_rows p.client.core.view) x
+held_mortal : (p : PairState) (w : World) (asked : List (Message Known)) (told : List (Coming Known))
+    → StandsBy p w asked told → (x : Known) → Held (client_rows p.client.core.view) x
     → test_of p x.born ≡ true → x.id ≢ 1
 held_mortal p w asked told s x h d one =
     let r = held_row p.client.core.view x h in
-    let e : Some r.entry ≡ Some (live_entry display_born) = sym r.there ∙ ap (look p.client.core.view) one ∙ s.client.display in
+    let e : Some r.entry ≡ Some (live_entry display_born) =
+    sym r.there ∙ ap (look p.client.core.view) one ∙ s.client.display in
     let entry : r.entry ≡ live_entry display_born = cc e in
     let born : x.born ≡ display_born = sym r.same ∙ ap plain entry in
     let plain_display : test_of p display_born ≡ false = rw s.terms.valid.fixed_four.display refl in
@@ -209,7 +252,8 @@ held_mortal p w asked told s x h d one =
     cc no
 
 -- no event ends wl_display
-pub event_mortal : (p : PairState) (w : World) (m : Message Known) (cs : List (Coming Known)) (asked : List (Message Known)) (s : StandsBy p w asked (Event m ∷ cs)) (n : ℕ) → InEvent p w m cs asked s n
+pub event_mortal : (p : PairState) (w : World) (m : Message Known) (cs : List (Coming Known))
+    (asked : List (Message Known)) (s : StandsBy p w asked (Event m ∷ cs)) (n : ℕ) → InEvent p w m cs asked s n
     → IfThere Mortal m.ends
 event_mortal p w m cs asked s n i =
     let t = i.tells_it in
@@ -222,7 +266,9 @@ abbrev pub deleting : Known → Message Known
 deleting x = record { target = record { id = 1; born = display_born }; opcode = 1; args = Uint x.id ∷ []; ends = None }
 
 -- it fits the signature of wl_display.delete_id
-pub delete_signature : (tables : List Interface) → signature_at tables 0 event_side 1 ≡ Some (fixed.message (codes "delete_id") 1 (fixed.uint ∷ []) Nothing) → (x : Known) → x.id ≤ 1048576 → Fits tables event_side (deleting x)
+pub delete_signature : (tables : List Interface) → signature_at tables 0 event_side 1
+    ≡ Some (fixed.message (codes "delete_id") 1 (fixed.uint ∷ []) Nothing) → (x : Known) → x.id ≤ 1048576
+    → Fits tables event_side (deleting x)
 delete_signature tables e x h = record {
   signature = fixed.message (codes "delete_id") 1 (fixed.uint ∷ []) Nothing;
   there = e;
@@ -244,21 +290,26 @@ pub record InDelete (p : PairState) (x : Known) (cs : List (Coming Known)) (midd
   pub same : plain entry ≡ x.born
   pub signature : sigs.Message
   pub some_kinds : not (is_none signature.kinds) ≡ true
-  pub finds_it : found p.client.core event_side ≡ Ok (Some (the_found n (deleting x) (live_entry display_born) signature))
+  pub finds_it : found p.client.core event_side ≡ Ok
+      (Some (the_found n (deleting x) (live_entry display_born) signature))
   pub keeps_target : signature.destroys ≡ Nothing
   pub count : descriptors signature.kinds ≡ 0
   pub deletes_it : DeletesAt (test_of p) (all_tells cs) (client_rows p.client.core.view) middle x
   pub down : InFlight p.server.core.outbox (without_first p.client.core.inbox n 0) (map spelled_coming cs)
 
 -- the first of what comes, where it is a delete and whole
-pub in_delete : (p : PairState) (w : World) (x : Known) (cs : List (Coming Known)) (asked : List (Message Known)) (s : StandsBy p w asked (Delete x ∷ cs)) (n : ℕ)
+pub in_delete : (p : PairState) (w : World) (x : Known) (cs : List (Coming Known)) (asked : List (Message Known))
+    (s : StandsBy p w asked (Delete x ∷ cs)) (n : ℕ)
     → in_front p.client.core.inbox ≡ Whole n → InDelete p x cs s.meet.middle n
 unfolding delete_signature
 in_delete p w x cs asked s n e =
-    let q = first_read p.server.core.outbox p.client.core.inbox (spelled (deleting x)) (map spelled_coming cs) n s.events.in_boxes e in
+    let q = first_read p.server.core.outbox p.client.core.inbox (spelled (deleting x))
+    (map spelled_coming cs) n s.events.in_boxes e in
     let t = deletes_at x s.meet.reads in
     let r = held_row p.client.core.view x t.held in
-    let display_there : signature_at p.server.core.tables 0 event_side 1 ≡ Some (fixed.message (codes "delete_id") 1 (fixed.uint ∷ []) Nothing) = rw s.terms.valid.fixed_four.display refl in
+    let display_there : signature_at p.server.core.tables 0 event_side 1
+    ≡ Some (fixed.message (codes "delete_id") 1 (fixed.uint ∷ []) Nothing) =
+    rw s.terms.valid.fixed_four.display refl in
     let f = delete_signature p.server.core.tables display_there x s.events.fit.0 in
     let core' : Core = record p.client.core { tables = p.server.core.tables } in
     let same_core : core' ≡ p.client.core = λ i. record p.client.core { tables = sym s.terms.same_tables i } in
@@ -268,7 +319,9 @@ in_delete p w x cs asked s n e =
       same = r.same;
       signature = f.signature;
       some_kinds = refl;
-      finds_it = ap (λ (c : Core). found c event_side) (sym same_core) ∙ finds core' event_side (deleting x) n w.client (live_entry display_born) f e q.bytes s.client.display refl (tt, tt) (omega arith);
+      finds_it = ap (λ (c : Core). found c event_side) (sym same_core)
+          ∙ finds core' event_side (deleting x) n w.client (live_entry display_born) f e q.bytes s.client.display refl
+          (tt, tt) (omega arith);
       keeps_target = refl;
       count = refl;
       deletes_it = t;
@@ -287,11 +340,14 @@ after_delete st x n = record st {
 }
 
 pub record DeleteAnswer (p : PairState) (x : Known) (n : ℕ) (entry : Entry) (signature : sigs.Message) : Type 0 where
-  pub tells_it : report p.client.core (the_found n (deleting x) (live_entry display_born) signature) ≡ reports.Deleted (record { id = x.id; birth = entry.birth })
-  pub leaves : state_past p.client (the_found n (deleting x) (live_entry display_born) signature) ≡ after_delete p.client x n
+  pub tells_it : report p.client.core (the_found n (deleting x) (live_entry display_born) signature)
+      ≡ reports.Deleted (record { id = x.id; birth = entry.birth })
+  pub leaves : state_past p.client (the_found n (deleting x) (live_entry display_born) signature)
+      ≡ after_delete p.client x n
 
 -- what the client says of a delete, and how it leaves the client
-pub delete_answer : (p : PairState) (x : Known) (n : ℕ) (entry : Entry) (signature : sigs.Message) → x.id ≢ 1 → look p.client.core.view x.id ≡ Some entry → descriptors signature.kinds ≡ 0 → DeleteAnswer p x n entry signature
+pub delete_answer : (p : PairState) (x : Known) (n : ℕ) (entry : Entry) (signature : sigs.Message) → x.id ≢ 1
+    → look p.client.core.view x.id ≡ Some entry → descriptors signature.kinds ≡ 0 → DeleteAnswer p x n entry signature
 delete_answer p x n entry signature y l c =
     let b : nat_eq x.id 1 ≡ false = ne_eqb x.id 1 y in
     let v = p.client.core.view in
@@ -309,7 +365,8 @@ delete_answer p x n entry signature y l c =
     }
 
 -- a pair stands again after the client has read a delete
-pub delete_stands : (p : PairState) (w : World) (x : Known) (cs : List (Coming Known)) (asked : List (Message Known)) (s : StandsBy p w asked (Delete x ∷ cs)) (n : ℕ) (i : InDelete p x cs s.meet.middle n)
+pub delete_stands : (p : PairState) (w : World) (x : Known) (cs : List (Coming Known)) (asked : List (Message Known))
+    (s : StandsBy p w asked (Delete x ∷ cs)) (n : ℕ) (i : InDelete p x cs s.meet.middle n)
     → StandsBy (with_client p (after_delete p.client x n)) (delete_read w x.born (map (recoming born_of) cs)) asked cs
 delete_stands p w x cs asked s n i =
     let t = i.deletes_it in
@@ -322,7 +379,8 @@ delete_stands p w x cs asked s n i =
       deletes_follow = s.deletes_follow;
       meet = record {
         middle = s.meet.middle;
-        reads = subst (λ (y : Rows Row). Reads (test_of p) (all_tells cs) y s.meet.middle) (sym (client_closed p.client.core.view x.id)) t.rest;
+        reads = subst (λ (y : Rows Row). Reads (test_of p) (all_tells cs) y s.meet.middle)
+            (sym (client_closed p.client.core.view x.id)) t.rest;
         tied = s.meet.tied;
       };
       globals = s.globals;

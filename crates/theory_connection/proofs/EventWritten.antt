@@ -9,7 +9,9 @@ use Rattle.wl_objects.specs.Messages.{Server as server_end}
 use Rattle.wl_connection.specs.Core.{Core}
 use Rattle.wl_connection.proofs.Messages.{whole_within}
 use Rattle.wl_server.proofs.Registries.{has_fewer}
-use Rattle.theory_connection.specs.Meant.{Born, Known, Message, Coming, Event, Delete, renamed, born_of, wire, spelled, spelled_coming, objects, plain, live_entry}
+use Rattle.theory_connection.specs.Meant.{Born, Known, Message, Coming, Event, Delete, renamed}
+use Rattle.theory_connection.specs.Meant.{born_of, wire, spelled, spelled_coming, objects, plain}
+use Rattle.theory_connection.specs.Meant.{live_entry}
 use Rattle.theory_connection.specs.World.{World, display_born, Each, delete, event_written, dropped, IfThere}
 use Rattle.theory_connection.specs.Pair.{PairState, with_server_core}
 use Rattle.theory_connection.specs.Flight.{Rows, Meets, tells, all_asks, all_tells, client_rows, server_rows}
@@ -20,7 +22,8 @@ use Rattle.theory_connection.proofs.RowsAfterMessage.{there_row, server_after}
 use Rattle.theory_connection.proofs.Stands.{server_message, travel_more}
 use Rattle.theory_connection.proofs.Registries.{no_registry, has_told_one}
 use Rattle.theory_connection.proofs.Rules.{display_plain}
-use Rattle.theory_connection.proofs.RequestRead.{follow_more, follow_delete, begins_delete, test_of, delete_whole, map_delete, delete_fits, low_there}
+use Rattle.theory_connection.proofs.RequestRead.{follow_more, follow_delete, begins_delete, test_of}
+use Rattle.theory_connection.proofs.RequestRead.{delete_whole, map_delete, delete_fits, low_there}
 use Rattle.theory_connection.proofs.EndedObject.{Mortal, ended_view, ends_have, if_by, both_if}
 
 -- an event that fits, whose objects are open at the server
@@ -32,10 +35,13 @@ pub record CanTell (p : PairState) (m : Message Known) : Type 0 where
   pub short : message_len (map wire m.args) ≤ p.server.core.outbox.limit.bytes
 
 -- what ends by an event is not wl_display
-pub there_mortal : (p : PairState) (w : World) (asked : List (Message Known)) (told : List (Coming Known)) → StandsBy p w asked told → (x : Known) → ThereRow (server_rows p.server.core.view) x → test_of p x.born ≡ true → x.id ≢ 1
+pub there_mortal : (p : PairState) (w : World) (asked : List (Message Known)) (told : List (Coming Known))
+    → StandsBy p w asked told → (x : Known) → ThereRow (server_rows p.server.core.view) x → test_of p x.born ≡ true
+    → x.id ≢ 1
 there_mortal p w asked told s x h e one =
     let r = there_row p.server.core.view x h in
-    let q : Some r.entry ≡ Some (live_entry display_born) = sym r.there ∙ ap (look p.server.core.view) one ∙ s.server.display in
+    let q : Some r.entry ≡ Some (live_entry display_born) =
+    sym r.there ∙ ap (look p.server.core.view) one ∙ s.server.display in
     let same : r.entry ≡ live_entry display_born = cc q in
     let born : x.born ≡ display_born = sym r.same ∙ ap plain same in
     let no : true ≡ false = sym e ∙ ap (test_of p) born ∙ display_plain p.server.core.tables s.terms.valid in
@@ -49,32 +55,45 @@ told_core c m = record c {
 }
 
 -- a pair stands again after the server has written an event
-pub tell_stands : (p : PairState) (w : World) (asked : List (Message Known)) (told : List (Coming Known)) (s : StandsBy p w asked told) (m : Message Known) (c : CanTell p m)
-    → StandsBy (with_server_core p (told_core p.server.core m)) (event_written w (renamed born_of m)) asked (told ++ (Event m ∷ delete m.ends))
+pub tell_stands : (p : PairState) (w : World) (asked : List (Message Known)) (told : List (Coming Known))
+    (s : StandsBy p w asked told) (m : Message Known) (c : CanTell p m)
+    → StandsBy (with_server_core p (told_core p.server.core m)) (event_written w (renamed born_of m)) asked
+    (told ++ (Event m ∷ delete m.ends))
 tell_stands p w asked told s m c =
     let f = c.fitly.fits in
     let v = p.server.core.view in
-    let there : IfThere (ThereRow (server_rows v)) m.ends = ends_have (ThereRow (server_rows v)) p.server.core.tables event_side m f c.target c.args in
+    let there : IfThere (ThereRow (server_rows v)) m.ends =
+    ends_have (ThereRow (server_rows v)) p.server.core.tables event_side m f c.target c.args in
     let mortal : IfThere Mortal m.ends = both_if (there_mortal p w asked told s) m.ends there c.ends in
-    let rows : server_rows (ended_view server_end v m.ends) ≡ server_ends m.ends (server_rows v) = server_after v None m.ends tt in
+    let rows : server_rows (ended_view server_end v m.ends) ≡ server_ends m.ends (server_rows v) =
+    server_after v None m.ends tt in
     let news = Event m ∷ delete m.ends in
     record {
       terms = s.terms;
       client = s.client;
       server = server_message s.server None m.ends tt tt there mortal;
       requests = s.requests;
-      events = travel_more p.server.core.outbox (told_core p.server.core m).outbox p.client.core.inbox w.events _ told news s.events
+      events = travel_more p.server.core.outbox (told_core p.server.core m).outbox p.client.core.inbox w.events _ told
+          news s.events
           (ap (λ (l : List (Coming Born)). w.events ++ (Event (renamed born_of m) ∷ l)) (sym (map_delete m.ends))) refl
-          (append_assoc p.server.core.outbox.messages (spelled m ∷ []) (map spelled_coming (delete m.ends)))
-          (whole_within p.client.core.inbox.limit m.target.id m.opcode (map wire m.args) f.opcode (subst (λ (l : ℕ). message_len (map wire m.args) ≤ l) s.terms.down_limit c.short), delete_whole p.client.core.inbox.limit m.ends)
+          (append_assoc p.server.core.outbox.messages (spelled m ∷ []) (map spelled_coming (delete m.ends))) (
+            whole_within p.client.core.inbox.limit m.target.id m.opcode (map wire m.args) f.opcode
+                (subst (λ (l : ℕ). message_len (map wire m.args) ≤ l) s.terms.down_limit c.short),
+            delete_whole
+                p.client.core.inbox.limit m.ends,
+          )
           (c.fitly, delete_fits p m.ends (if_by (low_there v s.server.sound) m.ends there));
       deletes_follow = follow_more told news s.deletes_follow (begins_delete m.ends, follow_delete m.ends);
-      meet = rw (all_tells_more told news) (subst (λ (r : Rows Born). Meets (test_of p) (all_tells told ++ (tells (Event m) ++ all_tells (delete m.ends))) (all_asks asked) (client_rows p.client.core.view) r) (sym rows)
+      meet = rw (all_tells_more told news) (subst
+          (λ (r : Rows Born). Meets (test_of p) (all_tells told ++ (tells (Event m) ++ all_tells (delete m.ends)))
+          (all_asks asked) (client_rows p.client.core.view) r) (sym rows)
           (tell_meets m.target (objects m.args) m.ends s.meet c.target c.args c.ends mortal there));
       globals = s.globals;
       registries = record {
         told = s.registries.told;
-        open_registries = has_told_one v p.server.registries m.ends (both_if (no_registry p.server.core.tables s.terms.valid v) m.ends there c.ends) s.registries.open_registries;
+        open_registries = has_told_one v p.server.registries m.ends
+            (both_if (no_registry p.server.core.tables s.terms.valid v) m.ends there c.ends)
+            s.registries.open_registries;
       };
     }
 
@@ -88,7 +107,9 @@ dropped_core c x = record c {
 }
 
 -- a pair stands again after the server has dropped an object
-pub drop_stands : (p : PairState) (w : World) (asked : List (Message Known)) (told : List (Coming Known)) (s : StandsBy p w asked told) (x : Known) → ThereRow (server_rows p.server.core.view) x → test_of p x.born ≡ true → x.id ≤ 1048576
+pub drop_stands : (p : PairState) (w : World) (asked : List (Message Known)) (told : List (Coming Known))
+    (s : StandsBy p w asked told) (x : Known) → ThereRow (server_rows p.server.core.view) x → test_of p x.born ≡ true
+    → x.id ≤ 1048576
     → StandsBy (with_server_core p (dropped_core p.server.core x)) (dropped w x.born) asked (told ++ Delete x ∷ [])
 drop_stands p w asked told s x h e low =
     let v = p.server.core.view in
@@ -100,13 +121,17 @@ drop_stands p w asked told s x h e low =
       client = s.client;
       server = server_message s.server None (Some x) tt tt h mortal;
       requests = s.requests;
-      events = travel_more p.server.core.outbox (dropped_core p.server.core x).outbox p.client.core.inbox w.events _ told news s.events refl refl refl (delete_whole p.client.core.inbox.limit (Some x)) (low, tt);
+      events = travel_more p.server.core.outbox (dropped_core p.server.core x).outbox p.client.core.inbox w.events _
+          told news s.events refl refl refl (delete_whole p.client.core.inbox.limit (Some x)) (low, tt);
       deletes_follow = follow_more told news s.deletes_follow tt;
-      meet = rw (all_tells_more told news) (subst (λ (r : Rows Born). Meets (test_of p) (all_tells told ++ all_tells news) (all_asks asked) (client_rows p.client.core.view) r) (sym rows)
+      meet = rw (all_tells_more told news) (subst
+          (λ (r : Rows Born). Meets (test_of p) (all_tells told ++ all_tells news) (all_asks asked)
+          (client_rows p.client.core.view) r) (sym rows)
           (drop_meets x s.meet mortal h e));
       globals = s.globals;
       registries = record {
         told = s.registries.told;
-        open_registries = has_fewer v p.server.registries x.id (no_registry p.server.core.tables s.terms.valid v x h e) s.registries.open_registries;
+        open_registries = has_fewer v p.server.registries x.id
+            (no_registry p.server.core.tables s.terms.valid v x h e) s.registries.open_registries;
       };
     }

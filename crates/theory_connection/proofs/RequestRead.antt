@@ -1,5 +1,6 @@
 -- The server reads.
-use Rattle.std.proofs.Common.{◌≡◌, ℕ, ◌+◌, ◌<◌, ◌≤◌, Bool, true, false, List, [], ◌∷◌, ◌++◌, map, length, refl, sym, ap, subst, ◌∙◌, arith, min}
+use Rattle.std.proofs.Common.{◌≡◌, ℕ, ◌+◌, ◌<◌, ◌≤◌, Bool, true, false, List, [], ◌∷◌, ◌++◌, map}
+use Rattle.std.proofs.Common.{length, refl, sym, ap, subst, ◌∙◌, arith, min}
 use Rattle.std.proofs.lemmas.Bool.{ne_eqb}
 use Rattle.std.specs.Prelude.{option_map, not, ◌&&◌, is_some, slice_get}
 use Rattle.std.specs.declared.option.Option.{Option}
@@ -25,14 +26,20 @@ use Rattle.wl_connection.specs.Core.{Core, past, with_view}
 use Rattle.wl_connection.specs.Receiving.{Found, found}
 use Rattle.wl_connection.specs.Sending.{with_following}
 use Rattle.wl_server.specs.State as server
-use Rattle.wl_server.specs.Requests.{judged, request, is_good_bind, made_in as made_by_message, state_past, registries_after, object_in, ended_object, ended, report}
+use Rattle.wl_server.specs.Requests.{judged, request, is_good_bind, made_in as made_by_message}
+use Rattle.wl_server.specs.Requests.{state_past, registries_after, object_in, ended_object, ended}
+use Rattle.wl_server.specs.Requests.{report}
 use Rattle.wl_server.specs.Registries.{without_registry, registry_birth}
-use Rattle.theory_connection.specs.Meant.{Event, Delete, Born, Known, Message, Coming, Arg, renamed, recoming, rearg, born_of, birth_of, wire, tokens, spelled, spelled_coming, made_in, objects, plain, ended_by}
-use Rattle.theory_connection.specs.World.{World, Open, Each, IfThere, delete, request_read, same, registries_without, registries_after as marks_after}
+use Rattle.theory_connection.specs.Meant.{Event, Delete, Born, Known, Message, Coming, Arg, renamed}
+use Rattle.theory_connection.specs.Meant.{recoming, rearg, born_of, birth_of, wire, tokens, spelled}
+use Rattle.theory_connection.specs.Meant.{spelled_coming, made_in, objects, plain, ended_by}
+use Rattle.theory_connection.specs.World.{World, Open, Each, IfThere, delete, request_read, same}
+use Rattle.theory_connection.specs.World.{registries_without, registries_after as marks_after}
 use Rattle.theory_connection.specs.Pair.{PairState, with_server}
 use Rattle.theory_connection.specs.Answers.{rows_of_server}
 use Rattle.theory_connection.specs.Flight.{Rows, Fresh, Tied, all_asks, server_rows, as_row}
-use Rattle.theory_connection.specs.Stands.{DeletesFollow, BeginsWithDelete, StandsBy, Fits, ComesFitly, InFlight, by_event}
+use Rattle.theory_connection.specs.Stands.{DeletesFollow, BeginsWithDelete, StandsBy, Fits}
+use Rattle.theory_connection.specs.Stands.{ComesFitly, InFlight, by_event}
 use Rattle.theory_connection.proofs.Flight.{reads_more}
 use Rattle.theory_connection.proofs.WholeInFlight.{ThereRow, asks_at, AsksAt, all_tells_more}
 use Rattle.theory_connection.proofs.RowsAfterMessage.{there_row, server_after, made_map}
@@ -55,7 +62,8 @@ pub record InFront (p : PairState) (w : World) (m : Message Known) (n : ℕ) : T
   pub same_target : plain entry ≡ m.target.born
   pub met : AllMet p.server.core.view (rows_of_server w) m.args
 
-held_at_server : (p : PairState) (w : World) (asked : List (Message Known)) (told : List (Coming Known)) → StandsBy p w asked told → (x : Known) → 0 < x.id → ThereRow (server_rows p.server.core.view) x
+held_at_server : (p : PairState) (w : World) (asked : List (Message Known)) (told : List (Coming Known))
+    → StandsBy p w asked told → (x : Known) → 0 < x.id → ThereRow (server_rows p.server.core.view) x
     → HeldAt p.server.core.view (rows_of_server w) x
 held_at_server p w asked told s x some h =
     let r = there_row p.server.core.view x h in
@@ -66,15 +74,18 @@ held_at_server p w asked told s x some h =
       entry = r.entry;
       there = r.there;
       same = r.same;
-      shown = ap (option_map Open) shown ∙ ap (λ (b : Born). Some (Open b)) (sym r.same) ∙ ap (λ st. Some (as_row st (plain r.entry))) (sym live);
+      shown = ap (option_map Open) shown ∙ ap (λ (b : Born). Some (Open b)) (sym r.same)
+          ∙ ap (λ st. Some (as_row st (plain r.entry))) (sym live);
     }
 
 -- the test for a destroying event, by the pair's tables
 abbrev pub test_of : PairState → Born → Bool
 test_of p = by_event p.server.core.tables
 
-pub request_front : (p : PairState) (w : World) (m : Message Known) (ms : List (Message Known)) (told : List (Coming Known)) (s : StandsBy p w (m ∷ ms) told) (n : ℕ)
-    → AsksAt (test_of p) (all_asks ms) (server_rows p.server.core.view) s.meet.middle m.target (objects m.args) (made_in m.args) m.ends → InFront p w m n
+pub request_front : (p : PairState) (w : World) (m : Message Known) (ms : List (Message Known))
+    (told : List (Coming Known)) (s : StandsBy p w (m ∷ ms) told) (n : ℕ)
+    → AsksAt (test_of p) (all_asks ms) (server_rows p.server.core.view) s.meet.middle m.target (objects m.args)
+    (made_in m.args) m.ends → InFront p w m n
 request_front p w m ms told s n a =
     let r = there_row p.server.core.view m.target a.target in
     let f = s.requests.fit.0.fits in
@@ -82,8 +93,10 @@ request_front p w m ms told s n a =
       entry = r.entry;
       there = r.there;
       same_target = r.same;
-      met = all_met p.server.core.tables m.target.born.version p.server.core.view (rows_of_server w) (ThereRow (server_rows p.server.core.view)) (held_at_server p w (m ∷ ms) told s)
-          f.signature.kinds m.args f.args a.args (news_free p.server.core.view m.args m.args s.server.sound a.new f.new_is);
+      met = all_met p.server.core.tables m.target.born.version p.server.core.view (rows_of_server w)
+          (ThereRow (server_rows p.server.core.view)) (held_at_server p w (m ∷ ms) told s)
+          f.signature.kinds m.args f.args a.args (news_free p.server.core.view m.args m.args s.server.sound a.new
+          f.new_is);
     }
 
 no_bad_bind : (b g : Bool) → (b ≡ true → g ≡ true) → (b && not g) ≡ false
@@ -94,14 +107,23 @@ no_bad_bind true g h = rw (h refl) refl
 
 -- the delete of what ends follows in the outbox
 pub followed : (b : Bool) (id : ℕ) (o : Option Known) (c : Core) → b ≡ is_some o → IfThere (λ x. x.id ≡ id) o
-    → with_following b id c ≡ record c { outbox = record c.outbox { messages = c.outbox.messages ++ map spelled_coming (delete o) } }
-followed b id None c f h = ap (λ (k : Bool). with_following k id c) f ∙ (λ i. record c { outbox = record c.outbox { messages = sym (append-nil c.outbox.messages) i } })
+    → with_following b id c ≡ record c {
+      outbox =
+          record c.outbox { messages = c.outbox.messages ++ map spelled_coming (delete o) };
+    }
+followed b id None c f h = ap (λ (k : Bool). with_following k id c) f
+    ∙ (λ i. record c { outbox = record c.outbox { messages = sym (append-nil c.outbox.messages) i } })
 followed b id (Some x) c f h = λ i. with_following (f i) (sym h i) c
 
 -- a delete is a whole message within the limit
-pub delete_whole : (limit : Limit) (o : Option Known) → Each (λ (m : boxes.Message). IsMessage limit.bytes m.bytes) (map spelled_coming (delete o))
+pub delete_whole : (limit : Limit) (o : Option Known)
+    → Each (λ (m : boxes.Message). IsMessage limit.bytes m.bytes) (map spelled_coming (delete o))
 delete_whole limit None = tt
-delete_whole limit (Some x) = (whole_within limit 1 1 (Uint x.id ∷ []) (omega arith) (omega (arith, limit.in_range.0)), tt)
+delete_whole limit (Some x) = (
+  whole_within limit 1 1 (Uint x.id ∷ []) (omega arith)
+      (omega (arith, limit.in_range.0)),
+  tt,
+)
 
 -- the delete of what ends, by births
 pub map_delete : (o : Option Known) → map (recoming born_of) (delete o) ≡ delete (option_map born_of o)
@@ -113,7 +135,8 @@ births_of v None g = tt
 births_of v (Some x) g = g.birth
 
 -- a delete of a low id fits
-pub delete_fits : (p : PairState) (o : Option Known) → IfThere (λ x. x.id ≤ 1048576) o → Each (ComesFitly p.server.core.tables p.server.globals) (delete o)
+pub delete_fits : (p : PairState) (o : Option Known) → IfThere (λ x. x.id ≤ 1048576) o
+    → Each (ComesFitly p.server.core.tables p.server.globals) (delete o)
 delete_fits p None h = tt
 delete_fits p (Some x) h = (h, tt)
 
@@ -138,50 +161,78 @@ record EndsRightly (what : Destroys) (object : Object) (o : Option Known) : Type
   ends : EndsAs what object.id o
   birth : IfThere (λ x. x.born.birth ≡ object.birth) o
 
-ends_named : (c : Core) (target : Known) (args : List (Arg Known)) (k : ℕ) (x : Known) (waiting : List ℕ) → k ≡ 0 → args ≡ Obj (Some x) ∷ [] → 0 < x.id → ThereRow (server_rows c.view) x
-    → EndsRightly (ends_arg k) (object_in (slice_get (reports_of (reader_of c.view) waiting (map wire args)) k)) (ended_by (ends_arg k) target args)
+ends_named : (c : Core) (target : Known) (args : List (Arg Known)) (k : ℕ) (x : Known) (waiting : List ℕ) → k ≡ 0
+    → args ≡ Obj (Some x) ∷ [] → 0 < x.id → ThereRow (server_rows c.view) x
+    → EndsRightly (ends_arg k) (object_in (slice_get (reports_of (reader_of c.view) waiting (map wire args)) k))
+    (ended_by (ends_arg k) target args)
 ends_named c target args k x waiting z e some h =
     let r = there_row c.view x h in
-    let named = named_object (reader_of c.view) waiting x.id r.entry (ne_eqb x.id 0 (λ n. (omega (arith, n, some)))) r.there in
-    subst (λ (l : List (Arg Known)). EndsRightly (ends_arg k) (object_in (slice_get (reports_of (reader_of c.view) waiting (map wire l)) k)) (ended_by (ends_arg k) target l)) (sym e)
-    (subst (λ (n : ℕ). EndsRightly (ends_arg n) (object_in (slice_get (reports_of (reader_of c.view) waiting (map wire (Obj (Some x) ∷ []))) n)) (ended_by (ends_arg n) target (Obj (Some x) ∷ []))) (sym z)
-    (subst (λ (object : Object). EndsRightly (ends_arg 0) object (Some x)) (sym named) (record { ends = record { flag = refl; same = refl }; birth = sym (ap birth_of r.same) })))
+    let named = named_object (reader_of c.view) waiting x.id r.entry
+    (ne_eqb x.id 0 (λ n. (omega (arith, n, some)))) r.there in
+    subst (λ (l : List (Arg Known)). EndsRightly (ends_arg k)
+    (object_in (slice_get (reports_of (reader_of c.view) waiting (map wire l)) k)) (ended_by (ends_arg k) target l))
+    (sym e)
+    (subst (λ (n : ℕ). EndsRightly (ends_arg n) (object_in
+    (slice_get (reports_of (reader_of c.view) waiting (map wire (Obj (Some x) ∷ []))) n))
+    (ended_by (ends_arg n) target (Obj (Some x) ∷ []))) (sym z)
+    (subst (λ (object : Object). EndsRightly (ends_arg 0) object (Some x)) (sym named)
+    (record { ends = record { flag = refl; same = refl }; birth = sym (ap birth_of r.same) })))
 
-ends_rightly : (st : server.State) (m : Message Known) (n : ℕ) (entry : Entry) (f : Fits st.core.tables request_side m) → Valid st.core.tables → plain entry ≡ m.target.born
-    → ThereRow (server_rows st.core.view) m.target → Each (ThereRow (server_rows st.core.view)) (objects m.args) → EndsRightly f.signature.destroys (ended st.core (the_found n m entry f.signature)) m.ends
-ends_rightly st m n entry f v s h hs = subst (EndsRightly f.signature.destroys (ended st.core (the_found n m entry f.signature))) (sym f.ends) (by_what f.signature.destroys refl)
+ends_rightly : (st : server.State) (m : Message Known) (n : ℕ) (entry : Entry) (f : Fits st.core.tables request_side m)
+    → Valid st.core.tables → plain entry ≡ m.target.born
+    → ThereRow (server_rows st.core.view) m.target → Each (ThereRow (server_rows st.core.view)) (objects m.args)
+    → EndsRightly f.signature.destroys (ended st.core (the_found n m entry f.signature)) m.ends
+ends_rightly st m n entry f v s h hs = subst (EndsRightly f.signature.destroys
+    (ended st.core (the_found n m entry f.signature))) (sym f.ends) (by_what f.signature.destroys refl)
   where
-    by_what : (what : Destroys) → f.signature.destroys ≡ what → EndsRightly what (ended_object what (report st.core (the_found n m entry f.signature))) (ended_by what m.target m.args)
+    by_what : (what : Destroys) → f.signature.destroys ≡ what
+        → EndsRightly what (ended_object what (report st.core (the_found n m entry f.signature)))
+        (ended_by what m.target m.args)
     by_what Nothing d = record { ends = record { flag = refl; same = tt }; birth = tt }
     by_what Target d = record { ends = record { flag = refl; same = refl }; birth = sym (ap birth_of s) }
     by_what (ends_arg k) d =
         let a = argument_is st.core.tables request_side m f k v d in
-        let there : ThereRow (server_rows st.core.view) a.1.it = (subst (λ (l : List (Arg Known)). Each (ThereRow (server_rows st.core.view)) (objects l)) a.1.are hs).0 in
+        let there : ThereRow (server_rows st.core.view) a.1.it =
+        (subst (λ (l : List (Arg Known)). Each (ThereRow (server_rows st.core.view)) (objects l)) a.1.are hs).0
+        in
         ends_named st.core m.target m.args k a.1.it st.core.inbox.tokens a.0 a.1.are a.1.some there
 
 -- reading a request leaves the server so
-pub left_is : (st : server.State) (m : Message Known) (n : ℕ) (entry : Entry) (f : Fits st.core.tables request_side m) → Valid st.core.tables → plain entry ≡ m.target.born
+pub left_is : (st : server.State) (m : Message Known) (n : ℕ) (entry : Entry) (f : Fits st.core.tables request_side m)
+    → Valid st.core.tables → plain entry ≡ m.target.born
     → ThereRow (server_rows st.core.view) m.target → Each (ThereRow (server_rows st.core.view)) (objects m.args)
     → state_past st (the_found n m entry f.signature) ≡ left_state st m n
 left_is st m n entry f v s h hs =
     let what = f.signature.destroys in
     let made : made_by_message st.core (the_message m entry f.signature) ≡ option_map made_of (made_in m.args) =
-    ap (λ (b : Born). made_message st.core.tables b.version f.signature.kinds (map wire m.args)) s ∙ made_read st.core.tables m.target.born.version f.signature.kinds m.args f.args in
-    let count : descriptors f.signature.kinds ≡ length (tokens m.args) = tokens_taken st.core.tables m.target.born.version f.signature.kinds m.args f.args in
+    ap (λ (b : Born). made_message st.core.tables b.version f.signature.kinds (map wire m.args)) s
+    ∙ made_read st.core.tables m.target.born.version f.signature.kinds m.args f.args in
+    let count : descriptors f.signature.kinds ≡ length (tokens m.args) =
+    tokens_taken st.core.tables m.target.born.version f.signature.kinds m.args f.args in
     let object = ended st.core (the_found n m entry f.signature) in
     let e = ends_rightly st m n entry f v s h hs in
     let new = option_map made_of (made_in m.args) in
     let view = after_is server_end st.core.view new what object.id m.ends e.ends in
     (λ i. record st {
-      core = with_following (destroys_one what) object.id (with_view (past st.core n (count i)) (after server_end st.core.view (made i) what object.id));
-      registries = without_registry registry_birth (destroys_one what) object.birth (registries_after st.core st.registries (made i));
+      core = with_following (destroys_one what) object.id
+          (with_view (past st.core n (count i)) (after server_end st.core.view (made i) what object.id));
+      registries = without_registry registry_birth (destroys_one what) object.birth
+          (registries_after st.core st.registries (made i));
     })
     ∙ ((λ i. record st {
-      core = with_following (destroys_one what) object.id (with_view (past st.core n (length (tokens m.args))) (view i));
-      registries = left_are (destroys_one what) object.birth m.ends (registries_after st.core st.registries new) e.ends.flag e.birth i;
+      core = with_following (destroys_one what) object.id
+          (with_view (past st.core n (length (tokens m.args))) (view i));
+      registries = left_are (destroys_one what) object.birth m.ends
+          (registries_after st.core st.registries new) e.ends.flag e.birth i;
     })
-    ∙ ap (λ (c : Core). record st { core = c; registries = registries_left m.ends (registries_after st.core st.registries new) })
-    (followed (destroys_one what) object.id m.ends (with_view (past st.core n (length (tokens m.args))) (ended_view server_end (opens st.core.view new) m.ends)) e.ends.flag e.ends.same))
+    ∙ ap (λ (c : Core). record st {
+      core = c;
+      registries = registries_left m.ends
+          (registries_after st.core st.registries new);
+    })
+    (followed (destroys_one what) object.id m.ends
+    (with_view (past st.core n (length (tokens m.args))) (ended_view server_end (opens st.core.view new) m.ends))
+    e.ends.flag e.ends.same))
 
 -- ---- deletes follow
 
@@ -213,24 +264,29 @@ pub low_there : (v : View) → Sound v → (x : Known) → ThereRow (server_rows
 low_there v s x h = let r = there_row v x h in (row_low v x.id r.entry s r.there).1
 
 -- a pair stands again after the server has read a request
-pub server_read_stands : (p : PairState) (w : World) (m : Message Known) (ms : List (Message Known)) (told : List (Coming Known)) (s : StandsBy p w (m ∷ ms) told) (n : ℕ)
-    → AsksAt (test_of p) (all_asks ms) (server_rows p.server.core.view) s.meet.middle m.target (objects m.args) (made_in m.args) m.ends
+pub server_read_stands : (p : PairState) (w : World) (m : Message Known) (ms : List (Message Known))
+    (told : List (Coming Known)) (s : StandsBy p w (m ∷ ms) told) (n : ℕ)
+    → AsksAt (test_of p) (all_asks ms) (server_rows p.server.core.view) s.meet.middle m.target (objects m.args)
+    (made_in m.args) m.ends
     → InFlight p.client.core.outbox (without_first p.server.core.inbox n (length (tokens m.args))) (map spelled ms)
-    → StandsBy (with_server p (left_state p.server m n)) (request_read w (renamed born_of m) (map (renamed born_of) ms)) ms (told ++ delete m.ends)
+    → StandsBy (with_server p (left_state p.server m n))
+    (request_read w (renamed born_of m) (map (renamed born_of) ms)) ms (told ++ delete m.ends)
 server_read_stands p w m ms told s n a up =
     let f = s.requests.fit.0.fits in
     let v = p.server.core.view in
     let new = made_in m.args in
     let rows = server_after v new m.ends a.new in
     let world_new : made_in (map (rearg born_of) m.args) ≡ option_map born_of new = made_map born_of m.args in
-    let there : IfThere (ThereRow (server_rows v)) m.ends = ends_have (ThereRow (server_rows v)) p.server.core.tables request_side m f a.target a.args in
+    let there : IfThere (ThereRow (server_rows v)) m.ends =
+    ends_have (ThereRow (server_rows v)) p.server.core.tables request_side m f a.target a.args in
     let low : IfThere (λ x. x.id ≤ 1048576) m.ends = if_by (low_there v s.server.sound) m.ends there in
     record {
       terms = s.terms;
       client = s.client;
       server = rw world_new (server_message s.server new m.ends a.new f.new_version there a.mortal);
       requests = record { in_world = refl; in_boxes = up; fit = s.requests.fit.1 };
-      events = travel_more p.server.core.outbox (left_core p.server.core m n).outbox p.client.core.inbox w.events _ told (delete m.ends) s.events (ap (λ (l : List (Coming Born)). w.events ++ l) (sym (map_delete m.ends)))
+      events = travel_more p.server.core.outbox (left_core p.server.core m n).outbox p.client.core.inbox w.events _ told
+          (delete m.ends) s.events (ap (λ (l : List (Coming Born)). w.events ++ l) (sym (map_delete m.ends)))
           refl refl (delete_whole p.client.core.inbox.limit m.ends) (delete_fits p m.ends low);
       deletes_follow = follow_more told (delete m.ends) s.deletes_follow (follow_delete m.ends);
       meet = record {
@@ -240,46 +296,58 @@ server_read_stands p w m ms told s n a up =
       };
       globals = s.globals;
       registries = record {
-        told = rw world_new (ap (λ (l : List _). registries_without (option_map born_of m.ends) (marks_after (option_map born_of new) l)) s.registries.told
-            ∙ ap (registries_without (option_map born_of m.ends)) (sym (marks_with p.server.core p.server.registries new (births_of v new a.new)))
+        told = rw world_new (ap (λ (l : List _). registries_without (option_map born_of m.ends)
+            (marks_after (option_map born_of new) l)) s.registries.told
+            ∙ ap (registries_without (option_map born_of m.ends))
+            (sym (marks_with p.server.core p.server.registries new (births_of v new a.new)))
             ∙ sym (marks_left m.ends (registries_after p.server.core p.server.registries (option_map made_of new))));
-        open_registries = has_read p.server.core p.server.registries new m.ends s.server.sound (fresh_row v new a.new) (if_by (there_row v) m.ends there) s.registries.open_registries;
+        open_registries = has_read p.server.core p.server.registries new m.ends s.server.sound (fresh_row v new a.new)
+            (if_by (there_row v) m.ends there) s.registries.open_registries;
       };
     }
 
 -- ---- what is answered
 
 -- a request in front: its objects are open, it is found, and the rest is in flight
-pub record InRequest (p : PairState) (w : World) (m : Message Known) (ms : List (Message Known)) (told : List (Coming Known)) (s : StandsBy p w (m ∷ ms) told) (n : ℕ) : Type 0 where
+pub record InRequest (p : PairState) (w : World) (m : Message Known) (ms : List (Message Known))
+    (told : List (Coming Known)) (s : StandsBy p w (m ∷ ms) told) (n : ℕ) : Type 0 where
   pub entry : Entry
   pub same_target : plain entry ≡ m.target.born
   pub met : AllMet p.server.core.view (rows_of_server w) m.args
   pub finds_it : request p.server ≡ Ok (Some (the_found n m entry s.requests.fit.0.fits.signature))
-  pub asks_it : AsksAt (test_of p) (all_asks ms) (server_rows p.server.core.view) s.meet.middle m.target (objects m.args) (made_in m.args) m.ends
+  pub asks_it : AsksAt (test_of p) (all_asks ms) (server_rows p.server.core.view) s.meet.middle m.target
+      (objects m.args) (made_in m.args) m.ends
   pub up : InFlight p.client.core.outbox (without_first p.server.core.inbox n (length (tokens m.args))) (map spelled ms)
   pub more : List ℕ
   pub tokens_are : p.server.core.inbox.tokens ≡ tokens m.args ++ more
 
-judge : (st : server.State) (f : Found) → (is_bind request_side f.message.entry.iface f.opcode && not (is_good_bind st f.message.values)) ≡ false → found st.core request_side ≡ Ok (Some f) → request st ≡ Ok (Some f)
+judge : (st : server.State) (f : Found) → (is_bind request_side f.message.entry.iface f.opcode
+    && not (is_good_bind st f.message.values)) ≡ false → found st.core request_side ≡ Ok (Some f)
+    → request st ≡ Ok (Some f)
 judge st f h e = ap (judged st) e ∙ rw h refl
 
 -- the first request, where it is whole
-pub in_request : (p : PairState) (w : World) (m : Message Known) (ms : List (Message Known)) (told : List (Coming Known)) (s : StandsBy p w (m ∷ ms) told) (n : ℕ)
+pub in_request : (p : PairState) (w : World) (m : Message Known) (ms : List (Message Known))
+    (told : List (Coming Known)) (s : StandsBy p w (m ∷ ms) told) (n : ℕ)
     → in_front p.server.core.inbox ≡ Whole n → InRequest p w m ms told s n
 in_request p w m ms told s n e =
     let q = first_read p.client.core.outbox p.server.core.inbox (spelled m) (map spelled ms) n s.requests.in_boxes e in
     let a = asks_at m.target (objects m.args) (made_in m.args) m.ends s.meet.tied in
     let i = request_front p w m ms told s n a in
     let f = s.requests.fit.0.fits in
-    let there = finds p.server.core request_side m n (rows_of_server w) i.entry f e q.bytes i.there i.same_target i.met q.enough in
-    let binds : is_bind request_side i.entry.iface m.opcode ≡ true → is_good_bind p.server (map wire m.args) ≡ true = λ h. (
+    let there = finds p.server.core request_side m n
+    (rows_of_server w) i.entry f e q.bytes i.there i.same_target i.met q.enough in
+    let binds : is_bind request_side i.entry.iface m.opcode ≡ true
+    → is_good_bind p.server (map wire m.args) ≡ true = λ h. (
     let b = s.requests.fit.0.binds (sym (ap (λ (x : Born). is_bind request_side x.iface m.opcode) i.same_target) ∙ h) in
     ap (λ (l : List (Arg Known)). is_good_bind p.server (map wire l)) b.args_are ∙ b.was_given) in
     record {
       entry = i.entry;
       same_target = i.same_target;
       met = i.met;
-      finds_it = judge p.server (the_found n m i.entry f.signature) (no_bad_bind (is_bind request_side i.entry.iface m.opcode) (is_good_bind p.server (map wire m.args)) binds) there;
+      finds_it = judge p.server (the_found n m i.entry f.signature)
+          (no_bad_bind (is_bind request_side i.entry.iface m.opcode) (is_good_bind p.server (map wire m.args)) binds)
+          there;
       asks_it = a;
       up = q.stay;
       more = q.more;

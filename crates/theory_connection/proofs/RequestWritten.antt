@@ -9,12 +9,14 @@ use Rattle.wl_object_map.specs.Sounds.{Sound-opened}
 use Rattle.wl_objects.specs.Messages.{Client as client_end, opens as opens_view}
 use Rattle.wl_connection.specs.Core.{Core}
 use Rattle.wl_connection.proofs.Messages.{whole_within}
-use Rattle.theory_connection.specs.Meant.{Known, Message, Coming, renamed, rearg, born_of, wire, spelled, made_in, objects}
+use Rattle.theory_connection.specs.Meant.{Known, Message, Coming, renamed, rearg, born_of, wire}
+use Rattle.theory_connection.specs.Meant.{spelled, made_in, objects}
 use Rattle.theory_connection.specs.World.{World, Row, Each, IfThere, request_written}
 use Rattle.theory_connection.specs.Pair.{PairState, with_client_core}
 use Rattle.theory_connection.specs.Flight.{Rows, Fresh, Meets, asks, all_asks, all_tells, client_rows, server_rows}
 use Rattle.theory_connection.specs.Stands.{StandsBy, AsksFitly}
-use Rattle.theory_connection.proofs.WholeInFlight.{OpenRow, client_makes, client_ends, ask_meets, all_asks_more, live_made_if}
+use Rattle.theory_connection.proofs.WholeInFlight.{OpenRow, client_makes, client_ends, ask_meets}
+use Rattle.theory_connection.proofs.WholeInFlight.{all_asks_more, live_made_if}
 use Rattle.theory_connection.proofs.RowsAfterMessage.{held_row, client_after, made_map}
 use Rattle.theory_connection.proofs.Stands.{client_message, travel_more}
 use Rattle.theory_connection.proofs.ReadAsMeant.{made_of}
@@ -48,34 +50,49 @@ asked_core c m = record c {
 abbrev pub asked_pair : PairState → Message Known → PairState
 asked_pair p m = with_client_core p (asked_core p.client.core m)
 
-opens_sound : (v : View) (n : Option Known) → Sound v → IfThere (λ x. x.id ≡ next_id v) n → IfThere (λ (x : Known). can_open v ≡ true) n → Sound (opens_view v (option_map made_of n))
+opens_sound : (v : View) (n : Option Known) → Sound v → IfThere (λ x. x.id ≡ next_id v) n
+    → IfThere (λ (x : Known). can_open v ≡ true) n → Sound (opens_view v (option_map made_of n))
 opens_sound v None s e c = s
-opens_sound v (Some x) s e c = subst (λ (i : ℕ). Sound (opened_at v i x.born.iface x.born.version)) (sym e) (Sound-opened v x.born.iface x.born.version s c)
+opens_sound v (Some x) s e c = subst (λ (i : ℕ). Sound (opened_at v i x.born.iface x.born.version)) (sym e)
+    (Sound-opened v x.born.iface x.born.version s c)
 
 -- a pair stands again after the client has written a request
-pub ask_stands : (p : PairState) (w : World) (asked : List (Message Known)) (told : List (Coming Known)) (s : StandsBy p w asked told) (m : Message Known) (c : CanAsk p m)
+pub ask_stands : (p : PairState) (w : World) (asked : List (Message Known)) (told : List (Coming Known))
+    (s : StandsBy p w asked told) (m : Message Known) (c : CanAsk p m)
     → StandsBy (asked_pair p m) (request_written w (renamed born_of m)) (asked ++ m ∷ []) told
 ask_stands p w asked told s m c =
     let f = c.fitly.fits in
     let v = p.client.core.view in
     let new = made_in m.args in
     let world_new : made_in (map (rearg born_of) m.args) ≡ option_map born_of new = made_map born_of m.args in
-    let opened : IfThere (OpenRow (client_rows v)) m.ends = ends_have (OpenRow (client_rows v)) p.server.core.tables Request m f c.target c.args in
-    let no_event : IfThere (λ x. test_of p x.born ≡ false) m.ends = ends_have (λ x. test_of p x.born ≡ false) p.server.core.tables Request m f c.target_plain c.args_plain in
-    let rows : client_rows (ended_view client_end (opens_view v (option_map made_of new)) m.ends) ≡ client_ends m.ends (client_makes (client_rows v) new) =
+    let opened : IfThere (OpenRow (client_rows v)) m.ends =
+    ends_have (OpenRow (client_rows v)) p.server.core.tables Request m f c.target c.args in
+    let no_event : IfThere (λ x. test_of p x.born ≡ false) m.ends =
+    ends_have (λ x. test_of p x.born ≡ false) p.server.core.tables Request m f c.target_plain c.args_plain in
+    let rows : client_rows (ended_view client_end (opens_view v (option_map made_of new)) m.ends)
+    ≡ client_ends m.ends (client_makes (client_rows v) new) =
     client_after v new m.ends c.new (if_by (λ x h. held_row v x (inl h)) m.ends opened) in
-    let objects_stand = client_message s.client new m.ends (opens_sound v new s.client.sound c.new_next c.new_can) c.new f.new_version (if_by (λ x h. inl h) m.ends opened)
-    (if_by (λ x h. inl h) m.ends (live_made_if (client_rows v) new m.ends c.new opened)) c.mortal p.client.core.failed s.client.lives in
+    let objects_stand = client_message s.client new m.ends
+    (opens_sound v new s.client.sound c.new_next c.new_can) c.new f.new_version
+    (if_by (λ x h. inl h) m.ends opened)
+    (if_by (λ x h. inl h) m.ends (live_made_if (client_rows v) new m.ends c.new opened)) c.mortal p.client.core.failed
+    s.client.lives in
     record {
       terms = s.terms;
       client = rw world_new objects_stand;
       server = s.server;
-      requests = travel_more p.client.core.outbox (asked_core p.client.core m).outbox p.server.core.inbox w.requests _ asked (m ∷ []) s.requests refl refl refl
-          (whole_within p.server.core.inbox.limit m.target.id m.opcode (map wire m.args) f.opcode (subst (λ (l : ℕ). message_len (map wire m.args) ≤ l) s.terms.up_limit c.short), tt) (c.fitly, tt);
+      requests = travel_more p.client.core.outbox
+          (asked_core p.client.core m).outbox p.server.core.inbox w.requests _ asked (m ∷ []) s.requests refl refl refl (
+            whole_within p.server.core.inbox.limit m.target.id m.opcode (map wire m.args) f.opcode
+                (subst (λ (l : ℕ). message_len (map wire m.args) ≤ l) s.terms.up_limit c.short),
+            tt,
+          ) (c.fitly, tt);
       events = s.events;
       deletes_follow = s.deletes_follow;
-      meet = rw (all_asks_more asked m) (subst (λ (x : Rows Row). Meets (test_of p) (all_tells told) (all_asks asked ++ asks m) x (server_rows p.server.core.view)) (sym rows)
-          (ask_meets m.target (objects m.args) new m.ends s.meet c.target c.target_plain c.args c.args_plain c.new opened no_event c.mortal));
+      meet = rw (all_asks_more asked m) (subst (λ (x : Rows Row). Meets (test_of p) (all_tells told)
+          (all_asks asked ++ asks m) x (server_rows p.server.core.view)) (sym rows)
+          (ask_meets m.target (objects m.args) new m.ends s.meet c.target c.target_plain c.args c.args_plain c.new
+          opened no_event c.mortal));
       globals = s.globals;
       registries = s.registries;
     }

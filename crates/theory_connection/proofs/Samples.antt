@@ -2,8 +2,11 @@
 use Rattle.std.proofs.Common.{List, [], ◌∷◌, refl}
 use Rattle.wl_sigs.specs.Tables.{Interface}
 use Rattle.theory_connection.specs.Meant.{Delete}
-use Rattle.theory_connection.specs.World.{put, nothing, writes_request, reads_request, writes_event, reads_event, reads_delete}
-use Rattle.theory_connection.specs.Samples.{CallbackLives, sync, done, called, DeadArgument, enter, destroy, DeadRegistry, tell, destroy_registry, registered}
+use Rattle.theory_connection.specs.World.{put, nothing, writes_request, reads_request, writes_event}
+use Rattle.theory_connection.specs.World.{reads_event, reads_delete}
+use Rattle.theory_connection.specs.Samples.{CallbackLives, sync, done, called, DeadArgument, enter}
+use Rattle.theory_connection.specs.Samples.{destroy, DeadRegistry, tell, destroy_registry}
+use Rattle.theory_connection.specs.Samples.{registered}
 
 -- the steps of a callback from its making to its delete, in any tables
 pub callback_lives : (tables : List Interface) → CallbackLives tables

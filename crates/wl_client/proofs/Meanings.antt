@@ -24,7 +24,8 @@ first_named (Obj named ∷ list) = named
 first_named _ = named_as.Null
 
 -- the object that was parsed first is the one of its id
-pub named_first : (r : Reader) (body : List ℕ) (parsed : List ParsedArg) → AreParsed r body parsed (spelled_in body parsed)
+pub named_first : (r : Reader) (body : List ℕ) (parsed : List ParsedArg)
+    → AreParsed r body parsed (spelled_in body parsed)
     → object_in (slice_get parsed 0) ≡ named_at r (id_in (argument (spelled_in body parsed) 0))
 named_first r body [] h = refl
 named_first r body (parsed_as.Null ∷ parsed) h = refl
@@ -40,17 +41,24 @@ named_first r body (parsed_as.Array len start ∷ parsed) h = refl
 named_first r body (parsed_as.Fd place ∷ parsed) h = refl
 
 -- a message of wl_display tells nothing of globals
-not_told : (iface : Iface) (b live : Bool) (told globals : List Global) → (same_iface iface display && b) ≡ true → (if same_iface iface registry && live then told else globals) ≡ globals
+not_told : (iface : Iface) (b live : Bool) (told globals : List Global) → (same_iface iface display && b) ≡ true
+    → (if same_iface iface registry && live then told else globals) ≡ globals
 not_told iface b live told globals h = by_test (same_iface iface display) refl h
   where
-    by_test : (d : Bool) → same_iface iface display ≡ d → (d && b) ≡ true → (if same_iface iface registry && live then told else globals) ≡ globals
+    by_test : (d : Bool) → same_iface iface display ≡ d → (d && b) ≡ true
+        → (if same_iface iface registry && live then told else globals) ≡ globals
     by_test false e k = absurd (cc k)
-    by_test true e k = ap (λ (n : ℕ). if nat_eq n registry.0 && live then told else globals) (eqb-true iface.0 display.0 e)
+    by_test true e k = ap (λ (n : ℕ). if nat_eq n registry.0 && live then told else globals)
+        (eqb-true iface.0 display.0 e)
 
-pub error_not_told : (tables : List Interface) (globals : List Global) (f : Found) → is_error_event f ≡ true → globals_by tables globals f ≡ globals
+pub error_not_told : (tables : List Interface) (globals : List Global) (f : Found) → is_error_event f ≡ true
+    → globals_by tables globals f ≡ globals
 error_not_told tables globals f h =
-    not_told f.message.entry.iface (nat_eq f.opcode 0) (is_live f.message.entry.state) (globals_told tables globals f.opcode f.message.values) globals h
+    not_told f.message.entry.iface (nat_eq f.opcode 0) (is_live f.message.entry.state)
+    (globals_told tables globals f.opcode f.message.values) globals h
 
-pub delete_not_told : (tables : List Interface) (globals : List Global) (f : Found) → is_delete_event f ≡ true → globals_by tables globals f ≡ globals
+pub delete_not_told : (tables : List Interface) (globals : List Global) (f : Found) → is_delete_event f ≡ true
+    → globals_by tables globals f ≡ globals
 delete_not_told tables globals f h =
-    not_told f.message.entry.iface (nat_eq f.opcode 1) (is_live f.message.entry.state) (globals_told tables globals f.opcode f.message.values) globals h
+    not_told f.message.entry.iface (nat_eq f.opcode 1) (is_live f.message.entry.state)
+    (globals_told tables globals f.opcode f.message.values) globals h

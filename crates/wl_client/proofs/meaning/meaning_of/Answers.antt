@@ -9,5 +9,6 @@ pub returns-in-Zombie-clause-changed : goal.returns-in-Zombie-clause-changed
 returns-in-Zombie-clause-changed g c =
     let view = g.T.Table.view c.args.table.now in
     let m = c.args.message.now in
-    let same = after_zombie view m.signature.now.destroys m.target.id (message_of m).values m.entry c.requires.argument c.requires.row (search c.in-Zombie.is) in
+    let same = after_zombie view m.signature.now.destroys m.target.id
+    (message_of m).values m.entry c.requires.argument c.requires.row (search c.in-Zombie.is) in
     ap (λ (x : Change). changed view x.objects) c.no_change-in-Zombie.ensures ∙ (sym same ∙ search rules)

@@ -10,8 +10,10 @@ use Rattle.wl_objects.proofs.calling.measure.Given as goal
 abbrev pub invariant-kinds : goal.invariant-kinds
 invariant-kinds g l = record {
   before : l.place ≤ length l.args;
-  right : wrong_place l.place (drop l.place l.kinds) (given (drop l.place l.args)) ≡ wrong_place 0 l.kinds (given l.args);
-  lost : option_or l.lost (lost_place (look (g.T.Table.view l.table)) l.place (drop l.place l.kinds) (given (drop l.place l.args))) ≡ lost_place (look (g.T.Table.view l.table)) 0 l.kinds (given l.args);
+  right : wrong_place l.place (drop l.place l.kinds) (given (drop l.place l.args))
+      ≡ wrong_place 0 l.kinds (given l.args);
+  lost : option_or l.lost (lost_place (look (g.T.Table.view l.table)) l.place (drop l.place l.kinds)
+      (given (drop l.place l.args))) ≡ lost_place (look (g.T.Table.view l.table)) 0 l.kinds (given l.args);
   least : l.len + message_len (on_wire 0 (drop l.place l.args)) ≤ message_len (on_wire 0 l.args) + 8;
   exact : l.len ≤ 65535 → l.len + message_len (on_wire 0 (drop l.place l.args)) ≡ message_len (on_wire 0 l.args) + 8;
   in_range : l.len ≤ 65535 → All InRange (given (drop l.place l.args)) → All InRange (given l.args);

@@ -12,7 +12,8 @@ returns-clause-yes g c t =
     elim c.match-find.branch [
       | in-Ok-Some w ↦
           let front = rw w.in-Ok-Some.field-0-is at w.in-Ok-Some.ensures.comes in
-          subst (HasReport reading) c.self.view_is (has_one state front.0 (ap (λ (s : State). s.core.failed) c.self.view_is ∙ c.requires) front.1)
+          subst (HasReport reading) c.self.view_is
+          (has_one state front.0 (ap (λ (s : State). s.core.failed) c.self.view_is ∙ c.requires) front.1)
       | in_default w ↦ absurd (let r = w.result-is in cc)
       | in_default-2 w ↦ absurd (let r = w.result-is in cc)
     ]

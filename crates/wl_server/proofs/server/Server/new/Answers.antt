@@ -15,6 +15,7 @@ invariant_of-result g c =
     let view = ap (λ (k : Core). k.view) (c.new-2.ensures ∙ c.in_ok-core.ensures) in
     record {
       few = grind (arith, c.new-globals.ensures.items);
-      registries = subst (HasRegistries c.new-2.result.core.view) (sym c.new-registries.ensures.items) (subst (λ (v : View). HasRegistries v []) (sym view) has_none);
+      registries = subst (HasRegistries c.new-2.result.core.view) (sym c.new-registries.ensures.items)
+          (subst (λ (v : View). HasRegistries v []) (sym view) has_none);
       births = subst BirthsAreOnce (sym view) (births_of_sound (opening display) (Sound-opening display));
     }
