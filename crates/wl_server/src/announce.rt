@@ -64,7 +64,7 @@ fn write_global<T: Table>(
 fn announce_to<T: Table>(
     core: &mut Core<'_, T>,
     globals: &[Advertised],
-    registry: &mut OpenRegistry<T::Alloc>,
+    registry: &mut OpenRegistry,
 ) -> Announced
     requires few { length globals.now ≤ 1024 }
     requires ordinary { IsOrdinary core.old.outbox }
@@ -99,7 +99,7 @@ fn announce_to<T: Table>(
 fn announce_to_all<T: Table>(
     core: &mut Core<'_, T>,
     globals: &[Advertised],
-    registries: &mut [OpenRegistry<T::Alloc>],
+    registries: &mut [OpenRegistry],
 ) -> Announced
     requires few { length globals.now ≤ 1024 }
     requires ordinary { IsOrdinary core.old.outbox }

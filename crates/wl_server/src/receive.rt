@@ -37,12 +37,7 @@ impl<'t, T: Table> Server<'t, T> {
             (λ server. server ≡ left self.old (after_next self.old) (lent_in result))) }
         ensures answer { IsLentNext self.old (lent_in result) }
     {
-        match read(
-            &mut self.end,
-            &mut self.registries,
-            &self.globals,
-            &self.alloc,
-        )? {
+        match read(&mut self.end, &mut self.registries, &self.globals)? {
             Some(request) => Ok(Some(lend(&self.end, request))),
             None => Ok(None),
         }
@@ -68,24 +63,23 @@ impl<'t, T: Table> Server<'t, T> {
 /// last.
 fn read<T: Table>(
     end: &mut Endpoint<'_, T>,
-    registries: &mut Vec<OpenRegistry<T::Alloc>, T::Alloc>,
+    registries: &mut Vec<OpenRegistry, T::Alloc>,
     globals: &[Advertised],
-    alloc: &T::Alloc,
 ) -> Result<Option<PendingRequest>, NextError>
+    requires { IsSound end.old.core.view registries.old.items }
     ensures answer { IsLentNext (whole_state end.old.core globals.now registries.old.items)
         (taken_in end.new.core end.new.args result) }
     ensures state { whole_state end.new.core globals.now registries.new.items
         ≡ left (whole_state end.old.core globals.now registries.old.items)
         (after_next (whole_state end.old.core globals.now registries.old.items))
         (taken_in end.new.core end.new.args result) }
-    ensures sound { IsSound end.old.core.view registries.old.items
-        → IsSound end.new.core.view registries.new.items }
+    ensures sound { IsSound end.new.core.view registries.new.items }
 {
     let request = match find_or_fail(end, globals)? {
         Some(request) => request,
         None => return Ok(None),
     };
-    match take(end, registries, alloc, &request) {
+    match take(end, registries, &request) {
         Ok(()) => Ok(Some(request)),
         Err(_) => Err(NextError::Memory),
     }
@@ -94,18 +88,18 @@ fn read<T: Table>(
 /// Reads the next request at an end, copies its report, and takes it.
 fn read_owned<T: Table>(
     end: &mut Endpoint<'_, T>,
-    registries: &mut Vec<OpenRegistry<T::Alloc>, T::Alloc>,
+    registries: &mut Vec<OpenRegistry, T::Alloc>,
     globals: &[Advertised],
     alloc: &T::Alloc,
 ) -> Result<Option<OwnedRequest<T::Alloc>>, NextError>
+    requires { IsSound end.old.core.view registries.old.items }
     ensures answer { IsNext (whole_state end.old.core globals.now registries.old.items)
         (report_in result) }
     ensures state { whole_state end.new.core globals.now registries.new.items
         ≡ left (whole_state end.old.core globals.now registries.old.items)
         (after_next (whole_state end.old.core globals.now registries.old.items))
         (report_in result) }
-    ensures sound { IsSound end.old.core.view registries.old.items
-        → IsSound end.new.core.view registries.new.items }
+    ensures sound { IsSound end.new.core.view registries.new.items }
 {
     let request = match find_or_fail(end, globals)? {
         Some(request) => request,
@@ -115,7 +109,7 @@ fn read_owned<T: Table>(
         Ok(report) => report,
         Err(_) => return Err(NextError::Memory),
     };
-    match take(end, registries, alloc, &request) {
+    match take(end, registries, &request) {
         Ok(()) => Ok(Some(report)),
         Err(_) => Err(NextError::Memory),
     }
@@ -174,11 +168,11 @@ fn copy<T: Table>(
 /// that it destroys. If there is no memory for the object that it makes, nothing changes.
 fn take<T: Table>(
     end: &mut Endpoint<'_, T>,
-    registries: &mut Vec<OpenRegistry<T::Alloc>, T::Alloc>,
-    alloc: &T::Alloc,
+    registries: &mut Vec<OpenRegistry, T::Alloc>,
     request: &PendingRequest,
 ) -> Result<(), AllocError>
-    requires { CanTake end.old.core (pending_in end.old.core end.old.args request.now) }
+    requires can { CanTake end.old.core (pending_in end.old.core end.old.args request.now) }
+    requires sound { IsSound end.old.core.view registries.old.items }
     ensures args { end.new.args ≡ end.old.args }
     ensures core { OnOk result (end.new.core
         ≡ core_by end.old.core (pending_in end.old.core end.old.args request.now)) }
@@ -188,17 +182,10 @@ fn take<T: Table>(
     ensures err { OnErr result
         ((end.new.core ≡ end.old.core) × (registries.new.items ≡ registries.old.items)) }
     ensures wants { OnErr result (request.now.change.made ≢ None) }
-    ensures sound { OnOk result (IsSound end.old.core.view registries.old.items
-        → IsSound end.new.core.view registries.new.items) }
+    ensures sound { OnOk result (IsSound end.new.core.view registries.new.items) }
 {
     let Change { made, ended } = request.change;
-    open_new_object(
-        &mut end.core,
-        registries,
-        alloc,
-        made,
-        request.outline.birth,
-    )?;
+    open_new_object(&mut end.core, registries, made, request.outline.birth)?;
     // Nothing is allocated from here on.
     end.core.pass(request.size, request.tokens);
     if let Some(object) = ended {

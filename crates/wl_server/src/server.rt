@@ -17,12 +17,12 @@ use wl_sigs::Tables;
 #[derive(Drop)]
 pub struct Server<'t, T: Table> {
     pub(crate) end: Endpoint<'t, T>,
-    /// Allocates owned reports and the marks of registries.
+    /// Allocates owned reports.
     pub(crate) alloc: T::Alloc,
     /// In the order of their names.
     pub(crate) globals: Vec<Advertised, T::Alloc>,
     /// In the order of their births.
-    pub(crate) registries: Vec<OpenRegistry<T::Alloc>, T::Alloc>,
+    pub(crate) registries: Vec<OpenRegistry, T::Alloc>,
 }
 
 impl<'t, T: Table> Model for Server<'t, T> {
