@@ -74,6 +74,7 @@ ahead core h body args waiting event m v f e found_it s =
         few = omega (arith, b.taken, s.tokens_taken);
         waiting = omega (arith, p.tokens, f.tokens, s.tokens_taken);
         change = s.can;
+        entry = s.entry;
       };
       is_pending = subst (λ (l : List ℕ). IsPending core.tables core.view l args (headed h m) event) (sym behind) s;
       is_reported =

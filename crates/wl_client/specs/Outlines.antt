@@ -7,6 +7,8 @@ use Rattle.std.specs.declared.result.Result.TheVariants.{Ok, Err}
 use Rattle.std.specs.declared.alloc.Allocator as allocator
 use Rattle.std.specs.declared.clone.Clone as clone
 use Rattle.wl_object_map.specs.declared.table.Table as table
+use Rattle.wl_object_map.specs.declared.object.Entry.{Entry}
+use Rattle.wl_object_map.specs.View.{View}
 use Rattle.wl_objects.specs.declared.error.NextError.{NextError}
 use Rattle.wl_objects.specs.declared.parsed.ParsedArg.{ParsedArg}
 use Rattle.wl_objects.specs.Parsed.{reported_in, spelled_in, seen_args}
@@ -14,8 +16,9 @@ use Rattle.wl_client.specs.declared.report.Incoming.{Incoming}
 use Rattle.wl_client.specs.declared.report.Incoming.TheVariants as incoming
 use Rattle.wl_client.specs.declared.outline.Outline.{Outline}
 use Rattle.wl_client.specs.declared.outline.Outline.TheVariants as outlines
+use Rattle.wl_client.specs.declared.report.IncomingWithEntry.{IncomingWithEntry}
 use Rattle.wl_client.specs.Reports.{Report, Event, Discarded, Deleted, Stray, Error, argument}
-use Rattle.wl_client.specs.Reports.{text_in}
+use Rattle.wl_client.specs.Reports.{entry_of, text_in}
 use Rattle.wl_client.specs.contracts.client.Client.{the_row}
 
 -- what a lent report is
@@ -42,6 +45,17 @@ outlined body args tokens (outlines.Deleted object) = Deleted object
 outlined body args tokens (outlines.Stray id) = Stray id
 outlined body args tokens (outlines.Error id object code) =
     Error id object code (text_in (argument (spelled_in body args) 2))
+
+-- the entry of the object that an outline's report is about
+abbrev pub outline_entry : View → Outline → Option Entry
+outline_entry view outline = entry_of view (outlined [] [] [] outline)
+
+-- what was read with the entry of what it is about, and what is reported of it
+abbrev pub incoming_in : Result (Option IncomingWithEntry) NextError
+    → Result (Option Report) NextError
+incoming_in (Err why) = Err why
+incoming_in (Ok None) = Ok None
+incoming_in (Ok (Some read)) = Ok (Some (lent_report read.incoming))
 
 -- The client's type as the logic holds it: `named 0` is the place of its lifetime in a signature.
 abbrev pub client_row : (T : RattleType) (A : RattleType) → table.Ghosts T.Denot A.Denot

@@ -17,7 +17,7 @@ use Rattle.wl_connection.specs.Receiving.{Found, takes}
 use Rattle.wl_client.specs.declared.pending.PendingEvent.{PendingEvent}
 use Rattle.wl_client.specs.State.{State, Global}
 use Rattle.wl_client.specs.Reports.{Report, report, is_error_event}
-use Rattle.wl_client.specs.Outlines.{outlined}
+use Rattle.wl_client.specs.Outlines.{outline_entry, outlined}
 use Rattle.wl_client.specs.Steps.{report_by, view_by, globals_by, changed, CanChange, state_of}
 use Rattle.wl_client.specs.Steps.{stepped, with_global_change}
 
@@ -34,6 +34,7 @@ pub record IsPending (tables : List Interface) (view : View) (body : List ℕ)
   pub bytes : event.size ≡ f.size
   pub tokens_taken : event.tokens ≡ takes f.message
   pub last : event.change.last ≡ is_error_event f
+  pub entry : event.entry ≡ outline_entry view event.outline
 
 -- a message of this header
 abbrev pub headed : Header → Received → Found
@@ -46,13 +47,14 @@ IsPendingOf tables view header body args r (Err fault) = r ≡ Err fault
 IsPendingOf tables view header body args r (Ok event) =
     (m : Received) × (r ≡ Ok m) × IsPending tables view body args (headed header m) event
 
--- An event in front can be taken: its message is whole, its tokens wait, and what it changes is
--- there.
+-- An event in front can be taken: its message is whole, its tokens wait, what it changes is there,
+-- and so is what it is about.
 pub record CanTake (core : Core) (event : PendingEvent) : Type 0 where
   pub message : in_front core.inbox ≡ Whole event.size
   pub few : event.tokens ≤ 20
   pub waiting : event.tokens ≤ length core.inbox.tokens
   pub change : CanChange core.view event.change.objects
+  pub entry : event.entry ≡ outline_entry core.view event.outline
 
 -- the body of a message in front
 abbrev pub body_of : Core → ℕ → List ℕ

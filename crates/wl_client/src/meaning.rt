@@ -4,8 +4,9 @@ ghost use Rattle.wl_sigs.specs.declared.signature.Side.TheVariants.{Event};
 ghost use Rattle.wl_sigs.specs.Tables.{destroys_argument};
 ghost use Rattle.wl_object_map.specs.View.{View, look};
 ghost use Rattle.wl_connection.specs.Core.{HasDisplay};
-ghost use Rattle.wl_client.specs.Outlines.{outlined};
-ghost use Rattle.wl_client.specs.Reports.{delete_report, error_report, is_error_event};
+ghost use Rattle.wl_client.specs.Outlines.{outline_entry, outlined};
+ghost use Rattle.wl_client.specs.Reports.{argument, delete_report, error_report, id_in};
+ghost use Rattle.wl_client.specs.Reports.{is_error_event};
 ghost use Rattle.wl_client.specs.State.{Global as Told};
 ghost use Rattle.wl_client.specs.Steps.{CanChange, changed, end_with, found_as, globals_by};
 ghost use Rattle.wl_client.specs.Steps.{report_by, view_by, with_global_change};
@@ -18,16 +19,16 @@ ghost use Rattle.wl_objects.specs.Seen.{message_of};
 use crate::arguments::{id_at, number_at};
 use crate::changes::{Change, GlobalChange, ObjectChange, global_change_of};
 use crate::outline::Outline;
-use wl_objects::{Object, ParsedArgs, Received, State, Table, is_delete_id};
+use wl_objects::{Entry, Object, ParsedArgs, Received, State, Table, is_delete_id};
 use wl_sigs::{Destroys, Side, Tables};
 
-/// What is reported of a message, and what it changes.
+/// What is reported of a message, what it changes, and the entry of the object that it is about.
 pub(crate) fn meaning_of<T: Table>(
     tables: &Tables,
     table: &T,
     opcode: u16,
     message: &Received<'_, '_>,
-) -> (Outline, Change)
+) -> (Outline, Change, Option<Entry>)
     requires parsed { AreParsed (reader_of (T.view table.now)) message.now.body.now
         message.now.args.now (message_of message.now).values }
     requires tokens { message.now.tokens ≡ descriptors message.now.signature.now.kinds }
@@ -46,9 +47,12 @@ pub(crate) fn meaning_of<T: Table>(
     ensures globals { (globals : List Told) → with_global_change globals result.1.globals
         ≡ globals_by tables.now globals (found_as opcode message.now) }
     ensures last { result.1.last ≡ is_error_event (found_as opcode message.now) }
+    ensures entry { result.2 ≡ outline_entry (T.view table.now) result.0 }
 {
     if message.is_error {
-        return (error_outline(message.args, message.body), no_change(true));
+        let id = id_at(message.args, message.body, 0);
+        let outline = error_outline(message.args, message.body);
+        return (outline, no_change(true), table.look(id));
     }
     if is_delete_id(Side::Event, message.entry.iface, opcode) {
         return meaning_of_delete_id(table, number_at(message.args, message.body, 0));
@@ -62,6 +66,7 @@ pub(crate) fn meaning_of<T: Table>(
                 tokens: message.tokens,
             },
             no_change(false),
+            Some(message.entry),
         ),
         State::Live => (
             Outline::Event {
@@ -79,6 +84,7 @@ pub(crate) fn meaning_of<T: Table>(
                 globals: global_change_of(tables, opcode, message),
                 last: false,
             },
+            Some(message.entry),
         ),
     }
 }
@@ -100,10 +106,12 @@ fn no_change(last: bool) -> Change
 
 /// The outline of wl_display.error.
 fn error_outline(args: &ParsedArgs, body: &[u8]) -> Outline
-    ensures { (view : View) (tokens : List ℕ)
+    ensures outline { (view : View) (tokens : List ℕ)
         → AreParsed (reader_of view) body.now args.now (spelled_in body.now args.now)
         → outlined body.now args.now tokens result
         ≡ error_report (end_with [] view tokens) (spelled_in body.now args.now) }
+    ensures entry { (view : View) → outline_entry view result
+        ≡ look view (id_in (argument (spelled_in body.now args.now) 0)) }
 {
     Outline::Error {
         id: id_at(args, body, 0),
@@ -113,7 +121,7 @@ fn error_outline(args: &ParsedArgs, body: &[u8]) -> Outline
 }
 
 /// What wl_display.delete_id of an id is: the object of the id, if it has one, is gone.
-fn meaning_of_delete_id<T: Table>(table: &T, id: u32) -> (Outline, Change)
+fn meaning_of_delete_id<T: Table>(table: &T, id: u32) -> (Outline, Change, Option<Entry>)
     ensures outline { (body tokens : List ℕ) (args : List ParsedArg)
         → outlined body args tokens result.0
         ≡ delete_report (end_with [] (T.view table.now) tokens) id }
@@ -122,6 +130,7 @@ fn meaning_of_delete_id<T: Table>(table: &T, id: u32) -> (Outline, Change)
     ensures can { CanChange (T.view table.now) result.1.objects }
     ensures globals { result.1.globals ≡ GlobalChange.Nothing }
     ensures last { result.1.last ≡ false }
+    ensures entry { result.2 ≡ outline_entry (T.view table.now) result.0 }
 {
     match table.look(id) {
         Some(entry) if id != 1 => (
@@ -136,7 +145,8 @@ fn meaning_of_delete_id<T: Table>(table: &T, id: u32) -> (Outline, Change)
                 globals: GlobalChange::Nothing,
                 last: false,
             },
+            Some(entry),
         ),
-        _ => (Outline::Stray { id }, no_change(false)),
+        _ => (Outline::Stray { id }, no_change(false), None),
     }
 }

@@ -1,9 +1,10 @@
 //! The report of a message without its arguments, its body and its tokens, which it lends or
 //! copies.
 ghost use Rattle.std.specs.Prelude.{◌≡◌, IfOk, OnErr, ◌≤◌, true, length, take};
-ghost use Rattle.wl_client.specs.Reports.{needs_memory};
+ghost use Rattle.wl_object_map.specs.View.{View};
+ghost use Rattle.wl_client.specs.Reports.{entry_of, needs_memory};
 ghost use Rattle.wl_client.specs.Seen.{report_of};
-ghost use Rattle.wl_client.specs.Outlines.{lent_report, outlined};
+ghost use Rattle.wl_client.specs.Outlines.{lent_report, outline_entry, outlined};
 
 use crate::arguments::text_at;
 use crate::report::{Incoming, OwnedIncoming};
@@ -49,7 +50,9 @@ impl Outline {
         body: &'a [u8],
         tokens: &'a [u32],
     ) -> Incoming<'a>
-        ensures { lent_report result ≡ outlined body.now args.now tokens.now self.now }
+        ensures report { lent_report result ≡ outlined body.now args.now tokens.now self.now }
+        ensures entry { (view : View)
+            → entry_of view (lent_report result) ≡ outline_entry view self.now }
     {
         match self {
             Outline::Event {
@@ -96,6 +99,8 @@ impl Outline {
             (λ report. report_of report ≡ outlined body.now args.now tokens.now self.now) }
         ensures err { OnErr result
             (needs_memory (outlined body.now args.now tokens.now self.now) ≡ true) }
+        ensures entry { IfOk result (λ report. (view : View)
+            → entry_of view (report_of report) ≡ outline_entry view self.now) }
     {
         match self {
             Outline::Event {

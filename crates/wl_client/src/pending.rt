@@ -13,7 +13,7 @@ use crate::meaning::meaning_of;
 use crate::outline::Outline;
 use wl_connection::Endpoint;
 use wl_message::Frame;
-use wl_objects::{Fault, ParsedArgs, Table, TableLookup, receive};
+use wl_objects::{Entry, Fault, ParsedArgs, Table, TableLookup, receive};
 use wl_sigs::{Side, Tables};
 
 /// An event that was read and not yet taken: what is reported of it, and what it changes. It lends
@@ -22,6 +22,8 @@ use wl_sigs::{Side, Tables};
 pub(crate) struct PendingEvent {
     pub(crate) outline: Outline,
     pub(crate) change: Change,
+    /// The entry of the object that it is about.
+    pub(crate) entry: Option<Entry>,
     /// How many bytes the message has.
     pub(crate) size: u16,
     /// How many tokens it takes.
@@ -75,10 +77,11 @@ fn pending_of<T: Table>(
         Ok(message) => message,
         Err(fault) => return Err(fault),
     };
-    let (outline, change) = meaning_of(tables, table, header.opcode, &message);
+    let (outline, change, entry) = meaning_of(tables, table, header.opcode, &message);
     Ok(PendingEvent {
         outline,
         change,
+        entry,
         size: header.size,
         tokens: message.tokens,
     })

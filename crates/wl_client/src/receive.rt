@@ -2,11 +2,13 @@
 ghost use Rattle.std.specs.Prelude.{◌≡◌, List, [], IfOk, IfSome, OnErr, false, true};
 ghost use Rattle.std.specs.Borrow.{sem};
 ghost use Rattle.std.specs.Io.BufRead.{Rests};
+ghost use Rattle.wl_object_map.specs.View.{View};
 ghost use Rattle.wl_connection.specs.Outcomes.{left};
 ghost use Rattle.wl_client.specs.State.{Global as Told};
-ghost use Rattle.wl_client.specs.Reports.{IsNext, after_next, needs_memory, next_answer};
-ghost use Rattle.wl_client.specs.Outlines.{client_row, lent_in, lent_report, outlined};
-ghost use Rattle.wl_client.specs.Seen.{report_in, report_of};
+ghost use Rattle.wl_client.specs.Reports.{IsNext, after_next, entry_of, needs_memory, next_answer};
+ghost use Rattle.wl_client.specs.Outlines.{client_row, incoming_in, lent_in, lent_report};
+ghost use Rattle.wl_client.specs.Outlines.{outline_entry, outlined};
+ghost use Rattle.wl_client.specs.Seen.{incoming_in as owned_in, report_in, report_of};
 ghost use Rattle.wl_client.specs.Steps.{state_of, stepped, with_global_change};
 ghost use Rattle.wl_client.specs.Reading.{CanTake, after_front, core_unless, front_report};
 ghost use Rattle.wl_client.specs.Reading.{fronts_in, taken_in};
@@ -15,7 +17,7 @@ use crate::changes::apply_object_change;
 use crate::client::Client;
 use crate::globals::Remembered;
 use crate::pending::{PendingEvent, find};
-use crate::report::{Incoming, OwnedIncoming};
+use crate::report::{Incoming, IncomingWithEntry, OwnedIncoming, OwnedIncomingWithEntry};
 use std::alloc::AllocError;
 use wl_connection::Endpoint;
 use wl_objects::{NextError, Table};
@@ -37,6 +39,25 @@ impl<'t, T: Table> Client<'t, T> {
         }
     }
 
+    /// Reads the next message as `next` does, and returns beside its report the entry that the
+    /// object which it is about had before the message. Takes no memory.
+    pub fn next_with_entry(&mut self) -> Result<Option<IncomingWithEntry<'_>>, NextError>
+        ensures* state { sem 𝓛
+            (Rests (client_row T.row T.Alloc.row T.Table T.Alloc.Allocator T.Alloc.Clone) self.entry
+            (λ client. client ≡ after_next self.old)) }
+        ensures answer { incoming_in result ≡ next_answer self.old }
+        ensures entry { IfOk result (λ read. IfSome read (λ told. told.entry
+            ≡ entry_of self.old.core.view (lent_report told.incoming))) }
+    {
+        match read(&mut self.end, &mut self.globals)? {
+            Some(event) => Ok(Some(IncomingWithEntry {
+                incoming: lend(&self.end, event),
+                entry: event.entry,
+            })),
+            None => Ok(None),
+        }
+    }
+
     /// Reads the next message as `next` does, and returns a report in memory of its own.
     ///
     /// Where there is no memory for the report the message stays and can be read again. That can
@@ -45,6 +66,22 @@ impl<'t, T: Table> Client<'t, T> {
     pub fn next_owned(&mut self) -> Result<Option<OwnedIncoming<T::Alloc>>, NextError>
         ensures answer { IsNext self.old (report_in result) }
         ensures state { self.new ≡ left self.old (after_next self.old) (report_in result) }
+    {
+        match read_owned(&mut self.end, &mut self.globals, &self.alloc)? {
+            Some(read) => Ok(Some(read.incoming)),
+            None => Ok(None),
+        }
+    }
+
+    /// Reads the next message as `next_owned` does, and returns beside its report the entry that
+    /// the object which it is about had before the message.
+    pub fn next_owned_with_entry(
+        &mut self,
+    ) -> Result<Option<OwnedIncomingWithEntry<T::Alloc>>, NextError>
+        ensures answer { IsNext self.old (owned_in result) }
+        ensures state { self.new ≡ left self.old (after_next self.old) (owned_in result) }
+        ensures entry { IfOk result (λ read. IfSome read (λ told. told.entry
+            ≡ entry_of self.old.core.view (report_of told.incoming))) }
     {
         read_owned(&mut self.end, &mut self.globals, &self.alloc)
     }
@@ -60,6 +97,8 @@ fn read<T: Table>(
         ≡ next_answer (state_of end.old.core globals.old) }
     ensures state { state_of end.new.core globals.new
         ≡ after_next (state_of end.old.core globals.old) }
+    ensures entry { IfOk result (λ read. IfSome read (λ event. event.entry
+        ≡ outline_entry end.old.core.view event.outline)) }
 {
     let event = match find_or_fail(end)? {
         Some(event) => event,
@@ -74,22 +113,27 @@ fn read_owned<T: Table>(
     end: &mut Endpoint<'_, T>,
     globals: &mut Remembered<T::Alloc>,
     alloc: &T::Alloc,
-) -> Result<Option<OwnedIncoming<T::Alloc>>, NextError>
-    ensures answer { IsNext (state_of end.old.core globals.old) (report_in result) }
+) -> Result<Option<OwnedIncomingWithEntry<T::Alloc>>, NextError>
+    ensures answer { IsNext (state_of end.old.core globals.old) (owned_in result) }
     ensures state { state_of end.new.core globals.new
         ≡ left (state_of end.old.core globals.old)
-        (after_next (state_of end.old.core globals.old)) (report_in result) }
+        (after_next (state_of end.old.core globals.old)) (owned_in result) }
+    ensures entry { IfOk result (λ read. IfSome read (λ told. told.entry
+        ≡ entry_of end.old.core.view (report_of told.incoming))) }
 {
     let event = match find_or_fail(end)? {
         Some(event) => event,
         None => return Ok(None),
     };
-    let report = match copy(end, alloc, &event) {
-        Ok(report) => report,
+    let incoming = match copy(end, alloc, &event) {
+        Ok(incoming) => incoming,
         Err(_) => return Err(NextError::Memory),
     };
     take(end, globals, &event);
-    Ok(Some(report))
+    Ok(Some(OwnedIncomingWithEntry {
+        incoming,
+        entry: event.entry,
+    }))
 }
 
 /// The event in front, once it is whole. The end fails with a fault; else nothing changes.
@@ -129,6 +173,8 @@ fn copy<T: Table>(
         (λ report. report_of report ≡ front_report end.old.core end.old.args event.now) }
     ensures err { OnErr result
         (needs_memory (front_report end.old.core end.old.args event.now) ≡ true) }
+    ensures entry { IfOk result (λ report. (view : View)
+        → entry_of view (report_of report) ≡ outline_entry view event.now.outline) }
 {
     let tokens = end.core.first_tokens(event.tokens);
     let frame = match end.core.inbox.frame() {
@@ -160,8 +206,10 @@ fn take<T: Table>(
 
 /// The report of the message that was taken last.
 fn lend<'a, T: Table>(end: &'a Endpoint<'_, T>, event: PendingEvent) -> Incoming<'a>
-    ensures { lent_report result ≡ outlined end.now.core.inbox.last end.now.args
+    ensures report { lent_report result ≡ outlined end.now.core.inbox.last end.now.args
         end.now.core.inbox.last_tokens event.outline }
+    ensures entry { (view : View)
+        → entry_of view (lent_report result) ≡ outline_entry view event.outline }
 {
     event.outline.lend(
         &end.args,

@@ -98,6 +98,7 @@ pending_of tables birth ended header message = record {
     made = made tables message.entry.version message.signature.kinds message.values;
     ended = ended;
   };
+  entry = message.entry;
   size = header.size;
   tokens = descriptors message.signature.kinds;
 }

@@ -1,8 +1,9 @@
 //! What stands in front of a server's inbox: a request that was read and not yet taken.
-ghost use Rattle.std.specs.Prelude.{◌≡◌, ◌&&◌, ℕ, List, IfOk, IfSome, is_some, nat_lt};
+ghost use Rattle.std.specs.Prelude.{◌≡◌, ◌&&◌, ℕ, List, Some, IfOk, IfSome, is_some, nat_lt};
 ghost use Rattle.wl_wire.specs.Word.{IsHeader};
 ghost use Rattle.wl_sigs.specs.declared.signature.Side.TheVariants.{Request as request_side};
 ghost use Rattle.wl_sigs.specs.Valid.{Valid};
+ghost use Rattle.wl_object_map.specs.View.{look};
 ghost use Rattle.wl_objects.specs.Messages.{made, reader_of, received};
 ghost use Rattle.wl_objects.specs.Parsed.{reported_in};
 ghost use Rattle.wl_objects.specs.Seen.{message_of};
@@ -17,8 +18,8 @@ use crate::outline::Outline;
 use wl_connection::{DELETE_ID_LEN, Endpoint};
 use wl_message::Frame;
 use wl_objects::{
-    Fault, NextError, Object, ParsedArg, ParsedArgs, Received, Table, TableLookup, made_by_message,
-    receive,
+    Entry, Fault, NextError, Object, ParsedArg, ParsedArgs, Received, Table, TableLookup,
+    made_by_message, receive,
 };
 use wl_sigs::{Destroys, Side, Tables};
 
@@ -28,6 +29,8 @@ use wl_sigs::{Destroys, Side, Tables};
 pub(crate) struct PendingRequest {
     pub(crate) outline: Outline,
     pub(crate) change: Change,
+    /// The entry of its target.
+    pub(crate) entry: Entry,
     /// How many bytes the message has.
     pub(crate) size: u16,
     /// How many tokens it takes.
@@ -65,6 +68,8 @@ pub(crate) fn find<T: Table>(
     ensures can { IfOk result (λ found. IfSome found
         (λ request. CanTake end.old.core (pending_in end.old.core end.new.args request))) }
     ensures same { end.new.core ≡ end.old.core }
+    ensures entry { IfOk result (λ found. IfSome found (λ request.
+        look end.old.core.view request.outline.target.id ≡ Some request.entry)) }
 {
     let Endpoint { core, args } = end;
     let offset = core.read;
@@ -101,6 +106,8 @@ fn pending_of<T: Table>(
         frame.entry.header frame.entry.body.now args.new
         (received tables.now request_side (reader_of (T.view table.now))
         frame.entry.header frame.entry.body.now frame.entry.tokens) result }
+    ensures entry { IfOk result (λ request.
+        look (T.view table.now) request.outline.target.id ≡ Some request.entry) }
 {
     let header = frame.header;
     let lookup = TableLookup { table };
@@ -127,6 +134,7 @@ fn pending_of<T: Table>(
             birth: table.births(),
         },
         change: change_of(tables, &message),
+        entry: message.entry,
         size: header.size,
         tokens: message.tokens,
     })

@@ -1,11 +1,14 @@
 //! How a server reads the requests that come in.
-ghost use Rattle.std.specs.Prelude.{◌≡◌, ◌≢◌, None, [], OnOk, IfOk, IfSome, OnErr};
+ghost use Rattle.std.specs.Prelude.{◌≡◌, ◌≢◌, None, Some, [], OnOk, IfOk, IfSome, OnErr};
 ghost use Rattle.std.specs.Borrow.{sem};
 ghost use Rattle.std.specs.Io.BufRead.{Rests};
+ghost use Rattle.wl_object_map.specs.View.{look};
 ghost use Rattle.wl_connection.specs.Outcomes.{left};
 ghost use Rattle.wl_server.specs.Registries.{IsSound};
+ghost use Rattle.wl_server.specs.Announcing.{KeepsSettled};
 ghost use Rattle.wl_server.specs.Requests.{after_next, IsLentNext, IsNext};
-ghost use Rattle.wl_server.specs.Seen.{lent_in, lent_report, report_in, report_of};
+ghost use Rattle.wl_server.specs.Seen.{lent_in, lent_report, lent_request_in, report_in};
+ghost use Rattle.wl_server.specs.Seen.{report_of, request_in};
 ghost use Rattle.wl_server.specs.Steps.{CanTake, checked_front, core_by, core_unless};
 ghost use Rattle.wl_server.specs.Steps.{pending_in, pendings_in, registries_by, state_of};
 ghost use Rattle.wl_server.specs.Steps.{taken_in, taken_report, whole_state};
@@ -16,7 +19,7 @@ use crate::faults::report_fault;
 use crate::globals::Advertised;
 use crate::pending::{PendingRequest, find};
 use crate::registry::OpenRegistry;
-use crate::report::{OwnedRequest, Request};
+use crate::report::{OwnedRequest, OwnedRequestWithEntry, Request, RequestWithEntry};
 use crate::server::Server;
 use std::alloc::AllocError;
 use wl_connection::Endpoint;
@@ -40,10 +43,35 @@ impl<'t, T: Table> Server<'t, T> {
         match read(
             &mut self.end,
             &mut self.registries,
+            &mut self.settled,
             &self.globals,
-            &self.alloc,
         )? {
             Some(request) => Ok(Some(lend(&self.end, request))),
+            None => Ok(None),
+        }
+    }
+
+    /// Reads the next request as `next` does, and returns beside its report the entry that its
+    /// target had before the request.
+    pub fn next_with_entry(&mut self) -> Result<Option<RequestWithEntry<'_>>, NextError>
+        ensures* after { sem 𝓛 (Rests
+            (server_row T.row T.Alloc.row T.Table T.Alloc.Allocator T.Alloc.Clone) self.entry
+            (λ server. server
+            ≡ left self.old (after_next self.old) (lent_request_in result))) }
+        ensures answer { IsLentNext self.old (lent_request_in result) }
+        ensures entry { IfOk result (λ read. IfSome read (λ told.
+            look self.old.core.view told.request.target.id ≡ Some told.entry)) }
+    {
+        match read(
+            &mut self.end,
+            &mut self.registries,
+            &mut self.settled,
+            &self.globals,
+        )? {
+            Some(request) => Ok(Some(RequestWithEntry {
+                request: lend(&self.end, request),
+                entry: request.entry,
+            })),
             None => Ok(None),
         }
     }
@@ -55,9 +83,32 @@ impl<'t, T: Table> Server<'t, T> {
         ensures answer { IsNext self.old (report_in result) }
         ensures state { self.new ≡ left self.old (after_next self.old) (report_in result) }
     {
+        match read_owned(
+            &mut self.end,
+            &mut self.registries,
+            &mut self.settled,
+            &self.globals,
+            &self.alloc,
+        )? {
+            Some(read) => Ok(Some(read.request)),
+            None => Ok(None),
+        }
+    }
+
+    /// Reads the next request as `next_owned` does, and returns beside its report the entry that
+    /// its target had before the request.
+    pub fn next_owned_with_entry(
+        &mut self,
+    ) -> Result<Option<OwnedRequestWithEntry<T::Alloc>>, NextError>
+        ensures answer { IsNext self.old (request_in result) }
+        ensures state { self.new ≡ left self.old (after_next self.old) (request_in result) }
+        ensures entry { IfOk result (λ read. IfSome read (λ told.
+            look self.old.core.view told.request.target.id ≡ Some told.entry)) }
+    {
         read_owned(
             &mut self.end,
             &mut self.registries,
+            &mut self.settled,
             &self.globals,
             &self.alloc,
         )
@@ -68,24 +119,28 @@ impl<'t, T: Table> Server<'t, T> {
 /// last.
 fn read<T: Table>(
     end: &mut Endpoint<'_, T>,
-    registries: &mut Vec<OpenRegistry<T::Alloc>, T::Alloc>,
+    registries: &mut Vec<OpenRegistry, T::Alloc>,
+    settled: &mut bool,
     globals: &[Advertised],
-    alloc: &T::Alloc,
 ) -> Result<Option<PendingRequest>, NextError>
+    requires { IsSound end.old.core.view registries.old.items }
     ensures answer { IsLentNext (whole_state end.old.core globals.now registries.old.items)
         (taken_in end.new.core end.new.args result) }
     ensures state { whole_state end.new.core globals.now registries.new.items
         ≡ left (whole_state end.old.core globals.now registries.old.items)
         (after_next (whole_state end.old.core globals.now registries.old.items))
         (taken_in end.new.core end.new.args result) }
-    ensures sound { IsSound end.old.core.view registries.old.items
-        → IsSound end.new.core.view registries.new.items }
+    ensures sound { IsSound end.new.core.view registries.new.items }
+    ensures entry { IfOk result (λ read. IfSome read (λ request.
+        look end.old.core.view request.outline.target.id ≡ Some request.entry)) }
+    ensures settled { KeepsSettled settled.old registries.old.items settled.new
+        registries.new.items }
 {
     let request = match find_or_fail(end, globals)? {
         Some(request) => request,
         None => return Ok(None),
     };
-    match take(end, registries, alloc, &request) {
+    match take(end, registries, settled, &request) {
         Ok(()) => Ok(Some(request)),
         Err(_) => Err(NextError::Memory),
     }
@@ -94,18 +149,23 @@ fn read<T: Table>(
 /// Reads the next request at an end, copies its report, and takes it.
 fn read_owned<T: Table>(
     end: &mut Endpoint<'_, T>,
-    registries: &mut Vec<OpenRegistry<T::Alloc>, T::Alloc>,
+    registries: &mut Vec<OpenRegistry, T::Alloc>,
+    settled: &mut bool,
     globals: &[Advertised],
     alloc: &T::Alloc,
-) -> Result<Option<OwnedRequest<T::Alloc>>, NextError>
+) -> Result<Option<OwnedRequestWithEntry<T::Alloc>>, NextError>
+    requires { IsSound end.old.core.view registries.old.items }
     ensures answer { IsNext (whole_state end.old.core globals.now registries.old.items)
-        (report_in result) }
+        (request_in result) }
     ensures state { whole_state end.new.core globals.now registries.new.items
         ≡ left (whole_state end.old.core globals.now registries.old.items)
         (after_next (whole_state end.old.core globals.now registries.old.items))
-        (report_in result) }
-    ensures sound { IsSound end.old.core.view registries.old.items
-        → IsSound end.new.core.view registries.new.items }
+        (request_in result) }
+    ensures sound { IsSound end.new.core.view registries.new.items }
+    ensures entry { IfOk result (λ read. IfSome read (λ told.
+        look end.old.core.view told.request.target.id ≡ Some told.entry)) }
+    ensures settled { KeepsSettled settled.old registries.old.items settled.new
+        registries.new.items }
 {
     let request = match find_or_fail(end, globals)? {
         Some(request) => request,
@@ -115,8 +175,11 @@ fn read_owned<T: Table>(
         Ok(report) => report,
         Err(_) => return Err(NextError::Memory),
     };
-    match take(end, registries, alloc, &request) {
-        Ok(()) => Ok(Some(report)),
+    match take(end, registries, settled, &request) {
+        Ok(()) => Ok(Some(OwnedRequestWithEntry {
+            request: report,
+            entry: request.entry,
+        })),
         Err(_) => Err(NextError::Memory),
     }
 }
@@ -133,6 +196,8 @@ fn find_or_fail<T: Table>(
     ensures can { IfOk result (λ found. IfSome found
         (λ request. CanTake end.old.core (pending_in end.old.core end.new.args request))) }
     ensures view { end.new.core.view ≡ end.old.core.view }
+    ensures entry { IfOk result (λ found. IfSome found (λ request.
+        look end.old.core.view request.outline.target.id ≡ Some request.entry)) }
 {
     if end.core.failed {
         return Err(NextError::Failed);
@@ -158,6 +223,7 @@ fn copy<T: Table>(
     ensures ok { IfOk result (λ report. report_of report
         ≡ (pending_in end.old.core end.old.args request.now).report) }
     ensures err { OnErr result (end.old.args ≢ []) }
+    ensures target { IfOk result (λ report. report.target ≡ request.now.outline.target) }
 {
     let tokens = end.core.first_tokens(request.tokens);
     let frame = match end.core.inbox.frame() {
@@ -174,11 +240,12 @@ fn copy<T: Table>(
 /// that it destroys. If there is no memory for the object that it makes, nothing changes.
 fn take<T: Table>(
     end: &mut Endpoint<'_, T>,
-    registries: &mut Vec<OpenRegistry<T::Alloc>, T::Alloc>,
-    alloc: &T::Alloc,
+    registries: &mut Vec<OpenRegistry, T::Alloc>,
+    settled: &mut bool,
     request: &PendingRequest,
 ) -> Result<(), AllocError>
-    requires { CanTake end.old.core (pending_in end.old.core end.old.args request.now) }
+    requires can { CanTake end.old.core (pending_in end.old.core end.old.args request.now) }
+    requires sound { IsSound end.old.core.view registries.old.items }
     ensures args { end.new.args ≡ end.old.args }
     ensures core { OnOk result (end.new.core
         ≡ core_by end.old.core (pending_in end.old.core end.old.args request.now)) }
@@ -188,14 +255,15 @@ fn take<T: Table>(
     ensures err { OnErr result
         ((end.new.core ≡ end.old.core) × (registries.new.items ≡ registries.old.items)) }
     ensures wants { OnErr result (request.now.change.made ≢ None) }
-    ensures sound { OnOk result (IsSound end.old.core.view registries.old.items
-        → IsSound end.new.core.view registries.new.items) }
+    ensures sound { OnOk result (IsSound end.new.core.view registries.new.items) }
+    ensures settled { KeepsSettled settled.old registries.old.items settled.new
+        registries.new.items }
 {
     let Change { made, ended } = request.change;
     open_new_object(
         &mut end.core,
         registries,
-        alloc,
+        settled,
         made,
         request.outline.birth,
     )?;

@@ -19,5 +19,5 @@ returns-in-Ok-clause-whole g c =
     let inner = ap (λ file. g.R.Read.remaining file.now) c.take.ensures.inner in
     let limit = c.take.ensures.limit in
     let len = c.len.ensures in
-    let read = all_read (g.R.Read.remaining c.take.result.inner.now) c.take.result.limit c.new-bytes.result.items c.read_to_end.new.buf.items c.in-Ok.ensures.bytes c.new-bytes.ensures.items (omega (arith, limit, len, c.if-len-le-MOST.true)) in
-    record { within = omega (arith, len, c.if-len-le-MOST.true); all = rw inner at read }
+    let read = all_read (g.R.Read.remaining c.take.result.inner.now) c.take.result.limit c.new-bytes.result.items c.read_to_end.new.buf.items c.in-Ok.ensures.bytes c.new-bytes.ensures.items (omega (arith, limit, len, c.if-len-le-MAX_FILE_BYTES.true)) in
+    record { within = omega (arith, len, c.if-len-le-MAX_FILE_BYTES.true); all = rw inner at read }
