@@ -39,6 +39,8 @@ uint32_t waywire_c_tables_kind(const struct handle *, uint16_t interface, uint32
 		waywire_amounts *amounts); \
 	void waywire_c_##end##_take(struct handle *, void *bytes, size_t length, uint32_t *tokens, \
 		size_t token_count, waywire_amounts *taken); \
+	void waywire_c_##end##_take_waiting_tokens(struct handle *, uint32_t *tokens, \
+		size_t token_count, size_t *taken); \
 	uint32_t waywire_c_##end##_send(struct handle *, waywire_object target, uint16_t opcode, \
 		const waywire_arg *args, size_t arg_count, waywire_object *made, size_t *place); \
 	uint32_t waywire_c_##end##_next(struct handle *, waywire_report *, waywire_arg *args, \
@@ -550,6 +552,18 @@ static waywire_status set_user(struct users *users, waywire_object object, void 
 		if (!status) \
 			waywire_c_##end##_take(&it->handle, (void *)to, length, (uint32_t *)tokens_to, \
 				token_count, taken); \
+		return status; \
+	} \
+\
+	waywire_status waywire_##end##_take_waiting_tokens(waywire_##end *it, uint32_t *tokens, \
+		size_t token_count, size_t *taken) \
+	{ \
+		const void *to = tokens; \
+		if (!it || !taken) \
+			return WAYWIRE_NULL; \
+		waywire_status status = slice(&to, token_count, sizeof *tokens); \
+		if (!status) \
+			waywire_c_##end##_take_waiting_tokens(&it->handle, (uint32_t *)to, token_count, taken); \
 		return status; \
 	} \
 \

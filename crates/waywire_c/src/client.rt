@@ -7,6 +7,7 @@ ghost use Rattle.wl_connection.specs.Core.{in_room, is_drained, live, display_ob
 ghost use Rattle.wl_connection.specs.Core.{with_arrived};
 ghost use Rattle.wl_connection.specs.Core.{with_gone};
 ghost use Rattle.wl_connection.specs.Sending.{after_send};
+ghost use Rattle.wl_connection.specs.Waiting.{given_up, waiting, waiting_count};
 ghost use Rattle.wl_client.specs.State.{with_core};
 ghost use Rattle.wl_client.specs.Calls.{after_bind, bind_answer};
 ghost use Rattle.wl_client.specs.Reports.{after_next, next_answer};
@@ -162,6 +163,24 @@ pub extern "C" fn waywire_c_client_take(
         ≡ with_core client.old.held.client (with_gone client.old.held.client.core taken.new.bytes) }
 {
     *taken = CAmounts::taken(client.get_mut().client.take(bytes, tokens));
+}
+
+/// Gives a client up: moves the tokens that wait in its boxes into the caller's memory, and writes how
+/// many these were to `taken`.
+#[unsafe(no_mangle)]
+pub extern "C" fn waywire_c_client_take_waiting_tokens(
+    client: &mut ClientHandle,
+    tokens: &mut [u32],
+    taken: &mut usize,
+)
+    ensures count { taken.new ≡ waiting_count client.old.held.client.core (length tokens.old) }
+    ensures tokens { tokens.new
+        ≡ take taken.new (waiting client.old.held.client.core) ++ drop taken.new tokens.old }
+    ensures state { client.new.held.client
+        ≡ with_core client.old.held.client
+        (given_up client.old.held.client.core (length tokens.old)) }
+{
+    *taken = client.get_mut().client.take_waiting_tokens(tokens);
 }
 
 /// Writes a request, and to `made` the object that it makes. Where an argument is refused, its

@@ -7,6 +7,7 @@ ghost use Rattle.wl_connection.specs.Core.{in_room, is_drained, live, display_ob
 ghost use Rattle.wl_connection.specs.Core.{with_arrived};
 ghost use Rattle.wl_connection.specs.Core.{with_gone};
 ghost use Rattle.wl_connection.specs.Sending.{after_send};
+ghost use Rattle.wl_connection.specs.Waiting.{given_up, waiting, waiting_count};
 ghost use Rattle.wl_server.specs.State.{with_core};
 ghost use Rattle.wl_server.specs.Announcing.{after_announce, Fitting};
 ghost use Rattle.wl_server.specs.Calls.{add_answer, after_drop, after_error, after_withdraw};
@@ -166,6 +167,24 @@ pub extern "C" fn waywire_c_server_take(
         ≡ with_core server.old.held.server (with_gone server.old.held.server.core taken.new.bytes) }
 {
     *taken = CAmounts::taken(server.get_mut().server.take(bytes, tokens));
+}
+
+/// Gives a server up: moves the tokens that wait in its boxes into the caller's memory, and writes how
+/// many these were to `taken`.
+#[unsafe(no_mangle)]
+pub extern "C" fn waywire_c_server_take_waiting_tokens(
+    server: &mut ServerHandle,
+    tokens: &mut [u32],
+    taken: &mut usize,
+)
+    ensures count { taken.new ≡ waiting_count server.old.held.server.core (length tokens.old) }
+    ensures tokens { tokens.new
+        ≡ take taken.new (waiting server.old.held.server.core) ++ drop taken.new tokens.old }
+    ensures state { server.new.held.server
+        ≡ with_core server.old.held.server
+        (given_up server.old.held.server.core (length tokens.old)) }
+{
+    *taken = server.get_mut().server.take_waiting_tokens(tokens);
 }
 
 /// Writes an event, and to `made` that it makes no object. Where an argument is refused, its place

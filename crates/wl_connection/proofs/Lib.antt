@@ -11,4 +11,5 @@ pub mod Receivings
 pub mod Spelled
 pub mod Ends
 pub mod Readings
+pub mod TwoParts
 pub mod AnyCut

@@ -1,5 +1,5 @@
 //! An end of a connection, whichever of the two it is.
-ghost use Rattle.std.specs.Prelude.{◌≡◌, ◌≤◌, ◌⊎◌, ◌++◌, true, Err, length, take, drop};
+ghost use Rattle.std.specs.Prelude.{◌≡◌, ◌≤◌, ◌⊎◌, ◌++◌, [], true, Err, length, take, drop};
 ghost use Rattle.wl_message.specs.Outgoing.{goes, waiting_bytes, waiting_tokens};
 ghost use Rattle.wl_message.specs.Streams.{Flushes, written_of};
 ghost use Rattle.wl_message.specs.declared.streams.FillError.TheVariants.{NoRoom};
@@ -8,6 +8,7 @@ ghost use Rattle.wl_connection.specs.Core.{is_drained};
 ghost use Rattle.wl_connection.specs.Core.{feeds, with_arrived, with_gone};
 ghost use Rattle.wl_connection.specs.Reads.{IsCoreOf};
 ghost use Rattle.wl_connection.specs.Transport.{EndFills};
+ghost use Rattle.wl_connection.specs.Waiting.{waiting, waiting_count, given_up};
 
 use crate::shared::Core;
 use std::io::{Read, Write};
@@ -74,6 +75,24 @@ pub trait End {
             (core self.new).outbox (W.contents writer.new) }
         ensures others { self.new
             ≡ with_core self.old (with_gone (core self.old) (written_of result)) };
+
+    /// Gives the end up, and takes the tokens out that wait in its boxes, as many as the slice
+    /// holds: so no descriptor is lost where a connection ends.
+    ///
+    /// First come those of the inbox, a message at fault first; then those of the outbox, the
+    /// tokens of a message together. Repeat it until it returns 0, with room for those of the
+    /// longest message. The end has failed afterwards, and what waited to go is dropped with its
+    /// tokens: what is still to be sent, as the error of a failed server, is taken before. Allocates
+    /// nothing.
+    fn take_waiting_tokens(&mut self, tokens: &mut [u32]) -> usize
+        ensures count { result ≡ waiting_count (core self.old) (length tokens.old) }
+        ensures tokens { tokens.new
+            ≡ take result (waiting (core self.old)) ++ drop result tokens.old }
+        ensures state { self.new
+            ≡ with_core self.old (given_up (core self.old) (length tokens.old)) }
+        ensures all { length (waiting (core self.old)) ≤ length tokens.old
+            → (result ≡ length (waiting (core self.old))) × (waiting (core self.new) ≡ [])
+            × (waiting_bytes (core self.new).outbox ≡ []) };
 
     ghost laws: { IsCoreOf core with_core };
 

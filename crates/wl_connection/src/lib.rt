@@ -14,6 +14,7 @@ mod send;
 mod shared;
 mod streams;
 mod transport;
+mod waiting;
 
 pub use end::End;
 pub use endpoint::Endpoint;

@@ -252,6 +252,34 @@ impl<A: Allocator> Outbox<A> {
         taken
     }
 
+    /// Takes tokens out as `take` does where the byte slice holds all that waits, and drops the
+    /// bytes.
+    pub fn take_tokens(&mut self, tokens: &mut [u32]) -> Taken
+        ensures longest { Goes self.old (length (waiting_bytes self.old)) (length tokens.old)
+            result }
+        ensures computed { result
+            ≡ goes self.old (length (waiting_bytes self.old)) (length tokens.old) }
+        ensures tokens { tokens.new ≡ take result.tokens (waiting_tokens self.old)
+            ++ drop result.tokens tokens.old }
+        ensures rest { self.new ≡ after_taking self.old result.bytes }
+        ensures all { length (waiting_tokens self.old) ≤ length tokens.old
+            → (waiting_bytes self.new ≡ []) × (waiting_tokens self.new ≡ []) }
+    {
+        let waiting = self.bytes.len();
+        let reach = self.reach(waiting, tokens.len());
+        let gone = Taken {
+            bytes: waiting - reach.bytes,
+            tokens: tokens.len() - reach.tokens,
+        };
+        remove_first(&mut self.bytes, gone.bytes);
+        move_first(&mut self.tokens, tokens, gone.tokens);
+        remove_first(&mut self.marks, reach.begun);
+        self.left = reach.left;
+        self.error_from = self.error_from.saturating_sub(gone.bytes);
+        self.error_to = self.error_to.saturating_sub(gone.bytes);
+        gone
+    }
+
     /// How many of the first bytes can go without a token.
     pub(crate) fn tokenless_len(&self) -> usize
         ensures may { MayGo self.now result 0 result }

@@ -64,12 +64,13 @@ fn write_global<T: Table>(
 fn announce_to<T: Table>(
     core: &mut Core<'_, T>,
     globals: &[Advertised],
-    registry: &mut OpenRegistry<T::Alloc>,
+    registry: &mut OpenRegistry,
 ) -> Announced
     requires few { length globals.now ≤ 1024 }
     requires ordinary { IsOrdinary core.old.outbox }
-    ensures { IsTold core.old (registry.old ∷ []) (due_to globals.now registry.old) result core.new
-        (registry.new ∷ []) }
+    ensures told { IsTold core.old (registry.old ∷ []) (due_to globals.now registry.old) result
+        core.new (registry.new ∷ []) }
+    ensures settled { result.all ≡ true → due_to globals.now registry.new ≡ [] }
 {
     let mut count = 0;
     'removals: for (place, global) in globals.iter().enumerate() {
@@ -99,13 +100,14 @@ fn announce_to<T: Table>(
 fn announce_to_all<T: Table>(
     core: &mut Core<'_, T>,
     globals: &[Advertised],
-    registries: &mut [OpenRegistry<T::Alloc>],
+    registries: &mut [OpenRegistry],
 ) -> Announced
     requires few { length globals.now ≤ 1024 }
     requires ordinary { IsOrdinary core.old.outbox }
     requires rising { RiseFrom 0 core.old.view.births registries.old }
-    ensures { IsTold core.old registries.old
+    ensures told { IsTold core.old registries.old
         (owed_in globals.now registries.old) result core.new registries.new }
+    ensures settled { result.all ≡ true → owed_in globals.now registries.new ≡ [] }
 {
     let mut count = 0;
     'registries: for registry in registries.iter_mut() {
@@ -136,7 +138,11 @@ impl<'t, T: Table> Server<'t, T> {
         if self.end.core.failed {
             return Err(SendError::Failed);
         }
+        if self.settled {
+            return Ok(0);
+        }
         let told = announce_to_all(&mut self.end.core, &self.globals, &mut self.registries);
+        self.settled = told.all;
         Ok(told.count)
     }
 }

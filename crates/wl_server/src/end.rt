@@ -37,6 +37,10 @@ impl<'t, T: Table> End for Server<'t, T> {
         wl_message::flush(&mut self.end.core.outbox, writer)
     }
 
+    fn take_waiting_tokens(&mut self, tokens: &mut [u32]) -> usize {
+        self.end.core.take_waiting_tokens(tokens)
+    }
+
     ghost laws = { record {
       kept = λ server. refl;
       new = λ server core. refl;

@@ -8,6 +8,7 @@ mod end;
 mod faults;
 mod globals;
 mod laws;
+mod marks;
 mod outline;
 mod pending;
 mod read_all;

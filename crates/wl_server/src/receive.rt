@@ -4,6 +4,7 @@ ghost use Rattle.std.specs.Borrow.{sem};
 ghost use Rattle.std.specs.Io.BufRead.{Rests};
 ghost use Rattle.wl_connection.specs.Outcomes.{left};
 ghost use Rattle.wl_server.specs.Registries.{IsSound};
+ghost use Rattle.wl_server.specs.Announcing.{KeepsSettled};
 ghost use Rattle.wl_server.specs.Requests.{after_next, IsLentNext, IsNext};
 ghost use Rattle.wl_server.specs.Seen.{lent_in, lent_report, report_in, report_of};
 ghost use Rattle.wl_server.specs.Steps.{CanTake, checked_front, core_by, core_unless};
@@ -40,8 +41,8 @@ impl<'t, T: Table> Server<'t, T> {
         match read(
             &mut self.end,
             &mut self.registries,
+            &mut self.settled,
             &self.globals,
-            &self.alloc,
         )? {
             Some(request) => Ok(Some(lend(&self.end, request))),
             None => Ok(None),
@@ -58,6 +59,7 @@ impl<'t, T: Table> Server<'t, T> {
         read_owned(
             &mut self.end,
             &mut self.registries,
+            &mut self.settled,
             &self.globals,
             &self.alloc,
         )
@@ -68,24 +70,25 @@ impl<'t, T: Table> Server<'t, T> {
 /// last.
 fn read<T: Table>(
     end: &mut Endpoint<'_, T>,
-    registries: &mut Vec<OpenRegistry<T::Alloc>, T::Alloc>,
+    registries: &mut Vec<OpenRegistry, T::Alloc>,
+    settled: &mut bool,
     globals: &[Advertised],
-    alloc: &T::Alloc,
 ) -> Result<Option<PendingRequest>, NextError>
+    requires { IsSound end.old.core.view registries.old.items }
     ensures answer { IsLentNext (whole_state end.old.core globals.now registries.old.items)
         (taken_in end.new.core end.new.args result) }
     ensures state { whole_state end.new.core globals.now registries.new.items
         ≡ left (whole_state end.old.core globals.now registries.old.items)
         (after_next (whole_state end.old.core globals.now registries.old.items))
         (taken_in end.new.core end.new.args result) }
-    ensures sound { IsSound end.old.core.view registries.old.items
-        → IsSound end.new.core.view registries.new.items }
+    ensures sound { IsSound end.new.core.view registries.new.items }
+    ensures settled { KeepsSettled settled.old registries.old.items settled.new registries.new.items }
 {
     let request = match find_or_fail(end, globals)? {
         Some(request) => request,
         None => return Ok(None),
     };
-    match take(end, registries, alloc, &request) {
+    match take(end, registries, settled, &request) {
         Ok(()) => Ok(Some(request)),
         Err(_) => Err(NextError::Memory),
     }
@@ -94,18 +97,20 @@ fn read<T: Table>(
 /// Reads the next request at an end, copies its report, and takes it.
 fn read_owned<T: Table>(
     end: &mut Endpoint<'_, T>,
-    registries: &mut Vec<OpenRegistry<T::Alloc>, T::Alloc>,
+    registries: &mut Vec<OpenRegistry, T::Alloc>,
+    settled: &mut bool,
     globals: &[Advertised],
     alloc: &T::Alloc,
 ) -> Result<Option<OwnedRequest<T::Alloc>>, NextError>
+    requires { IsSound end.old.core.view registries.old.items }
     ensures answer { IsNext (whole_state end.old.core globals.now registries.old.items)
         (report_in result) }
     ensures state { whole_state end.new.core globals.now registries.new.items
         ≡ left (whole_state end.old.core globals.now registries.old.items)
         (after_next (whole_state end.old.core globals.now registries.old.items))
         (report_in result) }
-    ensures sound { IsSound end.old.core.view registries.old.items
-        → IsSound end.new.core.view registries.new.items }
+    ensures sound { IsSound end.new.core.view registries.new.items }
+    ensures settled { KeepsSettled settled.old registries.old.items settled.new registries.new.items }
 {
     let request = match find_or_fail(end, globals)? {
         Some(request) => request,
@@ -115,7 +120,7 @@ fn read_owned<T: Table>(
         Ok(report) => report,
         Err(_) => return Err(NextError::Memory),
     };
-    match take(end, registries, alloc, &request) {
+    match take(end, registries, settled, &request) {
         Ok(()) => Ok(Some(report)),
         Err(_) => Err(NextError::Memory),
     }
@@ -174,11 +179,12 @@ fn copy<T: Table>(
 /// that it destroys. If there is no memory for the object that it makes, nothing changes.
 fn take<T: Table>(
     end: &mut Endpoint<'_, T>,
-    registries: &mut Vec<OpenRegistry<T::Alloc>, T::Alloc>,
-    alloc: &T::Alloc,
+    registries: &mut Vec<OpenRegistry, T::Alloc>,
+    settled: &mut bool,
     request: &PendingRequest,
 ) -> Result<(), AllocError>
-    requires { CanTake end.old.core (pending_in end.old.core end.old.args request.now) }
+    requires can { CanTake end.old.core (pending_in end.old.core end.old.args request.now) }
+    requires sound { IsSound end.old.core.view registries.old.items }
     ensures args { end.new.args ≡ end.old.args }
     ensures core { OnOk result (end.new.core
         ≡ core_by end.old.core (pending_in end.old.core end.old.args request.now)) }
@@ -188,14 +194,14 @@ fn take<T: Table>(
     ensures err { OnErr result
         ((end.new.core ≡ end.old.core) × (registries.new.items ≡ registries.old.items)) }
     ensures wants { OnErr result (request.now.change.made ≢ None) }
-    ensures sound { OnOk result (IsSound end.old.core.view registries.old.items
-        → IsSound end.new.core.view registries.new.items) }
+    ensures sound { OnOk result (IsSound end.new.core.view registries.new.items) }
+    ensures settled { KeepsSettled settled.old registries.old.items settled.new registries.new.items }
 {
     let Change { made, ended } = request.change;
     open_new_object(
         &mut end.core,
         registries,
-        alloc,
+        settled,
         made,
         request.outline.birth,
     )?;

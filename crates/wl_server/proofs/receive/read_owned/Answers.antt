@@ -23,8 +23,8 @@ returns-in-Err-clause-answer g c =
     let answer : ok (Some step) ≡ checked_front state = rw c.in-Some.is at c.in_ok-request.ensures.answer in
     needs-some state step answer (some-args (reported_of _ p.outline.birth _) args c.in-Err.ensures.err)
 
-pub take-requires : goal.take-requires
-take-requires g c =
+pub take-requires-clause-can : goal.take-requires-clause-can
+take-requires-clause-can g c =
     let old = c.args.end.now.core in
     let p = c.in-Some.request in
     let can : CanTake old (pending_in old c.find_or_fail.new.end.args p) = rw c.in-Some.is at c.in_ok-request.ensures.can in

@@ -29,4 +29,5 @@ invariant_of-self g c =
           (λ v is. has_sent core now c.self.inside.registries.items c.args.target c.args.opcode list v is c.self.invariant.registries) c.self.invariant.registries;
       births = by_result (λ (k : Core). BirthsAreOnce k.view) c.send.result core now sent e.ok e.err e.valid
           (λ v is. births_sent core now c.args.target c.args.opcode list v is c.self.invariant.births) c.self.invariant.births;
+      settled = c.self.invariant.settled;
     }
