@@ -12,3 +12,4 @@ pub mod Spelled
 pub mod Ends
 pub mod Readings
 pub mod AnyCut
+pub mod Writes

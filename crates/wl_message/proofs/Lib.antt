@@ -6,3 +6,4 @@ pub mod Passing
 pub mod Steps
 pub mod Flushing
 pub mod Limits
+pub mod Rounds

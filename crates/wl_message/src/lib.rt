@@ -14,6 +14,7 @@ mod laws;
 mod limit;
 mod marks;
 mod outbox;
+mod ring;
 mod script;
 mod streams;
 

@@ -10,6 +10,8 @@ use Rattle.wl_wire.specs.Word.{header_bytes}
 use Rattle.wl_wire.specs.Spelling.{canonical, spelled_len, Fits, has_nul}
 use Rattle.wl_objects.specs.declared.argument.Arg.{Arg}
 use Rattle.wl_objects.specs.declared.calling.Measured.{Measured}
+use Rattle.wl_objects.specs.declared.writing.CallMessage.{CallMessage}
+use Rattle.wl_objects.specs.declared.writing.BindMessage.{BindMessage}
 use Rattle.wl_objects.specs.declared.argument.Arg.TheVariants as args
 use Rattle.wl_object_map.specs.declared.object.Object.{Object}
 use Rattle.wl_object_map.specs.declared.object.Entry.{Entry}
@@ -150,6 +152,25 @@ given list = map given_of list
 -- the arguments of a call as they stand on the wire, where the new object gets this id
 abbrev pub on_wire : ℕ → List Arg → List Argument
 on_wire id list = map (wired id) (given list)
+
+-- the message that a call becomes
+abbrev pub call_message : CallMessage → List ℕ
+call_message call = message_bytes call.object call.opcode (on_wire call.new_id call.args.now)
+
+-- that message has a spelling, and its length is the one that it names
+pub record CallFits (call : CallMessage) : Type 0 where
+  pub fits : EachFits (on_wire call.new_id call.args.now)
+  pub len : call.len ≡ message_len (on_wire call.new_id call.args.now)
+  pub short : call.len ≤ 65535
+
+-- the same of a bind
+abbrev pub bind_message : BindMessage → List ℕ
+bind_message bind =
+    message_bytes bind.registry 0 (bind_values bind.name bind.iface.now bind.version bind.id)
+
+pub record BindFits (bind : BindMessage) : Type 0 where
+  pub fits : EachFits (bind_values bind.name bind.iface.now bind.version bind.id)
+  pub short : message_len (bind_values bind.name bind.iface.now bind.version bind.id) ≤ 65535
 
 -- the interface of the object that a call makes: that of the signature's new object
 abbrev pub call_makes : List Kind → Option Iface

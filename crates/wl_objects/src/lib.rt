@@ -32,4 +32,4 @@ pub use reading::{Received, descriptors, receive};
 pub use reporting::{OwnedArgs, named};
 pub use values::Values;
 pub use wl_object_map::{Entry, MapTable, Object, SlotTable, State, Table, TableError};
-pub use writing::{encode_bind, encode_call, encode_error, encode_global, encode_number};
+pub use writing::{BindMessage, CallMessage, take_tokens};

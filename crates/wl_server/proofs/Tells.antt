@@ -1,37 +1,14 @@
 -- Telling one registry, name by name.
 use Rattle.std.proofs.Common.{◌≡◌, ℕ, ◌+◌, ◌<◌, ◌≤◌, Bool, true, false, List, [], ◌∷◌, ◌++◌, length, drop, get_or, refl, sym, subst, ◌∙◌, ap, arith, inl, inr}
-use Rattle.std.specs.Prelude.{Result, ◌↔◌, ◌⊎◌, IsErr, OnErr, OnOk, is_ok}
-use Rattle.std.specs.declared.result.Result.TheVariants.{Ok, Err}
-use Rattle.std.proofs.lemmas.Bool.{cases_lt}
-use Rattle.wl_message.specs.Outgoing.{Outgoing, room_of, token_room_of, with_message}
+use Rattle.wl_message.specs.Outgoing.{room_of}
 use Rattle.wl_object_map.specs.declared.object.Object.{Object}
-use Rattle.wl_objects.specs.Writing.{message_len, message_bytes}
-use Rattle.wl_objects.proofs.Wholes.{length-message}
+use Rattle.wl_objects.specs.Writing.{message_len}
 use Rattle.wl_connection.specs.Core.{Core, IsOrdinary}
 use Rattle.wl_server.specs.State.{Global, Registry}
 use Rattle.wl_server.specs.Announcing.{Due, Owing, Removal, Telling, opcode_of, owings, owes_removal, owes_telling, marked, values_of}
 use Rattle.wl_server.specs.Tellings.{Progress, IsTold, IsWritten, dues_for}
 use Rattle.wl_server.proofs.Owings.{owings-skip, owings-take, removals-behind, tellings-behind}
 use Rattle.wl_server.proofs.Progresses.{told-one}
-
--- what the outbox answers
-pub push-written : {X E : Type 0} (core : Core) (registry : ℕ) (owing : Owing) (bytes : List ℕ) (after : Outgoing) (r : Result X E) (b : Bool)
-    → bytes ≡ message_bytes registry (opcode_of owing) (values_of core.tables owing) → b ≡ is_ok r → OnOk r (after ≡ with_message core.outbox bytes []) → OnErr r (after ≡ core.outbox)
-    → (IsErr r ↔ ((room_of core.outbox < length bytes) ⊎ (token_room_of core.outbox < 0))) → IsWritten core registry owing b (record core { outbox = after })
-push-written core registry owing bytes after (Ok x) b m e ok err full =
-    let len : length bytes ≡ message_len (values_of core.tables owing) = ap length m ∙ length-message registry (opcode_of owing) (values_of core.tables owing) in
-    subst (λ (t : Bool). IsWritten core registry owing t (record core { outbox = after })) (sym e)
-    (elim (cases_lt (room_of core.outbox) (length bytes)) [
-      | inl over ↦ absurd (let no : false ≡ true = full.1 (inl over) in cc)
-      | inr within ↦ (subst (λ (n : ℕ). n ≤ room_of core.outbox) len within, λ i. record core { outbox = (ok ∙ ap (λ (l : List ℕ). with_message core.outbox l []) m) i })
-    ])
-push-written core registry owing bytes after (Err x) b m e ok err full =
-    let len : length bytes ≡ message_len (values_of core.tables owing) = ap length m ∙ length-message registry (opcode_of owing) (values_of core.tables owing) in
-    subst (λ (t : Bool). IsWritten core registry owing t (record core { outbox = after })) (sym e)
-    (elim (full.0 refl) [
-      | inl over ↦ (subst (λ (n : ℕ). room_of core.outbox < n) len over, λ i. record core { outbox = err i })
-      | inr tokens ↦ absurd (omega (arith, tokens))
-    ])
 
 pub told-blocked : (core : Core) (rs : List Registry) (all : List Due) (count : ℕ) (now new : Core) (ms : List Registry) (d : Due) (rest : List Due) → Progress core rs all count now ms (d ∷ rest)
     → (room_of now.outbox < message_len (values_of now.tables d.owing)) × (new ≡ now) → IsTold core rs all (record { count = count; all = false }) new ms
