@@ -58,6 +58,10 @@ out/c/calls.o: c/waywire.c include/waywire.h include/waywire-version.h
 	@mkdir -p out/c
 	$(CC) $(CFLAGS) -std=c99 -Wall -Wextra -Wpedantic -fPIC -Iinclude -c $< -o $@
 
+out/c/line.o: c/line.c include/waywire.h include/waywire-version.h
+	@mkdir -p out/c
+	$(CC) $(CFLAGS) -std=c99 -Wall -Wextra -Wpedantic -fPIC -Iinclude -c $< -o $@
+
 # The toolchain's memory, over what c/waywire.c has in place of `malloc`, `realloc` and `free`.
 out/c/memory.a: Makefile
 	@mkdir -p out/c
@@ -65,9 +69,10 @@ out/c/memory.a: Makefile
 		--redefine-sym free=memory_free $(KIT)/c/liblibc_c.a $@
 
 # One object of the calls, the exports and the memory, in which only the calls are global.
-out/c/waywire.o: $(proved) out/c/calls.o out/c/memory.a
-	$(LD) -r --whole-archive $(proved) --no-whole-archive out/c/calls.o out/c/memory.a -o out/c/whole.o
-	nm -g --defined-only out/c/calls.o | sed -n 's/.* T \(waywire_\)/\1/p' > out/c/calls.txt
+out/c/waywire.o: $(proved) out/c/calls.o out/c/line.o out/c/memory.a
+	$(LD) -r --whole-archive $(proved) --no-whole-archive out/c/calls.o out/c/line.o out/c/memory.a \
+		-o out/c/whole.o
+	nm -g --defined-only out/c/calls.o out/c/line.o | sed -n 's/.* T \(waywire_\)/\1/p' > out/c/calls.txt
 	$(OBJCOPY) --keep-global-symbols=out/c/calls.txt out/c/whole.o $@
 	@rm -f out/c/whole.o
 

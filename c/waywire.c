@@ -39,6 +39,8 @@ uint32_t waywire_c_tables_kind(const struct handle *, uint16_t interface, uint32
 		waywire_amounts *amounts); \
 	void waywire_c_##end##_take(struct handle *, void *bytes, size_t length, uint32_t *tokens, \
 		size_t token_count, waywire_amounts *taken); \
+	void waywire_c_##end##_take_waiting_tokens(struct handle *, uint32_t *tokens, \
+		size_t token_count, size_t *taken); \
 	uint32_t waywire_c_##end##_send(struct handle *, waywire_object target, uint16_t opcode, \
 		const waywire_arg *args, size_t arg_count, waywire_object *made, size_t *place); \
 	uint32_t waywire_c_##end##_next(struct handle *, waywire_report *, waywire_arg *args, \
@@ -87,8 +89,9 @@ SAME(report, offsetof(waywire_report, opcode) == 4 && offsetof(waywire_report, t
 	&& offsetof(waywire_report, spelling) == 60);
 SAME(report_parts, offsetof(waywire_report, text) == 64 && offsetof(waywire_report, text_length) == 72
 	&& offsetof(waywire_report, place) == 80 && offsetof(waywire_report, offset) == 88
-	&& offsetof(waywire_report, user) == 96 && offsetof(waywire_report, args) == 104
-	&& sizeof(waywire_report) == 104 + 20 * 48); /* an export writes what stands before `user` */
+	&& offsetof(waywire_report, interface) == 96 && offsetof(waywire_report, version) == 100
+	&& offsetof(waywire_report, user) == 104 && offsetof(waywire_report, args) == 112
+	&& sizeof(waywire_report) == 112 + 20 * 48); /* an export writes what stands before `user` */
 
 /* ---- what C may pass wrongly */
 
@@ -550,6 +553,18 @@ static waywire_status set_user(struct users *users, waywire_object object, void 
 		if (!status) \
 			waywire_c_##end##_take(&it->handle, (void *)to, length, (uint32_t *)tokens_to, \
 				token_count, taken); \
+		return status; \
+	} \
+\
+	waywire_status waywire_##end##_take_waiting_tokens(waywire_##end *it, uint32_t *tokens, \
+		size_t token_count, size_t *taken) \
+	{ \
+		const void *to = tokens; \
+		if (!it || !taken) \
+			return WAYWIRE_NULL; \
+		waywire_status status = slice(&to, token_count, sizeof *tokens); \
+		if (!status) \
+			waywire_c_##end##_take_waiting_tokens(&it->handle, (uint32_t *)to, token_count, taken); \
 		return status; \
 	} \
 \

@@ -14,7 +14,8 @@
  * Tokens.  File descriptors are not among the bytes. A token is a number of the caller's choice
  * that stands for one, say the descriptor itself. `take` returns it with the first byte of its
  * message, and the caller passes the descriptor along with these bytes; for each descriptor that came
- * with some bytes the caller feeds a token with them. No descriptor is ever closed here.
+ * with some bytes the caller feeds a token with them. No descriptor is ever closed here: the caller closes
+ * those of each report, and those that `take_waiting_tokens` gives back where a connection ends.
  *
  * Inspectors.  A tool that stands between two ends has no end of its own. It passes what it sees to an
  * inspector, which gives each message a line, and says whether the session breaks a rule.
@@ -321,6 +322,8 @@ typedef struct waywire_report {
 	size_t text_length;
 	size_t place;
 	uint64_t offset;
+	uint16_t interface; /* of the target, its place in the tables, and its version: as they were before the */
+	uint32_t version;   /* message, also where it ended the target; version 0 where there is no target */
 	void *user; /* what the caller has set of the target, as by waywire_client_set_user; else null */
 	waywire_arg args[WAYWIRE_MAX_ARGS];
 } waywire_report;
@@ -403,6 +406,14 @@ waywire_status waywire_tables_message(const waywire_tables *tables, uint16_t int
 waywire_status waywire_tables_kind(const waywire_tables *tables, uint16_t interface,
 	waywire_sender sender, uint16_t opcode, size_t place, waywire_kind *kind);
 
+/* Writes the line of a report as `waywire trace` prints its message, with a NUL behind it and no line feed, such
+ * as `<- wl_surface@4.enter(wl_output@7)`. `sender` is WAYWIRE_FROM_SERVER of what a client read. Returns the
+ * length of the whole line, of which as much is written as `room` bytes hold, as snprintf does; 0 where the
+ * report has no message. It knows less than a trace: an object whose interface the signature leaves open is
+ * `unknown@id`, a descriptor its token, and the arguments of WAYWIRE_DISCARDED two dots. */
+size_t waywire_report_line(const waywire_tables *tables, waywire_sender sender,
+	const waywire_report *report, char *line, size_t room);
+
 /* ---- a client */
 
 /* The client's end of a connection: its objects, its inbox and outbox, the globals that it was told of. It
@@ -474,6 +485,15 @@ waywire_status waywire_client_goes(const waywire_client *client, size_t bytes, s
 waywire_status waywire_client_take(waywire_client *client, void *bytes, size_t length,
 	uint32_t *tokens, size_t token_count, waywire_amounts *taken);
 
+/* Gives the client up, as at the end of its connection, and moves the tokens that wait in its inbox and its
+ * outbox into the caller's memory, so that their descriptors can be closed: each token that was fed is in one
+ * report, or is taken so, and each that was sent is taken by `take`, or so. First come those of the inbox, a
+ * message at fault first, then those of the outbox, all of a message at once. `taken` gets their number: repeat
+ * the call until that is 0, with room for WAYWIRE_MAX_ARGS tokens at least. The client has failed afterwards,
+ * and what waited in its outbox is dropped with its tokens: `take` first what is still to be sent. */
+waywire_status waywire_client_take_waiting_tokens(waywire_client *client, uint32_t *tokens,
+	size_t token_count, size_t *taken);
+
 /* Reads the next message once it is whole; `report` says WAYWIRE_NOTHING before. Its report is lent
  * until the client's next call of any kind. It allocates nothing.
  * With a status of WAYWIRE_FAULT_.. the report is written too (kind WAYWIRE_FAULT) and the client has
@@ -504,6 +524,8 @@ waywire_status waywire_server_goes(const waywire_server *server, size_t bytes, s
 	waywire_amounts *amounts);
 waywire_status waywire_server_take(waywire_server *server, void *bytes, size_t length,
 	uint32_t *tokens, size_t token_count, waywire_amounts *taken);
+waywire_status waywire_server_take_waiting_tokens(waywire_server *server, uint32_t *tokens,
+	size_t token_count, size_t *taken);
 
 /* Adds a global of an interface, by its place in the tables, and writes its name to `name`, which may
  * be null. waywire_server_announce writes it to the registries. WAYWIRE_FAILED, WAYWIRE_BAD_GLOBAL,

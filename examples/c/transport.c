@@ -68,6 +68,12 @@ static void take(struct link *link)
 	link->token_count = taken.tokens;
 }
 
+static void close_tokens(struct link *link)
+{
+	while (link->token_count)
+		close((int)link->tokens[--link->token_count]);
+}
+
 int link_flush(struct link *link)
 {
 	for (take(link); link->from < link->to; take(link)) {
@@ -92,8 +98,7 @@ int link_flush(struct link *link)
 			continue;
 		if (sent < 0)
 			return errno == EAGAIN ? 0 : -1;
-		while (link->token_count) /* they went with the first byte */
-			close((int)link->tokens[--link->token_count]);
+		close_tokens(link); /* they went with the first byte */
 		link->from += (size_t)sent;
 	}
 	return 0;
@@ -186,7 +191,14 @@ int link_wait(struct link *link, int milliseconds)
 
 void link_close(struct link *link)
 {
-	while (link->token_count)
-		close((int)link->tokens[--link->token_count]);
+	do {
+		close_tokens(link);
+		if (link->client)
+			waywire_client_take_waiting_tokens(link->client, link->tokens, LINK_DESCRIPTORS,
+				&link->token_count);
+		else if (link->server)
+			waywire_server_take_waiting_tokens(link->server, link->tokens, LINK_DESCRIPTORS,
+				&link->token_count);
+	} while (link->token_count);
 	close(link->socket);
 }

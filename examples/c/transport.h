@@ -45,7 +45,8 @@ int link_fill(struct link *link);
  * limit), or -1 as link_fill. */
 int link_wait(struct link *link, int milliseconds);
 
-/* Closes the socket and the descriptors that were not sent. The caller frees the end. */
+/* Closes the socket, and all descriptors that were not sent or came and were not reported. The end has failed
+ * then, and the caller frees it. */
 void link_close(struct link *link);
 
 #endif

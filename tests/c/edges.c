@@ -340,6 +340,59 @@ static void inspected(void)
 	waywire_inspector_free(it);
 }
 
+/* What a report tells of its target, and its line. */
+static void is_line(waywire_sender sender, const waywire_report *report, const char *interface,
+	uint32_t version, const char *wanted)
+{
+	char line[256], begun[6];
+	uint16_t place = 0;
+	MUST(!interface || !waywire_tables_interface(tables, interface, &place));
+	MUST(report->interface == place && report->version == version);
+	size_t length = waywire_report_line(tables, sender, report, line, sizeof line);
+	MUST(length == strlen(wanted) && !strcmp(line, wanted));
+	MUST(waywire_report_line(tables, sender, report, begun, sizeof begun) == length);
+	MUST(strlen(begun) == (length < 5 ? length : 5) && !strncmp(begun, wanted, 5));
+	MUST(waywire_report_line(tables, sender, report, NULL, 0) == length);
+}
+
+/* Reports tell the interface and version of their target, also where it is a zombie or just ended. */
+static void lines(void)
+{
+	struct pair pair;
+	waywire_report report;
+	waywire_arg scale = waywire_int(2);
+	open_pair(&pair, tables);
+	waywire_object compositor = bound(&pair, tables, "wl_compositor");
+	waywire_object surface = waywire_wl_compositor_create_surface(pair.client, compositor, NULL);
+	to_server(&pair);
+	MUST(!waywire_server_next(pair.server, &report));
+	is_line(WAYWIRE_FROM_CLIENT, &report, "wl_compositor", 6,
+		"-> wl_compositor@3.create_surface(new id wl_surface@4)");
+	MUST(!waywire_server_next(pair.server, &report));
+	is_line(WAYWIRE_FROM_CLIENT, &report, NULL, 0, "");
+	MUST(!waywire_server_send(pair.server, surface, WAYWIRE_WL_SURFACE_EVENT_PREFERRED_BUFFER_SCALE,
+		&scale, 1, NULL, NULL));
+	to_client(&pair);
+	MUST(!waywire_client_next(pair.client, &report));
+	is_line(WAYWIRE_FROM_SERVER, &report, "wl_surface", 6, "<- wl_surface@4.preferred_buffer_scale(2)");
+	MUST(!waywire_server_send(pair.server, surface, WAYWIRE_WL_SURFACE_EVENT_PREFERRED_BUFFER_SCALE,
+		&scale, 1, NULL, NULL));
+	waywire_wl_surface_destroy(pair.client, surface);
+	to_server(&pair);
+	MUST(!waywire_server_next(pair.server, &report));
+	is_line(WAYWIRE_FROM_CLIENT, &report, "wl_surface", 6, "-> wl_surface@4.destroy()");
+	MUST(!waywire_server_post_error(pair.server, compositor, 7, "no \"way\""));
+	to_client(&pair);
+	MUST(!waywire_client_next(pair.client, &report) && report.kind == WAYWIRE_DISCARDED);
+	is_line(WAYWIRE_FROM_SERVER, &report, "wl_surface", 6, "<- wl_surface@4.preferred_buffer_scale(..)");
+	MUST(!waywire_client_next(pair.client, &report) && report.kind == WAYWIRE_DELETED);
+	is_line(WAYWIRE_FROM_SERVER, &report, "wl_surface", 6, "<- wl_display@1.delete_id(4)");
+	MUST(!waywire_client_next(pair.client, &report) && report.kind == WAYWIRE_ERROR);
+	is_line(WAYWIRE_FROM_SERVER, &report, "wl_compositor", 6,
+		"<- wl_display@1.error(wl_compositor@3, 7, \"no \\x22way\\x22\")");
+	close_pair(&pair);
+}
+
 static void numbers(void)
 {
 	MUST(waywire_fixed_from_double(2.5) == 640 && waywire_fixed_to_double(640) == 2.5);
@@ -364,6 +417,7 @@ int main(void)
 	greatest();
 	limits();
 	inspected();
+	lines();
 	numbers();
 	waywire_tables_free(tables);
 	printf("edges: ok\n");

@@ -371,9 +371,9 @@ int main(void)
 	MUST(!waywire_client_new(tables, &sizes, &link_to.client));
 	link_to.socket = sockets[0];
 	play();
-	waywire_client_free(link_to.client);
 	waywire_tables_free(tables);
 	link_close(&link_to);
+	waywire_client_free(link_to.client);
 	MUST(waitpid(child, &status, 0) == child && status == 0);
 	printf("%zu messages, %zu discarded, %zu objects let go\n", messages, discarded, deleted);
 	return 0;

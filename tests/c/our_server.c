@@ -346,9 +346,9 @@ int main(void)
 	MUST(ended && !link_flush(&link_to));
 	MUST(pools == ROUNDS && keyboards == 2 * ROUNDS);
 	MUST(waitpid(child, &status, 0) == child && status == 0);
-	waywire_server_free(link_to.server);
 	waywire_tables_free(tables);
 	link_close(&link_to);
+	waywire_server_free(link_to.server);
 	printf("%zu messages\n", messages);
 	return 0;
 }

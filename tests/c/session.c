@@ -1,5 +1,6 @@
-/* Plays the demonstration's session over the C library, prints what each end reads, and writes what
- * passed as a recording. Written from waywire.h and waywire-core.h alone.
+/* Plays the demonstration's session over the C library, prints what each end reads, compares the lines of
+ * the reports with the trace, and writes what passed as a recording. Written from waywire.h and
+ * waywire-core.h alone.
  *
  *     session [BYTES A CARRY [RECORDING]] */
 #include "must.h"
@@ -8,10 +9,22 @@ static waywire_tables *tables;
 static waywire_client *client;
 static waywire_server *server;
 static FILE *recording;
+static waywire_inspector *inspector;
+
+/* The lines of what passed, by the inspector, and of what the ends reported. */
+static char passed[4096], told[4096];
+
+static void tell(waywire_sender sender, const waywire_report *report)
+{
+	size_t length = strlen(told);
+	length += waywire_report_line(tables, sender, report, told + length, sizeof told - length - 2);
+	strcpy(told + length, "\n");
+}
 
 /* A line of what one end read. */
 static void show(const char *arrow, const waywire_report *report)
 {
+	tell(*arrow == '-' ? WAYWIRE_FROM_CLIENT : WAYWIRE_FROM_SERVER, report);
 	if (report->kind == WAYWIRE_DELETED) {
 		printf("%s deleted %u/%u\n", arrow, report->target.id, (unsigned)report->target.birth);
 		return;
@@ -45,6 +58,12 @@ static void show(const char *arrow, const waywire_report *report)
 
 static void record(char arrow, const unsigned char *bytes, size_t length)
 {
+	const char *lines;
+	size_t lines_length;
+	waywire_sender sender = arrow == '>' ? WAYWIRE_FROM_CLIENT : WAYWIRE_FROM_SERVER;
+	MUST(!waywire_inspector_pass(inspector, sender, bytes, length, 0));
+	MUST(!waywire_inspector_lines(inspector, &lines, &lines_length));
+	strncat(passed, lines, lines_length);
 	if (!recording)
 		return;
 	fprintf(recording, "%c ", arrow);
@@ -185,8 +204,11 @@ int main(int argc, char **argv)
 	MUST(!waywire_tables_core(&tables));
 	MUST(!waywire_client_new(tables, &sizes, &client));
 	MUST(!waywire_server_new(tables, &sizes, &server));
+	MUST(!waywire_inspector_new(tables, 4096, &inspector));
 	play(most);
 	agree();
+	MUST(*told && !strcmp(told, passed));
+	waywire_inspector_free(inspector);
 	waywire_client_free(client);
 	waywire_server_free(server);
 	waywire_tables_free(tables);

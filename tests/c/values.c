@@ -12,6 +12,7 @@ static void nulls(void)
 	waywire_amounts amounts;
 	waywire_report report;
 	uint16_t interface;
+	size_t count = 7;
 	MUST(waywire_tables_core(NULL) == WAYWIRE_NULL);
 	MUST(waywire_tables_interface(NULL, "wl_seat", &interface) == WAYWIRE_NULL);
 	MUST(waywire_tables_interface(tables, NULL, &interface) == WAYWIRE_NULL);
@@ -21,6 +22,9 @@ static void nulls(void)
 	MUST(waywire_client_take(client, NULL, 1, NULL, 0, &amounts) == WAYWIRE_NULL);
 	MUST(waywire_client_take(client, NULL, 0, NULL, 1, &amounts) == WAYWIRE_NULL);
 	MUST(waywire_client_take(client, NULL, 0, NULL, 0, &amounts) == WAYWIRE_OK);
+	MUST(waywire_client_take_waiting_tokens(client, NULL, 1, &count) == WAYWIRE_NULL);
+	MUST(waywire_client_take_waiting_tokens(client, NULL, 0, NULL) == WAYWIRE_NULL);
+	MUST(waywire_server_take_waiting_tokens(NULL, NULL, 0, &count) == WAYWIRE_NULL && count == 7);
 	MUST(waywire_server_feed(server, NULL, 4, NULL, 0, &amounts) == WAYWIRE_NULL);
 	MUST(waywire_server_feed(server, NULL, 0, NULL, 0, &amounts) == WAYWIRE_OK);
 	MUST(waywire_client_send(client, display, 0, NULL, 1, NULL, NULL) == WAYWIRE_NULL);

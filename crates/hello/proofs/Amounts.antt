@@ -2,7 +2,7 @@
 use Rattle.std.proofs.Common.{◌≡◌, ℕ, ◌≤◌, sym, subst, arith}
 use Rattle.wl_message.specs.Outgoing.{Outgoing, goes}
 use Rattle.wl_message.specs.declared.amounts.Taken.{Taken}
-use Rattle.wl_message.proofs.Goings.{goes_goes}
+use Rattle.wl_message.proofs.WhatGoes.{goes_goes}
 
 goes_bytes : (o : Outgoing) (b t : ℕ) → (goes o b t).bytes ≤ b
 goes_bytes o b t = (goes_goes o b t).may.within

@@ -7,7 +7,7 @@ ghost use Rattle.std.specs.Prelude.{◌≤◌, length};
 use anyhow::{Context, Result, bail};
 use std::io::Write;
 use wl::{
-    Arg, Direction, Got, GotRef, Incoming, Limit, Object, OwnedArgs, OwnedIncoming, Recording,
+    Arg, Direction, End, Got, GotRef, Incoming, Limit, Object, OwnedArgs, OwnedIncoming, Recording,
     Sizes, SlotTable, Tables, event, request, trace,
 };
 

@@ -7,7 +7,8 @@ use Rattle.clap.specs.declared.error.kind.ErrorKind.TheVariants.{DisplayHelp, Di
 use Rattle.program_arguments.specs.Asking.{AsksHelp, HasFault, IsHelp, command_line}
 
 -- where nothing but help may be said
-pub alone : (words : List Text) (kind : ErrorKind) → IsHelp kind → fault_of command_line words ≡ kind ∷ [] → AsksHelp words × (HasFault words → ⊥)
+pub alone : (words : List Text) (kind : ErrorKind) → IsHelp kind → fault_of command_line words ≡ kind ∷ []
+    → AsksHelp words × (HasFault words → ⊥)
 alone words kind is e = (
   (kind, subst (IsAmong kind) (sym e) (inl refl), is),
   λ fault. elim (subst (IsAmong fault.0) e fault.1) [
@@ -16,7 +17,8 @@ alone words kind is e = (
   ],
 )
 
-pub long_help : (name : Text) (rest : List Text) → fault_of command_line (name ∷ codes "--help" ∷ rest) ≡ DisplayHelp ∷ []
+pub long_help : (name : Text) (rest : List Text) → fault_of command_line (name ∷ codes "--help" ∷ rest)
+    ≡ DisplayHelp ∷ []
 unfolding clap_on_literals
 long_help name rest = refl
 
@@ -24,10 +26,12 @@ pub short_help : (name : Text) (rest : List Text) → fault_of command_line (nam
 unfolding clap_on_literals
 short_help name rest = refl
 
-pub long_version : (name : Text) (rest : List Text) → fault_of command_line (name ∷ codes "--version" ∷ rest) ≡ DisplayVersion ∷ []
+pub long_version : (name : Text) (rest : List Text)
+    → fault_of command_line (name ∷ codes "--version" ∷ rest) ≡ DisplayVersion ∷ []
 unfolding clap_on_literals
 long_version name rest = refl
 
-pub short_version : (name : Text) (rest : List Text) → fault_of command_line (name ∷ codes "-V" ∷ rest) ≡ DisplayVersion ∷ []
+pub short_version : (name : Text) (rest : List Text)
+    → fault_of command_line (name ∷ codes "-V" ∷ rest) ≡ DisplayVersion ∷ []
 unfolding clap_on_literals
 short_version name rest = refl

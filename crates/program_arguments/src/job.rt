@@ -13,6 +13,7 @@ ghost use Rattle.program_arguments.specs.Asking.{limit_argument, path_argument, 
 ghost use Rattle.program_arguments.specs.Asking.{socket_command, tables_argument, texts_of};
 ghost use Rattle.program_arguments.specs.Asking.{trace_command};
 
+use crate::status;
 use clap::error::ErrorKind;
 use clap::{Arg, ArgMatches, Command, Error};
 use std::alloc::{AllocError, Global};
@@ -270,7 +271,7 @@ fn no_memory() -> Stop
     ensures { IsOutOfMemory result }
 {
     Stop {
-        status: 4,
+        status: status::OUT_OF_MEMORY,
         text: CowStr::Borrowed(""),
     }
 }
@@ -280,7 +281,7 @@ fn no_job() -> Stop
     ensures { Says 2 result }
 {
     Stop {
-        status: 2,
+        status: status::BAD_COMMAND_LINE,
         text: CowStr::Borrowed(USAGE),
     }
 }

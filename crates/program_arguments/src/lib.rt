@@ -6,5 +6,6 @@
 
 mod job;
 pub mod laws;
+pub mod status;
 
 pub use job::{Job, Stop, job_of};

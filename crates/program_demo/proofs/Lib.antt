@@ -1,3 +1,3 @@
-pub mod Leaving
+pub mod LessIsLeft
 pub mod Runs
 pub mod Shown

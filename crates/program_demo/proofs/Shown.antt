@@ -17,18 +17,23 @@ use Rattle.program_session.specs.Session.{sizes}
 use Rattle.program_demo.specs.Demo.{IsShown, Tells}
 
 -- the lines of what was lent, and behind them the last line
-pub whole_text : (tables : List Interface) (lent pieces : List Piece) (lines text : List ℕ) (agree : Bool) (counted objects : ℕ)
-    → lines ≡ trace_of tables (session_of usual_limit lent) → lent ≡ pieces → counted ≡ objects → text ≡ lines ++ agreement_line agree counted
+pub whole_text : (tables : List Interface) (lent pieces : List Piece) (lines text : List ℕ) (agree : Bool)
+    (counted objects : ℕ)
+    → lines ≡ trace_of tables (session_of usual_limit lent) → lent ≡ pieces → counted ≡ objects
+    → text ≡ lines ++ agreement_line agree counted
     → text ≡ trace_of tables (session_of usual_limit pieces) ++ agreement_line agree objects
 whole_text tables lent pieces lines text agree counted objects traced same number written =
     let by_lines = ap (λ (xs : List ℕ). xs ++ agreement_line agree counted) traced in
-    let by_pieces = ap (λ (ps : List Piece). trace_of tables (session_of usual_limit ps) ++ agreement_line agree counted) same in
+    let by_pieces = ap (λ (ps : List Piece). trace_of tables (session_of usual_limit ps)
+    ++ agreement_line agree counted) same in
     let by_number = ap (λ (n : ℕ). trace_of tables (session_of usual_limit pieces) ++ agreement_line agree n) number in
     written ∙ (by_lines ∙ (by_pieces ∙ by_number))
 
 -- what tells of a pair that a new one leads to
-pub shown_from_new : {X E : Type 0} (items : X → List ℕ) (tables : List Interface) (piece : ℕ) (pair last : PairState) (result : Result X E) → pair ≡ new_pair tables sizes sizes → Stands pair opening
-    → Plays (session tables piece) pair last → IfOk result (λ x. Tells tables last (items x)) → IfOk result (λ x. IsShown tables piece (items x))
+pub shown_from_new : {X E : Type 0} (items : X → List ℕ) (tables : List Interface) (piece : ℕ) (pair last : PairState)
+    (result : Result X E) → pair ≡ new_pair tables sizes sizes → Stands pair opening
+    → Plays (session tables piece) pair last → IfOk result (λ x. Tells tables last (items x))
+    → IfOk result (λ x. IsShown tables piece (items x))
 shown_from_new items tables piece pair last (Ok x) begins standing played told = record {
   last = last;
   begins = subst (λ (p : PairState). Stands p opening) begins standing;

@@ -1,5 +1,6 @@
 -- What writes one after another append.
-use Rattle.std.proofs.Common.{◌≡◌, ◌∙◌, ◌⊎◌, ◌+◌, ◌-◌, ◌<◌, ◌≤◌, ℕ, List, [], ◌++◌, length, drop, take, Option, Some, None, refl, sym, subst, ap, inl, inr, arith}
+use Rattle.std.proofs.Common.{◌≡◌, ◌∙◌, ◌⊎◌, ◌+◌, ◌-◌, ◌<◌, ◌≤◌, ℕ, List, [], ◌++◌, length, drop}
+use Rattle.std.proofs.Common.{take, Option, Some, None, refl, sym, subst, ap, inl, inr, arith}
 use Rattle.std.proofs.lemmas.Grind.{common_steps}
 use Rattle.std.proofs.lemmas.Bool.{cases_lt}
 use Rattle.std.proofs.lemmas.List.{take_all}
@@ -32,8 +33,13 @@ pub front_whole : (a b : Option (List ℕ)) (xs : List ℕ) → Appends a b xs �
 front_whole a b xs h = (length xs, subst (Appends a b) (sym (take_all (length xs) xs (omega arith))) h)
 
 -- a beginning behind what was appended
-pub front_more : (a b c : Option (List ℕ)) (xs ys : List ℕ) → Appends a b xs → AppendsFront b c ys → AppendsFront a c (xs ++ ys)
-front_more a b c xs ys h k = (length xs + k.0, subst (Appends a c) (sym (take-append-add xs ys k.0)) (appends_more a b c xs (take k.0 ys) h k.1))
+pub front_more : (a b c : Option (List ℕ)) (xs ys : List ℕ) → Appends a b xs → AppendsFront b c ys
+    → AppendsFront a c (xs ++ ys)
+front_more a b c xs ys h k = (
+  length xs + k.0,
+  subst (Appends a c) (sym (take-append-add xs ys k.0))
+      (appends_more a b c xs (take k.0 ys) h k.1),
+)
 
 -- a beginning of the first part
 pub front_first : (a b : Option (List ℕ)) (xs ys : List ℕ) → AppendsFront a b xs → AppendsFront a b (xs ++ ys)
@@ -45,21 +51,29 @@ front_first a b xs ys h = go (cases_lt h.0 (length xs))
 
 -- one more write, that took n of the bytes that were left
 pub wrote_more : (a b c : Option (List ℕ)) (bytes : List ℕ) (at n next : ℕ) → at ≤ length bytes → next ≡ at + n
-    → n ≤ length (take (length bytes - at) (drop at bytes)) → Appends a b (take at bytes) → Appends b c (take n (take (length bytes - at) (drop at bytes)))
+    → n ≤ length (take (length bytes - at) (drop at bytes)) → Appends a b (take at bytes)
+    → Appends b c (take n (take (length bytes - at) (drop at bytes)))
     → (next ≤ length bytes) × Appends a c (take next bytes)
 wrote_more a b c bytes at n next le is most so_far more =
     let len = length-drop at bytes in
-    let rest : take (length bytes - at) (drop at bytes) ≡ drop at bytes = take_all (length bytes - at) (drop at bytes) (omega (arith, len)) in
+    let rest : take (length bytes - at) (drop at bytes) ≡ drop at bytes =
+    take_all (length bytes - at) (drop at bytes) (omega (arith, len)) in
     let few : n ≤ length (drop at bytes) = subst (λ (xs : List ℕ). n ≤ length xs) rest most in
     let taken : Appends b c (take n (drop at bytes)) = subst (λ (xs : List ℕ). Appends b c (take n xs)) rest more in
-    let all : Appends a c (take (at + n) bytes) = subst (Appends a c) (sym (take-add at n bytes)) (appends_more a b c (take at bytes) (take n (drop at bytes)) so_far taken) in
+    let all : Appends a c (take (at + n) bytes) =
+    subst (Appends a c) (sym (take-add at n bytes))
+    (appends_more a b c (take at bytes) (take n (drop at bytes)) so_far taken) in
     (omega (arith, le, is, few, len), subst (λ (m : ℕ). Appends a c (take m bytes)) (sym is) all)
 
 -- and one that took none
-pub wrote_none : (a b c : Option (List ℕ)) (bytes : List ℕ) (at next : ℕ) → at ≤ length bytes → next ≡ at → Appends a b (take at bytes) → Keeps b c
+pub wrote_none : (a b c : Option (List ℕ)) (bytes : List ℕ) (at next : ℕ) → at ≤ length bytes → next ≡ at
+    → Appends a b (take at bytes) → Keeps b c
     → (next ≤ length bytes) × Appends a c (take next bytes)
-wrote_none a b c bytes at next le is so_far keeps =
-    (omega (arith, le, is), subst (λ (m : ℕ). Appends a c (take m bytes)) (sym is) (appends_kept a b c (take at bytes) so_far keeps))
+wrote_none a b c bytes at next le is so_far keeps = (
+  omega (arith, le, is),
+  subst (λ (m : ℕ). Appends a c (take m bytes)) (sym is)
+      (appends_kept a b c (take at bytes) so_far keeps),
+)
 
 -- a line, in the parts in which it is written
 pub line_is : (begins first second third fourth text ends : List ℕ) → first ++ (second ++ (third ++ fourth)) ≡ text

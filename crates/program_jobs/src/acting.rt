@@ -10,7 +10,7 @@ ghost use Rattle.wl_recording.specs.Text.{IsFirstBad};
 use crate::failure::Failure;
 use crate::verdict::{status_of, write_broken};
 use crate::writing::write_through;
-use program_arguments::Job;
+use program_arguments::{Job, status};
 use program_demo::demo;
 use std::alloc::{Allocator, Global};
 use std::io::{ErrorKind, Read, Write};
@@ -20,7 +20,7 @@ use wl_sigs::Tables;
 use wl_verdict::write_verdict;
 
 /// The most bytes of a file.
-const MOST: usize = 16_777_216;
+const MAX_FILE_BYTES: u64 = 16_777_216;
 
 /// What a job prints, whole, and the exit status that goes with it.
 #[derive(Debug, Drop)]
@@ -30,7 +30,7 @@ pub(crate) struct Printed<A: Allocator> {
     ghost known: { status ≤ 1 },
 }
 
-/// All that the reader gives, which is at most `MOST` bytes. One byte more is read to see that.
+/// All that the reader gives, which is at most `MAX_FILE_BYTES`. One byte more is read to see that.
 fn contents<'a, A: Allocator, R: Read>(
     alloc: A,
     name: &'a str,
@@ -40,8 +40,8 @@ fn contents<'a, A: Allocator, R: Read>(
     ensures refused { IfErr result (IsReadFailure name.entry.now (R.remaining file.old)) }
 {
     let mut bytes = Vec::new(alloc);
-    match file.take(16_777_217).read_to_end(&mut bytes) {
-        Ok(_) if bytes.len() <= MOST => Ok(bytes),
+    match file.take(MAX_FILE_BYTES + 1).read_to_end(&mut bytes) {
+        Ok(_) if bytes.len() as u64 <= MAX_FILE_BYTES => Ok(bytes),
         Ok(_) => Err(Failure::TooLong),
         Err(error) => match error.kind() {
             ErrorKind::OutOfMemory => Err(Failure::Memory),
@@ -147,7 +147,10 @@ fn output<'a, 'b, A: Allocator, T: Read, R: Read>(
         }
         Job::Demo { piece } => {
             let text = demo(alloc, &Tables::core(global)?, *piece)?;
-            Ok(Printed { text, status: 0 })
+            Ok(Printed {
+                text,
+                status: status::SUCCESS,
+            })
         }
         Job::Socket { .. } => Err(Failure::SocketFailed),
     }

@@ -10,6 +10,7 @@ ghost use Rattle.program_jobs.specs.Writing.{AppendsFront};
 
 use crate::writing::write_whole;
 use itoa::Buffer;
+use program_arguments::status;
 use program_socket::SocketError;
 use std::alloc::AllocError;
 use std::io::{self, ErrorKind, Write};
@@ -67,8 +68,8 @@ impl Failure<'_> {
         ensures { result ≡ status_of self.now }
     {
         match self {
-            Failure::Memory => 4,
-            _ => 3,
+            Failure::Memory => status::OUT_OF_MEMORY,
+            _ => status::FAILURE,
         }
     }
 

@@ -9,7 +9,7 @@ use crate::acting::{act, finish};
 use crate::failure::Failure;
 use crate::socket::{BoundSocket, run_over_socket};
 use crate::writing::{write_through, write_whole};
-use program_arguments::{Job, Stop, job_of};
+use program_arguments::{Job, Stop, job_of, status};
 use std::alloc::Global;
 use std::io::{self, Eprint, ErrorKind, Read, Write};
 use std::process::{ExitCode, Termination};
@@ -74,7 +74,7 @@ fn not_read<E: Write>(error: &io::Error, err: &mut E) -> u8
         return Failure::Memory.report(err);
     }
     let _ = write_whole(err, NO_TEXT);
-    2
+    status::BAD_COMMAND_LINE
 }
 
 /// Prints help or the version to `out`, and anything else to `err`, and returns the exit status:
@@ -83,11 +83,11 @@ fn report_stop<O: Write, E: Write>(stop: &Stop, out: &mut O, err: &mut E) -> u8
     ensures { Told O.contents E.contents stop.now out.old out.new err.old err.new result }
 {
     match stop.status {
-        0 => match write_through(out, stop.text.as_str().as_bytes()) {
-            Ok(()) => 0,
+        status::SUCCESS => match write_through(out, stop.text.as_str().as_bytes()) {
+            Ok(()) => status::SUCCESS,
             Err(_) => Failure::CannotWrite.report(err),
         },
-        4 => Failure::Memory.report(err),
+        status::OUT_OF_MEMORY => Failure::Memory.report(err),
         status => {
             let _ = write_whole(err, stop.text.as_str().as_bytes());
             status

@@ -6,6 +6,7 @@ ghost use Rattle.program_jobs.specs.Output.{IsSocketRefusal};
 
 use crate::acting::Printed;
 use crate::failure::Failure;
+use program_arguments::status;
 use program_socket::socket_text;
 use std::alloc::{Allocator, Global};
 use std::io::{self, Read, Write};
@@ -42,7 +43,10 @@ pub(crate) fn run_over_socket<A: Allocator + Clone + Drop, B: BoundSocket>(
     let removed = bound.remove();
     let text = text?;
     match removed {
-        Ok(()) => Ok(Printed { text, status: 0 }),
+        Ok(()) => Ok(Printed {
+            text,
+            status: status::SUCCESS,
+        }),
         Err(error) => Err(Failure::of_socket(&error)),
     }
 }

@@ -2,6 +2,7 @@
 ghost use Rattle.std.specs.Prelude.{◌≡◌, ◌≤◌, ◌++◌, OnOk};
 ghost use Rattle.program_jobs.specs.Verdict.{last_line, verdict_status};
 
+use program_arguments::status;
 use std::alloc::{AllocError, Allocator};
 use wl_check::Verdict;
 use wl_verdict::write_verdict;
@@ -22,7 +23,7 @@ pub fn status_of(verdict: &Verdict) -> u8
     ensures known { result ≤ 1 }
 {
     match verdict {
-        Verdict::Lawful { .. } => 0,
-        Verdict::Broken { .. } => 1,
+        Verdict::Lawful { .. } => status::SUCCESS,
+        Verdict::Broken { .. } => status::BROKEN_SESSION,
     }
 }

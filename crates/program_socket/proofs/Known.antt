@@ -15,7 +15,8 @@ all_told c s now = record {
   server_stream = told s now.server_stream;
 }
 
-part_told : {C S : Type 0} (c : Known C) (s : Known S) (part : Part) (now next : Connected C S) → PlaysPart c s part now next → PlaysPart by_itself by_itself part (all_told c s now) (all_told c s next)
+part_told : {C S : Type 0} (c : Known C) (s : Known S) (part : Part) (now next : Connected C S)
+    → PlaysPart c s part now next → PlaysPart by_itself by_itself part (all_told c s now) (all_told c s next)
 part_told c s (Call move) now next h = record {
   reply = h.reply;
   accepted = h.accepted;
@@ -23,14 +24,27 @@ part_told c s (Call move) now next h = record {
   client_stream = ap (told c) h.client_stream;
   server_stream = ap (told s) h.server_stream;
 }
-part_told c s ClientTurn now next h = record { bytes = h.bytes; sends = h.sends; receives = h.receives; leaves = h.leaves }
-part_told c s ServerTurn now next h = record { bytes = h.bytes; sends = h.sends; receives = h.receives; leaves = h.leaves }
+part_told c s ClientTurn now next h = record {
+  bytes = h.bytes;
+  sends = h.sends;
+  receives = h.receives;
+  leaves = h.leaves;
+}
+part_told c s ServerTurn now next h = record {
+  bytes = h.bytes;
+  sends = h.sends;
+  receives = h.receives;
+  leaves = h.leaves;
+}
 
-parts_told : {C S : Type 0} (c : Known C) (s : Known S) (parts : List Part) (now last : Connected C S) → PlaysOver c s parts now last → PlaysOver by_itself by_itself parts (all_told c s now) (all_told c s last)
+parts_told : {C S : Type 0} (c : Known C) (s : Known S) (parts : List Part) (now last : Connected C S)
+    → PlaysOver c s parts now last → PlaysOver by_itself by_itself parts (all_told c s now) (all_told c s last)
 parts_told c s [] now last h = ap (all_told c s) h
-parts_told c s (part ∷ parts) now last (next, first, rest) = (all_told c s next, part_told c s part now next first, parts_told c s parts next last rest)
+parts_told c s (part ∷ parts) now last (next, first, rest) =
+    (all_told c s next, part_told c s part now next first, parts_told c s parts next last rest)
 
-pub shown_over_streams : {C S : Type 0} (c : Known C) (s : Known S) (tables : List Interface) (client_stream : C) (server_stream : S) (text : List ℕ)
+pub shown_over_streams : {C S : Type 0} (c : Known C) (s : Known S) (tables : List Interface) (client_stream : C)
+    (server_stream : S) (text : List ℕ)
     → Shows c s tables client_stream server_stream text → IsShownOverStreams tables text
 shown_over_streams c s tables client_stream server_stream text shows = (
   told c client_stream,
@@ -41,7 +55,8 @@ shown_over_streams c s tables client_stream server_stream text shows = (
       objects = shows.objects;
       ends = record {
         last = all_told c s shows.ends.last;
-        played = parts_told c s (session tables) (begin tables client_stream server_stream) shows.ends.last shows.ends.played;
+        played = parts_told c s (session tables) (begin tables client_stream server_stream) shows.ends.last
+            shows.ends.played;
         passed = shows.ends.passed;
         exact = shows.ends.exact;
         counted = shows.ends.counted;

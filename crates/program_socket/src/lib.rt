@@ -3,7 +3,6 @@
 #![tactic(auto)]
 
 mod calls;
-mod end;
 mod error;
 mod session;
 mod showing;

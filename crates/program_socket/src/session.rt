@@ -13,6 +13,7 @@ use program_session::SIZES;
 use std::alloc::Allocator;
 use std::io::{Read, Write};
 use wl_client::Client;
+use wl_connection::End;
 use wl_objects::{SlotTable, Table};
 use wl_server::Server;
 use wl_session::{Direction, Recording, same_rows};

@@ -7,18 +7,17 @@ ghost use Rattle.wl_connection.specs.Core.{with_gone};
 ghost use Rattle.wl_connection.specs.Reads.{Reads, arrived, reading_of};
 ghost use Rattle.program_socket.specs.Streams.{Sends};
 
-use crate::end::Sender;
 use crate::error::SocketError;
 use std::alloc::Allocator;
 use std::io::{Read, Write};
-use wl_connection::{Receiver, read_all};
+use wl_connection::{End, Receiver, read_all};
 use wl_message::FlushError;
 
 /// How many bytes are read at once.
 const MOST: usize = 4096;
 
 /// Writes all that waits at an end, and returns how many bytes that was.
-pub(crate) fn flush_all<E: Sender, W: Write>(
+pub(crate) fn flush_all<E: End, W: Write>(
     end: &mut E,
     writer: &mut W,
     retries: &mut usize,

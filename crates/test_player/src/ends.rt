@@ -4,10 +4,10 @@ use crate::stage::Stage;
 use std::alloc::{AllocError, Global};
 use std::fmt::Write;
 use test_scene::{
-    Actor, Chunk, End, OUT_OF_MEMORY, Repeated, Trouble, Words, put_name, read_chunk, read_chunks,
-    write_chunk, write_stop,
+    Actor, Chunk, OUT_OF_MEMORY, Playable, Repeated, Trouble, Words, put_name, read_chunk,
+    read_chunks, write_chunk, write_stop,
 };
-use wl_connection::ReadAll;
+use wl_connection::{End, ReadAll, read_all};
 use wl_message::Piece;
 use wl_objects::{NextError, Object, State, Table};
 use wl_sigs::Tables;
@@ -15,7 +15,7 @@ use wl_wire::Iface;
 
 /// An end, and what a scene has seen of it.
 #[derive(Drop)]
-pub struct AtEnd<'a, E: End + Drop> {
+pub struct AtEnd<'a, E: Playable + Drop> {
     pub alloc: Global,
     pub tables: &'a Tables,
     pub end: E,
@@ -26,7 +26,7 @@ pub struct AtEnd<'a, E: End + Drop> {
     pub pieces: usize,
 }
 
-impl<'a, E: End + Drop> Stage for AtEnd<'a, E> {
+impl<'a, E: Playable + Drop> Stage for AtEnd<'a, E> {
     fn play(&mut self, call: &str, reply: &mut String) -> Result<(), Trouble> {
         let mut words = Words::of(call);
         let verb = words.word()?;
@@ -39,14 +39,14 @@ impl<'a, E: End + Drop> Stage for AtEnd<'a, E> {
 
     fn show(&self, text: &mut String) -> Result<(), AllocError> {
         show_table(text, self.end.table())?;
-        let room = self.end.room();
+        let room = self.end.in_room();
         let goes = self.end.goes(usize::MAX, usize::MAX);
         write!(text, "in {} {}, ", room.bytes, room.tokens)?;
         write!(text, "out {} {}", goes.bytes, goes.tokens)
     }
 }
 
-impl<'a, E: End + Drop> AtEnd<'a, E> {
+impl<'a, E: Playable + Drop> AtEnd<'a, E> {
     /// Makes a call that is no move.
     fn play_other(
         &mut self,
@@ -77,7 +77,7 @@ impl<'a, E: End + Drop> AtEnd<'a, E> {
     fn tell(&self, verb: &str, reply: &mut String) -> Result<(), AllocError> {
         match verb {
             "room" => {
-                let room = self.end.room();
+                let room = self.end.in_room();
                 write_amount(reply, room.bytes, room.tokens)
             }
             "drained" => reply.push_str(yes_or_no(self.end.is_drained())),
@@ -117,7 +117,7 @@ impl<'a, E: End + Drop> AtEnd<'a, E> {
         let pieces = pieces_of(self.alloc, &chunks)?;
         let left = pieces.get(self.pieces..).unwrap_or(&[]);
         let before = self.reports.len();
-        let end = self.end.read_all(left, &mut self.reports);
+        let end = read_all(&mut self.end, left, &mut self.reports);
         for report in self.reports.get(before..).unwrap_or(&[]) {
             E::learn(&mut self.actor.names, self.tables, report)?;
         }

@@ -8,7 +8,7 @@ use crate::recording::AtRecording;
 use crate::stage::{Objects, Props};
 use std::alloc::AllocError;
 use test_allocator::RefusingAllocator;
-use test_scene::{Actor, End, Line, Row, Scene, Trouble, Words};
+use test_scene::{Actor, Line, Playable, Row, Scene, Trouble, Words};
 use wl_client::Client;
 use wl_message::{Limit, Sizes};
 use wl_objects::Table;
@@ -167,7 +167,7 @@ fn at_server(
 }
 
 /// Plays a scene at an end.
-fn at_end<T: Table<Alloc = RefusingAllocator>, E: End<Table = T> + Drop>(
+fn at_end<T: Table<Alloc = RefusingAllocator>, E: Playable<Table = T> + Drop>(
     props: Props<'_>,
     end: E,
     scene: &Scene<'_>,

@@ -1,6 +1,6 @@
 //! Moves, made at an end or at a pair, and their replies as text.
 
-use crate::ends::End;
+use crate::ends::Playable;
 use crate::moves::{arguments_of, lend, read_move};
 use crate::names::Names;
 use crate::repeated::Repeated;
@@ -41,7 +41,7 @@ impl<'a> Actor<'a> {
 
     /// Makes the call of a verb and the words behind it at an end, and appends its reply. Whether
     /// the verb is that of a move.
-    pub fn act<E: End>(
+    pub fn act<E: Playable>(
         &mut self,
         end: &mut E,
         verb: &str,
@@ -57,7 +57,7 @@ impl<'a> Actor<'a> {
         }
     }
 
-    fn act_at<E: End>(
+    fn act_at<E: Playable>(
         &mut self,
         end: &mut E,
         action: &Move,

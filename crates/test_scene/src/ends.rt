@@ -1,4 +1,4 @@
-//! One end of a connection: what a client and a server have in common for one who plays at it.
+//! One end of a connection, at which moves are made.
 
 use crate::acting::Actor;
 use crate::lending::{write_lent_event, write_lent_request};
@@ -6,39 +6,19 @@ use crate::names::Names;
 use crate::replies::{Teller, write_stop};
 use std::alloc::AllocError;
 use wl_client::{Client, OwnedIncoming};
-use wl_connection::ReadAll;
-use wl_message::{Fed, Piece, Taken};
-use wl_objects::{Arg, Object, Table};
+use wl_connection::Receiver;
+use wl_objects::{Arg, Table};
 use wl_server::{OwnedRequest, Server};
 use wl_session::{Direction, Move, Reply};
 use wl_sigs::Tables;
-use wl_wire::Iface;
 
-/// An end: a client or a server.
-pub trait End {
-    type Table: Table;
-    /// What it reads.
-    type Report: Drop;
-
+/// A client or a server at which moves are made: what the two do each in its own way.
+pub trait Playable: Receiver {
     /// The verb of its reading.
     const NEXT: &'static str;
 
     /// Which pieces of a recording it reads.
     const READS: Direction;
-
-    fn table(&self) -> &Self::Table;
-
-    fn live(&self, object: Object) -> Option<(Iface, u32)>;
-
-    fn room(&self) -> Fed;
-
-    fn is_drained(&self) -> bool;
-
-    fn feed(&mut self, bytes: &[u8], tokens: &[u32]) -> Fed;
-
-    fn goes(&self, bytes: usize, tokens: usize) -> Taken;
-
-    fn take(&mut self, bytes: &mut [u8], tokens: &mut [u32]) -> Taken;
 
     /// Makes the call of a move, with its arguments; none where it is no call of this end.
     fn act(
@@ -51,12 +31,6 @@ pub trait End {
     /// words of an owned one.
     fn next_lent(&mut self, actor: &mut Actor<'_>, reply: &mut String) -> Result<(), AllocError>;
 
-    fn read_all(
-        &mut self,
-        pieces: &[Piece<'_>],
-        reports: &mut Vec<Self::Report, <Self::Table as Table>::Alloc>,
-    ) -> ReadAll;
-
     /// Adds the objects that a report made.
     fn learn(names: &mut Names, tables: &Tables, report: &Self::Report) -> Result<(), AllocError>;
 
@@ -67,42 +41,10 @@ pub trait End {
     ) -> Result<(), AllocError>;
 }
 
-impl<'t, T: Table> End for Client<'t, T> {
-    type Table = T;
-
-    type Report = OwnedIncoming<T::Alloc>;
-
+impl<'t, T: Table> Playable for Client<'t, T> {
     const NEXT: &'static str = "client-next";
 
     const READS: Direction = Direction::ToClient;
-
-    fn table(&self) -> &T {
-        Client::table(self)
-    }
-
-    fn live(&self, object: Object) -> Option<(Iface, u32)> {
-        Client::live(self, object)
-    }
-
-    fn room(&self) -> Fed {
-        self.in_room()
-    }
-
-    fn is_drained(&self) -> bool {
-        Client::is_drained(self)
-    }
-
-    fn feed(&mut self, bytes: &[u8], tokens: &[u32]) -> Fed {
-        Client::feed(self, bytes, tokens)
-    }
-
-    fn goes(&self, bytes: usize, tokens: usize) -> Taken {
-        Client::goes(self, bytes, tokens)
-    }
-
-    fn take(&mut self, bytes: &mut [u8], tokens: &mut [u32]) -> Taken {
-        Client::take(self, bytes, tokens)
-    }
 
     fn act(&mut self, action: &Move, args: &[Arg<'_>]) -> Option<Reply<T::Alloc>> {
         match action {
@@ -128,14 +70,6 @@ impl<'t, T: Table> End for Client<'t, T> {
         }
     }
 
-    fn read_all(
-        &mut self,
-        pieces: &[Piece<'_>],
-        reports: &mut Vec<OwnedIncoming<T::Alloc>, T::Alloc>,
-    ) -> ReadAll {
-        Client::read_all(self, pieces, reports)
-    }
-
     fn learn(
         _names: &mut Names,
         _tables: &Tables,
@@ -153,42 +87,10 @@ impl<'t, T: Table> End for Client<'t, T> {
     }
 }
 
-impl<'t, T: Table> End for Server<'t, T> {
-    type Table = T;
-
-    type Report = OwnedRequest<T::Alloc>;
-
+impl<'t, T: Table> Playable for Server<'t, T> {
     const NEXT: &'static str = "server-next";
 
     const READS: Direction = Direction::ToServer;
-
-    fn table(&self) -> &T {
-        Server::table(self)
-    }
-
-    fn live(&self, object: Object) -> Option<(Iface, u32)> {
-        Server::live(self, object)
-    }
-
-    fn room(&self) -> Fed {
-        self.in_room()
-    }
-
-    fn is_drained(&self) -> bool {
-        Server::is_drained(self)
-    }
-
-    fn feed(&mut self, bytes: &[u8], tokens: &[u32]) -> Fed {
-        Server::feed(self, bytes, tokens)
-    }
-
-    fn goes(&self, bytes: usize, tokens: usize) -> Taken {
-        Server::goes(self, bytes, tokens)
-    }
-
-    fn take(&mut self, bytes: &mut [u8], tokens: &mut [u32]) -> Taken {
-        Server::take(self, bytes, tokens)
-    }
 
     fn act(&mut self, action: &Move, args: &[Arg<'_>]) -> Option<Reply<T::Alloc>> {
         match action {
@@ -217,14 +119,6 @@ impl<'t, T: Table> End for Server<'t, T> {
             Ok(None) => reply.push_str("nothing"),
             Err(why) => write_stop(reply, why),
         }
-    }
-
-    fn read_all(
-        &mut self,
-        pieces: &[Piece<'_>],
-        reports: &mut Vec<OwnedRequest<T::Alloc>, T::Alloc>,
-    ) -> ReadAll {
-        Server::read_all(self, pieces, reports)
     }
 
     fn learn(

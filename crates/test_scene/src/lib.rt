@@ -20,7 +20,7 @@ mod words;
 
 pub use acting::Actor;
 pub use bytes::{Chunk, read_chunk, read_chunks, write_chunk};
-pub use ends::End;
+pub use ends::Playable;
 pub use line::{Line, Memory};
 pub use names::Names;
 pub use own::{own_verdict, verdict_on};

@@ -1,6 +1,7 @@
 // What a new server reads of a stream whose read fails in the middle of a message.
 use std::io::ErrorKind;
 use std::test::Fail;
+use wl_connection::End;
 use wl_message::{FillError, Limit, ScriptReader, Sizes, Step};
 use wl_objects::{GotRef, Object, SlotTable, Table};
 use wl_server::Server;

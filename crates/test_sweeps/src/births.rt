@@ -3,10 +3,11 @@
 use crate::replay::Props;
 use crate::tally::Tally;
 use std::alloc::{AllocError, Global};
-use test_scene::{End, Trouble};
+use test_scene::Trouble;
 use wl_client::Client;
+use wl_connection::{End, Receiver, read_all};
 use wl_message::{Limit, Piece, Sizes};
-use wl_objects::{Arg, Object, SlotTable, Table};
+use wl_objects::{Arg, Object, SlotTable};
 use wl_server::Server;
 use wl_sigs::request;
 
@@ -35,7 +36,7 @@ pub fn born_at_client(props: Props<'_>) -> Result<Tally, Trouble> {
     for birth in 1..BIRTHS.saturating_add(1) {
         let object = Object { id: 2, birth };
         let made = client.send(
-            Client::display(&client),
+            End::display(&client),
             request::wl_display::SYNC,
             &[Arg::New],
         );
@@ -58,17 +59,13 @@ pub fn born_at_server(props: Props<'_>) -> Result<Tally, Trouble> {
 }
 
 /// Reads a message at an end, and takes what it wrote. Whether it gave one report.
-fn reads<T: Table<Alloc = Global>, E: End<Table = T>>(
-    props: Props<'_>,
-    end: &mut E,
-    message: &[u8],
-) -> Result<bool, AllocError> {
+fn reads<E: Receiver>(props: Props<'_>, end: &mut E, message: &[u8]) -> Result<bool, AllocError> {
     let mut reports = Vec::new(props.alloc);
     let pieces = [Piece {
         bytes: message,
         tokens: &[],
     }];
-    let read = end.read_all(&pieces, &mut reports);
+    let read = read_all(end, &pieces, &mut reports);
     end.take(&mut [0; 64], &mut []);
     Ok(read.pieces == 1 && reports.len() == 1)
 }

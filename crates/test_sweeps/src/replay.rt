@@ -8,8 +8,9 @@ use crate::tally::Tally;
 use std::alloc::{AllocError, Global};
 use std::fmt::Write;
 use test_allocator::RefusingAllocator;
-use test_scene::{Actor, End, Trouble, Words, write_stop};
+use test_scene::{Actor, Playable, Trouble, Words, write_stop};
 use wl_client::Client;
+use wl_connection::{End, read_all};
 use wl_message::{Limit, Piece, Sizes};
 use wl_objects::{Fault, NextError, SlotTable, Table};
 use wl_recording::Direction;
@@ -67,7 +68,7 @@ impl Outcome {
 
 /// An end at which a session is played.
 #[derive(Drop)]
-struct Replay<'a, E: End + Drop> {
+struct Replay<'a, E: Playable + Drop> {
     props: Props<'a>,
     end: E,
     actor: Actor<'a>,
@@ -177,7 +178,7 @@ fn play_at(
     }
 }
 
-fn at_end<T: Table<Alloc = Global>, E: End<Table = T> + Drop>(
+fn at_end<T: Table<Alloc = Global>, E: Playable<Table = T> + Drop>(
     props: Props<'_>,
     end: E,
     session: Session<'_>,
@@ -196,7 +197,7 @@ fn at_end<T: Table<Alloc = Global>, E: End<Table = T> + Drop>(
     replay.finish(outcome)
 }
 
-impl<'a, E: End + Drop> Replay<'a, E> {
+impl<'a, E: Playable + Drop> Replay<'a, E> {
     /// Feeds tokens, numbered from 1.
     fn feed_tokens(&mut self, count: u32) -> Result<(), AllocError> {
         let mut tokens = Vec::new(self.props.alloc);
@@ -245,7 +246,7 @@ impl<'a, E: End + Drop> Replay<'a, E> {
     /// Reads bytes, and appends what was read, and why it stopped.
     fn read(&mut self, bytes: &[u8], cut: Cut, outcome: &mut Outcome) -> Result<(), Trouble> {
         let pieces = pieces_of(self.props.alloc, bytes, cut)?;
-        let end = self.end.read_all(&pieces, &mut self.reports);
+        let end = read_all(&mut self.end, &pieces, &mut self.reports);
         self.write_reports(outcome)?;
         let Some(why) = end.stop else {
             return Ok(());
@@ -274,8 +275,8 @@ impl<'a, E: End + Drop> Replay<'a, E> {
 
     /// Whether the end has failed: it reads nothing more.
     fn has_failed(&mut self) -> bool {
-        let end = self.end.read_all(&[], &mut self.reports);
-        let room = self.end.room();
+        let end = read_all(&mut self.end, &[], &mut self.reports);
+        let room = self.end.in_room();
         end.stop == Some(NextError::Failed) && room.bytes == 0 && room.tokens == 0
     }
 

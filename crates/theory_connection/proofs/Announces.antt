@@ -1,5 +1,6 @@
 -- The server announces globals.
-use Rattle.std.proofs.Common.{◌≡◌, ℕ, zero, suc, ◌+◌, ◌≤◌, Bool, true, false, cond, List, [], ◌∷◌, ◌++◌, map, take, length, refl, sym, ap, subst, ◌∙◌, inl, inr, arith}
+use Rattle.std.proofs.Common.{◌≡◌, ℕ, zero, suc, ◌+◌, ◌≤◌, Bool, true, false, cond, List, [], ◌∷◌}
+use Rattle.std.proofs.Common.{◌++◌, map, take, length, refl, sym, ap, subst, ◌∙◌, inl, inr, arith}
 use Rattle.std.specs.Prelude.{option_map, nat_eq, ◌&&◌, slice_get, codes}
 use Rattle.std.specs.declared.option.Option.{Option}
 use Rattle.std.specs.declared.option.Option.TheVariants.{None, Some}
@@ -25,13 +26,20 @@ use Rattle.wl_connection.specs.Sending.{with_sent}
 use Rattle.wl_server.specs.State as server
 use Rattle.wl_server.specs.State.{Global, Registry, global_of, max_globals}
 use Rattle.wl_server.specs.Calls.{can_be_global, version_in}
-use Rattle.wl_server.specs.Announcing.{after_announce, Owing, Removal, Telling, owes_removal, owes_telling, owings, owed_to, Due, due_to, owed_in, owed, name_at, opcode_of, values_of, with_dues, marked, marked_in, all_marked}
+use Rattle.wl_server.specs.Announcing.{after_announce, Owing, Removal, Telling, owes_removal}
+use Rattle.wl_server.specs.Announcing.{owes_telling, owings, owed_to, Due, due_to, owed_in, owed}
+use Rattle.wl_server.specs.Announcing.{name_at, opcode_of, values_of, with_dues, marked, marked_in}
+use Rattle.wl_server.specs.Announcing.{all_marked}
 use Rattle.wl_server.specs.Registries.{IsAmong, IsRegistry}
 use Rattle.wl_server.proofs.Registries.{has_marked}
-use Rattle.theory_connection.specs.Meant.{Born, Known, Message, Coming, Event, Arg, renamed, rearg, born_of, birth_of, wire, tokens, made_in, objects, plain}
+use Rattle.theory_connection.specs.Meant.{Born, Known, Message, Coming, Event, Arg, renamed, rearg}
+use Rattle.theory_connection.specs.Meant.{born_of, birth_of, wire, tokens, made_in, objects, plain}
 use Rattle.theory_connection.specs.World.{World, Each, event_written}
-use Rattle.theory_connection.specs.Pair.{PairState, Announce, with_server, with_server_core, Announces, announced, refused}
-use Rattle.theory_connection.specs.Answers.{NotEnded, Owed, owed_by, mark_in, marks_of, registry_of, told_args, WritesThat, AnnouncesThose, none, more, before}
+use Rattle.theory_connection.specs.Pair.{PairState, Announce, with_server, with_server_core}
+use Rattle.theory_connection.specs.Pair.{Announces, announced, refused}
+use Rattle.theory_connection.specs.Answers.{NotEnded, Owed, owed_by, mark_in, marks_of, registry_of}
+use Rattle.theory_connection.specs.Answers.{told_args, WritesThat, AnnouncesThose, none, more}
+use Rattle.theory_connection.specs.Answers.{before}
 use Rattle.theory_connection.specs.Flight.{IsBelow, Rows, server_rows, tells, all_tells}
 use Rattle.theory_connection.specs.Stands.{StandsBy, TellsFitly, IsGlobal}
 use Rattle.theory_connection.proofs.WholeInFlight.{ThereRow, each_more}
@@ -49,7 +57,8 @@ abbrev pub IsOwing : List Interface → List Global → Owing → Type 0
 IsOwing tables given (Removal name) = name ≤ max_globals
 IsOwing tables given (Telling name g) = (name ≤ max_globals) × (global_of given name ≡ Some g) × IsGlobal tables g
 
-each_if : (P : Owing → Type 0) (b : Bool) (o : Owing) (rest : List Owing) → P o → Each P rest → Each P (cond b (o ∷ rest) rest)
+each_if : (P : Owing → Type 0) (b : Bool) (o : Owing) (rest : List Owing) → P o → Each P rest
+    → Each P (cond b (o ∷ rest) rest)
 each_if P true o rest p r = (p, r)
 each_if P false o rest p r = r
 
@@ -58,18 +67,24 @@ each_owing : (P : Owing → Type 0) (test : ℕ → Global → Bool) (owing : �
 each_owing P test owing from [] f = tt
 each_owing P test owing from (g ∷ gs) f =
     let e : from + 0 ≡ from = omega arith in
-    each_if P (test from g) (owing from g) (owings test owing (suc from) gs) (subst (λ (n : ℕ). P (owing n g)) e (f 0 g refl))
-    (each_owing P test owing (suc from) gs (λ k h q. (let j : from + suc k ≡ suc from + k = omega arith in subst (λ (n : ℕ). P (owing n h)) j (f (suc k) h q))))
+    each_if P (test from g) (owing from g) (owings test owing (suc from) gs)
+    (subst (λ (n : ℕ). P (owing n g)) e (f 0 g refl))
+    (each_owing P test owing (suc from) gs (λ k h q.
+    (let j : from + suc k ≡ suc from + k = omega arith in subst (λ (n : ℕ). P (owing n h)) j (f (suc k) h q))))
 
+-- what is so of each is so of the one at a place
 pub each_get : {X : Type 0} (P : X → Type 0) (xs : List X) (k : ℕ) (x : X) → Each P xs → slice_get xs k ≡ Some x → P x
 each_get P [] k x h e = absurd (cc e)
 each_get P (y ∷ xs) zero x h e = subst P (cc e) h.0
 each_get P (y ∷ xs) (suc k) x h e = each_get P xs k x h.1 e
 
-owing_all : (tables : List Interface) (given : List Global) (r : Registry) → length given ≤ max_globals → Each (IsGlobal tables) given → Each (IsOwing tables given) (owed_to given r)
+owing_all : (tables : List Interface) (given : List Global) (r : Registry) → length given ≤ max_globals
+    → Each (IsGlobal tables) given → Each (IsOwing tables given) (owed_to given r)
 owing_all tables given r l g =
-    each_more (IsOwing tables given) (owings (owes_removal r) (λ name _. Removal name) 1 given) (owings (owes_telling r) Telling 1 given)
-    (each_owing (IsOwing tables given) (owes_removal r) (λ name _. Removal name) 1 given (λ k x h. (let n = slice_get_within given k x h in omega (arith, n, l))))
+    each_more (IsOwing tables given) (owings (owes_removal r) (λ name _. Removal name) 1 given)
+    (owings (owes_telling r) Telling 1 given)
+    (each_owing (IsOwing tables given) (owes_removal r) (λ name _. Removal name) 1 given
+    (λ k x h. (let n = slice_get_within given k x h in omega (arith, n, l))))
     (each_owing (IsOwing tables given) (owes_telling r) Telling 1 given (λ k x h.
     (let n = slice_get_within given k x h in let e : 1 + k ≡ suc k = omega arith in
     (omega (arith, n, l), ap (global_of given) e ∙ h, each_get (IsGlobal tables) given k x g h))))
@@ -81,24 +96,28 @@ pub record IsDue (tables : List Interface) (given : List Global) (s : Rows Born)
   pub there : s.rows d.object.id ≡ Some (record { birth = d.object.birth; iface = registry; version = version })
   pub owing : IsOwing tables given d.owing
 
-dues_of : (tables : List Interface) (given : List Global) (v : View) (o : Object) (os : List Owing) → Aged v → IsRegistry v o → Each (IsOwing tables given) os
+dues_of : (tables : List Interface) (given : List Global) (v : View) (o : Object) (os : List Owing) → Aged v
+    → IsRegistry v o → Each (IsOwing tables given) os
     → Each (IsDue tables given (server_rows v)) (map (λ x. record { object = o; owing = x }) os)
 dues_of tables given v o [] a i h = tt
 dues_of tables given v o (x ∷ os) a i h = (
   record {
     version = i.entry.version;
     some = a o.id i.entry i.row;
-    there = ap (option_map plain) i.row ∙ (λ j. Some (record { birth = i.birth j; iface = i.iface j; version = i.entry.version }));
+    there = ap (option_map plain) i.row ∙ (λ j. Some
+        (record { birth = i.birth j; iface = i.iface j; version = i.entry.version }));
     owing = h.0;
   },
   dues_of tables given v o os a i h.1,
 )
 
-all_due : (tables : List Interface) (given : List Global) (v : View) (rs : List Registry) → length given ≤ max_globals → Each (IsGlobal tables) given → Aged v → ((o : Object) → IsAmong o rs → IsRegistry v o)
+all_due : (tables : List Interface) (given : List Global) (v : View) (rs : List Registry) → length given ≤ max_globals
+    → Each (IsGlobal tables) given → Aged v → ((o : Object) → IsAmong o rs → IsRegistry v o)
     → Each (IsDue tables given (server_rows v)) (owed_in given rs)
 all_due tables given v [] l g a i = tt
 all_due tables given v (r ∷ rs) l g a i =
-    each_more (IsDue tables given (server_rows v)) (due_to given r) (owed_in given rs) (dues_of tables given v r.object (owed_to given r) a (i r.object (inl refl)) (owing_all tables given r l g))
+    each_more (IsDue tables given (server_rows v)) (due_to given r) (owed_in given rs)
+    (dues_of tables given v r.object (owed_to given r) a (i r.object (inl refl)) (owing_all tables given r l g))
     (all_due tables given v rs l g a (λ o h. i o (inr h)))
 
 each_take : {X : Type 0} (P : X → Type 0) (n : ℕ) (xs : List X) → Each P xs → Each P (take n xs)
@@ -115,14 +134,17 @@ map_join : {X Y : Type 0} (f : X → Y) (xs ys : List X) → map f (xs ++ ys) �
 map_join f [] ys = refl
 map_join f (x ∷ xs) ys = ap (λ (l : List _). f x ∷ l) (map_join f xs ys)
 
-map_map : (r : Registry) (os : List Owing) → map owed_of (map (λ o. record { object = r.object; owing = o }) os) ≡ map (λ o. record { birth = r.object.birth; owing = o }) os
+map_map : (r : Registry) (os : List Owing) → map owed_of (map (λ o. record { object = r.object; owing = o }) os)
+    ≡ map (λ o. record { birth = r.object.birth; owing = o }) os
 map_map r [] = refl
 map_map r (o ∷ os) = ap (λ (l : List Owed). record { birth = r.object.birth; owing = o } ∷ l) (map_map r os)
 
-pub owed_same : (given : List Global) (rs : List Registry) → owed_by given (map marks_of rs) ≡ map owed_of (owed_in given rs)
+pub owed_same : (given : List Global) (rs : List Registry)
+    → owed_by given (map marks_of rs) ≡ map owed_of (owed_in given rs)
 owed_same given [] = refl
 owed_same given (r ∷ rs) =
-    (λ i. sym (map_map r (owed_to given r)) i ++ owed_same given rs i) ∙ sym (map_join owed_of (due_to given r) (owed_in given rs))
+    (λ i. sym (map_map r (owed_to given r)) i ++ owed_same given rs i)
+    ∙ sym (map_join owed_of (due_to given r) (owed_in given rs))
 
 take_map : {X Y : Type 0} (f : X → Y) (n : ℕ) (xs : List X) → take n (map f xs) ≡ map f (take n xs)
 take_map f zero xs = refl
@@ -130,12 +152,14 @@ take_map f (suc n) [] = refl
 take_map f (suc n) (x ∷ xs) = ap (λ (l : List _). f x ∷ l) (take_map f n xs)
 
 -- a registry is marked alike under any id
-pick : (b : Bool) (o : Owing) (r : Registry) → let s = registry_of (marks_of r) in marks_of (cond b (marked o r) r) ≡ marks_of (cond b (marked o s) s)
+pick : (b : Bool) (o : Owing) (r : Registry) → let s = registry_of (marks_of r)
+    in marks_of (cond b (marked o r) r) ≡ marks_of (cond b (marked o s) s)
 pick true (Removal name) r = refl
 pick true (Telling name g) r = refl
 pick false o r = refl
 
-pub marks_marked : (d : Due) (rs : List Registry) → map marks_of (marked_in d rs) ≡ mark_in (owed_of d) (map marks_of rs)
+pub marks_marked : (d : Due) (rs : List Registry)
+    → map marks_of (marked_in d rs) ≡ mark_in (owed_of d) (map marks_of rs)
 marks_marked d [] = refl
 marks_marked d (r ∷ rs) = λ i. pick (nat_eq r.object.birth d.object.birth) d.owing r i ∷ marks_marked d rs i
 
@@ -161,7 +185,8 @@ due_tokens : (tables : List Interface) (o : Owing) → tokens (due_args tables o
 due_tokens tables (Removal name) = refl
 due_tokens tables (Telling name g) = refl
 
-due_births : (tables : List Interface) (o : Owing) → map (rearg birth_of) (map (rearg born_of) (due_args tables o)) ≡ told_args tables o
+due_births : (tables : List Interface) (o : Owing)
+    → map (rearg birth_of) (map (rearg born_of) (due_args tables o)) ≡ told_args tables o
 due_births tables (Removal name) = refl
 due_births tables (Telling name g) = refl
 
@@ -178,14 +203,17 @@ and_right : (a b : Bool) → (a && b) ≡ true → b ≡ true
 and_right true b h = h
 and_right false b h = absurd (cc h)
 
-in_tables_at : (tables : List Interface) (iface : Iface) (version : ℕ) (o : Option Interface) → interface_at tables iface.0 ≡ o → version_in version o ≡ true → InTables tables iface
+in_tables_at : (tables : List Interface) (iface : Iface) (version : ℕ) (o : Option Interface)
+    → interface_at tables iface.0 ≡ o → version_in version o ≡ true → InTables tables iface
 in_tables_at tables iface version None e h = absurd (cc h)
 in_tables_at tables iface version (Some i) e h = record { interface = i; there = e }
 
-pub in_tables : (tables : List Interface) (g : Global) → can_be_global tables g.iface g.version ≡ true → InTables tables g.iface
+pub in_tables : (tables : List Interface) (g : Global) → can_be_global tables g.iface g.version ≡ true
+    → InTables tables g.iface
 in_tables tables g h = in_tables_at tables g.iface g.version (interface_at tables g.iface.0) refl (and_right _ _ h)
 
-name_is : (tables : List Interface) (g : Global) (i : InTables tables g.iface) → name_at tables g.iface ≡ i.interface.name
+name_is : (tables : List Interface) (g : Global) (i : InTables tables g.iface)
+    → name_at tables g.iface ≡ i.interface.name
 name_is tables g i = rw i.there refl
 
 pub record Named (tables : List Interface) (g : Global) : Type 0 where
@@ -204,9 +232,17 @@ named tables v g h =
       known = ap (place_of tables) n ∙ place_there tables v g.iface i.interface i.there;
     }
 
-pub due_fits : (tables : List Interface) → Valid tables → (given : List Global) (d : Due) (version : ℕ) → 1 ≤ version → d.object.id ≤ max_ids → (o : Owing) → IsOwing tables given o → d.owing ≡ o
+pub due_fits : (tables : List Interface) → Valid tables → (given : List Global) (d : Due) (version : ℕ) → 1 ≤ version
+    → d.object.id ≤ max_ids → (o : Owing) → IsOwing tables given o → d.owing ≡ o
     → TellsFitly tables given (record {
-      target = record { id = d.object.id; born = record { birth = d.object.birth; iface = registry; version = version } };
+      target = record {
+        id = d.object.id;
+        born = record {
+          birth = d.object.birth;
+          iface = registry;
+          version = version;
+        };
+      };
       opcode = opcode_of o;
       args = due_args tables o;
       ends = None;
@@ -247,30 +283,46 @@ due_fits tables v given d version w low (Telling name g) h e =
       };
       makes_none = refl;
       no_delete_id = refl;
-      tells = λ a b. record { name = name; iface = g.iface; version = g.version; args_are = refl; was_given = record { global = g; there = h.1; iface_is = refl; version_is = refl }; known = n.known };
+      tells = λ a b. record {
+        name = name;
+        iface = g.iface;
+        version = g.version;
+        args_are = refl;
+        was_given = record { global = g; there = h.1; iface_is = refl; version_is = refl };
+        known = n.known;
+      };
     }
 
-due_short : (tables : List Interface) → Valid tables → (given : List Global) (o : Owing) → IsOwing tables given o → message_len (map wire (due_args tables o)) ≤ 4096
+due_short : (tables : List Interface) → Valid tables → (given : List Global) (o : Owing) → IsOwing tables given o
+    → message_len (map wire (due_args tables o)) ≤ 4096
 due_short tables v given (Removal name) h = omega arith
 due_short tables v given (Telling name g) h = let n = named tables v g h.2 in omega (arith, n.few)
 
 -- ---- one event after another
 
-due_can : (p : PairState) (w : World) (asked : List (Message Known)) (told : List (Coming Known)) (s : StandsBy p w asked told) (d : Due) (i : IsDue p.server.core.tables p.server.globals (server_rows p.server.core.view) d)
+due_can : (p : PairState) (w : World) (asked : List (Message Known)) (told : List (Coming Known))
+    (s : StandsBy p w asked told) (d : Due) (i : IsDue p.server.core.tables p.server.globals
+    (server_rows p.server.core.view) d)
     → CanTell p (due_message p.server.core.tables d i.version)
 due_can p w asked told s d i =
-    let x : Known = record { id = d.object.id; born = record { birth = d.object.birth; iface = registry; version = i.version } } in
+    let x : Known = record {
+      id = d.object.id;
+      born =
+          record { birth = d.object.birth; iface = registry; version = i.version };
+    } in
     let r = there_row p.server.core.view x i.there in
-    let low = (row_low p.server.core.view d.object.id r.entry s.server_sound r.there).1 in
+    let low = (row_low p.server.core.view d.object.id r.entry s.server.sound r.there).1 in
     record {
-      fitly = due_fits p.server.core.tables s.valid p.server.globals d i.version i.some low d.owing i.owing refl;
+      fitly = due_fits p.server.core.tables s.terms.valid p.server.globals d i.version i.some low d.owing i.owing refl;
       target = i.there;
       args = no_objects p.server.core.tables d.owing;
       ends = tt;
-      short = let l = due_short p.server.core.tables s.valid p.server.globals d.owing i.owing in omega (arith, l, p.server.core.outbox.limit.in_range.0);
+      short = let l = due_short p.server.core.tables s.terms.valid p.server.globals d.owing i.owing
+          in omega (arith, l, p.server.core.outbox.limit.in_range.0);
     }
   where
-    no_objects : (tables : List Interface) (o : Owing) → Each (ThereRow (server_rows p.server.core.view)) (objects (due_args tables o))
+    no_objects : (tables : List Interface) (o : Owing)
+        → Each (ThereRow (server_rows p.server.core.view)) (objects (due_args tables o))
     no_objects tables (Removal name) = tt
     no_objects tables (Telling name g) = tt
 
@@ -281,52 +333,39 @@ one_told st d = record st {
   registries = marked_in d st.registries;
 }
 
-core_is : (c : Core) (d : Due) (version : ℕ) → told_core c (due_message c.tables d version) ≡ with_sent c d.object.id (opcode_of d.owing) (values_of c.tables d.owing) []
+core_is : (c : Core) (d : Due) (version : ℕ) → told_core c (due_message c.tables d version)
+    ≡ with_sent c d.object.id (opcode_of d.owing) (values_of c.tables d.owing) []
 core_is c d version = λ i. record c {
   outbox = record c.outbox {
-    messages = (append-nil (c.outbox.messages ++ message (message_bytes d.object.id (opcode_of d.owing) (map wire (due_args c.tables d.owing))) (tokens (due_args c.tables d.owing)) ∷ [])
-        ∙ (λ j. c.outbox.messages ++ message (message_bytes d.object.id (opcode_of d.owing) (due_wire c.tables d.owing j)) (due_tokens c.tables d.owing j) ∷ [])) i;
+    messages = (append-nil (c.outbox.messages ++ message
+        (message_bytes d.object.id (opcode_of d.owing) (map wire (due_args c.tables d.owing)))
+        (tokens (due_args c.tables d.owing)) ∷ [])
+        ∙ (λ j. c.outbox.messages ++ message (message_bytes d.object.id (opcode_of d.owing)
+        (due_wire c.tables d.owing j)) (due_tokens c.tables d.owing j) ∷ [])) i;
   };
 }
 
-marked_stands : (p : PairState) (w : World) (asked : List (Message Known)) (told : List (Coming Known)) (s : StandsBy p w asked told) (d : Due)
-    → StandsBy (with_server p (record p.server { registries = marked_in d p.server.registries })) (record w { registries = mark_in (owed_of d) w.registries }) asked told
+marked_stands : (p : PairState) (w : World) (asked : List (Message Known)) (told : List (Coming Known))
+    (s : StandsBy p w asked told) (d : Due)
+    → StandsBy (with_server p (record p.server { registries = marked_in d p.server.registries }))
+    (record w { registries = mark_in (owed_of d) w.registries }) asked told
 marked_stands p w asked told s d = record {
-  same_tables = s.same_tables;
-  valid = s.valid;
-  deletes_follow = s.deletes_follow;
-  client_sets = s.client_sets;
-  server_sets = s.server_sets;
-  births = s.births;
-  client_sound = s.client_sound;
-  versions = s.versions;
-  server_sound = s.server_sound;
-  client_display = s.client_display;
-  server_display = s.server_display;
-  server_versions = s.server_versions;
-  server_live = s.server_live;
+  terms = s.terms;
+  client = s.client;
+  server = s.server;
   requests = s.requests;
   events = s.events;
-  to_server = s.to_server;
-  to_client = s.to_client;
-  asked_fit = s.asked_fit;
-  told_fit = s.told_fit;
+  deletes_follow = s.deletes_follow;
   meet = s.meet;
-  client_lives = s.client_lives;
-  server_lives = s.server_lives;
-  remembered = s.remembered;
-  given = s.given;
-  registries = ap (mark_in (owed_of d)) s.registries ∙ sym (marks_marked d p.server.registries);
-  remembers = s.remembers;
   globals = s.globals;
-  up_limit = s.up_limit;
-  down_limit = s.down_limit;
-  one_limit = s.one_limit;
-  few_globals = s.few_globals;
-  open_registries = has_marked p.server.core.view d p.server.registries s.open_registries;
+  registries = record {
+    told = ap (mark_in (owed_of d)) s.registries.told ∙ sym (marks_marked d p.server.registries);
+    open_registries = has_marked p.server.core.view d p.server.registries s.registries.open_registries;
+  };
 }
 
-pub record Told (p : PairState) (w : World) (asked : List (Message Known)) (earlier : List (Coming Known)) (ds : List Due) (after_all : PairState) : Type 0 where
+pub record Told (p : PairState) (w : World) (asked : List (Message Known)) (earlier : List (Coming Known))
+    (ds : List Due) (after_all : PairState) : Type 0 where
   pub world : World
   pub told : List (Coming Known)
   pub news : List (Coming Known)
@@ -336,36 +375,63 @@ pub record Told (p : PairState) (w : World) (asked : List (Message Known)) (earl
   pub announces : AnnouncesThose p.server.core.tables w (map owed_of ds) world
   pub stands_by : StandsBy after_all world asked told
 
-one_stands : (p : PairState) (w : World) (asked : List (Message Known)) (told : List (Coming Known)) (s : StandsBy p w asked told) (d : Due) (i : IsDue p.server.core.tables p.server.globals (server_rows p.server.core.view) d)
+one_stands : (p : PairState) (w : World) (asked : List (Message Known)) (told : List (Coming Known))
+    (s : StandsBy p w asked told) (d : Due) (i : IsDue p.server.core.tables p.server.globals
+    (server_rows p.server.core.view) d)
     → let m = due_message p.server.core.tables d i.version in
-    StandsBy (with_server p (one_told p.server d)) (record (event_written w (renamed born_of m)) { registries = mark_in (owed_of d) w.registries }) asked (told ++ (Event m ∷ []))
+    StandsBy (with_server p (one_told p.server d))
+    (record (event_written w (renamed born_of m)) { registries = mark_in (owed_of d) w.registries }) asked
+    (told ++ (Event m ∷ []))
 one_stands p w asked told s d i =
     let can = due_can p w asked told s d i in
     let m = due_message p.server.core.tables d i.version in
     let t = tell_stands p w asked told s m can in
     let c = core_is p.server.core d i.version in
-    marked_stands (with_server_core p (with_sent p.server.core d.object.id (opcode_of d.owing) (values_of p.server.core.tables d.owing) [])) (event_written w (renamed born_of m)) asked (told ++ (Event m ∷ []))
-    (subst (λ (x : Core). StandsBy (with_server_core p x) (event_written w (renamed born_of m)) asked (told ++ (Event m ∷ []))) c t) d
+    marked_stands (with_server_core p (with_sent p.server.core d.object.id (opcode_of d.owing)
+    (values_of p.server.core.tables d.owing) [])) (event_written w (renamed born_of m)) asked
+    (told ++ (Event m ∷ []))
+    (subst (λ (x : Core). StandsBy (with_server_core p x) (event_written w (renamed born_of m)) asked
+    (told ++ (Event m ∷ []))) c t) d
 
-writes_due : (p : PairState) (w : World) (asked : List (Message Known)) (told : List (Coming Known)) (s : StandsBy p w asked told) (d : Due) (i : IsDue p.server.core.tables p.server.globals (server_rows p.server.core.view) d)
-    → WritesThat p.server.core.tables event_side w d.object.birth (opcode_of d.owing) (told_args p.server.core.tables d.owing) None (event_written w (renamed born_of (due_message p.server.core.tables d i.version)))
+writes_due : (p : PairState) (w : World) (asked : List (Message Known)) (told : List (Coming Known))
+    (s : StandsBy p w asked told) (d : Due) (i : IsDue p.server.core.tables p.server.globals
+    (server_rows p.server.core.view) d)
+    → WritesThat p.server.core.tables event_side w d.object.birth (opcode_of d.owing)
+    (told_args p.server.core.tables d.owing) None
+    (event_written w (renamed born_of (due_message p.server.core.tables d i.version)))
 writes_due p w asked told s d i =
     let can = due_can p w asked told s d i in
     let m = due_message p.server.core.tables d i.version in
     record {
       message = renamed born_of m;
-      is = record { signature = can.fitly.fits.signature; there = can.fitly.fits.there; ends = born_ends m can.fitly.fits.signature.destroys can.fitly.fits.ends };
+      is = record {
+        signature = can.fitly.fits.signature;
+        there = can.fitly.fits.there;
+        ends = born_ends m can.fitly.fits.signature.destroys can.fitly.fits.ends;
+      };
       target_is = refl;
       opcode_is = refl;
       args_are = due_births p.server.core.tables d.owing;
-      new_is = ap (option_map birth_of) (made_map born_of m.args ∙ ap (option_map born_of) (due_none p.server.core.tables d.owing));
+      new_is = ap (option_map birth_of) (made_map born_of m.args
+          ∙ ap (option_map born_of) (due_none p.server.core.tables d.owing));
       steps = tells_world p w asked told s m can;
     }
 
-pub tell_all : (p : PairState) (w : World) (asked : List (Message Known)) (told : List (Coming Known)) → StandsBy p w asked told → NotEnded p w → (ds : List Due)
+pub tell_all : (p : PairState) (w : World) (asked : List (Message Known)) (told : List (Coming Known))
+    → StandsBy p w asked told → NotEnded p w → (ds : List Due)
     → Each (IsDue p.server.core.tables p.server.globals (server_rows p.server.core.view)) ds
-    → Told p w asked told ds (with_server p (record p.server { core = with_dues p.server.core ds; registries = all_marked ds p.server.registries }))
-tell_all p w asked told s z [] i = record { world = w; told = told; news = []; added = sym (append-nil told); below = tt; not_ended = z; announces = none; stands_by = s }
+    → Told p w asked told ds (with_server p (record
+    p.server { core = with_dues p.server.core ds; registries = all_marked ds p.server.registries }))
+tell_all p w asked told s z [] i = record {
+  world = w;
+  told = told;
+  news = [];
+  added = sym (append-nil told);
+  below = tt;
+  not_ended = z;
+  announces = none;
+  stands_by = s;
+}
 tell_all p w asked told s z (d ∷ ds) i =
     let one = one_stands p w asked told s d i.0 in
     let r = tell_all (with_server p (one_told p.server d)) _ asked _ one z ds i.1 in
@@ -376,7 +442,9 @@ tell_all p w asked told s z (d ∷ ds) i =
       told = r.told;
       news = Event m ∷ r.news;
       added = r.added ∙ append_assoc told (Event m ∷ []) r.news;
-      below = each_more (IsBelow p.server.core.view.births) (tells (Event m)) (all_tells r.news) (event_below (server_rows p.server.core.view) p.server.core.view.births s.server_sets.below m can.target can.args tt) r.below;
+      below = each_more (IsBelow p.server.core.view.births) (tells (Event m)) (all_tells r.news)
+          (event_below (server_rows p.server.core.view) p.server.core.view.births s.server.sets.below m can.target
+          can.args tt) r.below;
       not_ended = r.not_ended;
       announces = more (writes_due p w asked told s d i.0) r.announces;
       stands_by = r.stands_by;
@@ -387,21 +455,31 @@ pub only_sent : (c : Core) (ds : List Due) → with_dues c ds ≡ record c { out
 only_sent c [] = refl
 only_sent c (d ∷ ds) = only_sent (with_sent c d.object.id (opcode_of d.owing) (values_of c.tables d.owing) []) ds
 
-pub announce_keeps : (p : PairState) (w : World) (asked : List (Message Known)) (told : List (Coming Known)) → StandsBy p w asked told → NotEnded p w → (reply : Result ℕ SendError) (p' : PairState) → Announces p reply p'
+-- an announcement keeps what stands
+pub announce_keeps : (p : PairState) (w : World) (asked : List (Message Known)) (told : List (Coming Known))
+    → StandsBy p w asked told → NotEnded p w → (reply : Result ℕ SendError) (p' : PairState) → Announces p reply p'
     → Moves p w asked told Announce (Announce reply) p'
 announce_keeps p w asked told s z reply p' (announced {count = count} l f) =
     let ds = take count (owed p.server) in
-    let due = each_take (IsDue p.server.core.tables p.server.globals (server_rows p.server.core.view)) count (owed p.server)
-    (all_due p.server.core.tables p.server.globals p.server.core.view p.server.registries s.few_globals s.globals s.server_versions s.open_registries.only) in
+    let due = each_take (IsDue p.server.core.tables p.server.globals (server_rows p.server.core.view)) count
+    (owed p.server)
+    (all_due p.server.core.tables p.server.globals p.server.core.view p.server.registries s.globals.few_globals
+    s.globals.globals s.server.versions s.registries.open_registries.only) in
     let r = tell_all p w asked told s z ds due in
     let owes : take count (owed_by w.given w.registries) ≡ map owed_of ds =
-    ap (take count) ((λ i. owed_by (s.given i) (s.registries i)) ∙ owed_same p.server.globals p.server.registries) ∙ take_map owed_of count (owed p.server) in
+    ap (take count) ((λ i. owed_by (s.globals.given i) (s.registries.told i))
+    ∙ owed_same p.server.globals p.server.registries) ∙ take_map owed_of count (owed p.server) in
     record {
       world = r.world;
-      answers = before z (announced l f) (subst (λ (os : List Owed). AnnouncesThose p.server.core.tables w os r.world) (sym owes) r.announces);
+      answers = before z (announced l f) (subst (λ (os : List Owed). AnnouncesThose p.server.core.tables w os r.world)
+          (sym owes) r.announces);
       outcome = goes_on asked r.told r.not_ended r.stands_by
-          (subst (λ (l : List (Coming Known)). LeadsTo p asked told (with_server p (after_announce p.server count)) asked l) (sym r.added)
-          (subst (λ (c : Core). LeadsTo p asked told (with_server p (record p.server { core = c; registries = all_marked ds p.server.registries })) asked (told ++ r.news)) (sym (only_sent p.server.core ds))
-          (telling p.server.core.view (with_dues p.server.core ds).outbox (all_marked ds p.server.registries) r.news refl r.below)));
+          (subst (λ (l : List (Coming Known)). LeadsTo p asked told
+          (with_server p (after_announce p.server count)) asked l) (sym r.added)
+          (subst (λ (c : Core). LeadsTo p asked told
+          (with_server p (record p.server { core = c; registries = all_marked ds p.server.registries })) asked
+          (told ++ r.news)) (sym (only_sent p.server.core ds))
+          (telling p.server.core.view (with_dues p.server.core ds).outbox
+          (all_marked ds p.server.registries) r.news refl r.below)));
     }
-announce_keeps p w asked told s z reply p' (refused l) = absurd (cc (l, s.server_lives))
+announce_keeps p w asked told s z reply p' (refused l) = absurd (cc (l, s.server.lives))

@@ -6,14 +6,16 @@ use Rattle.std.specs.Prelude.{option_map}
 use Rattle.std.specs.declared.option.Option.{Option}
 use Rattle.std.specs.declared.option.Option.TheVariants.{None, Some}
 use Rattle.wl_object_map.specs.declared.object.Entry.{Entry}
-use Rattle.wl_object_map.specs.View.{View, Sound, look, opened_at, closed, zombied, zombie, next_id, can_open, has_room, free_or_next, max_ids}
+use Rattle.wl_object_map.specs.View.{View, Sound, look, opened_at, closed, zombied, zombie, next_id}
+use Rattle.wl_object_map.specs.View.{can_open, has_room, free_or_next, max_ids}
 use Rattle.wl_object_map.specs.Views.{look-opened_at, look-closed, look-zombied, free_is, is_free, free_or_next-next_id}
 use Rattle.theory_connection.specs.Meant.{Known, plain}
 use Rattle.theory_connection.specs.World.{Open, Ending, put}
 use Rattle.theory_connection.specs.Flight.{Rows, at, most, made, row, client_rows, server_rows, Fresh}
 
 module _ {X Y : Type 0} (f : X → Y) where
-  pub map_put : (g h : ℕ → Option X) (k : ℕ) (o : Option X) → ((q : ℕ) → g q ≡ cond (eqb q k) o (h q)) → (q : ℕ) → option_map f (g q) ≡ put (λ i. option_map f (h i)) k (option_map f o) q
+  pub map_put : (g h : ℕ → Option X) (k : ℕ) (o : Option X) → ((q : ℕ) → g q ≡ cond (eqb q k) o (h q)) → (q : ℕ)
+      → option_map f (g q) ≡ put (λ i. option_map f (h i)) k (option_map f o) q
   unfolding put
   map_put g h k o e q = ap (option_map f) (e q) ∙ map_cond (eqb q k) o (h q)
     where
@@ -28,43 +30,57 @@ same_rows_at b e h = λ k. record { rows = λ q. e q k; used = h k; births = b }
 most_max : (a b : ℕ) → max a b ≡ most a b
 most_max a b = grind (arith, nat_tests)
 
+-- the client's rows with one more open
 pub client_opened : (v : View) (x : Known) → x.born.birth ≡ v.births
     → client_rows (opened_at v x.id x.born.iface x.born.version) ≡ made (client_rows v) x.id (Open x.born)
 client_opened v x e =
     same_rows_at (v.births + 1)
-    (λ q. map_put row (look (opened_at v x.id x.born.iface x.born.version)) (look v) x.id _ (look-opened_at v x.id x.born.iface x.born.version) q
-    ∙ ap (λ (n : ℕ). put (λ i. option_map row (look v i)) x.id (Some (Open (record { birth = n; iface = x.born.iface; version = x.born.version }))) q) (sym e))
+    (λ q. map_put row (look (opened_at v x.id x.born.iface x.born.version)) (look v) x.id _
+    (look-opened_at v x.id x.born.iface x.born.version) q
+    ∙ ap (λ (n : ℕ). put (λ i. option_map row (look v i)) x.id
+    (Some (Open (record { birth = n; iface = x.born.iface; version = x.born.version }))) q) (sym e))
     (most_max v.used x.id)
 
+-- the server's rows with one more open
 pub server_opened : (v : View) (x : Known) → x.born.birth ≡ v.births
     → server_rows (opened_at v x.id x.born.iface x.born.version) ≡ made (server_rows v) x.id x.born
 server_opened v x e =
     same_rows_at (v.births + 1)
-    (λ q. map_put plain (look (opened_at v x.id x.born.iface x.born.version)) (look v) x.id _ (look-opened_at v x.id x.born.iface x.born.version) q
-    ∙ ap (λ (n : ℕ). put (λ i. option_map plain (look v i)) x.id (Some (record { birth = n; iface = x.born.iface; version = x.born.version })) q) (sym e))
+    (λ q. map_put plain (look (opened_at v x.id x.born.iface x.born.version)) (look v) x.id _
+    (look-opened_at v x.id x.born.iface x.born.version) q
+    ∙ ap (λ (n : ℕ). put (λ i. option_map plain (look v i)) x.id
+    (Some (record { birth = n; iface = x.born.iface; version = x.born.version })) q) (sym e))
     (most_max v.used x.id)
 
+-- the client's rows with an id closed
 pub client_closed : (v : View) (id : ℕ) → client_rows (closed v id) ≡ at (client_rows v) id None
 client_closed v id = same_rows_at v.births (map_put row (look (closed v id)) (look v) id None (look-closed v id)) refl
 
+-- the server's rows with an id closed
 pub server_closed : (v : View) (id : ℕ) → server_rows (closed v id) ≡ at (server_rows v) id None
 server_closed v id = same_rows_at v.births (map_put plain (look (closed v id)) (look v) id None (look-closed v id)) refl
 
-zombie_at : (v : View) (id : ℕ) (e : Entry) → look v id ≡ Some e → (q : ℕ) → look (zombied v id) q ≡ cond (eqb q id) (Some (zombie e)) (look v q)
+zombie_at : (v : View) (id : ℕ) (e : Entry) → look v id ≡ Some e → (q : ℕ)
+    → look (zombied v id) q ≡ cond (eqb q id) (Some (zombie e)) (look v q)
 zombie_at v id e h q = look-zombied v id q ∙ elim (cases_eq q id) [
   | inl same ↦ (let l = ap (look v) same ∙ h in rw (l, same) refl)
   | inr other ↦ (let b : eqb q id ≡ false = grind (arith, nat_tests) in rw b refl)
 ]
 
-pub client_zombied : (v : View) (id : ℕ) (e : Entry) → look v id ≡ Some e → client_rows (zombied v id) ≡ at (client_rows v) id (Some (Ending (plain e)))
-client_zombied v id e h = same_rows_at v.births (map_put row (look (zombied v id)) (look v) id (Some (zombie e)) (zombie_at v id e h)) refl
+-- the client's rows with an object ending
+pub client_zombied : (v : View) (id : ℕ) (e : Entry) → look v id ≡ Some e
+    → client_rows (zombied v id) ≡ at (client_rows v) id (Some (Ending (plain e)))
+client_zombied v id e h = same_rows_at v.births (map_put row (look (zombied v id)) (look v) id (Some (zombie e))
+    (zombie_at v id e h)) refl
 
+-- what is mapped to nothing is nothing
 pub map_none : {X Y : Type 0} (f : X → Y) (o : Option X) → option_map f o ≡ None → o ≡ None
 map_none f None h = refl
 map_none f (Some x) h = absurd (cc h)
 
 -- the next id fits
-pub next_fresh : (v : View) (x : Known) → Sound v → can_open v ≡ true → x.id ≡ next_id v → x.born.birth ≡ v.births → Fresh (client_rows v) x
+pub next_fresh : (v : View) (x : Known) → Sound v → can_open v ≡ true → x.id ≡ next_id v → x.born.birth ≡ v.births
+    → Fresh (client_rows v) x
 next_fresh v x s o e b =
     let f = free_is v (next_id v) s (free_or_next-next_id v) in
     record {
@@ -80,6 +96,7 @@ next_fresh v x s o e b =
 pub fresh_free : (v : View) (x : Known) → Sound v → Fresh (server_rows v) x → free_or_next v x.id ≡ true
 fresh_free v x s f = is_free v x.id s (map_none plain (look v x.id) f.free) f.some f.next
 
+-- there is room for what is fresh to the server's rows
 pub fresh_room : (v : View) (x : Known) → Fresh (server_rows v) x → has_room v x.id ≡ true
 fresh_room v x f = let a = f.low in let b = f.left in grind (arith, nat_tests, a, b)
 

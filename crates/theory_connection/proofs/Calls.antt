@@ -1,5 +1,6 @@
 -- The message that a call writes.
-use Rattle.std.proofs.Common.{◌≡◌, ◌≢◌, ℕ, suc, ◌<◌, ◌≤◌, ◌^◌, Bool, true, false, cond, List, [], ◌∷◌, map, length, ◌⊎◌, inl, inr, refl, sym, ap, subst, ◌∙◌, arith}
+use Rattle.std.proofs.Common.{◌≡◌, ◌≢◌, ℕ, suc, ◌<◌, ◌≤◌, ◌^◌, Bool, true, false, cond, List, []}
+use Rattle.std.proofs.Common.{◌∷◌, map, length, ◌⊎◌, inl, inr, refl, sym, ap, subst, ◌∙◌, arith}
 use Rattle.std.specs.Prelude.{nat_eq, nat_lt}
 use Rattle.std.specs.List.{All, list_any}
 use Rattle.std.specs.declared.option.Option.{Option}
@@ -25,9 +26,12 @@ use Rattle.wl_object_map.specs.View.{View, Sound, look, max_ids, next_id}
 use Rattle.wl_object_map.specs.Views
 use Rattle.wl_objects.specs.Reading.{is_of}
 use Rattle.wl_message.specs.Cut.{greatest_limit}
-use Rattle.wl_objects.specs.Writing.{Given, suits, has_no_nul, wrong_place, lost_place, is_live, is_live_as, row_is_of, can_name, wired, tokens_of, message_len}
-use Rattle.wl_objects.specs.Messages.{NewObject, made, live_row, checked, checked_by, checked_as, unless_hidden, unless_wrong, is_hidden}
-use Rattle.theory_connection.specs.Meant.{Born, Known, Arg, rearg, born_of, birth_of, wire, tokens, new_in, made_in, or_else, objects, plain, live_entry}
+use Rattle.wl_objects.specs.Writing.{Given, suits, has_no_nul, wrong_place, lost_place, is_live}
+use Rattle.wl_objects.specs.Writing.{is_live_as, row_is_of, can_name, wired, tokens_of, message_len}
+use Rattle.wl_objects.specs.Messages.{NewObject, made, live_row, checked, checked_by, checked_as}
+use Rattle.wl_objects.specs.Messages.{unless_hidden, unless_wrong, is_hidden}
+use Rattle.theory_connection.specs.Meant.{Born, Known, Arg, rearg, born_of, birth_of, wire, tokens}
+use Rattle.theory_connection.specs.Meant.{new_in, made_in, or_else, objects, plain, live_entry}
 use Rattle.theory_connection.specs.World.{Each, IfThere}
 use Rattle.theory_connection.specs.Answers.{handed}
 use Rattle.theory_connection.specs.Stands.{AreOf, NamesRightly}
@@ -35,7 +39,9 @@ use Rattle.theory_connection.specs.Runs.{IsGiven}
 
 -- ---- what stands where nothing stands against a write
 
-pub record Checked (limit : ℕ) (tables : List Interface) (side : Side) (view : View) (target : Object) (opcode : ℕ) (given : List Given) (signature : sigs.Message) : Type 0 where
+-- what the checks of a call say where nothing stands against it
+pub record Checked (limit : ℕ) (tables : List Interface) (side : Side) (view : View) (target : Object) (opcode : ℕ)
+    (given : List Given) (signature : sigs.Message) : Type 0 where
   pub entry : Entry
   pub there : look view target.id ≡ Some entry
   pub birth : entry.birth ≡ target.birth
@@ -57,15 +63,19 @@ pub record LiveAs (birth : ℕ) (o : Option Entry) : Type 0 where
   pub birth_is : entry.birth ≡ birth
   pub live : entry.state ≡ states.Live
 
+-- a live entry with this birth
 pub live_as : (birth : ℕ) (o : Option Entry) → is_live_as birth o ≡ true → LiveAs birth o
 live_as birth None h = absurd (cc h)
-live_as birth (Some e) h = let k = and_parts (nat_eq e.birth birth) (is_live e.state) h in record { entry = e; there = refl; birth_is = eqb-true e.birth birth k.0; live = is_live-state e.state k.1 }
+live_as birth (Some e) h = let k = and_parts (nat_eq e.birth birth) (is_live e.state) h
+    in record { entry = e; there = refl; birth_is = eqb-true e.birth birth k.0; live = is_live-state e.state k.1 }
 
-live_row_at : (birth : ℕ) (o : Option Entry) (b : Bool) → is_live_as birth o ≡ b → (e : Entry) → cond b o None ≡ Some e → LiveAs birth o × (o ≡ Some e)
+live_row_at : (birth : ℕ) (o : Option Entry) (b : Bool) → is_live_as birth o ≡ b → (e : Entry) → cond b o None ≡ Some e
+    → LiveAs birth o × (o ≡ Some e)
 live_row_at birth o true h e k = (live_as birth o h, k)
 live_row_at birth o false h e k = absurd (cc k)
 
-of_len : (b : Bool) (signature s : sigs.Message) (why : SendError) → cond b (Err why) (Ok signature) ≡ Ok s → (b ≡ false) × (signature ≡ s)
+of_len : (b : Bool) (signature s : sigs.Message) (why : SendError) → cond b (Err why) (Ok signature) ≡ Ok s
+    → (b ≡ false) × (signature ≡ s)
 of_len true signature s why h = absurd (cc h)
 of_len false signature s why h = (refl, cc h)
 
@@ -75,35 +85,43 @@ pub record Fine (limit : ℕ) (wrong lost : Option ℕ) (len : ℕ) (signature s
   pub short : len ≤ limit
   pub same : signature ≡ s
 
-fine : (limit : ℕ) (wrong lost : Option ℕ) (len : ℕ) (signature s : sigs.Message) → unless_wrong limit wrong lost len signature ≡ Ok s → Fine limit wrong lost len signature s
-fine limit None None len signature s h = let k = of_len (nat_lt limit len) signature s _ h in record { suit = refl; found = refl; short = ltb-false limit len k.0; same = k.1 }
+fine : (limit : ℕ) (wrong lost : Option ℕ) (len : ℕ) (signature s : sigs.Message)
+    → unless_wrong limit wrong lost len signature ≡ Ok s → Fine limit wrong lost len signature s
+fine limit None None len signature s h = let k = of_len (nat_lt limit len) signature s _ h
+    in record { suit = refl; found = refl; short = ltb-false limit len k.0; same = k.1 }
 fine limit None (Some place) len signature s h = absurd (cc h)
 fine limit (Some place) lost len signature s h = absurd (cc h)
 
-record AsChecked (limit : ℕ) (view : View) (given : List Given) (entry : Entry) (o : Option sigs.Message) (s : sigs.Message) : Type 0 where
+record AsChecked (limit : ℕ) (view : View) (given : List Given) (entry : Entry) (o : Option sigs.Message)
+    (s : sigs.Message) : Type 0 where
   there : o ≡ Some s
   old_enough : s.since ≤ entry.version
   suit : wrong_place 0 s.kinds given ≡ None
   found : lost_place (look view) 0 s.kinds given ≡ None
   len : message_len (map (wired 0) given) ≤ limit
 
-not_old : (limit : ℕ) (view : View) (given : List Given) (entry : Entry) (s t : sigs.Message) (b : Bool) (why : SendError) → nat_lt entry.version s.since ≡ b
-    → cond b (Err why) (unless_wrong limit (wrong_place 0 s.kinds given) (lost_place (look view) 0 s.kinds given) (message_len (map (wired 0) given)) s) ≡ Ok t → AsChecked limit view given entry (Some s) t
+not_old : (limit : ℕ) (view : View) (given : List Given) (entry : Entry) (s t : sigs.Message) (b : Bool)
+    (why : SendError) → nat_lt entry.version s.since ≡ b
+    → cond b (Err why) (unless_wrong limit (wrong_place 0 s.kinds given) (lost_place (look view) 0 s.kinds given)
+    (message_len (map (wired 0) given)) s) ≡ Ok t → AsChecked limit view given entry (Some s) t
 not_old limit view given entry s t true why e h = absurd (cc h)
 not_old limit view given entry s t false why e h =
     let f = fine limit _ _ _ s t h in
     subst (λ (x : sigs.Message). AsChecked limit view given entry (Some s) x) f.same
     (record { there = refl; old_enough = ltb-false _ _ e; suit = f.suit; found = f.found; len = f.short })
 
-as_checked : (limit : ℕ) (view : View) (given : List Given) (entry : Entry) (o : Option sigs.Message) (s : sigs.Message) → checked_as limit view given entry o ≡ Ok s → AsChecked limit view given entry o s
+as_checked : (limit : ℕ) (view : View) (given : List Given) (entry : Entry) (o : Option sigs.Message) (s : sigs.Message)
+    → checked_as limit view given entry o ≡ Ok s → AsChecked limit view given entry o s
 as_checked limit view given entry None s h = absurd (cc h)
 as_checked limit view given entry (Some t) s h = not_old limit view given entry t s _ _ refl h
 
-not_hidden : (b : Bool) (o : Option sigs.Message) (s : sigs.Message) → unless_hidden b o ≡ Some s → (b ≡ false) × (o ≡ Some s)
+not_hidden : (b : Bool) (o : Option sigs.Message) (s : sigs.Message) → unless_hidden b o ≡ Some s
+    → (b ≡ false) × (o ≡ Some s)
 not_hidden true o s h = absurd (cc h)
 not_hidden false o s h = (refl, h)
 
-by_checked : (limit : ℕ) (tables : List Interface) (side : Side) (view : View) (target : Object) (opcode : ℕ) (given : List Given) (s : sigs.Message) (o : Option Entry) → live_row view target ≡ o
+by_checked : (limit : ℕ) (tables : List Interface) (side : Side) (view : View) (target : Object) (opcode : ℕ)
+    (given : List Given) (s : sigs.Message) (o : Option Entry) → live_row view target ≡ o
     → checked_by limit tables side view opcode given o ≡ Ok s → Checked limit tables side view target opcode given s
 by_checked limit tables side view target opcode given s None e h = absurd (cc h)
 by_checked limit tables side view target opcode given s (Some entry) e h =
@@ -124,12 +142,16 @@ by_checked limit tables side view target opcode given s (Some entry) e h =
       len = c.len;
     }
 
-pub is_checked : (limit : ℕ) (tables : List Interface) (side : Side) (view : View) (target : Object) (opcode : ℕ) (given : List Given) (s : sigs.Message) → checked limit tables side view target opcode given ≡ Ok s
+-- a call that nothing stands against is checked
+pub is_checked : (limit : ℕ) (tables : List Interface) (side : Side) (view : View) (target : Object) (opcode : ℕ)
+    (given : List Given) (s : sigs.Message) → checked limit tables side view target opcode given ≡ Ok s
     → Checked limit tables side view target opcode given s
-is_checked limit tables side view target opcode given s h = by_checked limit tables side view target opcode given s _ refl h
+is_checked limit tables side view target opcode given s h =
+    by_checked limit tables side view target opcode given s _ refl h
 
 -- ---- the message
 
+-- what an object was born as, by its entry
 abbrev pub born_at : Option Entry → Born
 born_at None = record { birth = 0; iface = record { 0 = 0 }; version = 0 }
 born_at (Some e) = plain e
@@ -138,48 +160,45 @@ abbrev pub resolve : View → Option Object → Option Known
 resolve view None = None
 resolve view (Some object) = Some (record { id = object.id; born = born_at (look view object.id) })
 
+-- what a given argument means, with this new object
 abbrev pub meant : View → Known → Given → Arg Known
 meant view new a = reshaped (resolve view) (λ _. new) (λ t. t) a
 
 -- the new object of a call
 abbrev pub new_known : View → Option NewObject → Known
-new_known view None = record { id = next_id view; born = record { birth = view.births; iface = record { 0 = 0 }; version = 0 } }
-new_known view (Some m) = record { id = next_id view; born = record { birth = view.births; iface = m.iface; version = m.version } }
+new_known view None = record {
+  id = next_id view;
+  born = record { birth = view.births; iface = record { 0 = 0 }; version = 0 };
+}
+new_known view (Some m) = record {
+  id = next_id view;
+  born = record { birth = view.births; iface = m.iface; version = m.version };
+}
 
 wire_one : (view : View) (new : Known) (a : Given) → wire (meant view new a) ≡ wired new.id a
-wire_one view new (Int z) = refl
-wire_one view new (Uint z) = refl
-wire_one view new (Fixed z) = refl
-wire_one view new (Str z) = refl
 wire_one view new (Obj None) = refl
-wire_one view new (Obj (Some x)) = refl
-wire_one view new (New x) = refl
-wire_one view new (NewNamed name own x) = refl
-wire_one view new (Array z) = refl
-wire_one view new (Fd z) = refl
+wire_one view new a = refl
 
-pub wire_all : (view : View) (new : Known) (given : List Given) → map wire (map (meant view new) given) ≡ map (wired new.id) given
+-- what is meant goes out as what was given
+pub wire_all : (view : View) (new : Known) (given : List Given)
+    → map wire (map (meant view new) given) ≡ map (wired new.id) given
 wire_all view new [] = refl
 wire_all view new (a ∷ given) = rw (wire_one view new a, wire_all view new given) refl
 
-pub tokens_all : (view : View) (new : Known) (given : List Given) → tokens (map (meant view new) given) ≡ tokens_of given
+-- its tokens are those given
+pub tokens_all : (view : View) (new : Known) (given : List Given)
+    → tokens (map (meant view new) given) ≡ tokens_of given
 tokens_all view new [] = refl
-tokens_all view new (Int z ∷ given) = tokens_all view new given
-tokens_all view new (Uint z ∷ given) = tokens_all view new given
-tokens_all view new (Fixed z ∷ given) = tokens_all view new given
-tokens_all view new (Str z ∷ given) = tokens_all view new given
 tokens_all view new (Obj None ∷ given) = tokens_all view new given
-tokens_all view new (Obj (Some x) ∷ given) = tokens_all view new given
-tokens_all view new (New x ∷ given) = tokens_all view new given
-tokens_all view new (NewNamed name own x ∷ given) = tokens_all view new given
-tokens_all view new (Array z ∷ given) = tokens_all view new given
 tokens_all view new (Fd z ∷ given) = ap (λ (l : List ℕ). z ∷ l) (tokens_all view new given)
+tokens_all view new (a ∷ given) = tokens_all view new given
 
 -- each suits its kind, and can be named
 pub record Right (view : View) (kind : Kind) (a : Given) : Type 0 where
   pub suit : suits kind a ≡ true
   pub named : can_name (look view) kind a ≡ true
 
+-- each given argument is as its kind asks, and names an object that is there
 abbrev pub AllRight : View → List Kind → List Given → Type 0
 AllRight view [] [] = Unit {0}
 AllRight view (k ∷ ks) (a ∷ given) = Right view k a × AllRight view ks given
@@ -189,7 +208,9 @@ if_none : (b : Bool) (o : Option ℕ) (p : ℕ) → cond b o (Some p) ≡ None �
 if_none true o p h = (refl, h)
 if_none false o p h = absurd (cc h)
 
-pub all_right : (view : View) (place : ℕ) (ks : List Kind) (given : List Given) → wrong_place place ks given ≡ None → lost_place (look view) place ks given ≡ None → AllRight view ks given
+-- with no wrong and no lost place all arguments are right
+pub all_right : (view : View) (place : ℕ) (ks : List Kind) (given : List Given) → wrong_place place ks given ≡ None
+    → lost_place (look view) place ks given ≡ None → AllRight view ks given
 all_right view place [] [] w l = tt
 all_right view place [] (a ∷ given) w l = absurd (cc w)
 all_right view place (k ∷ ks) [] w l = absurd (cc w)
@@ -200,26 +221,25 @@ all_right view place (k ∷ ks) (a ∷ given) w l =
 
 -- ---- it names what was handed
 
-handed_one : (view : View) (new : Known) (births : ℕ) (k : Kind) (a : Given) → new.born.birth ≡ births → Right view k a → rearg birth_of (rearg born_of (meant view new a)) ≡ handed births a
-handed_one view new births k (Int z) e r = refl
-handed_one view new births k (Uint z) e r = refl
-handed_one view new births k (Fixed z) e r = refl
-handed_one view new births k (Str z) e r = refl
+handed_one : (view : View) (new : Known) (births : ℕ) (k : Kind) (a : Given) → new.born.birth ≡ births → Right view k a
+    → rearg birth_of (rearg born_of (meant view new a)) ≡ handed births a
 handed_one view new births k (Obj None) e r = refl
 handed_one view new births k (Obj (Some x)) e r =
     let l = live_as x.birth (look view x.id) (and_parts _ _ r.named).0 in
     ap (λ (b : ℕ). Obj (Some b)) (ap (λ o. (born_at o).birth) l.there ∙ l.birth_is)
 handed_one view new births k (New x) e r = ap (λ (b : ℕ). New b) e
 handed_one view new births k (NewNamed name own x) e r = ap (λ (b : ℕ). NewNamed name own b) e
-handed_one view new births k (Array z) e r = refl
-handed_one view new births k (Fd z) e r = refl
+handed_one view new births k a e r = refl
 
-pub handed_all : (view : View) (new : Known) (births : ℕ) (ks : List Kind) (given : List Given) → new.born.birth ≡ births → AllRight view ks given
+-- what is meant, by births, is what was handed
+pub handed_all : (view : View) (new : Known) (births : ℕ) (ks : List Kind) (given : List Given)
+    → new.born.birth ≡ births → AllRight view ks given
     → map (rearg birth_of) (map (rearg born_of) (map (meant view new) given)) ≡ map (handed births) given
 handed_all view new births [] [] e r = refl
 handed_all view new births [] (a ∷ given) e r = absurd r
 handed_all view new births (k ∷ ks) [] e r = absurd r
-handed_all view new births (k ∷ ks) (a ∷ given) e r = rw (handed_one view new births k a e r.0, handed_all view new births ks given e r.1) refl
+handed_all view new births (k ∷ ks) (a ∷ given) e r =
+    rw (handed_one view new births k a e r.0, handed_all view new births ks given e r.1) refl
 
 -- ---- its objects
 
@@ -230,23 +250,20 @@ pub record LiveAt (view : View) (x : Known) : Type 0 where
   pub same : plain entry ≡ x.born
   pub live : entry.state ≡ states.Live
 
-pub live_at : (view : View) (k : Kind) (x : Object) → can_name (look view) k (Obj (Some x)) ≡ true → LiveAt view (record { id = x.id; born = born_at (look view x.id) })
-live_at view k x h = let l = live_as x.birth (look view x.id) (and_parts _ _ h).0 in record { entry = l.entry; there = l.there; same = ap born_at (sym l.there); live = l.live }
+pub live_at : (view : View) (k : Kind) (x : Object) → can_name (look view) k (Obj (Some x)) ≡ true
+    → LiveAt view (record { id = x.id; born = born_at (look view x.id) })
+live_at view k x h = let l = live_as x.birth (look view x.id) (and_parts _ _ h).0
+    in record { entry = l.entry; there = l.there; same = ap born_at (sym l.there); live = l.live }
 
-pub all_live : (view : View) (new : Known) (ks : List Kind) (given : List Given) → AllRight view ks given → Each (LiveAt view) (objects (map (meant view new) given))
+-- each object that is meant is live
+pub all_live : (view : View) (new : Known) (ks : List Kind) (given : List Given) → AllRight view ks given
+    → Each (LiveAt view) (objects (map (meant view new) given))
 all_live view new [] [] r = tt
 all_live view new [] (a ∷ given) r = absurd r
 all_live view new (k ∷ ks) [] r = absurd r
-all_live view new (k ∷ ks) (Int z ∷ given) r = all_live view new ks given r.1
-all_live view new (k ∷ ks) (Uint z ∷ given) r = all_live view new ks given r.1
-all_live view new (k ∷ ks) (Fixed z ∷ given) r = all_live view new ks given r.1
-all_live view new (k ∷ ks) (Str z ∷ given) r = all_live view new ks given r.1
 all_live view new (k ∷ ks) (Obj None ∷ given) r = all_live view new ks given r.1
 all_live view new (k ∷ ks) (Obj (Some x) ∷ given) r = (live_at view k x r.0.named, all_live view new ks given r.1)
-all_live view new (k ∷ ks) (New x ∷ given) r = all_live view new ks given r.1
-all_live view new (k ∷ ks) (NewNamed name own x ∷ given) r = all_live view new ks given r.1
-all_live view new (k ∷ ks) (Array z ∷ given) r = all_live view new ks given r.1
-all_live view new (k ∷ ks) (Fd z ∷ given) r = all_live view new ks given r.1
+all_live view new (k ∷ ks) (a ∷ given) r = all_live view new ks given r.1
 
 -- ---- its new object
 
@@ -257,14 +274,8 @@ Matches new version _ = Unit {0}
 
 none_new : (new : Known) (version : ℕ) (ks : List Kind) → length (new_objects ks) ≤ 0 → Each (Matches new version) ks
 none_new new version [] h = tt
-none_new new version (kinds.Int ∷ ks) h = (tt, none_new new version ks h)
-none_new new version (kinds.Uint ∷ ks) h = (tt, none_new new version ks h)
-none_new new version (kinds.Fixed ∷ ks) h = (tt, none_new new version ks h)
-none_new new version (kinds.Str n ∷ ks) h = (tt, none_new new version ks h)
-none_new new version (kinds.Obj n i ∷ ks) h = (tt, none_new new version ks h)
 none_new new version (kinds.New i ∷ ks) h = absurd (omega arith)
-none_new new version (kinds.Array ∷ ks) h = (tt, none_new new version ks h)
-none_new new version (kinds.Fd ∷ ks) h = (tt, none_new new version ks h)
+none_new new version (kind ∷ ks) h = (tt, none_new new version ks h)
 
 unnamed_first : (k : Kind) (ks : List Kind) → All (λ x. x ≢ kinds.New None) (k ∷ ks) → k ≢ kinds.New None
 unnamed_first k ks h = h 0 k (omega arith)
@@ -272,21 +283,34 @@ unnamed_first k ks h = h 0 k (omega arith)
 unnamed_rest : (k : Kind) (ks : List Kind) → All (λ x. x ≢ kinds.New None) (k ∷ ks) → All (λ x. x ≢ kinds.New None) ks
 unnamed_rest k ks h = All-tail (λ (x : Kind). x ≢ kinds.New None) k ks h
 
-pub matches : (tables : List Interface) (view : View) (version id : ℕ) (ks : List Kind) (given : List Given) → AllRight view ks given → length (new_objects ks) ≤ 1 → All (λ x. x ≢ kinds.New None) ks
+-- each kind that makes an object makes just the new one
+pub matches : (tables : List Interface) (view : View) (version id : ℕ) (ks : List Kind) (given : List Given)
+    → AllRight view ks given → length (new_objects ks) ≤ 1 → All (λ x. x ≢ kinds.New None) ks
     → Each (Matches (new_known view (made tables version ks (map (wired id) given))) version) ks
 matches tables view version id [] [] r h u = tt
 matches tables view version id [] (a ∷ given) r h u = absurd r
 matches tables view version id (k ∷ ks) [] r h u = absurd r
-matches tables view version id (kinds.Int ∷ ks) (Int z ∷ given) r h u = (tt, matches tables view version id ks given r.1 h (unnamed_rest kinds.Int ks u))
-matches tables view version id (kinds.Uint ∷ ks) (Uint z ∷ given) r h u = (tt, matches tables view version id ks given r.1 h (unnamed_rest kinds.Uint ks u))
-matches tables view version id (kinds.Fixed ∷ ks) (Fixed z ∷ given) r h u = (tt, matches tables view version id ks given r.1 h (unnamed_rest kinds.Fixed ks u))
-matches tables view version id (kinds.Str n ∷ ks) (Str z ∷ given) r h u = (tt, matches tables view version id ks given r.1 h (unnamed_rest (kinds.Str n) ks u))
-matches tables view version id (kinds.Obj n i ∷ ks) (Obj z ∷ given) r h u = (tt, matches tables view version id ks given r.1 h (unnamed_rest (kinds.Obj n i) ks u))
-matches tables view version id (kinds.New (Some iface) ∷ ks) (New x ∷ given) r h u =
-    ((refl, refl), none_new (new_known view (Some (record { id = id; iface = iface; version = version }))) version ks (omega arith))
-matches tables view version id (kinds.New None ∷ ks) (NewNamed name own x ∷ given) r h u = absurd (unnamed_first (kinds.New None) ks u refl)
-matches tables view version id (kinds.Array ∷ ks) (Array z ∷ given) r h u = (tt, matches tables view version id ks given r.1 h (unnamed_rest kinds.Array ks u))
-matches tables view version id (kinds.Fd ∷ ks) (Fd z ∷ given) r h u = (tt, matches tables view version id ks given r.1 h (unnamed_rest kinds.Fd ks u))
+matches tables view version id (kinds.Int ∷ ks) (Int z ∷ given) r h u =
+    (tt, matches tables view version id ks given r.1 h (unnamed_rest kinds.Int ks u))
+matches tables view version id (kinds.Uint ∷ ks) (Uint z ∷ given) r h u =
+    (tt, matches tables view version id ks given r.1 h (unnamed_rest kinds.Uint ks u))
+matches tables view version id (kinds.Fixed ∷ ks) (Fixed z ∷ given) r h u =
+    (tt, matches tables view version id ks given r.1 h (unnamed_rest kinds.Fixed ks u))
+matches tables view version id (kinds.Str n ∷ ks) (Str z ∷ given) r h u =
+    (tt, matches tables view version id ks given r.1 h (unnamed_rest (kinds.Str n) ks u))
+matches tables view version id (kinds.Obj n i ∷ ks) (Obj z ∷ given) r h u =
+    (tt, matches tables view version id ks given r.1 h (unnamed_rest (kinds.Obj n i) ks u))
+matches tables view version id (kinds.New (Some iface) ∷ ks) (New x ∷ given) r h u = (
+  (refl, refl),
+  none_new (new_known view (Some (record { id = id; iface = iface; version = version }))) version ks
+      (omega arith),
+)
+matches tables view version id (kinds.New None ∷ ks) (NewNamed name own x ∷ given) r h u =
+    absurd (unnamed_first (kinds.New None) ks u refl)
+matches tables view version id (kinds.Array ∷ ks) (Array z ∷ given) r h u =
+    (tt, matches tables view version id ks given r.1 h (unnamed_rest kinds.Array ks u))
+matches tables view version id (kinds.Fd ∷ ks) (Fd z ∷ given) r h u =
+    (tt, matches tables view version id ks given r.1 h (unnamed_rest kinds.Fd ks u))
 matches tables view version id (_ ∷ ks) (_ ∷ given) r h u = absurd (cc r.0.suit)
 
 -- ---- it fits its signature
@@ -305,20 +329,24 @@ row_low view id e s h = elim (Views.place_of view s id) [
   | Views.unused l t a ↦ absurd (cc (l, h))
 ]
 
-fit_one : (tables : List Interface) (view : View) (new : Known) (version : ℕ) (k : Kind) (a : Given) → Sound view → new.id < 2 ^ 32 → Right view k a → Matches new version k → IsGiven a → spelled_len (wired 0 a) ≤ greatest_limit
+fit_one : (tables : List Interface) (view : View) (new : Known) (version : ℕ) (k : Kind) (a : Given) → Sound view
+    → new.id < 2 ^ 32 → Right view k a → Matches new version k → IsGiven a → spelled_len (wired 0 a) ≤ greatest_limit
     → Suits k (wire (meant view new a)) × NamesRightly tables version k (meant view new a)
 fit_one tables view new version kinds.Int (Int z) s n r m g l = (g, tt)
 fit_one tables view new version kinds.Uint (Uint z) s n r m g l = (g, tt)
 fit_one tables view new version kinds.Fixed (Fixed z) s n r m g l = (g, tt)
 fit_one tables view new version (kinds.Str null) (Str None) s n r m g l = (r.suit, tt)
-fit_one tables view new version (kinds.Str null) (Str (Some text)) s n r m g l = (record { no_nul = no_nul text r.suit; len = omega arith }, tt)
+fit_one tables view new version (kinds.Str null) (Str (Some text)) s n r m g l =
+    (record { no_nul = no_nul text r.suit; len = omega arith }, tt)
 fit_one tables view new version (kinds.Obj null iface) (Obj None) s n r m g l = ((omega arith, λ _. r.suit), tt)
 fit_one tables view new version (kinds.Obj null iface) (Obj (Some x)) s n r m g l =
     let b = and_parts _ _ r.named in
     let v = live_as x.birth (look view x.id) b.0 in
     let low = row_low view x.id v.entry s v.there in
-    let of : row_is_of iface (Some v.entry) ≡ true = ap (row_is_of iface) (sym v.there) ∙ b.1 in
-    ((omega (arith, low.1), λ z. absurd (omega (arith, low.0, z))), (low.0, ap (λ o. is_of iface (live_entry (born_at o))) v.there ∙ same_of iface v.entry ∙ of))
+    let of : row_is_of iface (Some v.entry) ≡ true = ap (row_is_of iface) (sym v.there) ∙ b.1 in (
+      (omega (arith, low.1), λ z. absurd (omega (arith, low.0, z))),
+      (low.0, ap (λ o. is_of iface (live_entry (born_at o))) v.there ∙ same_of iface v.entry ∙ of),
+    )
   where
     same_of : (i : Option Iface) (e : Entry) → is_of i (live_entry (plain e)) ≡ is_of i e
     same_of None e = refl
@@ -330,36 +358,40 @@ fit_one tables view new version kinds.Array (Array z) s n r m g l = (omega arith
 fit_one tables view new version kinds.Fd (Fd z) s n r m g l = (tt, tt)
 fit_one tables view new version _ _ s n r m g l = absurd (cc r.suit)
 
-pub fit_all : (tables : List Interface) (view : View) (new : Known) (version : ℕ) (ks : List Kind) (given : List Given) → Sound view → new.id < 2 ^ 32 → AllRight view ks given → Each (Matches new version) ks
-    → Each IsGiven given → message_len (map (wired 0) given) ≤ greatest_limit → AreOf tables version ks (map (meant view new) given)
+-- what is meant fits the kinds
+pub fit_all : (tables : List Interface) (view : View) (new : Known) (version : ℕ) (ks : List Kind) (given : List Given)
+    → Sound view → new.id < 2 ^ 32 → AllRight view ks given → Each (Matches new version) ks
+    → Each IsGiven given → message_len (map (wired 0) given) ≤ greatest_limit
+    → AreOf tables version ks (map (meant view new) given)
 fit_all tables view new version [] [] s n r m g l = tt
 fit_all tables view new version [] (a ∷ given) s n r m g l = absurd r
 fit_all tables view new version (k ∷ ks) [] s n r m g l = absurd r
-fit_all tables view new version (k ∷ ks) (a ∷ given) s n r m g l =
-    (fit_one tables view new version k a s n r.0 m.0 g.0 (omega (arith, l)), fit_all tables view new version ks given s n r.1 m.1 g.1 (omega (arith, l)))
+fit_all tables view new version (k ∷ ks) (a ∷ given) s n r m g l = (
+  fit_one tables view new version k a s n r.0 m.0 g.0
+      (omega (arith, l)),
+  fit_all tables view new version ks given s n r.1 m.1 g.1 (omega (arith, l)),
+)
 
 -- ---- it makes at most one object
 
 abbrev pub NewIs : Known → List (Arg Known) → Type 0
 NewIs new args = Each (λ a. IfThere (λ x. x ≡ new) (new_in a)) args
 
+-- each new object that is meant is this one
 pub new_all : (view : View) (new : Known) (given : List Given) → NewIs new (map (meant view new) given)
 new_all view new [] = tt
-new_all view new (Int z ∷ given) = (tt, new_all view new given)
-new_all view new (Uint z ∷ given) = (tt, new_all view new given)
-new_all view new (Fixed z ∷ given) = (tt, new_all view new given)
-new_all view new (Str z ∷ given) = (tt, new_all view new given)
-new_all view new (Obj z ∷ given) = (tt, new_all view new given)
 new_all view new (New x ∷ given) = (refl, new_all view new given)
 new_all view new (NewNamed name own x ∷ given) = (refl, new_all view new given)
-new_all view new (Array z ∷ given) = (tt, new_all view new given)
-new_all view new (Fd z ∷ given) = (tt, new_all view new given)
+new_all view new (a ∷ given) = (tt, new_all view new given)
 
-first_is : (new : Known) (o p : Option Known) → IfThere (λ x. x ≡ new) o → (p ≡ None) ⊎ (p ≡ Some new) → (or_else o p ≡ None) ⊎ (or_else o p ≡ Some new)
+first_is : (new : Known) (o p : Option Known) → IfThere (λ x. x ≡ new) o → (p ≡ None) ⊎ (p ≡ Some new)
+    → (or_else o p ≡ None) ⊎ (or_else o p ≡ Some new)
 first_is new None p h q = q
 first_is new (Some x) p h q = inr (ap Some h)
 
-pub made_new : (new : Known) (args : List (Arg Known)) → NewIs new args → (made_in args ≡ None) ⊎ (made_in args ≡ Some new)
+-- arguments make nothing or this object
+pub made_new : (new : Known) (args : List (Arg Known)) → NewIs new args
+    → (made_in args ≡ None) ⊎ (made_in args ≡ Some new)
 made_new new [] h = inl refl
 made_new new (a ∷ args) h = first_is new (new_in a) (made_in args) h.0 (made_new new args h.1)
 
@@ -367,11 +399,14 @@ or_none : (o p : Option Known) → or_else o p ≡ None → (o ≡ None) × (p �
 or_none None p h = (refl, h)
 or_none (Some x) p h = absurd (cc h)
 
-none_in : (all args : List (Arg Known)) → made_in args ≡ None → Each (λ a. IfThere (λ x. made_in all ≡ Some x) (new_in a)) args
+none_in : (all args : List (Arg Known)) → made_in args ≡ None
+    → Each (λ a. IfThere (λ x. made_in all ≡ Some x) (new_in a)) args
 none_in all [] h = tt
-none_in all (a ∷ args) h = let k = or_none (new_in a) (made_in args) h in (subst (IfThere (λ x. made_in all ≡ Some x)) (sym k.0) tt, none_in all args k.1)
+none_in all (a ∷ args) h = let k = or_none (new_in a) (made_in args) h
+    in (subst (IfThere (λ x. made_in all ≡ Some x)) (sym k.0) tt, none_in all args k.1)
 
-some_in : (new : Known) (all args : List (Arg Known)) → made_in all ≡ Some new → NewIs new args → Each (λ a. IfThere (λ x. made_in all ≡ Some x) (new_in a)) args
+some_in : (new : Known) (all args : List (Arg Known)) → made_in all ≡ Some new → NewIs new args
+    → Each (λ a. IfThere (λ x. made_in all ≡ Some x) (new_in a)) args
 some_in new all [] h n = tt
 some_in new all (a ∷ args) h n = (step (new_in a) n.0, some_in new all args h n.1)
   where
@@ -379,10 +414,14 @@ some_in new all (a ∷ args) h n = (step (new_in a) n.0, some_in new all args h 
     step None k = tt
     step (Some x) k = h ∙ ap Some (sym k)
 
-pub one_new : (new : Known) (args : List (Arg Known)) → NewIs new args → Each (λ a. IfThere (λ x. made_in args ≡ Some x) (new_in a)) args
+-- they make at most one
+pub one_new : (new : Known) (args : List (Arg Known)) → NewIs new args
+    → Each (λ a. IfThere (λ x. made_in args ≡ Some x) (new_in a)) args
 one_new new args h = elim (made_new new args h) [ inl p ↦ none_in args args p | inr p ↦ some_in new args args p h ]
 
-pub version_of : (view : View) (new : Known) (version : ℕ) (ks : List Kind) (given : List Given) → AllRight view ks given → Each (Matches new version) ks → (made_in (map (meant view new) given) ≡ None → ⊥)
+-- a new object has the version that its kind asks for
+pub version_of : (view : View) (new : Known) (version : ℕ) (ks : List Kind) (given : List Given)
+    → AllRight view ks given → Each (Matches new version) ks → (made_in (map (meant view new) given) ≡ None → ⊥)
     → new.born.version ≡ version
 version_of view new version [] [] r m h = absurd (h refl)
 version_of view new version [] (a ∷ given) r m h = absurd r
@@ -400,7 +439,9 @@ version_of view new version (_ ∷ ks) (_ ∷ given) r m h = absurd (cc r.0.suit
 
 -- ---- a call that makes no object
 
-pub no_made : (view : View) (new : Known) (ks : List Kind) (given : List Given) → AllRight view ks given → length (new_objects ks) ≤ 0 → made_in (map (meant view new) given) ≡ None
+-- kinds that make nothing make no object
+pub no_made : (view : View) (new : Known) (ks : List Kind) (given : List Given) → AllRight view ks given
+    → length (new_objects ks) ≤ 0 → made_in (map (meant view new) given) ≡ None
 no_made view new [] [] r h = refl
 no_made view new [] (a ∷ given) r h = absurd r
 no_made view new (k ∷ ks) [] r h = absurd r
@@ -418,21 +459,19 @@ no_made view new (_ ∷ ks) (_ ∷ given) r h = absurd (cc r.0.suit)
 none_rest : (a : Arg Known) (args : List (Arg Known)) → made_in (a ∷ args) ≡ None → made_in args ≡ None
 none_rest a args h = (or_none (new_in a) (made_in args) h).1
 
-handed_if : (view : View) (new : Known) (births : ℕ) (k : Kind) (a : Given) → new_in (meant view new a) ≡ None → Right view k a → rearg birth_of (rearg born_of (meant view new a)) ≡ handed births a
-handed_if view new births k (Int z) e r = refl
-handed_if view new births k (Uint z) e r = refl
-handed_if view new births k (Fixed z) e r = refl
-handed_if view new births k (Str z) e r = refl
+handed_if : (view : View) (new : Known) (births : ℕ) (k : Kind) (a : Given) → new_in (meant view new a) ≡ None
+    → Right view k a → rearg birth_of (rearg born_of (meant view new a)) ≡ handed births a
 handed_if view new births k (Obj None) e r = refl
 handed_if view new births k (Obj (Some x)) e r =
     let l = live_as x.birth (look view x.id) (and_parts _ _ r.named).0 in
     ap (λ (b : ℕ). Obj (Some b)) (ap (λ o. (born_at o).birth) l.there ∙ l.birth_is)
 handed_if view new births k (New x) e r = absurd (cc e)
 handed_if view new births k (NewNamed name own x) e r = absurd (cc e)
-handed_if view new births k (Array z) e r = refl
-handed_if view new births k (Fd z) e r = refl
+handed_if view new births k a e r = refl
 
-pub handed_none : (view : View) (new : Known) (births : ℕ) (ks : List Kind) (given : List Given) → made_in (map (meant view new) given) ≡ None → AllRight view ks given
+-- where nothing is made, no argument hands a new object
+pub handed_none : (view : View) (new : Known) (births : ℕ) (ks : List Kind) (given : List Given)
+    → made_in (map (meant view new) given) ≡ None → AllRight view ks given
     → map (rearg birth_of) (map (rearg born_of) (map (meant view new) given)) ≡ map (handed births) given
 handed_none view new births [] [] e r = refl
 handed_none view new births [] (a ∷ given) e r = absurd r

@@ -5,107 +5,102 @@ use Rattle.std.specs.Prelude.{nat_le}
 use Rattle.std.proofs.lemmas.Bool.Decides.{nat_tests}
 use Rattle.std.proofs.lemmas.List.{take-append-drop, length-take}
 use Rattle.wl_message.specs.declared.amounts.Fed.{Fed}
-use Rattle.wl_message.specs.Outgoing.{Message as Sent, Outgoing, goes, after_taking, waiting_bytes, waiting_tokens, newly_begun, all_tokens}
+use Rattle.wl_message.specs.Outgoing.{Message as Sent, Outgoing, goes, after_taking, waiting_bytes}
+use Rattle.wl_message.specs.Outgoing.{waiting_tokens, newly_begun, all_tokens}
 use Rattle.wl_message.specs.Arrived.{Arrived, with_more, free_bytes, free_tokens}
-use Rattle.wl_message.proofs.Goings.{begun_front, goes_goes}
+use Rattle.wl_message.proofs.WhatGoes.{begun_front, goes_goes}
 use Rattle.wl_connection.specs.Core.{Core, in_room, no_room, feeds}
 use Rattle.theory_connection.specs.Meant.{Known, Message, Coming, spelled, spelled_coming}
 use Rattle.theory_connection.specs.World.{World}
-use Rattle.theory_connection.specs.Pair.{PairState, CarryToServer, CarryToClient, Carried, Carries, moved, no_memory, carries, carried_bytes, carried_tokens, all_of, after_carry_to_server, after_carry_to_client}
+use Rattle.theory_connection.specs.Pair.{PairState, CarryToServer, CarryToClient, Carried, Carries}
+use Rattle.theory_connection.specs.Pair.{moved, no_memory, carries, carried_bytes, carried_tokens}
+use Rattle.theory_connection.specs.Pair.{all_of, after_carry_to_server, after_carry_to_client}
 use Rattle.theory_connection.specs.Answers.{NotEnded, before}
 use Rattle.theory_connection.specs.Stands.{StandsBy, InFlight}
 use Rattle.theory_connection.proofs.Channels.{carried, goes_there, goes_tokens, all_tokens_more}
 use Rattle.theory_connection.proofs.Moves.{Moves, goes_on, stays, carrying_to_server, carrying_to_client}
 
 flies : (o : Outgoing) (i : Arrived) (ms : List Sent) (b t : ℕ) → InFlight o i ms
-    → InFlight (after_taking o (goes o b t).bytes) (with_more i (take (goes o b t).bytes (waiting_bytes o)) (take (goes o b t).tokens (waiting_tokens o))) ms
+    → InFlight (after_taking o (goes o b t).bytes)
+    (with_more i (take (goes o b t).bytes (waiting_bytes o)) (take (goes o b t).tokens (waiting_tokens o))) ms
 flies o i ms b t f =
-    subst (λ (n : ℕ). InFlight (after_taking o (goes o b t).bytes) (with_more i (take (goes o b t).bytes (waiting_bytes o)) (take n (waiting_tokens o))) ms) (sym (goes_tokens o b t))
+    subst (λ (n : ℕ). InFlight (after_taking o (goes o b t).bytes)
+    (with_more i (take (goes o b t).bytes (waiting_bytes o)) (take n (waiting_tokens o))) ms)
+    (sym (goes_tokens o b t))
     (carried o i ms (goes o b t).bytes f (goes_there o b t))
 
-pub to_server_stands : (p : PairState) (w : World) (asked : List (Message Known)) (told : List (Coming Known)) (most : ℕ) → StandsBy p w asked told
+-- a pair stands again after a carry to the server
+pub to_server_stands : (p : PairState) (w : World) (asked : List (Message Known)) (told : List (Coming Known))
+    (most : ℕ) → StandsBy p w asked told
     → StandsBy (after_carry_to_server p (carries p.client.core p.server.core most)) w asked told
 to_server_stands p w asked told most s = record {
-  same_tables = s.same_tables;
-  valid = s.valid;
-  deletes_follow = s.deletes_follow;
-  client_sets = s.client_sets;
-  server_sets = s.server_sets;
-  births = s.births;
-  client_sound = s.client_sound;
-  versions = s.versions;
-  server_sound = s.server_sound;
-  client_display = s.client_display;
-  server_display = s.server_display;
-  server_versions = s.server_versions;
-  server_live = s.server_live;
-  requests = s.requests;
+  terms = s.terms;
+  client = s.client;
+  server = s.server;
+  requests = record {
+    in_world = s.requests.in_world;
+    in_boxes = flies p.client.core.outbox p.server.core.inbox (map spelled asked)
+        (min most (in_room p.server.core).bytes) (in_room p.server.core).tokens s.requests.in_boxes;
+    fit =
+        s.requests.fit;
+  };
   events = s.events;
-  to_server = flies p.client.core.outbox p.server.core.inbox (map spelled asked) (min most (in_room p.server.core).bytes) (in_room p.server.core).tokens s.to_server;
-  to_client = record { begun = s.to_client.begun; all = s.to_client.all; bytes = s.to_client.bytes; tokens = s.to_client.tokens; whole = s.to_client.whole };
-  asked_fit = s.asked_fit;
-  told_fit = s.told_fit;
+  deletes_follow = s.deletes_follow;
   meet = s.meet;
-  client_lives = s.client_lives;
-  server_lives = s.server_lives;
-  remembered = s.remembered;
-  given = s.given;
-  registries = s.registries;
-  remembers = s.remembers;
   globals = s.globals;
-  up_limit = s.up_limit;
-  down_limit = s.down_limit;
-  one_limit = s.one_limit;
-  few_globals = s.few_globals;
-  open_registries = s.open_registries;
+  registries = s.registries;
 }
 
-pub to_client_stands : (p : PairState) (w : World) (asked : List (Message Known)) (told : List (Coming Known)) (most : ℕ) → StandsBy p w asked told
+-- a pair stands again after a carry to the client
+pub to_client_stands : (p : PairState) (w : World) (asked : List (Message Known)) (told : List (Coming Known))
+    (most : ℕ) → StandsBy p w asked told
     → StandsBy (after_carry_to_client p (carries p.server.core p.client.core most)) w asked told
 to_client_stands p w asked told most s = record {
-  same_tables = s.same_tables;
-  valid = s.valid;
-  deletes_follow = s.deletes_follow;
-  client_sets = s.client_sets;
-  server_sets = s.server_sets;
-  births = s.births;
-  client_sound = s.client_sound;
-  versions = s.versions;
-  server_sound = s.server_sound;
-  client_display = s.client_display;
-  server_display = s.server_display;
-  server_versions = s.server_versions;
-  server_live = s.server_live;
+  terms = s.terms;
+  client = s.client;
+  server = s.server;
   requests = s.requests;
-  events = s.events;
-  to_server = record { begun = s.to_server.begun; all = s.to_server.all; bytes = s.to_server.bytes; tokens = s.to_server.tokens; whole = s.to_server.whole };
-  to_client = flies p.server.core.outbox p.client.core.inbox (map spelled_coming told) (min most (in_room p.client.core).bytes) (in_room p.client.core).tokens s.to_client;
-  asked_fit = s.asked_fit;
-  told_fit = s.told_fit;
+  events = record {
+    in_world = s.events.in_world;
+    in_boxes = flies p.server.core.outbox p.client.core.inbox (map spelled_coming told)
+        (min most (in_room p.client.core).bytes) (in_room p.client.core).tokens s.events.in_boxes;
+    fit = s.events.fit;
+  };
+  deletes_follow = s.deletes_follow;
   meet = s.meet;
-  client_lives = s.client_lives;
-  server_lives = s.server_lives;
-  remembered = s.remembered;
-  given = s.given;
-  registries = s.registries;
-  remembers = s.remembers;
   globals = s.globals;
-  up_limit = s.up_limit;
-  down_limit = s.down_limit;
-  one_limit = s.one_limit;
-  few_globals = s.few_globals;
-  open_registries = s.open_registries;
+  registries = s.registries;
 }
 
-pub carry_to_server_keeps : (p : PairState) (w : World) (asked : List (Message Known)) (told : List (Coming Known)) → StandsBy p w asked told → NotEnded p w → (most : ℕ) (reply : Carried) (p' : PairState)
-    → Carries (carries p.client.core p.server.core most) p (after_carry_to_server p (carries p.client.core p.server.core most)) reply p' → Moves p w asked told (CarryToServer most) (CarryToServer reply) p'
-carry_to_server_keeps p w asked told s z most reply p' moved = record { world = w; answers = before z moved refl; outcome = goes_on asked told z (to_server_stands p w asked told most s) (carrying_to_server most) }
-carry_to_server_keeps p w asked told s z most reply p' (no_memory h) = record { world = w; answers = before z (no_memory h) refl; outcome = goes_on asked told z s stays }
+-- a carry to the server keeps what stands
+pub carry_to_server_keeps : (p : PairState) (w : World) (asked : List (Message Known)) (told : List (Coming Known))
+    → StandsBy p w asked told → NotEnded p w → (most : ℕ) (reply : Carried) (p' : PairState)
+    → Carries (carries p.client.core p.server.core most) p
+    (after_carry_to_server p (carries p.client.core p.server.core most)) reply p'
+    → Moves p w asked told (CarryToServer most) (CarryToServer reply) p'
+carry_to_server_keeps p w asked told s z most reply p' moved =
+    record {
+      world = w;
+      answers = before z moved refl;
+      outcome = goes_on asked told z (to_server_stands p w asked told most s) (carrying_to_server most);
+    }
+carry_to_server_keeps p w asked told s z most reply p' (no_memory h) =
+    record { world = w; answers = before z (no_memory h) refl; outcome = goes_on asked told z s stays }
 
-pub carry_to_client_keeps : (p : PairState) (w : World) (asked : List (Message Known)) (told : List (Coming Known)) → StandsBy p w asked told → NotEnded p w → (most : ℕ) (reply : Carried) (p' : PairState)
-    → Carries (carries p.server.core p.client.core most) p (after_carry_to_client p (carries p.server.core p.client.core most)) reply p' → Moves p w asked told (CarryToClient most) (CarryToClient reply) p'
-carry_to_client_keeps p w asked told s z most reply p' moved = record { world = w; answers = before z moved refl; outcome = goes_on asked told z (to_client_stands p w asked told most s) (carrying_to_client most) }
-carry_to_client_keeps p w asked told s z most reply p' (no_memory h) = record { world = w; answers = before z (no_memory h) refl; outcome = goes_on asked told z s stays }
+-- a carry to the client keeps what stands
+pub carry_to_client_keeps : (p : PairState) (w : World) (asked : List (Message Known)) (told : List (Coming Known))
+    → StandsBy p w asked told → NotEnded p w → (most : ℕ) (reply : Carried) (p' : PairState)
+    → Carries (carries p.server.core p.client.core most) p
+    (after_carry_to_client p (carries p.server.core p.client.core most)) reply p'
+    → Moves p w asked told (CarryToClient most) (CarryToClient reply) p'
+carry_to_client_keeps p w asked told s z most reply p' moved =
+    record {
+      world = w;
+      answers = before z moved refl;
+      outcome = goes_on asked told z (to_client_stands p w asked told most s) (carrying_to_client most);
+    }
+carry_to_client_keeps p w asked told s z most reply p' (no_memory h) =
+    record { world = w; answers = before z (no_memory h) refl; outcome = goes_on asked told z s stays }
 
 -- ---- all that goes is taken in
 
@@ -115,13 +110,24 @@ pub record Fitting (from to : Core) (most : ℕ) : Type 0 where
   pub bytes_there : length (carried_bytes from (carries from to most)) ≡ (carries from to most).bytes
   pub tokens_there : length (carried_tokens from (carries from to most)) ≡ (carries from to most).tokens
 
+-- no more tokens begin than wait
 pub begun_few : (o : Outgoing) (n : ℕ) → length (all_tokens (newly_begun o n)) ≤ length (waiting_tokens o)
 begun_few o n =
     let m = begun_front (n - length o.left) o.messages in
-    let e : o.messages ≡ newly_begun o n ++ drop (length (newly_begun o n)) o.messages = sym (take-append-drop (length (newly_begun o n)) o.messages) ∙ ap (λ (x : List Sent). x ++ drop (length (newly_begun o n)) o.messages) (sym m) in
-    let k : all_tokens o.messages ≡ all_tokens (newly_begun o n) ++ all_tokens (drop (length (newly_begun o n)) o.messages) = ap all_tokens e ∙ all_tokens_more (newly_begun o n) (drop (length (newly_begun o n)) o.messages) in
-    let l = ap length k in omega (arith, l, length-append (all_tokens (newly_begun o n)) (all_tokens (drop (length (newly_begun o n)) o.messages)))
+    let e : o.messages ≡ newly_begun o n ++ drop (length (newly_begun o n)) o.messages =
+    sym (take-append-drop (length (newly_begun o n)) o.messages)
+    ∙ ap (λ (x : List Sent). x ++ drop (length (newly_begun o n)) o.messages) (sym m) in
+    let k : all_tokens o.messages ≡ all_tokens (newly_begun o n)
+    ++ all_tokens (drop (length (newly_begun o n)) o.messages) =
+    ap all_tokens e ∙ all_tokens_more (newly_begun o n) (drop (length (newly_begun o n)) o.messages) in
+    let l = ap length k in omega (
+      arith,
+      l,
+      length-append (all_tokens (newly_begun o n))
+          (all_tokens (drop (length (newly_begun o n)) o.messages)),
+    )
 
+-- what is carried is there, and within the room
 pub carry_fits : (from to : Core) (most : ℕ) → Fitting from to most
 carry_fits from to most =
     let g = goes_goes from.outbox (min most (in_room to).bytes) (in_room to).tokens in
@@ -134,7 +140,8 @@ carry_fits from to most =
       tokens_there = let e = g.with_tokens in omega (arith, e, few, length-take t.tokens (waiting_tokens from.outbox));
     }
 
-taken_whole : (to : Core) (b : Bool) (bytes tokens : List ℕ) (nb nt : ℕ) → to.failed ≡ b → length bytes ≡ nb → length tokens ≡ nt → nb ≤ (in_room to).bytes → nt ≤ (in_room to).tokens
+taken_whole : (to : Core) (b : Bool) (bytes tokens : List ℕ) (nb nt : ℕ) → to.failed ≡ b → length bytes ≡ nb
+    → length tokens ≡ nt → nb ≤ (in_room to).bytes → nt ≤ (in_room to).tokens
     → feeds to bytes tokens ≡ record { bytes = nb; tokens = nt }
 taken_whole to true bytes tokens nb nt e p q h k =
     let room : in_room to ≡ no_room = rw e refl in
@@ -150,8 +157,11 @@ taken_whole to false bytes tokens nb nt e p q h k =
     let some : min (length tokens) (free_tokens to.inbox) ≡ nt = omega (arith, q, y) in
     rw (e, all, few, some) refl
 
-pub carry_whole : (from to : Core) (most : ℕ) → feeds to (carried_bytes from (carries from to most)) (carried_tokens from (carries from to most)) ≡ all_of (carries from to most)
+-- what is carried is all taken in
+pub carry_whole : (from to : Core) (most : ℕ) → feeds to (carried_bytes from (carries from to most))
+    (carried_tokens from (carries from to most)) ≡ all_of (carries from to most)
 carry_whole from to most =
     let f = carry_fits from to most in
-    taken_whole to to.failed (carried_bytes from (carries from to most)) (carried_tokens from (carries from to most)) (carries from to most).bytes (carries from to most).tokens refl f.bytes_there f.tokens_there
+    taken_whole to to.failed (carried_bytes from (carries from to most)) (carried_tokens from (carries from to most))
+    (carries from to most).bytes (carries from to most).tokens refl f.bytes_there f.tokens_there
     (let b = f.bytes in omega (arith, b)) f.tokens

@@ -1,70 +1,68 @@
 -- What the client learns of globals.
-use Rattle.std.proofs.Common.{◌≡◌, ℕ, Bool, true, false, cond, List, [], ◌∷◌, ◌++◌, map, length, refl, sym, ap, ◌∙◌}
+use Rattle.std.proofs.Common.{◌≡◌, ℕ, Bool, true, false, cond, List, [], ◌∷◌, ◌++◌, map, length}
+use Rattle.std.proofs.Common.{refl, sym, ap, subst, ◌∙◌}
 use Rattle.std.specs.Prelude.{option_map, nat_eq, nat_lt, not, if◌then◌else◌, filter, unwrap_or, slice_get, is_some}
 use Rattle.std.specs.declared.option.Option.{Option}
 use Rattle.std.specs.declared.option.Option.TheVariants.{None, Some}
 use Rattle.std.proofs.lemmas.Option.{slice_get-map}
 use Rattle.std.proofs.lemmas.Bool.{eqb-true}
-use Rattle.wl_wire.specs.Argument.{Argument, Int, Uint, Fixed, Str, Obj, New, NewNamed, Array, Fd}
+use Rattle.wl_wire.specs.Argument.{Argument, Uint, Obj}
 use Rattle.wl_sigs.specs.Tables.{Interface, place_of}
 use Rattle.wl_client.specs.declared.globals.Global.{Global}
 use Rattle.wl_client.specs.State.{is_named, global_of, max_globals}
-use Rattle.wl_client.specs.Reports.{argument, number_in, text_in, forgotten, replaced, remembered, remembered_as, globals_told}
+use Rattle.wl_client.specs.Reports.{argument, number_in, text_in, forgotten, replaced, remembered}
+use Rattle.wl_client.specs.Reports.{remembered_as, globals_told}
 use Rattle.wl_server.specs.State as server
-use Rattle.theory_connection.specs.Meant.{Known, Arg, rearg, born_of, wire}
-use Rattle.theory_connection.specs.World.{Each, nameless}
-use Rattle.theory_connection.specs.Stands.{WasGiven, TellsGiven}
+use Rattle.theory_connection.specs.Meant.{Known, Message, Arg, rearg, born_of, wire}
+use Rattle.theory_connection.specs.World.{Each, nameless, is_registry}
+use Rattle.theory_connection.specs.Stands.{TellsGiven, TellsFitly}
 
 -- ---- numbers and texts do not hang on how objects are named
 
 number_one : (a : Arg Known) → number_in (wire a) ≡ number_in (nameless (rearg born_of a))
-number_one (Int z) = refl
-number_one (Uint z) = refl
-number_one (Fixed z) = refl
-number_one (Str z) = refl
 number_one (Obj None) = refl
-number_one (Obj (Some x)) = refl
-number_one (New x) = refl
-number_one (NewNamed name own x) = refl
-number_one (Array z) = refl
-number_one (Fd z) = refl
+number_one a = refl
 
 text_one : (a : Arg Known) → text_in (wire a) ≡ text_in (nameless (rearg born_of a))
-text_one (Int z) = refl
-text_one (Uint z) = refl
-text_one (Fixed z) = refl
-text_one (Str z) = refl
 text_one (Obj None) = refl
-text_one (Obj (Some x)) = refl
-text_one (New x) = refl
-text_one (NewNamed name own x) = refl
-text_one (Array z) = refl
-text_one (Fd z) = refl
+text_one a = refl
 
 module _ {Y : Type 0} (f : Argument → Y) (same : (a : Arg Known) → f (wire a) ≡ f (nameless (rearg born_of a))) where
-  at_place : (o : Option (Arg Known)) → f (unwrap_or (option_map wire o) (Uint 0)) ≡ f (unwrap_or (option_map nameless (option_map (rearg born_of) o)) (Uint 0))
+  at_place : (o : Option (Arg Known)) → f (unwrap_or (option_map wire o) (Uint 0))
+      ≡ f (unwrap_or (option_map nameless (option_map (rearg born_of) o)) (Uint 0))
   at_place None = refl
   at_place (Some a) = same a
 
-  pub same_at : (args : List (Arg Known)) (k : ℕ) → f (argument (map wire args) k) ≡ f (argument (map nameless (map (rearg born_of) args)) k)
+  pub same_at : (args : List (Arg Known)) (k : ℕ)
+      → f (argument (map wire args) k) ≡ f (argument (map nameless (map (rearg born_of) args)) k)
   same_at args k =
       ap (λ o. f (unwrap_or o (Uint 0))) (slice_get-map wire args k) ∙ at_place (slice_get args k)
-      ∙ sym (ap (λ o. f (unwrap_or o (Uint 0))) (slice_get-map nameless (map (rearg born_of) args) k ∙ ap (option_map nameless) (slice_get-map (rearg born_of) args k)))
+      ∙ sym (ap (λ o. f (unwrap_or o (Uint 0))) (slice_get-map nameless (map (rearg born_of) args) k
+      ∙ ap (option_map nameless) (slice_get-map (rearg born_of) args k)))
 
+-- what is learned does not hang on how objects are named
 pub told_same : (tables : List Interface) (globals : List Global) (opcode : ℕ) (args : List (Arg Known))
-    → globals_told tables globals opcode (map wire args) ≡ globals_told tables globals opcode (map nameless (map (rearg born_of) args))
+    → globals_told tables globals opcode (map wire args)
+    ≡ globals_told tables globals opcode (map nameless (map (rearg born_of) args))
 told_same tables globals opcode args =
-    λ i. if nat_eq opcode 0 then remembered_as (same_at number_in number_one args 0 i) (same_at number_in number_one args 2 i) (place_of tables (same_at text_in text_one args 1 i)) globals
+    λ i. if nat_eq opcode 0 then remembered_as (same_at number_in number_one args 0 i)
+    (same_at number_in number_one args 2 i) (place_of tables (same_at text_in text_one args 1 i)) globals
     else if nat_eq opcode 1 then forgotten (same_at number_in number_one args 0 i) globals
     else globals
 
 -- ---- what was given is learned
+
+-- what an event tells of a global, as the client remembers it
+abbrev pub told_of : {tables : List Interface} {given : List server.Global} {args : List (Arg Known)}
+    → TellsGiven tables given args → Global
+told_of t = record { name = t.name; iface = t.iface; version = t.version }
 
 module _ (P : Global → Type 0) where
   keep_if : (b : Bool) (g : Global) (gs : List Global) → P g → Each P gs → Each P (cond b (g ∷ gs) gs)
   keep_if true g gs p h = (p, h)
   keep_if false g gs p h = h
 
+  -- what is so of each is so of those that pass a test
   pub each_filter : (test : Global → Bool) (gs : List Global) → Each P gs → Each P (filter test gs)
   each_filter test [] h = tt
   each_filter test (g ∷ gs) h = keep_if (test g) g (filter test gs) h.0 (each_filter test gs h.1)
@@ -85,23 +83,35 @@ module _ (P : Global → Type 0) where
   lists_of true xs ys p q = p
   lists_of false xs ys p q = q
 
+  -- what is so of each and of one more is so of all that are then remembered
   pub each_remembered : (g : Global) (gs : List Global) → P g → Each P gs → Each P (remembered g gs)
   each_remembered g gs p h =
-      lists_of (is_some (global_of gs g.name)) (replaced g gs) (cond (nat_lt (length gs) max_globals) (gs ++ g ∷ []) gs) (each_replaced g gs p h)
+      lists_of (is_some (global_of gs g.name)) (replaced g gs) (cond (nat_lt (length gs) max_globals) (gs ++ g ∷ []) gs)
+      (each_replaced g gs p h)
       (lists_of (nat_lt (length gs) max_globals) (gs ++ g ∷ []) gs (each_end gs g h p) h)
 
-abbrev pub Gave : List server.Global → Global → Type 0
-Gave given g = WasGiven given g.name g.iface g.version
+  told_keeps : (tables : List Interface) (given : List server.Global) (globals : List Global) (opcode : ℕ)
+      (args : List (Arg Known)) → (opcode ≡ 0 → (t : TellsGiven tables given args) × P (told_of t)) → Each P globals
+      → (b c : Bool) → nat_eq opcode 0 ≡ b → Each P
+      (cond b (remembered_as (number_in (argument (map wire args) 0)) (number_in (argument (map wire args) 2))
+      (place_of tables (text_in (argument (map wire args) 1))) globals)
+      (cond c (forgotten (number_in (argument (map wire args) 0)) globals) globals))
+  told_keeps tables given globals opcode args t h true c e = let n = t (eqb-true opcode 0 e)
+      in rw (n.0.args_are, n.0.known) (each_remembered (told_of n.0) globals n.1 h)
+  told_keeps tables given globals opcode args t h false true e =
+      each_filter (λ g. not (is_named (number_in (argument (map wire args) 0)) g)) globals h
+  told_keeps tables given globals opcode args t h false false e = h
 
-pub told_given : (tables : List Interface) (given : List server.Global) (globals : List Global) (args : List (Arg Known)) → TellsGiven tables given args → Each (Gave given) globals
-    → Each (Gave given) (remembered_as (number_in (argument (map wire args) 0)) (number_in (argument (map wire args) 2)) (place_of tables (text_in (argument (map wire args) 1))) globals)
-told_given tables given globals args t h =
-    rw (t.args_are, t.known) (each_remembered (Gave given) (record { name = t.name; iface = t.iface; version = t.version }) globals t.was_given h)
-
-pub told_keeps : (tables : List Interface) (given : List server.Global) (globals : List Global) (opcode : ℕ) (args : List (Arg Known)) → (opcode ≡ 0 → TellsGiven tables given args) → Each (Gave given) globals
-    → (b c : Bool) → nat_eq opcode 0 ≡ b → Each (Gave given)
-    (cond b (remembered_as (number_in (argument (map wire args) 0)) (number_in (argument (map wire args) 2)) (place_of tables (text_in (argument (map wire args) 1))) globals)
-    (cond c (forgotten (number_in (argument (map wire args) 0)) globals) globals))
-told_keeps tables given globals opcode args t h true c e = told_given tables given globals args (t (eqb-true opcode 0 e)) h
-told_keeps tables given globals opcode args t h false true e = each_filter (Gave given) (λ g. not (is_named (number_in (argument (map wire args) 0)) g)) globals h
-told_keeps tables given globals opcode args t h false false e = h
+  -- what is so of each global that is remembered, and of one that an event of a registry tells, is
+  -- so of each that is remembered behind it
+  pub learns : (tables client_tables : List Interface) (given : List server.Global) (globals : List Global)
+      (m : Message Known) → client_tables ≡ tables → TellsFitly tables given m
+      → (is_registry m.target.born ≡ true → m.opcode ≡ 0 → (t : TellsGiven tables given m.args) → P (told_of t))
+      → Each P globals
+      → (b : Bool) → (b ≡ true → is_registry m.target.born ≡ true)
+      → Each P (cond b (globals_told client_tables globals m.opcode (map wire m.args)) globals)
+  learns tables client_tables given globals m same f new h false r = h
+  learns tables client_tables given globals m same f new h true r =
+      subst (λ (t : List Interface). Each P (globals_told t globals m.opcode (map wire m.args))) (sym same)
+      (told_keeps tables given globals m.opcode m.args (λ e. (let t = f.tells (r refl) e in (t, new (r refl) e t))) h
+      (nat_eq m.opcode 0) (nat_eq m.opcode 1) refl)

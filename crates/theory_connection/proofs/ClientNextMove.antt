@@ -17,7 +17,8 @@ use Rattle.wl_objects.specs.Reading.{descriptors}
 use Rattle.wl_connection.specs.Receiving.{Found, found, found_at, reported}
 use Rattle.wl_client.specs.Reports.{Report, report, needs_memory, plain_report, next_answer, after_next, state_past}
 use Rattle.wl_client.specs.Reports as reports
-use Rattle.theory_connection.specs.Meant.{Known, Born, Message, Coming, Event, Delete, renamed, recoming, rearg, born_of, birth_of, tokens, live_entry}
+use Rattle.theory_connection.specs.Meant.{Known, Born, Message, Coming, Event, Delete, renamed}
+use Rattle.theory_connection.specs.Meant.{recoming, rearg, born_of, birth_of, tokens, live_entry}
 use Rattle.theory_connection.specs.World.{World, event_read, delete_read, reads_event, reads_delete}
 use Rattle.theory_connection.specs.World as world
 use Rattle.theory_connection.specs.Pair.{PairState, ClientNext, with_client, Nexts, answered, no_memory}
@@ -29,7 +30,10 @@ use Rattle.theory_connection.proofs.RowsAfterMessage.{tokens_map}
 use Rattle.theory_connection.proofs.ReadAsMeant.{reports_right, tokens_taken}
 use Rattle.theory_connection.proofs.FoundInFront.{the_found, the_message}
 use Rattle.theory_connection.proofs.Moves.{Moves, goes_on, stays, reading_event, reading_delete}
-use Rattle.theory_connection.proofs.EventRead.{InEvent, in_event, after_event, teaches, event_answer, event_stands, event_mortal, InDelete, in_delete, after_delete, delete_answer, delete_stands, deleting}
+use Rattle.theory_connection.proofs.EventRead.{InEvent, in_event, after_event, teaches}
+use Rattle.theory_connection.proofs.EventRead.{event_answer, event_stands, event_mortal, InDelete}
+use Rattle.theory_connection.proofs.EventRead.{in_delete, after_delete, delete_answer}
+use Rattle.theory_connection.proofs.EventRead.{delete_stands, deleting}
 
 -- ---- what is answered and left where a message is found
 
@@ -37,17 +41,20 @@ record Answered (p : PairState) (f : Found) : Type 0 where
   answer : next_answer p.client ≡ Ok (Some (report p.client.core f))
   leaves : after_next p.client ≡ state_past p.client f
 
-answer_is : (p : PairState) (f : Found) → p.client.core.failed ≡ false → found p.client.core event_side ≡ Ok (Some f) → Answered p f
+answer_is : (p : PairState) (f : Found) → p.client.core.failed ≡ false → found p.client.core event_side ≡ Ok (Some f)
+    → Answered p f
 answer_is p f l r = record { answer = rw (l, r) refl; leaves = rw (l, r) refl }
 
-idle : (p : PairState) → p.client.core.failed ≡ false → in_front p.client.core.inbox ≡ More → (next_answer p.client ≡ Ok None) × (after_next p.client ≡ p.client)
+idle : (p : PairState) → p.client.core.failed ≡ false → in_front p.client.core.inbox ≡ More
+    → (next_answer p.client ≡ Ok None) × (after_next p.client ≡ p.client)
 idle p l e =
     let r : found p.client.core event_side ≡ Ok None = ap (found_at p.client.core event_side) e in
     (rw (l, r) refl, rw (l, r) refl)
 
 -- ---- a report that needs memory
 
-is_some_event : (w : World) (m : Message Born) (r : Report) → ReportsComing w (Event m) r → needs_memory r ≡ true → NeedsMemory w (Event m)
+is_some_event : (w : World) (m : Message Born) (r : Report) → ReportsComing w (Event m) r → needs_memory r ≡ true
+    → NeedsMemory w (Event m)
 is_some_event w m (reports.Event target opcode []) t h = absurd (cc h)
 is_some_event w m (reports.Event target opcode (a ∷ args)) t h = (t.0, λ e. cc (t.3, e))
 is_some_event w m (reports.Discarded target opcode own) t h = absurd (cc h)
@@ -57,118 +64,170 @@ is_some_event w m (reports.Error id named code text) t h = absurd t
 
 -- ---- an event
 
-reports_as : (p : PairState) (w : World) (m : Message Known) (more : List ℕ) (entry : Entry) (signature : sigs.Message) (s : State) → w.client m.target.born.birth ≡ Some (as_row s m.target.born) → entry.birth ≡ m.target.born.birth
+reports_as : (p : PairState) (w : World) (m : Message Known) (more : List ℕ) (entry : Entry) (signature : sigs.Message)
+    (s : State) → w.client m.target.born.birth ≡ Some (as_row s m.target.born) → entry.birth ≡ m.target.born.birth
     → p.client.core.inbox.tokens ≡ tokens m.args ++ more → descriptors signature.kinds ≡ length (tokens m.args)
     → ReportsArgs w.client (map (rearg born_of) m.args) (reported p.client.core (the_message m entry signature))
-    → ReportsComing w (Event (renamed born_of m)) (plain_report p.client.core m.opcode (the_message m entry signature) s)
+    → ReportsComing w (Event (renamed born_of m))
+    (plain_report p.client.core m.opcode (the_message m entry signature) s)
 reports_as p w m more entry signature states.Live h b t c a = (h, b, refl, a)
 reports_as p w m more entry signature states.Zombie h b t c a = (
   h,
   b,
   refl,
-  (λ i. take (c i) (t i)) ∙ take_at (tokens m.args) more (length (tokens m.args)) refl ∙ sym (tokens_map born_of m.args),
+  (λ i. take (c i) (t i)) ∙ take_at (tokens m.args) more (length (tokens m.args)) refl
+      ∙ sym (tokens_map born_of m.args),
 )
 
-reports_it : (p : PairState) (w : World) (m : Message Known) (cs : List (Coming Known)) (asked : List (Message Known)) (s : StandsBy p w asked (Event m ∷ cs)) (n : ℕ) (i : InEvent p w m cs asked s n)
-    → ReportsComing w (Event (renamed born_of m)) (report p.client.core (the_found n m i.target.entry s.told_fit.0.fits.signature))
+reports_it : (p : PairState) (w : World) (m : Message Known) (cs : List (Coming Known)) (asked : List (Message Known))
+    (s : StandsBy p w asked (Event m ∷ cs)) (n : ℕ) (i : InEvent p w m cs asked s n)
+    → ReportsComing w (Event (renamed born_of m))
+    (report p.client.core (the_found n m i.target.entry s.events.fit.0.fits.signature))
 reports_it p w m cs asked s n i =
-    let f = s.told_fit.0.fits in
-    let a = event_answer p m n i.target.entry p.server.core.tables f s.valid s.told_fit.0.no_delete_id i.target.same in
-    let count : descriptors f.signature.kinds ≡ length (tokens m.args) = tokens_taken p.server.core.tables m.target.born.version f.signature.kinds m.args f.args in
+    let f = s.events.fit.0.fits in
+    let a = event_answer p m n i.target.entry p.server.core.tables f s.terms.valid s.events.fit.0.no_delete_id
+    i.target.same in
+    let count : descriptors f.signature.kinds ≡ length (tokens m.args) =
+    tokens_taken p.server.core.tables m.target.born.version f.signature.kinds m.args f.args in
     let shown = i.target.shown ∙ ap (λ (b : Born). Some (as_row i.target.entry.state b)) i.target.same in
     subst (ReportsComing w (Event (renamed born_of m))) (sym a.tells_it)
-    (reports_as p w m i.more i.target.entry f.signature i.target.entry.state shown (ap birth_of i.target.same) i.tokens_are count
+    (reports_as p w m i.more i.target.entry f.signature i.target.entry.state shown
+    (ap birth_of i.target.same) i.tokens_are count
     (rw i.tokens_are (reports_right p.client.core.view w.client m.args i.more i.met)))
 
-keeps_event : (p : PairState) (w : World) (m : Message Known) (cs : List (Coming Known)) (asked : List (Message Known)) (s : StandsBy p w asked (Event m ∷ cs)) (n : ℕ) → NotEnded p w
-    → in_front p.client.core.inbox ≡ Whole n → (i : InEvent p w m cs asked s n) → (reply : Result (Option Report) NextError) (p' : PairState)
+keeps_event : (p : PairState) (w : World) (m : Message Known) (cs : List (Coming Known)) (asked : List (Message Known))
+    (s : StandsBy p w asked (Event m ∷ cs)) (n : ℕ) → NotEnded p w
+    → in_front p.client.core.inbox ≡ Whole n → (i : InEvent p w m cs asked s n)
+    → (reply : Result (Option Report) NextError) (p' : PairState)
     → (Nexts needs_memory (next_answer p.client) p (with_client p (after_next p.client)) reply p')
-    → Nexts needs_memory (Ok (Some (report p.client.core (the_found n m i.target.entry s.told_fit.0.fits.signature)))) p
+    → Nexts needs_memory (Ok (Some (report p.client.core (the_found n m i.target.entry s.events.fit.0.fits.signature))))
+    p
     (with_client p (after_event p.client m n (teaches m i.target.entry))) reply p'
     → Moves p w asked (Event m ∷ cs) ClientNext (ClientNext reply) p'
 keeps_event p w m cs asked s n z e i reply p' d answered = record {
   world = event_read p.client.core.tables w (renamed born_of m) (map (recoming born_of) cs);
-  answers = before z d (record { waits = subst HasMessage (sym e) tt; coming = Event (renamed born_of m); steps = reads_event (renamed born_of m) (map (recoming born_of) cs) s.events; reports = reports_it p w m cs asked s n i });
+  answers = before z d (record {
+    waits = subst HasMessage (sym e) tt;
+    coming = Event (renamed born_of m);
+    steps = reads_event (renamed born_of m) (map (recoming born_of) cs) s.events.in_world;
+    reports =
+        reports_it p w m cs asked s n i;
+  });
   outcome = goes_on asked cs z (event_stands p w m cs asked s n i (event_mortal p w m cs asked s n i))
       (reading_event m cs n i.target.entry refl e);
 }
 keeps_event p w m cs asked s n z e i reply p' d (no_memory {report = r} q h) =
-    let same : report p.client.core (the_found n m i.target.entry s.told_fit.0.fits.signature) ≡ r = cc q in
+    let same : report p.client.core (the_found n m i.target.entry s.events.fit.0.fits.signature) ≡ r = cc q in
     let needs = is_some_event w (renamed born_of m) _ (reports_it p w m cs asked s n i) (ap needs_memory same ∙ h) in
     record {
       world = w;
-      answers = before z d (record { waits = subst HasMessage (sym e) tt; coming = Event (renamed born_of m); rest = map (recoming born_of) cs; first = s.events; because = needs; same = refl });
+      answers = before z d (record {
+        waits = subst HasMessage (sym e) tt;
+        coming = Event (renamed born_of m);
+        rest = map (recoming born_of) cs;
+        first = s.events.in_world;
+        because = needs;
+        same = refl;
+      });
       outcome = goes_on asked (Event m ∷ cs) z s stays;
     }
 
-at_event : (p : PairState) (w : World) (m : Message Known) (cs : List (Coming Known)) (asked : List (Message Known)) (s : StandsBy p w asked (Event m ∷ cs)) (n : ℕ) → NotEnded p w
+at_event : (p : PairState) (w : World) (m : Message Known) (cs : List (Coming Known)) (asked : List (Message Known))
+    (s : StandsBy p w asked (Event m ∷ cs)) (n : ℕ) → NotEnded p w
     → in_front p.client.core.inbox ≡ Whole n → (reply : Result (Option Report) NextError) (p' : PairState)
-    → (Nexts needs_memory (next_answer p.client) p (with_client p (after_next p.client)) reply p') → Moves p w asked (Event m ∷ cs) ClientNext (ClientNext reply) p'
+    → (Nexts needs_memory (next_answer p.client) p (with_client p (after_next p.client)) reply p')
+    → Moves p w asked (Event m ∷ cs) ClientNext (ClientNext reply) p'
 at_event p w m cs asked s n z e reply p' d =
     let i = in_event p w m cs asked s n e in
-    let sig = s.told_fit.0.fits.signature in
+    let sig = s.events.fit.0.fits.signature in
     let f = the_found n m i.target.entry sig in
-    let a = answer_is p f s.client_lives i.finds_it in
-    let b = event_answer p m n i.target.entry p.server.core.tables s.told_fit.0.fits s.valid s.told_fit.0.no_delete_id i.target.same in
+    let a = answer_is p f s.client.lives i.finds_it in
+    let b = event_answer p m n i.target.entry p.server.core.tables s.events.fit.0.fits s.terms.valid
+    s.events.fit.0.no_delete_id i.target.same in
     keeps_event p w m cs asked s n z e i reply p' d
-    (subst (λ st. Nexts needs_memory (Ok (Some (report p.client.core f))) p (with_client p st) reply p') (a.leaves ∙ b.leaves)
+    (subst (λ st. Nexts needs_memory (Ok (Some (report p.client.core f))) p (with_client p st) reply p')
+    (a.leaves ∙ b.leaves)
     (subst (λ x. Nexts needs_memory x p (with_client p (after_next p.client)) reply p') a.answer d))
 
 -- ---- a delete
 
-keeps_delete : (p : PairState) (w : World) (x : Known) (cs : List (Coming Known)) (asked : List (Message Known)) (s : StandsBy p w asked (Delete x ∷ cs)) (n : ℕ) → NotEnded p w
-    → in_front p.client.core.inbox ≡ Whole n → (i : InDelete p x cs s.meet.middle n) → (reply : Result (Option Report) NextError) (p' : PairState)
+keeps_delete : (p : PairState) (w : World) (x : Known) (cs : List (Coming Known)) (asked : List (Message Known))
+    (s : StandsBy p w asked (Delete x ∷ cs)) (n : ℕ) → NotEnded p w
+    → in_front p.client.core.inbox ≡ Whole n → (i : InDelete p x cs s.meet.middle n)
+    → (reply : Result (Option Report) NextError) (p' : PairState)
     → (Nexts needs_memory (next_answer p.client) p (with_client p (after_next p.client)) reply p')
-    → Nexts needs_memory (Ok (Some (reports.Deleted (record { id = x.id; birth = i.entry.birth })))) p (with_client p (after_delete p.client x n)) reply p'
+    → Nexts needs_memory (Ok (Some (reports.Deleted (record { id = x.id; birth = i.entry.birth })))) p
+    (with_client p (after_delete p.client x n)) reply p'
     → Moves p w asked (Delete x ∷ cs) ClientNext (ClientNext reply) p'
 keeps_delete p w x cs asked s n z e i reply p' d answered = record {
   world = delete_read w x.born (map (recoming born_of) cs);
-  answers = before z d (record { waits = subst HasMessage (sym e) tt; coming = Delete x.born; steps = reads_delete x.born (map (recoming born_of) cs) s.events; reports = ap birth_of i.same });
+  answers = before z d (record {
+    waits = subst HasMessage (sym e) tt;
+    coming = Delete x.born;
+    steps = reads_delete x.born (map (recoming born_of) cs) s.events.in_world;
+    reports = ap birth_of i.same;
+  });
   outcome = goes_on asked cs z (delete_stands p w x cs asked s n i) (reading_delete x cs n refl e);
 }
 keeps_delete p w x cs asked s n z e i reply p' d (no_memory {report = r} q h) =
     let same : reports.Deleted (record { id = x.id; birth = i.entry.birth }) ≡ r = cc q in
     absurd (cc (ap needs_memory same, h))
 
-at_delete : (p : PairState) (w : World) (x : Known) (cs : List (Coming Known)) (asked : List (Message Known)) (s : StandsBy p w asked (Delete x ∷ cs)) (n : ℕ) → NotEnded p w
+at_delete : (p : PairState) (w : World) (x : Known) (cs : List (Coming Known)) (asked : List (Message Known))
+    (s : StandsBy p w asked (Delete x ∷ cs)) (n : ℕ) → NotEnded p w
     → in_front p.client.core.inbox ≡ Whole n → (reply : Result (Option Report) NextError) (p' : PairState)
-    → (Nexts needs_memory (next_answer p.client) p (with_client p (after_next p.client)) reply p') → Moves p w asked (Delete x ∷ cs) ClientNext (ClientNext reply) p'
+    → (Nexts needs_memory (next_answer p.client) p (with_client p (after_next p.client)) reply p')
+    → Moves p w asked (Delete x ∷ cs) ClientNext (ClientNext reply) p'
 at_delete p w x cs asked s n z e reply p' d =
     let i = in_delete p w x cs asked s n e in
     let f = the_found n (deleting x) (live_entry world.display_born) i.signature in
-    let a = answer_is p f s.client_lives i.finds_it in
+    let a = answer_is p f s.client.lives i.finds_it in
     let b = delete_answer p x n i.entry i.signature i.deletes_it.mortal i.there i.count in
     keeps_delete p w x cs asked s n z e i reply p' d
-    (subst (λ st. Nexts needs_memory (Ok (Some (reports.Deleted (record { id = x.id; birth = i.entry.birth })))) p (with_client p st) reply p') (a.leaves ∙ b.leaves)
-    (subst (λ y. Nexts needs_memory y p (with_client p (after_next p.client)) reply p') (a.answer ∙ ap (λ (r : Report). Ok (Some r)) b.tells_it) d))
+    (subst (λ st. Nexts needs_memory (Ok (Some (reports.Deleted (record { id = x.id; birth = i.entry.birth })))) p
+    (with_client p st) reply p') (a.leaves ∙ b.leaves)
+    (subst (λ y. Nexts needs_memory y p (with_client p (after_next p.client)) reply p')
+    (a.answer ∙ ap (λ (r : Report). Ok (Some r)) b.tells_it) d))
 
 -- ---- all fronts
 
-at_whole : (p : PairState) (w : World) (asked : List (Message Known)) (told : List (Coming Known)) (s : StandsBy p w asked told) (n : ℕ) → NotEnded p w
+at_whole : (p : PairState) (w : World) (asked : List (Message Known)) (told : List (Coming Known))
+    (s : StandsBy p w asked told) (n : ℕ) → NotEnded p w
     → in_front p.client.core.inbox ≡ Whole n → (reply : Result (Option Report) NextError) (p' : PairState)
-    → (Nexts needs_memory (next_answer p.client) p (with_client p (after_next p.client)) reply p') → Moves p w asked told ClientNext (ClientNext reply) p'
-at_whole p w asked [] s n z e reply p' d = absurd (let q = pops p.server.core.outbox p.client.core.inbox [] n s.to_client e in cc q.is)
+    → (Nexts needs_memory (next_answer p.client) p (with_client p (after_next p.client)) reply p')
+    → Moves p w asked told ClientNext (ClientNext reply) p'
+at_whole p w asked [] s n z e reply p' d = absurd
+    (let q = pops p.server.core.outbox p.client.core.inbox [] n s.events.in_boxes e in cc q.is)
 at_whole p w asked (Event m ∷ cs) s n z e reply p' d = at_event p w m cs asked s n z e reply p' d
 at_whole p w asked (Delete x ∷ cs) s n z e reply p' d = at_delete p w x cs asked s n z e reply p' d
 
-keeps_idle : (p : PairState) (w : World) (asked : List (Message Known)) (told : List (Coming Known)) (s : StandsBy p w asked told) → NotEnded p w → in_front p.client.core.inbox ≡ More
-    → (reply : Result (Option Report) NextError) (p' : PairState) → (Nexts needs_memory (next_answer p.client) p (with_client p (after_next p.client)) reply p')
+keeps_idle : (p : PairState) (w : World) (asked : List (Message Known)) (told : List (Coming Known))
+    (s : StandsBy p w asked told) → NotEnded p w → in_front p.client.core.inbox ≡ More
+    → (reply : Result (Option Report) NextError) (p' : PairState)
+    → (Nexts needs_memory (next_answer p.client) p (with_client p (after_next p.client)) reply p')
     → Nexts needs_memory (Ok None) p p reply p' → Moves p w asked told ClientNext (ClientNext reply) p'
-keeps_idle p w asked told s z e reply p' d answered = record { world = w; answers = before z d (λ h. subst HasMessage e h, refl); outcome = goes_on asked told z s stays }
+keeps_idle p w asked told s z e reply p' d answered =
+    record { world = w; answers = before z d (λ h. subst HasMessage e h, refl); outcome = goes_on asked told z s stays }
 keeps_idle p w asked told s z e reply p' d (no_memory q h) = absurd (cc q)
 
-at_front : (p : PairState) (w : World) (asked : List (Message Known)) (told : List (Coming Known)) (s : StandsBy p w asked told) → NotEnded p w
-    → (reply : Result (Option Report) NextError) (p' : PairState) → (Nexts needs_memory (next_answer p.client) p (with_client p (after_next p.client)) reply p')
+at_front : (p : PairState) (w : World) (asked : List (Message Known)) (told : List (Coming Known))
+    (s : StandsBy p w asked told) → NotEnded p w
+    → (reply : Result (Option Report) NextError) (p' : PairState)
+    → (Nexts needs_memory (next_answer p.client) p (with_client p (after_next p.client)) reply p')
     → (f : Front) → in_front p.client.core.inbox ≡ f → Moves p w asked told ClientNext (ClientNext reply) p'
 at_front p w asked told s z reply p' d More e =
-    let i = idle p s.client_lives e in
+    let i = idle p s.client.lives e in
     keeps_idle p w asked told s z e reply p' d
     (subst (λ st. Nexts needs_memory (Ok None) p (with_client p st) reply p') i.1
     (subst (λ x. Nexts needs_memory x p (with_client p (after_next p.client)) reply p') i.0 d))
-at_front p w asked told s z reply p' d (Bad n) e = absurd (never_bad p.server.core.outbox p.client.core.inbox _ n s.to_client e)
+at_front p w asked told s z reply p' d (Bad n) e =
+    absurd (never_bad p.server.core.outbox p.client.core.inbox _ n s.events.in_boxes e)
 at_front p w asked told s z reply p' d (Whole n) e = at_whole p w asked told s n z e reply p' d
 
-pub client_next_keeps : (p : PairState) (w : World) (asked : List (Message Known)) (told : List (Coming Known)) → StandsBy p w asked told → NotEnded p w
-    → (reply : Result (Option Report) NextError) (p' : PairState) → (Nexts needs_memory (next_answer p.client) p (with_client p (after_next p.client)) reply p')
+-- a read by the client keeps what stands
+pub client_next_keeps : (p : PairState) (w : World) (asked : List (Message Known)) (told : List (Coming Known))
+    → StandsBy p w asked told → NotEnded p w
+    → (reply : Result (Option Report) NextError) (p' : PairState)
+    → (Nexts needs_memory (next_answer p.client) p (with_client p (after_next p.client)) reply p')
     → Moves p w asked told ClientNext (ClientNext reply) p'
 client_next_keeps p w asked told s z reply p' d = at_front p w asked told s z reply p' d _ refl

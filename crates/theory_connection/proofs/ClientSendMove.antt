@@ -1,5 +1,6 @@
 -- A move of the client's writing.
-use Rattle.std.proofs.Common.{◌≡◌, ◌≢◌, ℕ, true, false, List, [], ◌∷◌, ◌++◌, map, ◌⊎◌, inl, inr, refl, sym, ap, subst, ◌∙◌}
+use Rattle.std.proofs.Common.{◌≡◌, ◌≢◌, ℕ, true, false, List, [], ◌∷◌, ◌++◌, map, ◌⊎◌, inl, inr}
+use Rattle.std.proofs.Common.{refl, sym, ap, subst, ◌∙◌}
 use Rattle.std.specs.Prelude.{option_map}
 use Rattle.std.specs.declared.option.Option.{Option}
 use Rattle.std.specs.declared.option.Option.TheVariants.{None, Some}
@@ -22,8 +23,11 @@ use Rattle.wl_objects.specs.Writing.{Given, wired, message_bytes}
 use Rattle.wl_objects.specs.Messages.{NewObject, made, ended_id, Client as client_end, after, checked}
 use Rattle.wl_connection.specs.Core.{Core}
 use Rattle.wl_connection.specs.Sending.{send_answer, after_send, after_checked, made_at, version_at, opens_object}
-use Rattle.theory_connection.specs.Meant.{Born, Known, Arg, object_at, ended_by, tokens, wire, Message, Coming, renamed, born_of, birth_of, made_in, objects, plain, live_entry}
-use Rattle.theory_connection.specs.World.{World, display_born, Open, Each, IfThere, IsOpen, request_written, Steps, writes_request, WriteRequest}
+use Rattle.theory_connection.specs.Meant.{Born, Known, Arg, object_at, ended_by, tokens, wire}
+use Rattle.theory_connection.specs.Meant.{Message, Coming, renamed, born_of, birth_of, made_in}
+use Rattle.theory_connection.specs.Meant.{objects, plain, live_entry}
+use Rattle.theory_connection.specs.World.{World, display_born, Open, Each, IfThere, IsOpen}
+use Rattle.theory_connection.specs.World.{request_written, Steps, writes_request, WriteRequest}
 use Rattle.theory_connection.specs.Pair.{PairState, ClientSend, with_client_core, Writes, accepted, refused, no_memory}
 use Rattle.theory_connection.specs.Answers.{NotEnded, WritesThat, handed, birth_at, before}
 use Rattle.theory_connection.specs.Flight.{Fresh, client_rows, row, as_row}
@@ -35,7 +39,8 @@ use Rattle.theory_connection.proofs.RowsAfterMessage.{made_map, objects_map, eac
 use Rattle.theory_connection.proofs.ReadAsMeant.{made_of}
 use Rattle.theory_connection.proofs.Calls.{Checked, is_checked, LiveAt, handed_all, tokens_all}
 use Rattle.theory_connection.proofs.Rules.{target_plain, objects_plain, display_lasts}
-use Rattle.theory_connection.proofs.Written.{the_made, the_new, the_call, new_id, new_birth, CallIs, call_is, call_ends, accepted_call, Opens, opens}
+use Rattle.theory_connection.proofs.Written.{the_made, the_new, the_call, new_id, new_birth, CallIs}
+use Rattle.theory_connection.proofs.Written.{call_is, call_ends, accepted_call, Opens, opens}
 use Rattle.theory_connection.proofs.RequestWritten.{CanAsk, asked_core, ask_stands}
 use Rattle.theory_connection.proofs.EndedObject.{Mortal, after_is, argument_is, born_ends}
 use Rattle.theory_connection.proofs.Moves.{Moves, Outcome, goes_on, stays, asking}
@@ -44,7 +49,8 @@ use Rattle.theory_connection.proofs.Moves.{Moves, Outcome, goes_on, stays, askin
 abbrev pub moved : (t u : List Interface) (side : Side) (m : Message Known) → t ≡ u → Fits t side m → Fits u side m
 moved t u side m e f = record {
   signature = f.signature;
-  there = subst (λ (x : List Interface). signature_at x m.target.born.iface.0 side m.opcode ≡ Some f.signature) e f.there;
+  there = subst (λ (x : List Interface). signature_at x m.target.born.iface.0 side m.opcode ≡ Some f.signature) e
+      f.there;
   old_enough = f.old_enough;
   args = subst (λ (x : List Interface). AreOf x m.target.born.version f.signature.kinds m.args) e f.args;
   ends = f.ends;
@@ -57,14 +63,17 @@ moved t u side m e f = record {
 }
 
 open_live : (v : View) (x : Known) → LiveAt v x → OpenRow (client_rows v) x
-open_live v x l = ap (option_map row) l.there ∙ ap (λ s. Some (as_row s (plain l.entry))) l.live ∙ ap (λ (b : Born). Some (Open b)) l.same
+open_live v x l = ap (option_map row) l.there ∙ ap (λ s. Some (as_row s (plain l.entry))) l.live
+    ∙ ap (λ (b : Born). Some (Open b)) l.same
 
-if_map : {X Y : Type 0} (P : Type 0) (f : X → Y) (o : Option X) → IfThere (λ (y : Y). P) (option_map f o) → IfThere (λ (x : X). P) o
+if_map : {X Y : Type 0} (P : Type 0) (f : X → Y) (o : Option X) → IfThere (λ (y : Y). P) (option_map f o)
+    → IfThere (λ (x : X). P) o
 if_map P f None h = tt
 if_map P f (Some x) h = h
 
 -- what the new object is, where there is one
-new_fits : (v : View) (new : Known) (o : Option Known) → Sound v → new.id ≡ next_id v → new.born.birth ≡ v.births → (o ≡ None) ⊎ (o ≡ Some new) → IfThere (λ (x : Known). can_open v ≡ true) o
+new_fits : (v : View) (new : Known) (o : Option Known) → Sound v → new.id ≡ next_id v → new.born.birth ≡ v.births
+    → (o ≡ None) ⊎ (o ≡ Some new) → IfThere (λ (x : Known). can_open v ≡ true) o
     → IfThere (Fresh (client_rows v)) o × IfThere (λ x. x.id ≡ next_id v) o
 new_fits v new None s i b h c = (tt, tt)
 new_fits v new (Some x) s i b h c =
@@ -74,37 +83,54 @@ new_fits v new (Some x) s i b h c =
     (next_fresh v x s c id birth, id)
 
 -- wl_display stays
-pub not_display : (p : PairState) (w : World) (asked : List (Message Known)) (told : List (Coming Known)) → StandsBy p w asked told → (id opcode : ℕ) (entry : Entry) (signature : sigs.Message) → look p.client.core.view id ≡ Some entry
-    → signature_at p.server.core.tables entry.iface.0 Request opcode ≡ Some signature → destroys_target signature.destroys ≡ true → id ≢ 1
+pub not_display : (p : PairState) (w : World) (asked : List (Message Known)) (told : List (Coming Known))
+    → StandsBy p w asked told → (id opcode : ℕ) (entry : Entry) (signature : sigs.Message)
+    → look p.client.core.view id ≡ Some entry
+    → signature_at p.server.core.tables entry.iface.0 Request opcode ≡ Some signature
+    → destroys_target signature.destroys ≡ true → id ≢ 1
 not_display p w asked told s id opcode entry signature l h d one =
-    let e : Some entry ≡ Some (live_entry display_born) = sym l ∙ ap (look p.client.core.view) one ∙ s.client_display in
+    let e : Some entry ≡ Some (live_entry display_born) = sym l ∙ ap (look p.client.core.view) one ∙ s.client.display in
     let same : entry ≡ live_entry display_born = cc e in
-    let f : signature_at p.server.core.tables 0 Request opcode ≡ Some signature = ap (λ (x : Entry). signature_at p.server.core.tables x.iface.0 Request opcode) (sym same) ∙ h in
-    let no : true ≡ false = sym d ∙ display_lasts p.server.core.tables s.valid opcode signature f in
+    let f : signature_at p.server.core.tables 0 Request opcode ≡ Some signature =
+    ap (λ (x : Entry). signature_at p.server.core.tables x.iface.0 Request opcode) (sym same) ∙ h in
+    let no : true ≡ false = sym d ∙ display_lasts p.server.core.tables s.terms.valid opcode signature f in
     cc no
 
-pub valid_client : (p : PairState) (w : World) (asked : List (Message Known)) (told : List (Coming Known)) → StandsBy p w asked told → Valid p.client.core.tables
-valid_client p w asked told s = subst Valid (sym s.same_tables) s.valid
+pub valid_client : (p : PairState) (w : World) (asked : List (Message Known)) (told : List (Coming Known))
+    → StandsBy p w asked told → Valid p.client.core.tables
+valid_client p w asked told s = subst Valid (sym s.terms.same_tables) s.terms.valid
 
-pub made_same : (core : Core) (target : Object) (given : List Given) (signature : sigs.Message) (entry : Entry) → look core.view target.id ≡ Some entry → made_at core target signature given ≡ the_made core entry given signature
-made_same core target given signature entry h = ap (λ o. made core.tables (version_at o) signature.kinds (map (wired (next_id core.view)) given)) h
+-- what a call makes, by the entry of its target
+pub made_same : (core : Core) (target : Object) (given : List Given) (signature : sigs.Message) (entry : Entry)
+    → look core.view target.id ≡ Some entry → made_at core target signature given ≡ the_made core entry given signature
+made_same core target given signature entry h = ap
+    (λ o. made core.tables (version_at o) signature.kinds (map (wired (next_id core.view)) given)) h
 
-signed_there : (p : PairState) (w : World) (asked : List (Message Known)) (told : List (Coming Known)) (s : StandsBy p w asked told) (target : Object) (opcode : ℕ) (given : List Given) (signature : sigs.Message)
-    → (c : Checked p.client.core.outbox.limit.bytes p.client.core.tables Request p.client.core.view target opcode given signature) → signature_at p.server.core.tables c.entry.iface.0 Request opcode ≡ Some signature
-signed_there p w asked told s target opcode given signature c = subst (λ (t : List Interface). signature_at t c.entry.iface.0 Request opcode ≡ Some signature) s.same_tables c.signed
+signed_there : (p : PairState) (w : World) (asked : List (Message Known)) (told : List (Coming Known))
+    (s : StandsBy p w asked told) (target : Object) (opcode : ℕ) (given : List Given) (signature : sigs.Message)
+    → (c : Checked p.client.core.outbox.limit.bytes p.client.core.tables Request p.client.core.view target opcode given
+    signature) → signature_at p.server.core.tables c.entry.iface.0 Request opcode ≡ Some signature
+signed_there p w asked told s target opcode given signature c =
+    subst (λ (t : List Interface). signature_at t c.entry.iface.0 Request opcode ≡ Some signature) s.terms.same_tables
+    c.signed
 
 -- a registry is not wl_display
-registry_mortal : (p : PairState) (w : World) (asked : List (Message Known)) (told : List (Coming Known)) → StandsBy p w asked told → (x : Known) → LiveAt p.client.core.view x → x.born.iface.0 ≡ 1 → x.id ≢ 1
+registry_mortal : (p : PairState) (w : World) (asked : List (Message Known)) (told : List (Coming Known))
+    → StandsBy p w asked told → (x : Known) → LiveAt p.client.core.view x → x.born.iface.0 ≡ 1 → x.id ≢ 1
 registry_mortal p w asked told s x l h one =
-    let e : Some l.entry ≡ Some (live_entry display_born) = sym l.there ∙ ap (look p.client.core.view) one ∙ s.client_display in
+    let e : Some l.entry ≡ Some (live_entry display_born) =
+    sym l.there ∙ ap (look p.client.core.view) one ∙ s.client.display in
     let same : l.entry ≡ live_entry display_born = cc e in
     let no : 1 ≡ 0 = sym h ∙ ap (λ (b : Born). b.iface.0) (sym l.same ∙ ap plain same) in
     cc no
 
 -- what a call destroys is not wl_display
-call_mortal : (p : PairState) (w : World) (asked : List (Message Known)) (told : List (Coming Known)) → StandsBy p w asked told → (target : Object) (opcode : ℕ) (given : List Given) (signature : sigs.Message)
-    → (c : Checked p.client.core.outbox.limit.bytes p.client.core.tables Request p.client.core.view target opcode given signature) (k : CallIs p.client.core Request target opcode given signature c.entry)
-    → signature_at p.server.core.tables c.entry.iface.0 Request opcode ≡ Some signature → IfThere Mortal (the_call p.client.core c.entry target opcode given signature).ends
+call_mortal : (p : PairState) (w : World) (asked : List (Message Known)) (told : List (Coming Known))
+    → StandsBy p w asked told → (target : Object) (opcode : ℕ) (given : List Given) (signature : sigs.Message)
+    → (c : Checked p.client.core.outbox.limit.bytes p.client.core.tables Request p.client.core.view target opcode given
+    signature) (k : CallIs p.client.core Request target opcode given signature c.entry)
+    → signature_at p.server.core.tables c.entry.iface.0 Request opcode ≡ Some signature
+    → IfThere Mortal (the_call p.client.core c.entry target opcode given signature).ends
 call_mortal p w asked told s target opcode given signature c k there = by_what signature.destroys refl
   where
     m : Message Known
@@ -112,17 +138,24 @@ call_mortal p w asked told s target opcode given signature c k there = by_what s
 
     by_what : (what : Destroys) → signature.destroys ≡ what → IfThere Mortal (ended_by what m.target m.args)
     by_what Nothing d = tt
-    by_what Target d = not_display p w asked told s target.id opcode c.entry signature c.there there (ap destroys_target d)
+    by_what Target d = not_display p w asked told s target.id opcode c.entry signature c.there there
+        (ap destroys_target d)
     by_what (ends_arg n) d =
         let signed = c.signed in
         let same : k.fits_it.signature ≡ signature = cc (k.fits_it.there, signed) in
-        let a = argument_is p.client.core.tables Request m k.fits_it n (valid_client p w asked told s) (ap (λ (x : sigs.Message). x.destroys) same ∙ d) in
-        let live : LiveAt p.client.core.view a.1.it = (subst (λ (l : List (Arg Known)). Each (LiveAt p.client.core.view) (objects l)) a.1.are k.live).0 in
+        let a = argument_is p.client.core.tables Request m k.fits_it n (valid_client p w asked told s)
+        (ap (λ (x : sigs.Message). x.destroys) same ∙ d) in
+        let live : LiveAt p.client.core.view a.1.it =
+        (subst (λ (l : List (Arg Known)). Each (LiveAt p.client.core.view) (objects l)) a.1.are k.live).0 in
         subst (λ (l : List (Arg Known)). IfThere Mortal (object_at l n)) (sym a.1.are)
-        (subst (λ (z : ℕ). IfThere Mortal (object_at (Obj (Some a.1.it) ∷ []) z)) (sym a.0) (registry_mortal p w asked told s a.1.it live a.1.registers))
+        (subst (λ (z : ℕ). IfThere Mortal (object_at (Obj (Some a.1.it) ∷ []) z)) (sym a.0)
+        (registry_mortal p w asked told s a.1.it live a.1.registers))
 
-pub client_can : (p : PairState) (w : World) (asked : List (Message Known)) (told : List (Coming Known)) (s : StandsBy p w asked told) (target : Object) (opcode : ℕ) (given : List Given) (signature : sigs.Message) (new : Option Object)
-    → (c : Checked p.client.core.outbox.limit.bytes p.client.core.tables Request p.client.core.view target opcode given signature) (k : CallIs p.client.core Request target opcode given signature c.entry)
+pub client_can : (p : PairState) (w : World) (asked : List (Message Known)) (told : List (Coming Known))
+    (s : StandsBy p w asked told) (target : Object) (opcode : ℕ) (given : List Given) (signature : sigs.Message)
+    (new : Option Object)
+    → (c : Checked p.client.core.outbox.limit.bytes p.client.core.tables Request p.client.core.view target opcode given
+    signature) (k : CallIs p.client.core Request target opcode given signature c.entry)
     → Opens p.client.core (made_at p.client.core target signature given) new
     → CanAsk p (the_call p.client.core c.entry target opcode given signature)
 client_can p w asked told s target opcode given signature new c k o =
@@ -130,16 +163,22 @@ client_can p w asked told s target opcode given signature new c k o =
     let v = core.view in
     let tables = p.server.core.tables in
     let m = the_call core c.entry target opcode given signature in
-    let f = moved core.tables tables Request m s.same_tables k.fits_it in
+    let f = moved core.tables tables Request m s.terms.same_tables k.fits_it in
     let there = signed_there p w asked told s target opcode given signature c in
-    let can = if_map (can_open v ≡ true) made_of (made_in m.args) (subst (IfThere (λ (x : NewObject). can_open v ≡ true)) (made_same core target given signature c.entry c.there ∙ k.made_is) o.can) in
-    let n = new_fits v (the_new core c.entry given signature) (made_in m.args) s.client_sound (new_id v (the_made core c.entry given signature)) (new_birth v (the_made core c.entry given signature)) k.new can in
+    let can = if_map (can_open v ≡ true) made_of (made_in m.args)
+    (subst (IfThere (λ (x : NewObject). can_open v ≡ true))
+    (made_same core target given signature c.entry c.there ∙ k.made_is) o.can) in
+    let n = new_fits v (the_new core c.entry given signature) (made_in m.args) s.client.sound
+    (new_id v (the_made core c.entry given signature))
+    (new_birth v (the_made core c.entry given signature)) k.new can in
     record {
       fitly = record { fits = f; binds = λ h. absurd (cc (h, c.hidden)) };
       target = open_live v m.target (record { entry = c.entry; there = c.there; same = refl; live = c.live });
-      target_plain = target_plain tables s.valid (plain c.entry) opcode signature there;
+      target_plain = target_plain tables s.terms.valid (plain c.entry) opcode signature there;
       args = each_by (LiveAt v) (OpenRow (client_rows v)) (open_live v) (objects m.args) k.live;
-      args_plain = objects_plain tables v (the_new core c.entry given signature) signature.kinds given k.right (s.valid.no_any_in_requests c.entry.iface.0 opcode signature there) (s.valid.race_free.no_arguments c.entry.iface.0 opcode signature there);
+      args_plain = objects_plain tables v (the_new core c.entry given signature) signature.kinds given k.right
+          (s.terms.valid.no_any_in_requests c.entry.iface.0 opcode signature there)
+          (s.terms.valid.race_free.no_arguments c.entry.iface.0 opcode signature there);
       new = n.0;
       new_next = n.1;
       new_can = can;
@@ -148,9 +187,13 @@ client_can p w asked told s target opcode given signature new c k o =
     }
 
 -- the pair is as the call leaves it
-left_by : (core : Core) (target : Object) (opcode : ℕ) (given : List Given) (signature : sigs.Message) → Valid core.tables → checked core.outbox.limit.bytes core.tables Request core.view target opcode given ≡ Ok signature
-    → (c : Checked core.outbox.limit.bytes core.tables Request core.view target opcode given signature) (k : CallIs core Request target opcode given signature c.entry)
-    → after_send core Request target opcode given ≡ asked_core core (the_call core c.entry target opcode given signature)
+left_by : (core : Core) (target : Object) (opcode : ℕ) (given : List Given) (signature : sigs.Message)
+    → Valid core.tables → checked core.outbox.limit.bytes core.tables Request core.view target opcode given
+    ≡ Ok signature
+    → (c : Checked core.outbox.limit.bytes core.tables Request core.view target opcode given signature)
+    (k : CallIs core Request target opcode given signature c.entry)
+    → after_send core Request target opcode given
+    ≡ asked_core core (the_call core c.entry target opcode given signature)
 left_by core target opcode given signature v e c k =
     let m = the_call core c.entry target opcode given signature in
     let mk = made_same core target given signature c.entry c.there ∙ k.made_is in
@@ -159,40 +202,58 @@ left_by core target opcode given signature v e c k =
     ap (after_checked core Request target opcode given) e
     ∙ ((λ i. record core {
       view = after client_end core.view (mk i) signature.destroys id;
-      outbox = record core.outbox { messages = core.outbox.messages ++ message (message_bytes target.id opcode (k.wire_is i)) (t i) ∷ [] };
+      outbox = record core.outbox {
+        messages = core.outbox.messages
+            ++ message (message_bytes target.id opcode (k.wire_is i)) (t i) ∷ [];
+      };
     })
     ∙ (λ i. record core {
-      view = after_is client_end core.view (option_map made_of (made_in m.args)) signature.destroys id m.ends (call_ends core Request target opcode given signature v c k) i;
-      outbox = record core.outbox { messages = core.outbox.messages ++ message (message_bytes target.id opcode (map wire m.args)) (tokens m.args) ∷ [] };
+      view = after_is client_end core.view (option_map made_of (made_in m.args)) signature.destroys id m.ends
+          (call_ends core Request target opcode given signature v c k) i;
+      outbox = record core.outbox {
+        messages = core.outbox.messages
+            ++ message (message_bytes target.id opcode (map wire m.args)) (tokens m.args) ∷ [];
+      };
     }))
 
 new_births : (o : Option Known) (births id : ℕ) → IfThere (λ x. x.born.birth ≡ births) o
-    → option_map birth_of (option_map born_of o) ≡ option_map birth_at (option_map (λ (m : NewObject). record { id = id; birth = births }) (option_map made_of o))
+    → option_map birth_of (option_map born_of o) ≡ option_map birth_at
+    (option_map (λ (m : NewObject). record { id = id; birth = births }) (option_map made_of o))
 new_births None births id h = refl
 new_births (Some x) births id h = ap Some h
 
-fresh_births : (v : View) (o : Option Known) → IfThere (Fresh (client_rows v)) o → IfThere (λ x. x.born.birth ≡ v.births) o
+fresh_births : (v : View) (o : Option Known) → IfThere (Fresh (client_rows v)) o
+    → IfThere (λ x. x.born.birth ≡ v.births) o
 fresh_births v None h = tt
 fresh_births v (Some x) h = h.birth
 
-if_born : (births : ℕ) (o : Option Known) → IfThere (λ x. x.born.birth ≡ births) o → IfThere (λ (x : Born). x.birth ≡ births) (option_map born_of o)
+if_born : (births : ℕ) (o : Option Known) → IfThere (λ x. x.born.birth ≡ births) o
+    → IfThere (λ (x : Born). x.birth ≡ births) (option_map born_of o)
 if_born births None h = tt
 if_born births (Some x) h = h
 
 -- in the world it is a step
-pub asks_world : (p : PairState) (w : World) (asked : List (Message Known)) (told : List (Coming Known)) (s : StandsBy p w asked told) (m : Message Known) → CanAsk p m
+pub asks_world : (p : PairState) (w : World) (asked : List (Message Known)) (told : List (Coming Known))
+    (s : StandsBy p w asked told) (m : Message Known) → CanAsk p m
     → Steps p.client.core.tables w (WriteRequest (renamed born_of m)) (request_written w (renamed born_of m))
 asks_world p w asked told s m c =
     let v = p.client.core.view in
     let births = fresh_births v (made_in m.args) c.new in
-    writes_request (renamed born_of m) (s.client_sets.shown m.target.id (Open m.target.born) c.target)
-    (rw (objects_map born_of m.args) (each_map born_of (IsOpen w.client) (objects m.args) (each_by (OpenRow (client_rows v)) (λ (x : Known). IsOpen w.client x.born) (λ x h. s.client_sets.shown x.id (Open x.born) h) (objects m.args) c.args)))
-    (rw (made_map born_of m.args, s.births) (if_born v.births (made_in m.args) births))
+    writes_request (renamed born_of m) (s.client.sets.shown m.target.id (Open m.target.born) c.target)
+    (rw (objects_map born_of m.args) (each_map born_of (IsOpen w.client) (objects m.args)
+    (each_by (OpenRow (client_rows v)) (λ (x : Known). IsOpen w.client x.born)
+    (λ x h. s.client.sets.shown x.id (Open x.born) h) (objects m.args) c.args)))
+    (rw (made_map born_of m.args, s.client.births) (if_born v.births (made_in m.args) births))
 
-pub sends_that : (p : PairState) (w : World) (asked : List (Message Known)) (told : List (Coming Known)) (s : StandsBy p w asked told) (target : Object) (opcode : ℕ) (given : List Given) (signature : sigs.Message) (new : Option Object)
-    → (c : Checked p.client.core.outbox.limit.bytes p.client.core.tables Request p.client.core.view target opcode given signature) (k : CallIs p.client.core Request target opcode given signature c.entry)
-    → (o : Opens p.client.core (made_at p.client.core target signature given) new) → CanAsk p (the_call p.client.core c.entry target opcode given signature)
-    → WritesThat p.client.core.tables Request w target.birth opcode (map (handed w.births) given) new (request_written w (renamed born_of (the_call p.client.core c.entry target opcode given signature)))
+pub sends_that : (p : PairState) (w : World) (asked : List (Message Known)) (told : List (Coming Known))
+    (s : StandsBy p w asked told) (target : Object) (opcode : ℕ) (given : List Given) (signature : sigs.Message)
+    (new : Option Object)
+    → (c : Checked p.client.core.outbox.limit.bytes p.client.core.tables Request p.client.core.view target opcode given
+    signature) (k : CallIs p.client.core Request target opcode given signature c.entry)
+    → (o : Opens p.client.core (made_at p.client.core target signature given) new)
+    → CanAsk p (the_call p.client.core c.entry target opcode given signature)
+    → WritesThat p.client.core.tables Request w target.birth opcode (map (handed w.births) given) new
+    (request_written w (renamed born_of (the_call p.client.core c.entry target opcode given signature)))
 sends_that p w asked told s target opcode given signature new c k o can =
     let core = p.client.core in
     let v = core.view in
@@ -203,30 +264,42 @@ sends_that p w asked told s target opcode given signature new c k o can =
       is = record { signature = signature; there = c.signed; ends = born_ends m signature.destroys refl };
       target_is = c.birth;
       opcode_is = refl;
-      args_are = handed_all v (the_new core c.entry given signature) w.births signature.kinds given (new_birth v (the_made core c.entry given signature) ∙ sym s.births) k.right;
-      new_is = ap (option_map birth_of) (made_map born_of m.args) ∙ new_births (made_in m.args) v.births (next_id v) births
-          ∙ ap (option_map birth_at) (ap (option_map (λ (y : NewObject). record { id = next_id v; birth = v.births })) (sym (made_same core target given signature c.entry c.there ∙ k.made_is)) ∙ sym o.is);
+      args_are = handed_all v (the_new core c.entry given signature) w.births signature.kinds given
+          (new_birth v (the_made core c.entry given signature) ∙ sym s.client.births) k.right;
+      new_is = ap (option_map birth_of) (made_map born_of m.args)
+          ∙ new_births (made_in m.args) v.births (next_id v) births
+          ∙ ap (option_map birth_at) (ap (option_map (λ (y : NewObject). record { id = next_id v; birth = v.births }))
+          (sym (made_same core target given signature c.entry c.there ∙ k.made_is)) ∙ sym o.is);
       steps = asks_world p w asked told s m can;
     }
 
-pub client_send_keeps : (p : PairState) (w : World) (asked : List (Message Known)) (told : List (Coming Known)) → StandsBy p w asked told → NotEnded p w → (target : Object) (opcode : ℕ) (given : List Given) → Each IsGiven given
+-- a call of the client keeps what stands
+pub client_send_keeps : (p : PairState) (w : World) (asked : List (Message Known)) (told : List (Coming Known))
+    → StandsBy p w asked told → NotEnded p w → (target : Object) (opcode : ℕ) (given : List Given) → Each IsGiven given
     → (reply : Result (Option Object) SendError) (p' : PairState)
-    → Writes (send_answer p.client.core Request target opcode given) (opens_object (checked p.client.core.outbox.limit.bytes p.client.core.tables Request p.client.core.view target opcode given)) p
+    → Writes (send_answer p.client.core Request target opcode given)
+    (opens_object (checked p.client.core.outbox.limit.bytes p.client.core.tables Request p.client.core.view target
+    opcode given)) p
     (with_client_core p (after_send p.client.core Request target opcode given)) reply p'
     → Moves p w asked told (ClientSend target opcode given) (ClientSend reply) p'
 client_send_keeps p w asked told s z target opcode given g reply p' (accepted {new = new} h) =
     let core = p.client.core in
-    let a = accepted_call core Request target opcode given new s.client_lives h in
+    let a = accepted_call core Request target opcode given new s.client.lives h in
     let c = is_checked core.outbox.limit.bytes core.tables Request core.view target opcode given a.signature a.checks in
-    let k = call_is core Request target opcode given a.signature (valid_client p w asked told s) s.client_sound g c in
+    let k = call_is core Request target opcode given a.signature (valid_client p w asked told s) s.client.sound g c in
     let o = opens core (made_at core target a.signature given) new a.opens_it in
     let can = client_can p w asked told s target opcode given a.signature new c k o in
     let m = the_call core c.entry target opcode given a.signature in
     record {
       world = request_written w (renamed born_of m);
       answers = before z (accepted h) (sends_that p w asked told s target opcode given a.signature new c k o can);
-      outcome = subst (λ (x : Core). Outcome p asked told (with_client_core p x) (request_written w (renamed born_of m))) (sym (left_by core target opcode given a.signature (valid_client p w asked told s) a.checks c k))
-          (goes_on (asked ++ m ∷ []) told z (ask_stands p w asked told s m can) (asking m can (λ h. absurd (cc (h, c.hidden)))));
+      outcome = subst (λ (x : Core). Outcome p asked told (with_client_core p x)
+          (request_written w (renamed born_of m)))
+          (sym (left_by core target opcode given a.signature (valid_client p w asked told s) a.checks c k))
+          (goes_on (asked ++ m ∷ []) told z (ask_stands p w asked told s m can)
+          (asking m can (λ h. absurd (cc (h, c.hidden)))));
     }
-client_send_keeps p w asked told s z target opcode given g reply p' (refused h) = record { world = w; answers = before z (refused h) refl; outcome = goes_on asked told z s stays }
-client_send_keeps p w asked told s z target opcode given g reply p' (no_memory h o) = record { world = w; answers = before z (no_memory h o) refl; outcome = goes_on asked told z s stays }
+client_send_keeps p w asked told s z target opcode given g reply p' (refused h) =
+    record { world = w; answers = before z (refused h) refl; outcome = goes_on asked told z s stays }
+client_send_keeps p w asked told s z target opcode given g reply p' (no_memory h o) =
+    record { world = w; answers = before z (no_memory h o) refl; outcome = goes_on asked told z s stays }

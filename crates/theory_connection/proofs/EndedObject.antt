@@ -24,18 +24,11 @@ abbrev pub Mortal : Known → Type 0
 Mortal x = x.id ≢ 1
 
 -- what holds of each object among the arguments holds of the one at a place
-pub at_has : {O : Type 0} (P : O → Type 0) (args : List (Arg O)) (place : ℕ) → Each P (objects args) → IfThere P (object_at args place)
+pub at_has : {O : Type 0} (P : O → Type 0) (args : List (Arg O)) (place : ℕ) → Each P (objects args)
+    → IfThere P (object_at args place)
 at_has P [] place k = tt
 at_has P (Obj (Some x) ∷ more) zero k = k.0
 at_has P (Obj None ∷ more) zero k = tt
-at_has P (Int z ∷ more) zero k = tt
-at_has P (Uint z ∷ more) zero k = tt
-at_has P (Fixed z ∷ more) zero k = tt
-at_has P (Str z ∷ more) zero k = tt
-at_has P (New z ∷ more) zero k = tt
-at_has P (NewNamed a b z ∷ more) zero k = tt
-at_has P (Array z ∷ more) zero k = tt
-at_has P (Fd z ∷ more) zero k = tt
 at_has P (Obj (Some x) ∷ more) (suc place) k = at_has P more place k.1
 at_has P (Obj None ∷ more) (suc place) k = at_has P more place k
 at_has P (Int z ∷ more) (suc place) k = at_has P more place k
@@ -46,41 +39,41 @@ at_has P (New z ∷ more) (suc place) k = at_has P more place k
 at_has P (NewNamed a b z ∷ more) (suc place) k = at_has P more place k
 at_has P (Array z ∷ more) (suc place) k = at_has P more place k
 at_has P (Fd z ∷ more) (suc place) k = at_has P more place k
+at_has P (a ∷ more) zero k = tt
 
-pub at_map : {A B : Type 0} (f : A → B) (args : List (Arg A)) (place : ℕ) → object_at (map (rearg f) args) place ≡ option_map f (object_at args place)
+pub at_map : {A B : Type 0} (f : A → B) (args : List (Arg A)) (place : ℕ)
+    → object_at (map (rearg f) args) place ≡ option_map f (object_at args place)
 at_map f [] place = refl
 at_map f (Obj (Some x) ∷ more) zero = refl
-at_map f (Obj None ∷ more) zero = refl
-at_map f (Int z ∷ more) zero = refl
-at_map f (Uint z ∷ more) zero = refl
-at_map f (Fixed z ∷ more) zero = refl
-at_map f (Str z ∷ more) zero = refl
-at_map f (New z ∷ more) zero = refl
-at_map f (NewNamed a b z ∷ more) zero = refl
-at_map f (Array z ∷ more) zero = refl
-at_map f (Fd z ∷ more) zero = refl
+at_map f (a ∷ more) zero = refl
 at_map f (a ∷ more) (suc place) = at_map f more place
 
 -- what holds of the target and of each object among the arguments holds of what is destroyed
-pub ended_has : {O : Type 0} (P : O → Type 0) (what : Destroys) (x : O) (args : List (Arg O)) → P x → Each P (objects args) → IfThere P (ended_by what x args)
+pub ended_has : {O : Type 0} (P : O → Type 0) (what : Destroys) (x : O) (args : List (Arg O)) → P x
+    → Each P (objects args) → IfThere P (ended_by what x args)
 ended_has P Nothing x args h k = tt
 ended_has P Target x args h k = h
 ended_has P (ends_arg place) x args h k = at_has P args place k
 
-pub ended_map : {A B : Type 0} (f : A → B) (what : Destroys) (x : A) (args : List (Arg A)) → ended_by what (f x) (map (rearg f) args) ≡ option_map f (ended_by what x args)
+pub ended_map : {A B : Type 0} (f : A → B) (what : Destroys) (x : A) (args : List (Arg A))
+    → ended_by what (f x) (map (rearg f) args) ≡ option_map f (ended_by what x args)
 ended_map f Nothing x args = refl
 ended_map f Target x args = refl
 ended_map f (ends_arg place) x args = at_map f args place
 
-pub if_map : {A B : Type 0} (P : B → Type 0) (f : A → B) (o : Option A) → IfThere (λ x. P (f x)) o → IfThere P (option_map f o)
+pub if_map : {A B : Type 0} (P : B → Type 0) (f : A → B) (o : Option A) → IfThere (λ x. P (f x)) o
+    → IfThere P (option_map f o)
 if_map P f None h = tt
 if_map P f (Some x) h = h
 
+-- what is so of something, seen through a function
 pub if_by : {X : Type 0} {P Q : X → Type 0} (f : (x : X) → P x → Q x) (o : Option X) → IfThere P o → IfThere Q o
 if_by f None h = tt
 if_by f (Some x) h = f x h
 
-pub both_if : {X : Type 0} {P Q R : X → Type 0} (f : (x : X) → P x → Q x → R x) (o : Option X) → IfThere P o → IfThere Q o → IfThere R o
+-- two things that are so of something give a third
+pub both_if : {X : Type 0} {P Q R : X → Type 0} (f : (x : X) → P x → Q x → R x) (o : Option X) → IfThere P o
+    → IfThere Q o → IfThere R o
 both_if f None h k = tt
 both_if f (Some x) h k = f x h k
 
@@ -88,11 +81,14 @@ pub if_all : {X : Type 0} {P : X → Type 0} (f : (x : X) → P x) (o : Option X
 if_all f None = tt
 if_all f (Some x) = f x
 
+-- a function keeps something
 pub some_map : {A B : Type 0} (f : A → B) (o : Option A) → is_some (option_map f o) ≡ is_some o
 some_map f None = refl
 some_map f (Some x) = refl
 
-pub born_ends : (m : Message Known) (what : Destroys) → m.ends ≡ ended_by what m.target m.args → option_map born_of m.ends ≡ ended_by what m.target.born (map (rearg born_of) m.args)
+-- what a message ends, by births
+pub born_ends : (m : Message Known) (what : Destroys) → m.ends ≡ ended_by what m.target m.args
+    → option_map born_of m.ends ≡ ended_by what m.target.born (map (rearg born_of) m.args)
 born_ends m what e = ap (option_map born_of) e ∙ sym (ended_map born_of what m.target m.args)
 
 -- ---- the argument of a request that destroys it
@@ -103,25 +99,26 @@ pub record IsArgument (args : List (Arg Known)) : Type 0 where
   pub some : 0 < it.id
   pub registers : it.born.iface.0 ≡ 1
 
-argument_by : (tables : List Interface) (version : ℕ) (args : List (Arg Known)) → AreOf tables version (fixed.object registry ∷ []) args → IsArgument args
+argument_by : (tables : List Interface) (version : ℕ) (args : List (Arg Known))
+    → AreOf tables version (fixed.object registry ∷ []) args → IsArgument args
 argument_by tables version [] a = absurd a
-argument_by tables version (Obj (Some x) ∷ []) a = record { it = x; are = refl; some = a.0.1.0; registers = sym (eqb-true 1 x.born.iface.0 a.0.1.1) }
+argument_by tables version (Obj (Some x) ∷ []) a =
+    record { it = x; are = refl; some = a.0.1.0; registers = sym (eqb-true 1 x.born.iface.0 a.0.1.1) }
 argument_by tables version (Obj None ∷ []) a = absurd (let no = a.0.0.1 refl in cc no)
-argument_by tables version (Int z ∷ []) a = absurd a.0.0
-argument_by tables version (Uint z ∷ []) a = absurd a.0.0
-argument_by tables version (Fixed z ∷ []) a = absurd a.0.0
-argument_by tables version (Str z ∷ []) a = absurd a.0.0
-argument_by tables version (New z ∷ []) a = absurd a.0.0
-argument_by tables version (NewNamed name own z ∷ []) a = absurd a.0.0
-argument_by tables version (Array z ∷ []) a = absurd a.0.0
-argument_by tables version (Fd z ∷ []) a = absurd a.0.0
+argument_by tables version (arg ∷ []) a = absurd a.0.0
 argument_by tables version (x ∷ y ∷ more) a = absurd a.1
 
-pub argument_is : (tables : List Interface) (side : Side) (m : Message Known) (f : Fits tables side m) (k : ℕ) → Valid tables → f.signature.destroys ≡ ends_arg k → (k ≡ 0) × IsArgument m.args
+-- an argument that a message destroys is its first and only one, and a registry
+pub argument_is : (tables : List Interface) (side : Side) (m : Message Known) (f : Fits tables side m) (k : ℕ)
+    → Valid tables → f.signature.destroys ≡ ends_arg k → (k ≡ 0) × IsArgument m.args
 argument_is tables side m f k v d =
-    let same : f.signature ≡ the_destroy = is_the_destroy tables m.target.born.iface.0 side m.opcode f.signature k v f.there d in
-    let place : ends_arg k ≡ ends_arg 0 = sym d ∙ ap (λ (s : Signature). s.destroys) same in
-    (cc place, argument_by tables m.target.born.version m.args (subst (λ (s : Signature). AreOf tables m.target.born.version s.kinds m.args) same f.args))
+    let same : f.signature ≡ the_destroy = is_the_destroy tables m.target.born.iface.0 side m.opcode f.signature k v
+    f.there d in
+    let place : ends_arg k ≡ ends_arg 0 = sym d ∙ ap (λ (s : Signature). s.destroys) same in (
+      cc place,
+      argument_by tables m.target.born.version m.args
+          (subst (λ (s : Signature). AreOf tables m.target.born.version s.kinds m.args) same f.args),
+    )
 
 -- ---- how an end knows it
 
@@ -135,7 +132,9 @@ abbrev pub ended_view : End → View → Option Known → View
 ended_view end v None = v
 ended_view end v (Some x) = destroyed end v x.id
 
-pub after_is : (end : End) (v : View) (new : Option NewObject) (what : Destroys) (id : ℕ) (o : Option Known) → EndsAs what id o → after end v new what id ≡ ended_view end (opens v new) o
+-- the view after a message is that with what it ends ended
+pub after_is : (end : End) (v : View) (new : Option NewObject) (what : Destroys) (id : ℕ) (o : Option Known)
+    → EndsAs what id o → after end v new what id ≡ ended_view end (opens v new) o
 after_is end v new Nothing id None e = refl
 after_is end v new Nothing id (Some x) e = absurd (let f = e.flag in cc f)
 after_is end v new Target id None e = absurd (let f = e.flag in cc f)
@@ -146,14 +145,28 @@ after_is end v new (ends_arg k) id (Some x) e = ap (destroyed end (opens v new))
 ends_argument : (target : Known) (args : List (Arg Known)) (k : ℕ) → k ≡ 0 → (x : Known) → args ≡ Obj (Some x) ∷ []
     → EndsAs (ends_arg k) (ended_id (ends_arg k) target.id (map wire args)) (ended_by (ends_arg k) target args)
 ends_argument target args k z x e =
-    subst (λ (l : List (Arg Known)). EndsAs (ends_arg k) (ended_id (ends_arg k) target.id (map wire l)) (ended_by (ends_arg k) target l)) (sym e)
-    (subst (λ (n : ℕ). EndsAs (ends_arg n) (ended_id (ends_arg n) target.id (map wire (Obj (Some x) ∷ []))) (ended_by (ends_arg n) target (Obj (Some x) ∷ []))) (sym z) (record { flag = refl; same = refl }))
+    subst (λ (l : List (Arg Known)). EndsAs (ends_arg k) (ended_id (ends_arg k) target.id (map wire l))
+    (ended_by (ends_arg k) target l)) (sym e)
+    (subst (λ (n : ℕ). EndsAs (ends_arg n) (ended_id (ends_arg n) target.id (map wire (Obj (Some x) ∷ [])))
+    (ended_by (ends_arg n) target (Obj (Some x) ∷ []))) (sym z) (record { flag = refl; same = refl }))
 
-pub ends_as : (tables : List Interface) (side : Side) (m : Message Known) (f : Fits tables side m) → Valid tables → EndsAs f.signature.destroys (ended_id f.signature.destroys m.target.id (map wire m.args)) m.ends
+-- what a message ends is what its signature destroys
+pub ends_as : (tables : List Interface) (side : Side) (m : Message Known) (f : Fits tables side m) → Valid tables
+    → EndsAs f.signature.destroys (ended_id f.signature.destroys m.target.id (map wire m.args)) m.ends
 ends_as tables side m f v =
-    subst (λ (o : Option Known). EndsAs f.signature.destroys (ended_id f.signature.destroys m.target.id (map wire m.args)) o) (sym f.ends) (by_what f.signature.destroys refl)
+    subst (λ (o : Option Known). EndsAs f.signature.destroys
+    (ended_id f.signature.destroys m.target.id (map wire m.args)) o) (sym f.ends)
+    (by_what f.signature.destroys refl)
   where
-    by_what : (what : Destroys) → f.signature.destroys ≡ what → EndsAs what (ended_id what m.target.id (map wire m.args)) (ended_by what m.target m.args)
+    by_what : (what : Destroys) → f.signature.destroys ≡ what
+        → EndsAs what (ended_id what m.target.id (map wire m.args)) (ended_by what m.target m.args)
     by_what Nothing d = record { flag = refl; same = tt }
     by_what Target d = record { flag = refl; same = refl }
-    by_what (ends_arg k) d = let a = argument_is tables side m f k v d in ends_argument m.target m.args k a.0 a.1.it a.1.are
+    by_what (ends_arg k) d = let a = argument_is tables side m f k v d
+        in ends_argument m.target m.args k a.0 a.1.it a.1.are
+
+-- what is so of a message's target and of its objects is so of what it ends
+pub ends_have : (P : Known → Type 0) (tables : List Interface) (side : Side) (m : Message Known) → Fits tables side m
+    → P m.target → Each P (objects m.args) → IfThere P m.ends
+ends_have P tables side m f x xs = subst (IfThere P) (sym f.ends)
+    (ended_has P f.signature.destroys m.target m.args x xs)

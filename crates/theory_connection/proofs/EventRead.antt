@@ -1,6 +1,7 @@
 -- The client reads.
-use Rattle.std.proofs.Common.{◌≡◌, ◌≢◌, ℕ, ◌+◌, ◌<◌, ◌≤◌, Bool, true, false, cond, List, [], ◌∷◌, ◌++◌, map, length, take, refl, sym, ap, subst, ◌∙◌, arith, min}
-use Rattle.std.specs.Prelude.{option_map, codes, is_some, nat_eq, not, ◌&&◌}
+use Rattle.std.proofs.Common.{◌≡◌, ◌≢◌, ℕ, ◌+◌, ◌<◌, ◌≤◌, Bool, true, false, cond, List, [], ◌∷◌}
+use Rattle.std.proofs.Common.{◌++◌, map, length, refl, sym, ap, subst, ◌∙◌, arith, min}
+use Rattle.std.specs.Prelude.{option_map, codes, nat_eq, not, ◌&&◌}
 use Rattle.std.specs.declared.option.Option.{Option}
 use Rattle.std.specs.declared.option.Option.TheVariants.{None, Some}
 use Rattle.std.specs.declared.result.Result.TheVariants.{Ok}
@@ -15,37 +16,37 @@ use Rattle.wl_sigs.specs.Fixed.{display, registry, wl_display}
 use Rattle.wl_sigs.specs.Fixed as fixed
 use Rattle.wl_message.specs.Arrived.{without_first, in_front}
 use Rattle.wl_message.specs.Cut.{Whole}
-use Rattle.wl_message.specs.Outgoing as boxes
 use Rattle.wl_object_map.specs.declared.object.Entry.{Entry}
 use Rattle.wl_object_map.specs.declared.object.State.{State}
 use Rattle.wl_object_map.specs.declared.object.State.TheVariants as states
-use Rattle.wl_object_map.specs.View.{View, look, is_held, closed}
-use Rattle.wl_object_map.specs.Views.{look-closed, look-zombied}
-use Rattle.wl_object_map.specs.Sounds.{Sound-closed}
+use Rattle.wl_object_map.specs.View.{View, look, closed}
 use Rattle.wl_objects.specs.Writing.{is_live}
 use Rattle.wl_objects.specs.Reading.{descriptors}
-use Rattle.wl_objects.specs.Messages.{is_error, is_delete_id, same_iface, Client as client_end, after, ended_id, after_delete_id}
+use Rattle.wl_objects.specs.Messages.{is_error, is_delete_id, same_iface, Client as client_end}
+use Rattle.wl_objects.specs.Messages.{after, ended_id, after_delete_id}
 use Rattle.wl_connection.specs.Core.{Core}
 use Rattle.wl_connection.specs.Receiving.{found, is_none}
 use Rattle.wl_client.specs.declared.globals.Global.{Global as Remembered}
 use Rattle.wl_client.specs.State as client
 use Rattle.wl_client.specs.Reports.{state_past, globals_told, report}
 use Rattle.wl_client.specs.Reports as reports
-use Rattle.theory_connection.specs.Meant.{Born, Known, Message, Coming, Event, Delete, renamed, recoming, rearg, born_of, birth_of, wire, tokens, spelled, spelled_coming, objects, plain, live_entry, ended_by}
-use Rattle.theory_connection.specs.World.{World, display_born, Row, Each, event_read, delete_read, ending, put, is_open, is_registry, learned, nameless, IfThere}
+use Rattle.theory_connection.specs.Meant.{Born, Known, Message, Coming, Event, Delete, renamed}
+use Rattle.theory_connection.specs.Meant.{recoming, rearg, born_of, birth_of, wire, tokens, spelled}
+use Rattle.theory_connection.specs.Meant.{spelled_coming, objects, plain, live_entry}
+use Rattle.theory_connection.specs.World.{World, display_born, Row, event_read, delete_read}
+use Rattle.theory_connection.specs.World.{is_open, is_registry, learned, nameless, IfThere}
 use Rattle.theory_connection.specs.Pair.{PairState, with_client}
 use Rattle.theory_connection.specs.Flight.{Rows, Held, Reads, all_tells, client_rows, row, as_row}
-use Rattle.theory_connection.specs.Stands.{StandsBy, Fits, TellsFitly, TellsGiven, InFlight, Shows, birth_in}
+use Rattle.theory_connection.specs.Stands.{StandsBy, Fits, WasGiven, InFlight, Shows, birth_in}
 use Rattle.theory_connection.proofs.WholeInFlight.{client_ends, TellsAt, tells_at, DeletesAt, deletes_at}
-use Rattle.theory_connection.proofs.Sets.{client_ended, client_deleted}
-use Rattle.theory_connection.proofs.Channels.{pops}
 use Rattle.theory_connection.proofs.Bridges.{client_closed}
-use Rattle.theory_connection.proofs.RowsAfterMessage.{held_row, client_after, client_sound, client_aged, closed_aged}
+use Rattle.theory_connection.proofs.RowsAfterMessage.{held_row, client_after}
+use Rattle.theory_connection.proofs.Stands.{client_message, client_delete, first_read}
 use Rattle.theory_connection.proofs.ReadAsMeant.{HeldAt, AllMet, tokens_taken}
 use Rattle.theory_connection.proofs.FoundInFront.{the_found, the_message, finds, all_met, news_none}
-use Rattle.theory_connection.proofs.ClientGlobals.{Gave, told_same, told_keeps}
+use Rattle.theory_connection.proofs.ClientGlobals.{told_same, learns}
 use Rattle.theory_connection.proofs.RequestRead.{test_of}
-use Rattle.theory_connection.proofs.EndedObject.{Mortal, ended_view, after_is, ends_as, ended_has, if_by, both_if}
+use Rattle.theory_connection.proofs.EndedObject.{Mortal, ended_view, after_is, ends_as, ends_have, if_by, both_if}
 
 -- ---- what the client holds
 
@@ -59,55 +60,62 @@ pub record SeenAt (v : View) (sets : ℕ → Option Row) (x : Known) : Type 0 wh
   pub same : plain entry ≡ x.born
   pub shown : sets x.born.birth ≡ Some (row entry)
 
-pub seen_at : (v : View) (sets : ℕ → Option Row) → Shows birth_in (client_rows v).rows v.births sets → (x : Known) → Held (client_rows v) x → SeenAt v sets x
+pub seen_at : (v : View) (sets : ℕ → Option Row) → Shows birth_in (client_rows v).rows v.births sets → (x : Known)
+    → Held (client_rows v) x → SeenAt v sets x
 seen_at v sets s x h =
     let r = held_row v x h in
     let shown = s.shown x.id (row r.entry) (ap (option_map row) r.there) in
     let b : birth_in (row r.entry) ≡ x.born.birth = birth_bare r.entry.state (plain r.entry) ∙ ap birth_of r.same in
     record { entry = r.entry; there = r.there; same = r.same; shown = ap sets (sym b) ∙ shown }
 
-pub held_at_client : (v : View) (sets : ℕ → Option Row) → Shows birth_in (client_rows v).rows v.births sets → (x : Known) → 0 < x.id → Held (client_rows v) x → HeldAt v sets x
-held_at_client v sets s x some h = let r = seen_at v sets s x h in record { some = some; entry = r.entry; there = r.there; same = r.same; shown = r.shown }
+pub held_at_client : (v : View) (sets : ℕ → Option Row) → Shows birth_in (client_rows v).rows v.births sets
+    → (x : Known) → 0 < x.id → Held (client_rows v) x → HeldAt v sets x
+held_at_client v sets s x some h = let r = seen_at v sets s x h
+    in record { some = some; entry = r.entry; there = r.there; same = r.same; shown = r.shown }
 
 -- ---- an event
 
-pub record InEvent (p : PairState) (w : World) (m : Message Known) (cs : List (Coming Known)) (asked : List (Message Known)) (s : StandsBy p w asked (Event m ∷ cs)) (n : ℕ) : Type 0 where
+-- an event in front: its objects are held, it is found, and the rest is in flight
+pub record InEvent (p : PairState) (w : World) (m : Message Known) (cs : List (Coming Known))
+    (asked : List (Message Known)) (s : StandsBy p w asked (Event m ∷ cs)) (n : ℕ) : Type 0 where
   pub target : SeenAt p.client.core.view w.client m.target
   pub met : AllMet p.client.core.view w.client m.args
-  pub finds_it : found p.client.core event_side ≡ Ok (Some (the_found n m target.entry s.told_fit.0.fits.signature))
-  pub tells_it : TellsAt (test_of p) (all_tells cs) (client_rows p.client.core.view) s.meet.middle m.target (objects m.args) m.ends
-  pub down : InFlight p.server.core.outbox (without_first p.client.core.inbox n (length (tokens m.args))) (map spelled_coming cs)
+  pub finds_it : found p.client.core event_side ≡ Ok (Some (the_found n m target.entry s.events.fit.0.fits.signature))
+  pub tells_it : TellsAt (test_of p) (all_tells cs) (client_rows p.client.core.view) s.meet.middle m.target
+      (objects m.args) m.ends
+  pub down : InFlight p.server.core.outbox (without_first p.client.core.inbox n (length (tokens m.args)))
+      (map spelled_coming cs)
   pub more : List ℕ
   pub tokens_are : p.client.core.inbox.tokens ≡ tokens m.args ++ more
 
 fits_at : (t u : List Interface) (m : Message Known) → t ≡ u → Fits t event_side m → Fits u event_side m
 fits_at t u m e f = subst (λ (x : List Interface). Fits x event_side m) e f
 
-pub in_event : (p : PairState) (w : World) (m : Message Known) (cs : List (Coming Known)) (asked : List (Message Known)) (s : StandsBy p w asked (Event m ∷ cs)) (n : ℕ)
+-- the first of what comes, where it is an event and whole
+pub in_event : (p : PairState) (w : World) (m : Message Known) (cs : List (Coming Known)) (asked : List (Message Known))
+    (s : StandsBy p w asked (Event m ∷ cs)) (n : ℕ)
     → in_front p.client.core.inbox ≡ Whole n → InEvent p w m cs asked s n
 in_event p w m cs asked s n e =
-    let q = pops p.server.core.outbox p.client.core.inbox (map spelled_coming (Event m ∷ cs)) n s.to_client e in
-    let first : q.first ≡ spelled m = cc q.is in
-    let rest : q.rest ≡ map spelled_coming cs = cc q.is in
+    let q = first_read p.server.core.outbox p.client.core.inbox (spelled m)
+    (map spelled_coming cs) n s.events.in_boxes e in
     let t = tells_at m.target (objects m.args) m.ends s.meet.reads in
-    let r = seen_at p.client.core.view w.client s.client_sets m.target t.target in
-    let f = s.told_fit.0.fits in
-    let met = all_met p.server.core.tables m.target.born.version p.client.core.view w.client (Held (client_rows p.client.core.view)) (held_at_client p.client.core.view w.client s.client_sets)
-    f.signature.kinds m.args f.args t.args (news_none p.client.core.view m.args m.args s.told_fit.0.makes_none f.new_is) in
-    let bytes : take n p.client.core.inbox.bytes ≡ (spelled m).bytes = q.bytes ∙ ap (λ (x : boxes.Message). x.bytes) first in
-    let own : q.first.tokens ≡ tokens m.args = ap (λ (x : boxes.Message). x.tokens) first in
-    let enough : length (tokens m.args) ≤ length p.client.core.inbox.tokens = let k = ap length own in omega (arith, q.enough, k) in
+    let r = seen_at p.client.core.view w.client s.client.sets m.target t.target in
+    let f = s.events.fit.0.fits in
+    let met = all_met p.server.core.tables m.target.born.version p.client.core.view w.client
+    (Held (client_rows p.client.core.view)) (held_at_client p.client.core.view w.client s.client.sets)
+    f.signature.kinds m.args f.args t.args (news_none p.client.core.view m.args m.args s.events.fit.0.makes_none
+    f.new_is) in
     let core' : Core = record p.client.core { tables = p.server.core.tables } in
-    let same_core : core' ≡ p.client.core = λ i. record p.client.core { tables = sym s.same_tables i } in
+    let same_core : core' ≡ p.client.core = λ i. record p.client.core { tables = sym s.terms.same_tables i } in
     record {
       target = r;
       met = met;
-      finds_it = ap (λ (c : Core). found c event_side) (sym same_core) ∙ finds core' event_side m n w.client r.entry f e bytes r.there r.same met enough;
+      finds_it = ap (λ (c : Core). found c event_side) (sym same_core)
+          ∙ finds core' event_side m n w.client r.entry f e q.bytes r.there r.same met q.enough;
       tells_it = t;
-      down = subst (λ (l : List boxes.Message). InFlight p.server.core.outbox (without_first p.client.core.inbox n (length (tokens m.args))) l) rest
-          (subst (λ (l : List ℕ). InFlight p.server.core.outbox (without_first p.client.core.inbox n (length l)) q.rest) own q.stay);
+      down = q.stay;
       more = q.more;
-      tokens_are = q.tokens ∙ ap (λ (l : List ℕ). l ++ q.more) own;
+      tokens_are = q.tokens;
     }
 
 -- the client as an event leaves it
@@ -122,34 +130,47 @@ after_event st m n teaches = record {
   globals = cond teaches (globals_told st.core.tables st.globals m.opcode (map wire m.args)) st.globals;
 }
 
+-- an event of a live registry teaches the client
 abbrev pub teaches : Message Known → Entry → Bool
 teaches m entry = is_registry m.target.born && is_live entry.state
 
 -- what is told of an event that is neither wl_display.error nor delete_id
-pub record EventAnswer (p : PairState) (m : Message Known) (n : ℕ) (entry : Entry) (signature : sigs.Message) : Type 0 where
-  pub tells_it : report p.client.core (the_found n m entry signature) ≡ reports.plain_report p.client.core m.opcode (the_message m entry signature) entry.state
+pub record EventAnswer (p : PairState) (m : Message Known) (n : ℕ) (entry : Entry)
+    (signature : sigs.Message) : Type 0 where
+  pub tells_it : report p.client.core (the_found n m entry signature)
+      ≡ reports.plain_report p.client.core m.opcode (the_message m entry signature) entry.state
   pub leaves : state_past p.client (the_found n m entry signature) ≡ after_event p.client m n (teaches m entry)
 
-pub event_answer : (p : PairState) (m : Message Known) (n : ℕ) (entry : Entry) (tables : List Interface) (f : Fits tables event_side m) → Valid tables → is_delete_id event_side m.target.born.iface m.opcode ≡ false → plain entry ≡ m.target.born
+-- what the client says of an event, and how it leaves the client
+pub event_answer : (p : PairState) (m : Message Known) (n : ℕ) (entry : Entry) (tables : List Interface)
+    (f : Fits tables event_side m) → Valid tables → is_delete_id event_side m.target.born.iface m.opcode ≡ false
+    → plain entry ≡ m.target.born
     → EventAnswer p m n entry f.signature
 event_answer p m n entry tables f valid d s =
-    let error : is_error event_side entry.iface m.opcode ≡ false = ap (λ (b : Born). is_error event_side b.iface m.opcode) s ∙ f.no_error in
-    let delete : is_delete_id event_side entry.iface m.opcode ≡ false = ap (λ (b : Born). is_delete_id event_side b.iface m.opcode) s ∙ d in
-    let count : descriptors f.signature.kinds ≡ length (tokens m.args) = tokens_taken tables m.target.born.version f.signature.kinds m.args f.args in
+    let error : is_error event_side entry.iface m.opcode ≡ false =
+    ap (λ (b : Born). is_error event_side b.iface m.opcode) s ∙ f.no_error in
+    let delete : is_delete_id event_side entry.iface m.opcode ≡ false =
+    ap (λ (b : Born). is_delete_id event_side b.iface m.opcode) s ∙ d in
+    let count : descriptors f.signature.kinds ≡ length (tokens m.args) =
+    tokens_taken tables m.target.born.version f.signature.kinds m.args f.args in
     let registers : same_iface entry.iface registry ≡ is_registry m.target.born = ap is_registry s in
     let v = p.client.core.view in
-    let a = after client_end v None f.signature.destroys (ended_id f.signature.destroys m.target.id (map wire m.args)) in
-    let left : a ≡ ended_view client_end v m.ends = after_is client_end v None f.signature.destroys _ m.ends (ends_as tables event_side m f valid) in
+    let a = after client_end v None f.signature.destroys
+    (ended_id f.signature.destroys m.target.id (map wire m.args)) in
+    let left : a ≡ ended_view client_end v m.ends =
+    after_is client_end v None f.signature.destroys _ m.ends (ends_as tables event_side m f valid) in
     record {
       tells_it = rw (error, delete) refl;
       leaves = λ i. record {
         core = record p.client.core {
-          view = cond (error i) v (cond (delete i) (after_delete_id v (reports.deleted_id (the_found n m entry f.signature))) (left i));
+          view = cond (error i) v (cond (delete i)
+              (after_delete_id v (reports.deleted_id (the_found n m entry f.signature))) (left i));
           inbox = without_first p.client.core.inbox n (count i);
           read = min (p.client.core.read + n) 18446744073709551615;
           failed = error i;
         };
-        globals = cond (registers i && is_live entry.state) (globals_told p.client.core.tables p.client.globals m.opcode (map wire m.args)) p.client.globals;
+        globals = cond (registers i && is_live entry.state)
+            (globals_told p.client.core.tables p.client.globals m.opcode (map wire m.args)) p.client.globals;
       };
     }
 
@@ -159,107 +180,95 @@ open_is : (s : State) (b : Born) → is_open (Some (as_row s b)) ≡ is_live s
 open_is states.Live b = refl
 open_is states.Zombie b = refl
 
-display_kept : (v : View) (o : Option Known) → look v 1 ≡ Some (live_entry display_born) → IfThere Mortal o → look (ended_view client_end v o) 1 ≡ Some (live_entry display_born)
-display_kept v None h y = h
-display_kept v (Some x) h y = let b : nat_eq 1 x.id ≡ false = ne_eqb 1 x.id (λ e. y (sym e)) in look-zombied v x.id 1 ∙ rw b h
-
-no_births : (v : View) (o : Option Known) → (ended_view client_end v o).births ≡ v.births
-no_births v None = refl
-no_births v (Some x) = refl
-
-learned_is : (p : PairState) (w : World) (m : Message Known) (asked : List (Message Known)) (told : List (Coming Known)) (s : StandsBy p w asked told) (t : SeenAt p.client.core.view w.client m.target)
-    → learned p.client.core.tables w.client (renamed born_of m) w.remembered ≡ cond (teaches m t.entry) (globals_told p.client.core.tables p.client.globals m.opcode (map wire m.args)) p.client.globals
+learned_is : (p : PairState) (w : World) (m : Message Known) (asked : List (Message Known)) (told : List (Coming Known))
+    (s : StandsBy p w asked told) (t : SeenAt p.client.core.view w.client m.target)
+    → learned p.client.core.tables w.client (renamed born_of m) w.remembered
+    ≡ cond (teaches m t.entry) (globals_told p.client.core.tables p.client.globals m.opcode (map wire m.args))
+    p.client.globals
 learned_is p w m asked told s t =
-    let live : is_open (w.client m.target.born.birth) ≡ is_live t.entry.state = ap is_open t.shown ∙ open_is t.entry.state (plain t.entry) in
-    let same : globals_told p.client.core.tables p.client.globals m.opcode (map nameless (map (rearg born_of) m.args)) ≡ globals_told p.client.core.tables p.client.globals m.opcode (map wire m.args) =
+    let live : is_open (w.client m.target.born.birth) ≡ is_live t.entry.state =
+    ap is_open t.shown ∙ open_is t.entry.state (plain t.entry) in
+    let same : globals_told p.client.core.tables p.client.globals m.opcode (map nameless (map (rearg born_of) m.args))
+    ≡ globals_told p.client.core.tables p.client.globals m.opcode (map wire m.args) =
     sym (told_same p.client.core.tables p.client.globals m.opcode m.args) in
-    (λ i. cond (is_registry m.target.born && live i) (globals_told p.client.core.tables (s.remembered i) m.opcode (map nameless (map (rearg born_of) m.args))) (s.remembered i))
+    (λ i. cond (is_registry m.target.born && live i)
+    (globals_told p.client.core.tables (s.globals.remembered i) m.opcode
+    (map nameless (map (rearg born_of) m.args))) (s.globals.remembered i))
     ∙ ap (λ (l : List Remembered). cond (teaches m t.entry) l p.client.globals) same
 
-learns : (p : PairState) (w : World) (m : Message Known) (asked : List (Message Known)) (told : List (Coming Known)) (s : StandsBy p w asked told) (f : TellsFitly p.server.core.tables p.server.globals m)
-    → (b : Bool) → (b ≡ true → is_registry m.target.born ≡ true) → Each (Gave p.server.globals) (cond b (globals_told p.client.core.tables p.client.globals m.opcode (map wire m.args)) p.client.globals)
-learns p w m asked told s f false h = s.remembers
-learns p w m asked told s f true h =
-    told_keeps p.client.core.tables p.server.globals p.client.globals m.opcode m.args
-    (λ e. subst (λ (t : List Interface). TellsGiven t p.server.globals m.args) (sym s.same_tables) (f.tells (h refl) e))
-    s.remembers (nat_eq m.opcode 0) (nat_eq m.opcode 1) refl
-
-pub event_stands : (p : PairState) (w : World) (m : Message Known) (cs : List (Coming Known)) (asked : List (Message Known)) (s : StandsBy p w asked (Event m ∷ cs)) (n : ℕ) (i : InEvent p w m cs asked s n)
+-- a pair stands again after the client has read an event
+pub event_stands : (p : PairState) (w : World) (m : Message Known) (cs : List (Coming Known))
+    (asked : List (Message Known)) (s : StandsBy p w asked (Event m ∷ cs)) (n : ℕ) (i : InEvent p w m cs asked s n)
     → IfThere Mortal m.ends
-    → StandsBy (with_client p (after_event p.client m n (teaches m i.target.entry))) (event_read p.client.core.tables w (renamed born_of m) (map (recoming born_of) cs)) asked cs
+    → StandsBy (with_client p (after_event p.client m n (teaches m i.target.entry)))
+    (event_read p.client.core.tables w (renamed born_of m) (map (recoming born_of) cs)) asked cs
 event_stands p w m cs asked s n i y =
-    let f = s.told_fit.0.fits in
-    let d : ended_by f.signature.destroys m.target m.args ≡ m.ends = sym f.ends in
+    let f = s.events.fit.0.fits in
     let v = p.client.core.view in
     let t = i.tells_it in
-    let held : IfThere (Held (client_rows v)) m.ends = subst (λ (o : Option Known). IfThere (Held (client_rows v)) o) d (ended_has (Held (client_rows v)) f.signature.destroys m.target m.args t.target t.args) in
-    let rows : client_rows (ended_view client_end v m.ends) ≡ client_ends m.ends (client_rows v) = client_after v None m.ends tt (if_by (held_row v) m.ends held) in
-    let sets = client_ended (client_rows v) w.client m.ends s.client_sets held in
+    let held : IfThere (Held (client_rows v)) m.ends =
+    ends_have (Held (client_rows v)) p.server.core.tables event_side m f t.target t.args in
+    let rows : client_rows (ended_view client_end v m.ends) ≡ client_ends m.ends (client_rows v) =
+    client_after v None m.ends tt (if_by (held_row v) m.ends held) in
     record {
-      same_tables = s.same_tables;
-      valid = s.valid;
-      deletes_follow = s.deletes_follow.1;
-      client_sets = subst (λ (x : Rows Row). Shows birth_in x.rows x.births (ending (option_map born_of m.ends) w.client)) (sym rows) sets;
-      server_sets = s.server_sets;
-      births = s.births ∙ sym (no_births v m.ends);
-      client_sound = client_sound v None m.ends s.client_sound y;
-      versions = client_aged v None m.ends tt s.versions;
-      server_sound = s.server_sound;
-      client_display = display_kept v m.ends s.client_display y;
-      server_display = s.server_display;
-      server_versions = s.server_versions;
-      server_live = s.server_live;
+      terms = s.terms;
+      client = client_message s.client None m.ends s.client.sound tt tt held held y false refl;
+      server = s.server;
       requests = s.requests;
-      events = refl;
-      to_server = s.to_server;
-      to_client = i.down;
-      asked_fit = s.asked_fit;
-      told_fit = s.told_fit.1;
+      events = record { in_world = refl; in_boxes = i.down; fit = s.events.fit.1 };
+      deletes_follow = s.deletes_follow.1;
       meet = record {
         middle = s.meet.middle;
         reads = subst (λ (x : Rows Row). Reads (test_of p) (all_tells cs) x s.meet.middle) (sym rows) t.rest;
         tied = s.meet.tied;
       };
-      client_lives = refl;
-      server_lives = s.server_lives;
-      remembered = learned_is p w m asked (Event m ∷ cs) s i.target;
-      given = s.given;
+      globals = record {
+        remembered = learned_is p w m asked (Event m ∷ cs) s i.target;
+        given = s.globals.given;
+        remembers = learns (λ g. WasGiven p.server.globals g.name g.iface g.version) p.server.core.tables
+            p.client.core.tables p.server.globals p.client.globals m s.terms.same_tables s.events.fit.0
+            (λ h e t. t.was_given) s.globals.remembers (teaches m i.target.entry)
+            (λ h. (and_parts (is_registry m.target.born) (is_live i.target.entry.state) h).0);
+        globals = s.globals.globals;
+        few_globals = s.globals.few_globals;
+      };
       registries = s.registries;
-      remembers = learns p w m asked (Event m ∷ cs) s s.told_fit.0 (teaches m i.target.entry) (λ h. (and_parts (is_registry m.target.born) (is_live i.target.entry.state) h).0);
-      globals = s.globals;
-      up_limit = s.up_limit;
-      down_limit = s.down_limit;
-      one_limit = s.one_limit;
-      few_globals = s.few_globals;
-      open_registries = s.open_registries;
     }
 
 -- ---- a delete
 
 -- wl_display does not end by an event, so what does is not id 1
-held_mortal : (p : PairState) (w : World) (asked : List (Message Known)) (told : List (Coming Known)) → StandsBy p w asked told → (x : Known) → Held (client_rows p.client.core.view) x
+held_mortal : (p : PairState) (w : World) (asked : List (Message Known)) (told : List (Coming Known))
+    → StandsBy p w asked told → (x : Known) → Held (client_rows p.client.core.view) x
     → test_of p x.born ≡ true → x.id ≢ 1
 held_mortal p w asked told s x h d one =
     let r = held_row p.client.core.view x h in
-    let e : Some r.entry ≡ Some (live_entry display_born) = sym r.there ∙ ap (look p.client.core.view) one ∙ s.client_display in
+    let e : Some r.entry ≡ Some (live_entry display_born) =
+    sym r.there ∙ ap (look p.client.core.view) one ∙ s.client.display in
     let entry : r.entry ≡ live_entry display_born = cc e in
     let born : x.born ≡ display_born = sym r.same ∙ ap plain entry in
-    let plain_display : test_of p display_born ≡ false = rw s.valid.fixed_four.display refl in
+    let plain_display : test_of p display_born ≡ false = rw s.terms.valid.fixed_four.display refl in
     let no : true ≡ false = sym d ∙ ap (test_of p) born ∙ plain_display in
     cc no
 
-pub event_mortal : (p : PairState) (w : World) (m : Message Known) (cs : List (Coming Known)) (asked : List (Message Known)) (s : StandsBy p w asked (Event m ∷ cs)) (n : ℕ) → InEvent p w m cs asked s n
+-- no event ends wl_display
+pub event_mortal : (p : PairState) (w : World) (m : Message Known) (cs : List (Coming Known))
+    (asked : List (Message Known)) (s : StandsBy p w asked (Event m ∷ cs)) (n : ℕ) → InEvent p w m cs asked s n
     → IfThere Mortal m.ends
 event_mortal p w m cs asked s n i =
     let t = i.tells_it in
-    let f = s.told_fit.0.fits in
+    let f = s.events.fit.0.fits in
     both_if (held_mortal p w asked (Event m ∷ cs) s) m.ends
-    (subst (λ (o : Option Known). IfThere (Held (client_rows p.client.core.view)) o) (sym f.ends) (ended_has (Held (client_rows p.client.core.view)) f.signature.destroys m.target m.args t.target t.args)) t.ends_it
+    (ends_have (Held (client_rows p.client.core.view)) p.server.core.tables event_side m f t.target t.args) t.ends_it
 
+-- the event wl_display.delete_id of an object
 abbrev pub deleting : Known → Message Known
 deleting x = record { target = record { id = 1; born = display_born }; opcode = 1; args = Uint x.id ∷ []; ends = None }
 
-pub delete_signature : (tables : List Interface) → signature_at tables 0 event_side 1 ≡ Some (fixed.message (codes "delete_id") 1 (fixed.uint ∷ []) Nothing) → (x : Known) → x.id ≤ 1048576 → Fits tables event_side (deleting x)
+-- it fits the signature of wl_display.delete_id
+pub delete_signature : (tables : List Interface) → signature_at tables 0 event_side 1
+    ≡ Some (fixed.message (codes "delete_id") 1 (fixed.uint ∷ []) Nothing) → (x : Known) → x.id ≤ 1048576
+    → Fits tables event_side (deleting x)
 delete_signature tables e x h = record {
   signature = fixed.message (codes "delete_id") 1 (fixed.uint ∷ []) Nothing;
   there = e;
@@ -274,45 +283,49 @@ delete_signature tables e x h = record {
   no_error = refl;
 }
 
+-- a delete in front: its object is held, it is found, and the rest is in flight
 pub record InDelete (p : PairState) (x : Known) (cs : List (Coming Known)) (middle : Rows Row) (n : ℕ) : Type 0 where
   pub entry : Entry
   pub there : look p.client.core.view x.id ≡ Some entry
   pub same : plain entry ≡ x.born
   pub signature : sigs.Message
   pub some_kinds : not (is_none signature.kinds) ≡ true
-  pub finds_it : found p.client.core event_side ≡ Ok (Some (the_found n (deleting x) (live_entry display_born) signature))
+  pub finds_it : found p.client.core event_side ≡ Ok
+      (Some (the_found n (deleting x) (live_entry display_born) signature))
   pub keeps_target : signature.destroys ≡ Nothing
   pub count : descriptors signature.kinds ≡ 0
   pub deletes_it : DeletesAt (test_of p) (all_tells cs) (client_rows p.client.core.view) middle x
   pub down : InFlight p.server.core.outbox (without_first p.client.core.inbox n 0) (map spelled_coming cs)
 
-pub in_delete : (p : PairState) (w : World) (x : Known) (cs : List (Coming Known)) (asked : List (Message Known)) (s : StandsBy p w asked (Delete x ∷ cs)) (n : ℕ)
+-- the first of what comes, where it is a delete and whole
+pub in_delete : (p : PairState) (w : World) (x : Known) (cs : List (Coming Known)) (asked : List (Message Known))
+    (s : StandsBy p w asked (Delete x ∷ cs)) (n : ℕ)
     → in_front p.client.core.inbox ≡ Whole n → InDelete p x cs s.meet.middle n
 unfolding delete_signature
 in_delete p w x cs asked s n e =
-    let q = pops p.server.core.outbox p.client.core.inbox (map spelled_coming (Delete x ∷ cs)) n s.to_client e in
-    let first : q.first ≡ spelled (deleting x) = cc q.is in
-    let rest : q.rest ≡ map spelled_coming cs = cc q.is in
+    let q = first_read p.server.core.outbox p.client.core.inbox (spelled (deleting x))
+    (map spelled_coming cs) n s.events.in_boxes e in
     let t = deletes_at x s.meet.reads in
     let r = held_row p.client.core.view x t.held in
-    let display_there : signature_at p.server.core.tables 0 event_side 1 ≡ Some (fixed.message (codes "delete_id") 1 (fixed.uint ∷ []) Nothing) = rw s.valid.fixed_four.display refl in
-    let f = delete_signature p.server.core.tables display_there x s.told_fit.0 in
-    let bytes : take n p.client.core.inbox.bytes ≡ (spelled (deleting x)).bytes = q.bytes ∙ ap (λ (y : boxes.Message). y.bytes) first in
-    let own : q.first.tokens ≡ [] = ap (λ (y : boxes.Message). y.tokens) first in
+    let display_there : signature_at p.server.core.tables 0 event_side 1
+    ≡ Some (fixed.message (codes "delete_id") 1 (fixed.uint ∷ []) Nothing) =
+    rw s.terms.valid.fixed_four.display refl in
+    let f = delete_signature p.server.core.tables display_there x s.events.fit.0 in
     let core' : Core = record p.client.core { tables = p.server.core.tables } in
-    let same_core : core' ≡ p.client.core = λ i. record p.client.core { tables = sym s.same_tables i } in
+    let same_core : core' ≡ p.client.core = λ i. record p.client.core { tables = sym s.terms.same_tables i } in
     record {
       entry = r.entry;
       there = r.there;
       same = r.same;
       signature = f.signature;
       some_kinds = refl;
-      finds_it = ap (λ (c : Core). found c event_side) (sym same_core) ∙ finds core' event_side (deleting x) n w.client (live_entry display_born) f e bytes s.client_display refl (tt, tt) (omega arith);
+      finds_it = ap (λ (c : Core). found c event_side) (sym same_core)
+          ∙ finds core' event_side (deleting x) n w.client (live_entry display_born) f e q.bytes s.client.display refl
+          (tt, tt) (omega arith);
       keeps_target = refl;
       count = refl;
       deletes_it = t;
-      down = subst (λ (l : List boxes.Message). InFlight p.server.core.outbox (without_first p.client.core.inbox n 0) l) rest
-          (subst (λ (l : List ℕ). InFlight p.server.core.outbox (without_first p.client.core.inbox n (length l)) q.rest) own q.stay);
+      down = q.stay;
     }
 
 -- the client as a delete leaves it
@@ -327,10 +340,14 @@ after_delete st x n = record st {
 }
 
 pub record DeleteAnswer (p : PairState) (x : Known) (n : ℕ) (entry : Entry) (signature : sigs.Message) : Type 0 where
-  pub tells_it : report p.client.core (the_found n (deleting x) (live_entry display_born) signature) ≡ reports.Deleted (record { id = x.id; birth = entry.birth })
-  pub leaves : state_past p.client (the_found n (deleting x) (live_entry display_born) signature) ≡ after_delete p.client x n
+  pub tells_it : report p.client.core (the_found n (deleting x) (live_entry display_born) signature)
+      ≡ reports.Deleted (record { id = x.id; birth = entry.birth })
+  pub leaves : state_past p.client (the_found n (deleting x) (live_entry display_born) signature)
+      ≡ after_delete p.client x n
 
-pub delete_answer : (p : PairState) (x : Known) (n : ℕ) (entry : Entry) (signature : sigs.Message) → x.id ≢ 1 → look p.client.core.view x.id ≡ Some entry → descriptors signature.kinds ≡ 0 → DeleteAnswer p x n entry signature
+-- what the client says of a delete, and how it leaves the client
+pub delete_answer : (p : PairState) (x : Known) (n : ℕ) (entry : Entry) (signature : sigs.Message) → x.id ≢ 1
+    → look p.client.core.view x.id ≡ Some entry → descriptors signature.kinds ≡ 0 → DeleteAnswer p x n entry signature
 delete_answer p x n entry signature y l c =
     let b : nat_eq x.id 1 ≡ false = ne_eqb x.id 1 y in
     let v = p.client.core.view in
@@ -347,49 +364,25 @@ delete_answer p x n entry signature y l c =
       };
     }
 
-pub delete_stands : (p : PairState) (w : World) (x : Known) (cs : List (Coming Known)) (asked : List (Message Known)) (s : StandsBy p w asked (Delete x ∷ cs)) (n : ℕ) (i : InDelete p x cs s.meet.middle n)
+-- a pair stands again after the client has read a delete
+pub delete_stands : (p : PairState) (w : World) (x : Known) (cs : List (Coming Known)) (asked : List (Message Known))
+    (s : StandsBy p w asked (Delete x ∷ cs)) (n : ℕ) (i : InDelete p x cs s.meet.middle n)
     → StandsBy (with_client p (after_delete p.client x n)) (delete_read w x.born (map (recoming born_of) cs)) asked cs
 delete_stands p w x cs asked s n i =
-    let v = p.client.core.view in
     let t = i.deletes_it in
-    let rows = client_closed v x.id in
-    let held : is_held v x.id ≡ true = ap is_some i.there in
-    let b : nat_eq 1 x.id ≡ false = ne_eqb 1 x.id (λ e. t.mortal (sym e)) in
     record {
-      same_tables = s.same_tables;
-      valid = s.valid;
-      deletes_follow = s.deletes_follow;
-      client_sets = subst (λ (y : Rows Row). Shows birth_in y.rows y.births (put w.client x.born.birth None)) (sym rows) (client_deleted (client_rows v) w.client x s.client_sets t.held);
-      server_sets = s.server_sets;
-      births = s.births;
-      client_sound = Sound-closed v x.id s.client_sound held t.mortal;
-      versions = closed_aged v x.id s.versions;
-      server_sound = s.server_sound;
-      client_display = look-closed v x.id 1 ∙ rw b s.client_display;
-      server_display = s.server_display;
-      server_versions = s.server_versions;
-      server_live = s.server_live;
+      terms = s.terms;
+      client = client_delete s.client x t.held t.mortal false refl;
+      server = s.server;
       requests = s.requests;
-      events = refl;
-      to_server = s.to_server;
-      to_client = i.down;
-      asked_fit = s.asked_fit;
-      told_fit = s.told_fit.1;
+      events = record { in_world = refl; in_boxes = i.down; fit = s.events.fit.1 };
+      deletes_follow = s.deletes_follow;
       meet = record {
         middle = s.meet.middle;
-        reads = subst (λ (y : Rows Row). Reads (test_of p) (all_tells cs) y s.meet.middle) (sym rows) t.rest;
+        reads = subst (λ (y : Rows Row). Reads (test_of p) (all_tells cs) y s.meet.middle)
+            (sym (client_closed p.client.core.view x.id)) t.rest;
         tied = s.meet.tied;
       };
-      client_lives = refl;
-      server_lives = s.server_lives;
-      remembered = s.remembered;
-      given = s.given;
-      registries = s.registries;
-      remembers = s.remembers;
       globals = s.globals;
-      up_limit = s.up_limit;
-      down_limit = s.down_limit;
-      one_limit = s.one_limit;
-      few_globals = s.few_globals;
-      open_registries = s.open_registries;
+      registries = s.registries;
     }

@@ -1,34 +1,43 @@
 -- What is in flight while an end writes or reads one thing more.
-use Rattle.std.proofs.Common.{◌≡◌, ℕ, ◌+◌, Bool, true, false, List, [], ◌∷◌, ◌++◌, ◌⊎◌, inl, inr, refl, sym, ◌∙◌, ap, subst, arith, ◌≢◌}
+use Rattle.std.proofs.Common.{◌≡◌, ℕ, ◌+◌, Bool, true, false, List, [], ◌∷◌, ◌++◌, ◌⊎◌, inl, inr}
+use Rattle.std.proofs.Common.{refl, sym, ◌∙◌, ap, subst, arith, ◌≢◌}
 use Rattle.std.proofs.lemmas.Bool.Decides.{nat_tests}
 use Rattle.std.specs.declared.option.Option.{Option}
 use Rattle.std.specs.declared.option.Option.TheVariants.{None, Some}
 use Rattle.theory_connection.specs.Meant.{Born, Known}
 use Rattle.theory_connection.specs.World.{Row, Open, Ending, put}
-use Rattle.theory_connection.specs.Flight.{Rows, at, most, made, Ask, Use, Make, Destroy, Tell, at_client, Held, Fresh, Reads, done, name, end, delete, Tied, drained, use_, make, destroy}
+use Rattle.theory_connection.specs.Flight.{Rows, at, most, made, Ask, Use, Make, Destroy, Tell}
+use Rattle.theory_connection.specs.Flight.{at_client, Held, Fresh, Reads, done, name, end, delete}
+use Rattle.theory_connection.specs.Flight.{Tied, drained, use_, make, destroy}
 
 module _ {X : Type 0} where
   -- what stands where after a put
-  pub put_tells : (f : ℕ → Option X) (i : ℕ) (o : Option X) (j : ℕ) → ((j ≡ i) × (put f i o j ≡ o)) ⊎ ((j ≢ i) × (put f i o j ≡ f j))
+  pub put_tells : (f : ℕ → Option X) (i : ℕ) (o : Option X) (j : ℕ)
+      → ((j ≡ i) × (put f i o j ≡ o)) ⊎ ((j ≢ i) × (put f i o j ≡ f j))
   unfolding put
   put_tells f i o j = grind (arith, nat_tests)
 
+  -- what was put stands there
   pub put_same : (f : ℕ → Option X) (i : ℕ) (o : Option X) → put f i o i ≡ o
   put_same f i o = grind (arith, put_tells)
 
+  -- two puts at different places change places
   pub put_swap : (f : ℕ → Option X) (i j : ℕ) (a b : Option X) → i ≢ j → put (put f i a) j b ≡ put (put f j b) i a
   put_swap f i j a b ne =
       let each : (q : ℕ) → put (put f i a) j b q ≡ put (put f j b) i a q = λ q. grind (arith, put_tells) in
       λ k q. each q k
 
+  -- of two puts at a place the last stands
   pub put_over : (f : ℕ → Option X) (i : ℕ) (a b : Option X) → put (put f i a) i b ≡ put f i b
   put_over f i a b =
       let each : (q : ℕ) → put (put f i a) i b q ≡ put f i b q = λ q. grind (arith, put_tells) in
       λ k q. each q k
 
+-- what is held stays held when another id changes
 pub held_other : (v : Rows Row) (n : Known) (i : ℕ) (o : Option Row) → Held v n → n.id ≢ i → Held (at v i o) n
 held_other v n i o h ne = grind (arith, put_tells)
 
+-- what is held has a row
 pub held_some : (v : Rows Row) (n : Known) (i : ℕ) → Held v n → v.rows i ≡ None → n.id ≢ i
 held_some v n i h e = grind arith
 
@@ -42,7 +51,8 @@ none_at_server (Some x) h = cc
 
 module _ {test : Born → Bool} where
   -- a live object of an interface without a destroying event is live after the events too
-  pub live_after : {es : List Tell} {v w : Rows Row} (i : ℕ) (e : Born) → Reads test es v w → v.rows i ≡ Some (Open e) → test e ≡ false → w.rows i ≡ Some (Open e)
+  pub live_after : {es : List Tell} {v w : Rows Row} (i : ℕ) (e : Born) → Reads test es v w → v.rows i ≡ Some (Open e)
+      → test e ≡ false → w.rows i ≡ Some (Open e)
   live_after i e done h f = h
   live_after i e (name a r) h f = live_after i e r h f
   live_after i e (end {x = n} b a r) h f = live_after i e r (grind (arith, put_tells)) f
@@ -63,51 +73,66 @@ module _ {test : Born → Bool} where
   counts_after (delete z a b r) = counts_after r
 
   pub reads_rows : {es : List Tell} {w : Rows Row} {f g : ℕ → Option Row} {u b : ℕ} → f ≡ g
-      → Reads test es (record { rows = f; used = u; births = b }) w → Reads test es (record { rows = g; used = u; births = b }) w
-  reads_rows {es} {w} {f} {g} {u} {b} e r = subst (λ (h : ℕ → Option Row). Reads test es (record { rows = h; used = u; births = b }) w) e r
+      → Reads test es (record { rows = f; used = u; births = b }) w
+      → Reads test es (record { rows = g; used = u; births = b }) w
+  reads_rows {es} {w} {f} {g} {u} {b} e r = subst
+      (λ (h : ℕ → Option Row). Reads test es (record { rows = h; used = u; births = b }) w) e r
 
   -- what is held at an id is held after a put at another id
 
   -- the client makes an object while events are in flight
-  pub make_before : {es : List Tell} {v w : Rows Row} (i : ℕ) (x : Row) → Reads test es v w → v.rows i ≡ None → Reads test es (made v i x) (made w i x)
+  pub make_before : {es : List Tell} {v w : Rows Row} (i : ℕ) (x : Row) → Reads test es v w → v.rows i ≡ None
+      → Reads test es (made v i x) (made w i x)
   make_before i x done h = done
-  make_before i x (name {v = v} {x = n} a r) h = name (held_other v n i (Some x) a (held_some v n i a h)) (make_before i x r h)
+  make_before i x (name {v = v} {x = n} a r) h = name (held_other v n i (Some x) a (held_some v n i a h))
+      (make_before i x r h)
   make_before i x (end {v = v} {x = n} b a r) h =
       let ne = held_some v n i a h in
-      end b (held_other v n i (Some x) a ne) (reads_rows (put_swap _ _ _ _ _ ne) (make_before i x r (grind (arith, put_tells))))
+      end b (held_other v n i (Some x) a ne) (reads_rows (put_swap _ _ _ _ _ ne)
+      (make_before i x r (grind (arith, put_tells))))
   make_before i x (delete {v = v} {x = n} z a b r) h =
       let ne = held_some v n i a h in
-      delete z (held_other v n i (Some x) a ne) (grind (arith, put_tells)) (reads_rows (put_swap _ _ _ _ _ ne) (make_before i x r (grind (arith, put_tells))))
+      delete z (held_other v n i (Some x) a ne) (grind (arith, put_tells))
+      (reads_rows (put_swap _ _ _ _ _ ne) (make_before i x r (grind (arith, put_tells))))
 
   -- the client destroys an object while events are in flight
-  pub destroy_before : {es : List Tell} {v w : Rows Row} (i : ℕ) (e : Born) → Reads test es v w → v.rows i ≡ Some (Open e) → test e ≡ false
+  pub destroy_before : {es : List Tell} {v w : Rows Row} (i : ℕ) (e : Born) → Reads test es v w
+      → v.rows i ≡ Some (Open e) → test e ≡ false
       → Reads test es (at v i (Some (Ending e))) (at w i (Some (Ending e)))
   destroy_before i e done h f = done
   destroy_before i e (name {v = v} {x = n} a r) h f = name (grind (arith, put_tells)) (destroy_before i e r h f)
   destroy_before i e (end {v = v} {x = n} b a r) h f =
       let ne : n.id ≢ i = grind arith in
-      end b (held_other v n i _ a ne) (reads_rows (put_swap _ _ _ _ _ ne) (destroy_before i e r (grind (arith, put_tells)) f))
+      end b (held_other v n i _ a ne) (reads_rows (put_swap _ _ _ _ _ ne)
+      (destroy_before i e r (grind (arith, put_tells)) f))
   destroy_before i e (delete {v = v} {x = n} z a b r) h f =
       let ne : n.id ≢ i = grind arith in
-      delete z (held_other v n i _ a ne) (grind (arith, put_tells)) (reads_rows (put_swap _ _ _ _ _ ne) (destroy_before i e r (grind (arith, put_tells)) f))
+      delete z (held_other v n i _ a ne) (grind (arith, put_tells))
+      (reads_rows (put_swap _ _ _ _ _ ne) (destroy_before i e r (grind (arith, put_tells)) f))
 
   -- events follow events
-  pub reads_more : {es fs : List Tell} {u v w : Rows Row} → Reads test es u v → Reads test fs v w → Reads test (es ++ fs) u w
+  pub reads_more : {es fs : List Tell} {u v w : Rows Row} → Reads test es u v → Reads test fs v w
+      → Reads test (es ++ fs) u w
   reads_more done r = r
   reads_more (name a r) q = name a (reads_more r q)
   reads_more (end b a r) q = end b a (reads_more r q)
   reads_more (delete z a b r) q = delete z a b (reads_more r q)
 
   tied_server : {qs : List Ask} {m : Rows Row} {f g : ℕ → Option Born} {u b : ℕ} → f ≡ g
-      → Tied test qs (record { rows = f; used = u; births = b }) m → Tied test qs (record { rows = g; used = u; births = b }) m
-  tied_server {qs} {m} {f} {g} {u} {b} e r = subst (λ (h : ℕ → Option Born). Tied test qs (record { rows = h; used = u; births = b }) m) e r
+      → Tied test qs (record { rows = f; used = u; births = b }) m
+      → Tied test qs (record { rows = g; used = u; births = b }) m
+  tied_server {qs} {m} {f} {g} {u} {b} e r = subst
+      (λ (h : ℕ → Option Born). Tied test qs (record { rows = h; used = u; births = b }) m) e r
 
   pub tied_client : {qs : List Ask} {s : Rows Born} {f g : ℕ → Option Row} {u b : ℕ} → f ≡ g
-      → Tied test qs s (record { rows = f; used = u; births = b }) → Tied test qs s (record { rows = g; used = u; births = b })
-  tied_client {qs} {s} {f} {g} {u} {b} e r = subst (λ (h : ℕ → Option Row). Tied test qs s (record { rows = h; used = u; births = b })) e r
+      → Tied test qs s (record { rows = f; used = u; births = b })
+      → Tied test qs s (record { rows = g; used = u; births = b })
+  tied_client {qs} {s} {f} {g} {u} {b} e r = subst
+      (λ (h : ℕ → Option Row). Tied test qs s (record { rows = h; used = u; births = b })) e r
 
   -- what the server has is at the client when it has read all events
-  pub held_at_client : {qs : List Ask} {s : Rows Born} {m : Rows Row} (n : Known) → Tied test qs s m → s.rows n.id ≡ Some n.born → Held m n
+  pub held_at_client : {qs : List Ask} {s : Rows Born} {m : Rows Row} (n : Known) → Tied test qs s m
+      → s.rows n.id ≡ Some n.born → Held m n
   held_at_client n (drained rows u b) h = grind (arith, rows n.id)
   held_at_client n (use_ a b t) h = held_at_client n t h
   held_at_client n (make {x = n'} a t) h = held_at_client n t (grind (arith, put_tells, a.free))
@@ -118,45 +143,74 @@ module _ {test : Born → Bool} where
       ]
 
   -- the server ends an object by an event, or drops it
-  pub end_before : {qs : List Ask} {s : Rows Born} {m : Rows Row} (i : ℕ) (e : Born) → Tied test qs s m → s.rows i ≡ Some e → test e ≡ true
+  pub end_before : {qs : List Ask} {s : Rows Born} {m : Rows Row} (i : ℕ) (e : Born) → Tied test qs s m
+      → s.rows i ≡ Some e → test e ≡ true
       → Tied test qs (at s i None) (at m i None)
   end_before i e (drained rows u b) h f = drained (λ q. grind (arith, put_tells, rows q)) u b
   end_before i e (use_ {x = n} a b t) h f = use_ (grind (arith, put_tells)) b (end_before i e t h f)
   end_before i e (make {s = s} {x = n} a t) h f =
       let ne : n.id ≢ i = grind (arith, a.free) in
-      make (record { free = grind (arith, put_tells, a.free); some = a.some; next = a.next; birth = a.birth; low = a.low; left = a.left })
+      make (record {
+        free = grind (arith, put_tells, a.free);
+        some = a.some;
+        next = a.next;
+        birth = a.birth;
+        low = a.low;
+        left = a.left;
+      })
       (tied_server (put_swap _ _ _ _ _ ne) (end_before i e t (grind (arith, put_tells)) f))
   end_before i e (destroy {x = n} z a b c t) h f =
       let ne : n.id ≢ i = grind arith in
       destroy z (grind (arith, put_tells)) b (grind (arith, put_tells))
-      (tied_client (put_swap _ _ _ _ _ ne) (tied_server (put_swap _ _ _ _ _ ne) (end_before i e t (grind (arith, put_tells)) f)))
+      (tied_client (put_swap _ _ _ _ _ ne) (tied_server (put_swap _ _ _ _ _ ne)
+      (end_before i e t (grind (arith, put_tells)) f)))
 
   -- the client writes one more action
-  pub use_more : {qs : List Ask} {s : Rows Born} {m : Rows Row} (n : Known) → Tied test qs s m → m.rows n.id ≡ Some (Open n.born) → test n.born ≡ false
+  pub use_more : {qs : List Ask} {s : Rows Born} {m : Rows Row} (n : Known) → Tied test qs s m
+      → m.rows n.id ≡ Some (Open n.born) → test n.born ≡ false
       → Tied test (qs ++ Use n ∷ []) s m
   use_more n (drained rows u b) h f = use_ (open_at_server _ _ (sym (rows n.id) ∙ h)) f (drained rows u b)
   use_more n (use_ a b t) h f = use_ a b (use_more n t h f)
   use_more n (make a t) h f = make a (use_more n t h f)
   use_more n (destroy z a b c t) h f = destroy z a b c (use_more n t (grind (arith, put_tells)) f)
 
+  -- requests still tie where one more makes an object
   pub make_more : {qs : List Ask} {s : Rows Born} {m : Rows Row} (n : Known) → Tied test qs s m → Fresh m n
       → Tied test (qs ++ Make n ∷ []) s (made m n.id (Open n.born))
   make_more n (drained {s = s} {m = m} rows u b) g =
-      make (record { free = none_at_server _ (sym (rows n.id) ∙ g.free); some = g.some; next = grind (arith, g.next); birth = g.birth ∙ b; low = g.low; left = grind (arith, g.left) })
+      make (record {
+        free = none_at_server _ (sym (rows n.id) ∙ g.free);
+        some = g.some;
+        next = grind (arith, g.next);
+        birth = g.birth ∙ b;
+        low = g.low;
+        left = grind (arith, g.left);
+      })
       (drained (λ q. grind (arith, put_tells, rows q)) (ap (λ k. most k n.id) u) (ap (λ k. k + 1) b))
   make_more n (use_ a b t) g = use_ a b (make_more n t g)
   make_more n (make a t) g = make a (make_more n t g)
   make_more n (destroy {m = m} {x = n'} z a b c t) g =
       let ne : n'.id ≢ n.id = grind (arith, g.free) in
       destroy z a b (grind (arith, put_tells)) (tied_client (put_swap _ _ _ _ _ ne)
-      (make_more n t (record { free = grind (arith, put_tells, g.free); some = g.some; next = g.next; birth = g.birth; low = g.low; left = g.left })))
+      (make_more n t (record {
+        free = grind (arith, put_tells, g.free);
+        some = g.some;
+        next = g.next;
+        birth = g.birth;
+        low = g.low;
+        left = g.left;
+      })))
 
-  pub destroy_more : {qs : List Ask} {s : Rows Born} {m : Rows Row} (n : Known) → Tied test qs s m → m.rows n.id ≡ Some (Open n.born) → test n.born ≡ false → n.id ≢ 1
+  -- requests still tie where one more destroys an object
+  pub destroy_more : {qs : List Ask} {s : Rows Born} {m : Rows Row} (n : Known) → Tied test qs s m
+      → m.rows n.id ≡ Some (Open n.born) → test n.born ≡ false → n.id ≢ 1
       → Tied test (qs ++ Destroy n ∷ []) s (at m n.id (Some (Ending n.born)))
   destroy_more n (drained {s = s} {m = m} rows u b) h f y =
-      destroy y (open_at_server _ _ (sym (rows n.id) ∙ h)) f (put_same _ _ _) (drained (λ q. grind (arith, put_tells, rows q)) u b)
+      destroy y (open_at_server _ _ (sym (rows n.id) ∙ h)) f (put_same _ _ _)
+      (drained (λ q. grind (arith, put_tells, rows q)) u b)
   destroy_more n (use_ a b t) h f y = use_ a b (destroy_more n t h f y)
   destroy_more n (make a t) h f y = make a (destroy_more n t h f y)
   destroy_more n (destroy {x = n'} z a b c t) h f y =
       let ne : n'.id ≢ n.id = grind arith in
-      destroy z a b (grind (arith, put_tells)) (tied_client (put_swap _ _ _ _ _ ne) (destroy_more n t (grind (arith, put_tells)) f y))
+      destroy z a b (grind (arith, put_tells)) (tied_client (put_swap _ _ _ _ _ ne)
+      (destroy_more n t (grind (arith, put_tells)) f y))

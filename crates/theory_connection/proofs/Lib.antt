@@ -5,6 +5,7 @@ pub mod Channels
 pub mod Bridges
 pub mod ReadAsMeant
 pub mod RowsAfterMessage
+pub mod Stands
 pub mod Registries
 pub mod FoundInFront
 pub mod RequestRead

@@ -15,7 +15,8 @@ use Rattle.wl_client.specs.State as client
 use Rattle.wl_server.specs.State.{Global, Registry}
 use Rattle.theory_connection.specs.Meant.{Known, Message, Coming, Event, Delete, Arg, objects}
 use Rattle.theory_connection.specs.World.{World, Each, IfThere, delete}
-use Rattle.theory_connection.specs.Pair.{PairState, Move, Reply, with_client, with_server, carries, after_carry_to_server, after_carry_to_client}
+use Rattle.theory_connection.specs.Pair.{PairState, Move, Reply, with_client, with_server, carries}
+use Rattle.theory_connection.specs.Pair.{after_carry_to_server, after_carry_to_client}
 use Rattle.theory_connection.specs.Flight.{Rows, Name, ends, tells, all_tells, IsBelow}
 use Rattle.theory_connection.specs.Answers.{NotEnded, Answers}
 use Rattle.theory_connection.specs.Stands.{Stands, stands, ended, StandsBy}
@@ -28,7 +29,8 @@ use Rattle.theory_connection.proofs.RequestWritten.{CanAsk, asked_pair}
 
 -- ---- what is known of a bind and of news
 
--- the arguments of wl_registry.bind, of a global that the client remembers, at no greater version than it was advertised with
+-- the arguments of wl_registry.bind, of a global that the client remembers, at no greater version
+-- than it was advertised with
 pub record BindsRemembered (globals : List Remembered) (args : List (Arg Known)) : Type 0 where
   pub name : ℕ
   pub iface : List ℕ
@@ -43,7 +45,8 @@ pub record BindsRemembered (globals : List Remembered) (args : List (Arg Known))
 abbrev Below : Rows Born → ℕ → Type 0
 Below s births = (id : ℕ) (x : Born) → s.rows id ≡ Some x → x.birth < births
 
-names_below : (s : Rows Born) (births : ℕ) → Below s births → (xs : List Known) → Each (ThereRow s) xs → Each (IsBelow births) (map Name xs)
+names_below : (s : Rows Born) (births : ℕ) → Below s births → (xs : List Known) → Each (ThereRow s) xs
+    → Each (IsBelow births) (map Name xs)
 names_below s births b [] h = tt
 names_below s births b (x ∷ xs) h = (b x.id x.born h.0, names_below s births b xs h.1)
 
@@ -51,44 +54,61 @@ ends_below : (births : ℕ) (o : Option Known) → IfThere (λ x. x.born.birth <
 ends_below births None h = tt
 ends_below births (Some x) h = (h, tt)
 
-pub delete_below : (births : ℕ) (o : Option Known) → IfThere (λ x. x.born.birth < births) o → Each (IsBelow births) (all_tells (delete o))
+-- a delete is of a birth that was counted
+pub delete_below : (births : ℕ) (o : Option Known) → IfThere (λ x. x.born.birth < births) o
+    → Each (IsBelow births) (all_tells (delete o))
 delete_below births None h = tt
 delete_below births (Some x) h = (h, tt)
 
 -- an event that names what is there
-pub event_below : (s : Rows Born) (births : ℕ) → Below s births → (m : Message Known) → ThereRow s m.target → Each (ThereRow s) (objects m.args) → IfThere (λ x. x.born.birth < births) m.ends → Each (IsBelow births) (tells (Event m))
+pub event_below : (s : Rows Born) (births : ℕ) → Below s births → (m : Message Known) → ThereRow s m.target
+    → Each (ThereRow s) (objects m.args) → IfThere (λ x. x.born.birth < births) m.ends
+    → Each (IsBelow births) (tells (Event m))
 event_below s births b m h hs e =
-    let t = b m.target.id m.target.born h in
-    (t, each_more (IsBelow births) (map Name (objects m.args)) (ends m.ends) (names_below s births b (objects m.args) hs) (ends_below births m.ends e))
+    let t = b m.target.id m.target.born h in (
+      t,
+      each_more (IsBelow births) (map Name (objects m.args)) (ends m.ends)
+          (names_below s births b (objects m.args) hs) (ends_below births m.ends e),
+    )
 
 -- ---- what happens
 
 -- the pair whose server has told something
 abbrev pub told_pair : PairState → View → Outgoing → List Registry → PairState
-told_pair p view outbox registries = with_server p (record p.server { core = record p.server.core { view = view; outbox = outbox }; registries = registries })
+told_pair p view outbox registries = with_server p
+    (record p.server { core = record p.server.core { view = view; outbox = outbox }; registries = registries })
 
 -- With these requests and events in flight a move led to that pair, with those in flight.
-pub data LeadsTo (p : PairState) (asked : List (Message Known)) (told : List (Coming Known)) : PairState → List (Message Known) → List (Coming Known) → Type 0 where
+pub data LeadsTo (p : PairState) (asked : List (Message Known)) (told : List (Coming Known)) : PairState
+    → List (Message Known) → List (Coming Known) → Type 0 where
   stays : LeadsTo p asked told p asked told
   -- a global was given or withdrawn
   giving : (more : List Global) → LeadsTo p asked told (with_server p (record p.server { globals = more })) asked told
   -- the client wrote a request
-  asking : (m : Message Known) (c : CanAsk p m) → (is_bind request_side m.target.born.iface m.opcode ≡ true → BindsRemembered p.client.globals m.args)
+  asking : (m : Message Known) (c : CanAsk p m) →
+      (is_bind request_side m.target.born.iface m.opcode ≡ true → BindsRemembered p.client.globals m.args)
       → LeadsTo p asked told (asked_pair p m) (asked ++ m ∷ []) told
   -- the server wrote events or deletes, of births that it has counted
-  telling : (view : View) (outbox : Outgoing) (registries : List Registry) (news : List (Coming Known)) → view.births ≡ p.server.core.view.births
-      → Each (IsBelow p.server.core.view.births) (all_tells news) → LeadsTo p asked told (told_pair p view outbox registries) asked (told ++ news)
+  telling : (view : View) (outbox : Outgoing) (registries : List Registry) (news : List (Coming Known))
+      → view.births ≡ p.server.core.view.births
+      → Each (IsBelow p.server.core.view.births) (all_tells news)
+      → LeadsTo p asked told (told_pair p view outbox registries) asked (told ++ news)
   -- the server read the first request, and wrote the delete of what it destroys
-  reading_request : (m : Message Known) (ms : List (Message Known)) (n : ℕ) → asked ≡ m ∷ ms → in_front p.server.core.inbox ≡ Whole n
+  reading_request : (m : Message Known) (ms : List (Message Known)) (n : ℕ) → asked ≡ m ∷ ms
+      → in_front p.server.core.inbox ≡ Whole n
       → IfThere (λ x. x.born.birth < p.server.core.view.births) m.ends
       → LeadsTo p asked told (with_server p (left_state p.server m n)) ms (told ++ delete m.ends)
   -- the client read the first of what comes
-  reading_event : (m : Message Known) (cs : List (Coming Known)) (n : ℕ) (entry : Entry) → told ≡ Event m ∷ cs → in_front p.client.core.inbox ≡ Whole n
+  reading_event : (m : Message Known) (cs : List (Coming Known)) (n : ℕ) (entry : Entry) → told ≡ Event m ∷ cs
+      → in_front p.client.core.inbox ≡ Whole n
       → LeadsTo p asked told (with_client p (after_event p.client m n (teaches m entry))) asked cs
-  reading_delete : (x : Known) (cs : List (Coming Known)) (n : ℕ) → told ≡ Delete x ∷ cs → in_front p.client.core.inbox ≡ Whole n
+  reading_delete : (x : Known) (cs : List (Coming Known)) (n : ℕ) → told ≡ Delete x ∷ cs
+      → in_front p.client.core.inbox ≡ Whole n
       → LeadsTo p asked told (with_client p (after_delete p.client x n)) asked cs
-  carrying_to_server : (most : ℕ) → LeadsTo p asked told (after_carry_to_server p (carries p.client.core p.server.core most)) asked told
-  carrying_to_client : (most : ℕ) → LeadsTo p asked told (after_carry_to_client p (carries p.server.core p.client.core most)) asked told
+  carrying_to_server : (most : ℕ) → LeadsTo p asked told
+      (after_carry_to_server p (carries p.client.core p.server.core most)) asked told
+  carrying_to_client : (most : ℕ) → LeadsTo p asked told
+      (after_carry_to_client p (carries p.server.core p.client.core most)) asked told
 
 -- the pair as the first error leaves its recording: marked at its end
 pub record IsMarked (p p' : PairState) : Type 0 where
@@ -98,20 +118,26 @@ pub record IsMarked (p p' : PairState) : Type 0 where
   pub mark : p'.ended_at ≡ Some (length p.recording)
 
 -- the pair stands again with what is in flight now, or an error has ended the world
-pub data Outcome (p : PairState) (asked : List (Message Known)) (told : List (Coming Known)) (p' : PairState) (w' : World) : Type 0 where
-  goes_on : (asked' : List (Message Known)) (told' : List (Coming Known)) → NotEnded p' w' → StandsBy p' w' asked' told' → LeadsTo p asked told p' asked' told'
+pub data Outcome (p : PairState) (asked : List (Message Known)) (told : List (Coming Known)) (p' : PairState)
+    (w' : World) : Type 0 where
+  goes_on : (asked' : List (Message Known)) (told' : List (Coming Known)) → NotEnded p' w' → StandsBy p' w' asked' told'
+      → LeadsTo p asked told p' asked' told'
       → Outcome p asked told p' w'
   ends_it : w'.ended ≡ true → IsMarked p p' → Outcome p asked told p' w'
 
 -- a step of the pair in its world, with what it did
-pub record Moves (p : PairState) (w : World) (asked : List (Message Known)) (told : List (Coming Known)) (move : Move) (reply : Reply) (p' : PairState) : Type 0 where
+pub record Moves (p : PairState) (w : World) (asked : List (Message Known)) (told : List (Coming Known)) (move : Move)
+    (reply : Reply) (p' : PairState) : Type 0 where
   pub world : World
   pub answers : Answers p w move reply p' world
   pub outcome : Outcome p asked told p' world
 
-outcome_stands : {p p' : PairState} {w' : World} {asked : List (Message Known)} {told : List (Coming Known)} → Outcome p asked told p' w' → Stands p' w'
+outcome_stands : {p p' : PairState} {w' : World} {asked : List (Message Known)} {told : List (Coming Known)}
+    → Outcome p asked told p' w' → Stands p' w'
 outcome_stands (goes_on a t z s h) = stands a t z s
 outcome_stands (ends_it e m) = ended e
 
-pub forget : {p p' : PairState} {w : World} {asked : List (Message Known)} {told : List (Coming Known)} {move : Move} {reply : Reply} → Moves p w asked told move reply p' → Keeps p w move reply p'
+-- a step of a pair that stands, without what it did
+pub forget : {p p' : PairState} {w : World} {asked : List (Message Known)} {told : List
+    (Coming Known)} {move : Move} {reply : Reply} → Moves p w asked told move reply p' → Keeps p w move reply p'
 forget m = record { world = m.world; answers = m.answers; stands = outcome_stands m.outcome }

@@ -1,5 +1,6 @@
 -- The pair as it begins, drained ends, and runs.
-use Rattle.std.proofs.Common.{◌≡◌, ℕ, ◌≤◌, Bool, true, false, cond, List, [], ◌∷◌, ◌++◌, map, refl, sym, ap, subst, ◌∙◌, arith, lit≤}
+use Rattle.std.proofs.Common.{◌≡◌, ℕ, ◌≤◌, Bool, true, false, cond, List, [], ◌∷◌, ◌++◌, map, refl}
+use Rattle.std.proofs.Common.{sym, ap, subst, ◌∙◌, arith, lit≤}
 use Rattle.std.proofs.lemmas.Bool.{and_parts}
 use Rattle.std.specs.Prelude.{option_map, nat_eq, ◌&&◌}
 use Rattle.std.specs.declared.option.Option.{Option}
@@ -23,7 +24,8 @@ use Rattle.theory_connection.specs.Meant.{Known, Message, Coming, birth_of, spel
 use Rattle.theory_connection.specs.World.{World, Open, put, nothing, display_born, opening}
 use Rattle.theory_connection.specs.Pair.{PairState, Move, Reply, new_pair, drained}
 use Rattle.theory_connection.specs.Answers.{Answers}
-use Rattle.theory_connection.specs.Flight.{client_rows, server_rows, row, as_row, at_client, Reads, done, Tied, drained as nothing_left, all_asks, all_tells}
+use Rattle.theory_connection.specs.Flight.{client_rows, server_rows, row, as_row, at_client, Reads}
+use Rattle.theory_connection.specs.Flight.{done, Tied, drained as nothing_left, all_asks, all_tells}
 use Rattle.theory_connection.specs.Stands.{Stands, stands, ended, StandsBy, InFlight, Shows, birth_in, by_event}
 use Rattle.theory_connection.specs.Runs.{Runs, Agree, Keeps}
 use Rattle.theory_connection.proofs.WholeInFlight.{same_rows}
@@ -34,79 +36,90 @@ is_nothing : {X : Type 0} (i : ℕ) → nothing {X = X} i ≡ None
 unfolding nothing
 is_nothing i = refl
 
-opening_rows : {X : Type 0} (f : Entry → X) (q : ℕ) → option_map f (look (opening_view display) q) ≡ put nothing 1 (Some (f (live_entry display_born))) q
+opening_rows : {X : Type 0} (f : Entry → X) (q : ℕ)
+    → option_map f (look (opening_view display) q) ≡ put nothing 1 (Some (f (live_entry display_born))) q
 unfolding put nothing
 opening_rows f q = ap (option_map f) (look-opening display q) ∙ pushed (nat_eq q 1)
   where
-    pushed : (b : Bool) → option_map f (cond b (Some (live_entry display_born)) None) ≡ cond b (Some (f (live_entry display_born))) None
+    pushed : (b : Bool) → option_map f (cond b (Some (live_entry display_born)) None)
+        ≡ cond b (Some (f (live_entry display_born))) None
     pushed true = refl
     pushed false = refl
 
 shows_opening : {X : Type 0} (birth : X → ℕ) (f : Entry → X) → birth (f (live_entry display_born)) ≡ 0
-    → Shows birth (λ q. option_map f (look (opening_view display) q)) 1 (put nothing 0 (Some (f (live_entry display_born))))
+    → Shows birth (λ q. option_map f (look (opening_view display) q)) 1
+    (put nothing 0 (Some (f (live_entry display_born))))
 shows_opening birth f e =
     let k = shows_make birth nothing 0 nothing 1 (f (live_entry display_born)) (no_object birth) (is_nothing 1) e in
-    let rows : (λ (q : ℕ). option_map f (look (opening_view display) q)) ≡ put nothing 1 (Some (f (live_entry display_born))) = λ i q. opening_rows f q i in
+    let rows : (λ (q : ℕ). option_map f (look (opening_view display) q))
+    ≡ put nothing 1 (Some (f (live_entry display_born))) = λ i q. opening_rows f q i in
     subst (λ (g : ℕ → Option _). Shows birth g 1 (put nothing 0 (Some (f (live_entry display_born))))) (sym rows)
-    (subst (λ (b : ℕ). Shows birth (put nothing 1 (Some (f (live_entry display_born)))) 1 (put nothing b (Some (f (live_entry display_born))))) e k)
+    (subst (λ (b : ℕ). Shows birth (put nothing 1 (Some (f (live_entry display_born)))) 1
+    (put nothing b (Some (f (live_entry display_born))))) e k)
 
 opening_live : (b : Bool) (e : Entry) → cond b (Some (live_entry display_born)) None ≡ Some e → e.state ≡ states.Live
 opening_live true e h = let q : live_entry display_born ≡ e = cc h in ap (λ (x : Entry). x.state) (sym q)
 opening_live false e h = absurd (cc h)
 
 opening_aged : (b : Bool) (e : Entry) → cond b (Some (live_entry display_born)) None ≡ Some e → 1 ≤ e.version
-opening_aged true e h = let q : live_entry display_born ≡ e = cc h in let k = ap (λ (x : Entry). x.version) q in omega (arith, k)
+opening_aged true e h = let q : live_entry display_born ≡ e = cc h in let k = ap (λ (x : Entry). x.version) q
+    in omega (arith, k)
 opening_aged false e h = absurd (cc h)
 
-nothing_flies : (from : Outgoing) (to : Arrived) → from.left ≡ [] → from.messages ≡ [] → to.bytes ≡ [] → to.tokens ≡ [] → InFlight from to []
+nothing_flies : (from : Outgoing) (to : Arrived) → from.left ≡ [] → from.messages ≡ [] → to.bytes ≡ [] → to.tokens ≡ []
+    → InFlight from to []
 nothing_flies from to a b c d = record { begun = []; all = sym b; bytes = rw (c, a) refl; tokens = d; whole = tt }
 
-pub new_stands_by : (tables : List Interface) (client_sizes server_sizes : Sizes) → client_sizes.limit.bytes ≡ server_sizes.limit.bytes → Valid tables → StandsBy (new_pair tables client_sizes server_sizes) opening [] []
+-- a new pair stands, with nothing in flight
+pub new_stands_by : (tables : List Interface) (client_sizes server_sizes : Sizes)
+    → client_sizes.limit.bytes ≡ server_sizes.limit.bytes → Valid tables
+    → StandsBy (new_pair tables client_sizes server_sizes) opening [] []
 new_stands_by tables client_sizes server_sizes one v = record {
-  same_tables = refl;
-  valid = v;
+  terms = record { same_tables = refl; valid = v; up_limit = one; down_limit = sym one; one_limit = one };
+  client = record {
+    sets = shows_opening birth_in row refl;
+    births = refl;
+    sound = Sound-opening display;
+    display = look-opening display 1;
+    versions = λ id e h. opening_aged (nat_eq id 1) e (sym (look-opening display id) ∙ h);
+    lives = refl;
+  };
+  server = record {
+    sets = shows_opening birth_of plain refl;
+    sound = Sound-opening display;
+    display = look-opening display 1;
+    versions = λ id e h. opening_aged (nat_eq id 1) e (sym (look-opening display id) ∙ h);
+    live = λ id e h. opening_live (nat_eq id 1) e (sym (look-opening display id) ∙ h);
+    lives = refl;
+  };
+  requests = record { in_world = refl; in_boxes = nothing_flies _ _ refl refl refl refl; fit = tt };
+  events = record { in_world = refl; in_boxes = nothing_flies _ _ refl refl refl refl; fit = tt };
   deletes_follow = tt;
-  client_sets = shows_opening birth_in row refl;
-  server_sets = shows_opening birth_of plain refl;
-  births = refl;
-  client_sound = Sound-opening display;
-  server_sound = Sound-opening display;
-  client_display = look-opening display 1;
-  server_display = look-opening display 1;
-  versions = λ id e h. opening_aged (nat_eq id 1) e (sym (look-opening display id) ∙ h);
-  server_versions = λ id e h. opening_aged (nat_eq id 1) e (sym (look-opening display id) ∙ h);
-  server_live = λ id e h. opening_live (nat_eq id 1) e (sym (look-opening display id) ∙ h);
-  requests = refl;
-  events = refl;
-  to_server = nothing_flies _ _ refl refl refl refl;
-  to_client = nothing_flies _ _ refl refl refl refl;
-  asked_fit = tt;
-  told_fit = tt;
-  meet = record { middle = client_rows (opening_view display); reads = done; tied = nothing_left (λ id. both (look (opening_view display) id) (λ e h. opening_live (nat_eq id 1) e (sym (look-opening display id) ∙ h))) refl refl };
-  client_lives = refl;
-  server_lives = refl;
-  remembered = refl;
-  given = refl;
-  registries = refl;
-  remembers = tt;
-  globals = tt;
-  up_limit = one;
-  down_limit = sym one;
-  one_limit = one;
-  few_globals = lit≤ tt;
-  open_registries = has_none;
+  meet = record {
+    middle = client_rows (opening_view display);
+    reads = done;
+    tied = nothing_left (λ id. both (look (opening_view display) id)
+        (λ e h. opening_live (nat_eq id 1) e (sym (look-opening display id) ∙ h))) refl refl;
+  };
+  globals = record { remembered = refl; given = refl; remembers = tt; globals = tt; few_globals = lit≤ tt };
+  registries = record { told = refl; open_registries = has_none };
 }
   where
     live_row : (e : Entry) (s : State) → s ≡ states.Live → as_row s (plain e) ≡ Open (plain e)
     live_row e states.Live h = refl
     live_row e states.Zombie h = absurd (cc h)
 
-    both : (o : Option Entry) → ((e : Entry) → o ≡ Some e → e.state ≡ states.Live) → option_map row o ≡ at_client (option_map plain o)
+    both : (o : Option Entry) → ((e : Entry) → o ≡ Some e → e.state ≡ states.Live)
+        → option_map row o ≡ at_client (option_map plain o)
     both None h = refl
     both (Some e) h = ap Some (live_row e e.state (h e refl))
 
-pub new_stands : (tables : List Interface) (client_sizes server_sizes : Sizes) → client_sizes.limit.bytes ≡ server_sizes.limit.bytes → Valid tables → Stands (new_pair tables client_sizes server_sizes) opening
-new_stands tables client_sizes server_sizes one v = stands [] [] (refl, refl) (new_stands_by tables client_sizes server_sizes one v)
+-- a new pair stands for the opening world
+pub new_stands : (tables : List Interface) (client_sizes server_sizes : Sizes)
+    → client_sizes.limit.bytes ≡ server_sizes.limit.bytes → Valid tables
+    → Stands (new_pair tables client_sizes server_sizes) opening
+new_stands tables client_sizes server_sizes one v =
+    stands [] [] (refl, refl) (new_stands_by tables client_sizes server_sizes one v)
 
 -- ---- drained ends
 
@@ -120,7 +133,8 @@ pub record Empty (core : Core) : Type 0 where
 
 empty_boxes : (core : Core) → is_drained core ≡ true → Empty core
 empty_boxes core h =
-    let a = and_parts (is_empty core.inbox.bytes && is_empty core.inbox.tokens) (is_empty (waiting_bytes core.outbox) && is_empty (waiting_tokens core.outbox)) h in
+    let a = and_parts (is_empty core.inbox.bytes && is_empty core.inbox.tokens)
+    (is_empty (waiting_bytes core.outbox) && is_empty (waiting_tokens core.outbox)) h in
     let b = and_parts (is_empty core.inbox.bytes) (is_empty core.inbox.tokens) a.0 in
     let c = and_parts (is_empty (waiting_bytes core.outbox)) (is_empty (waiting_tokens core.outbox)) a.1 in
     record { inbox = empty_is core.inbox.bytes b.0; outbox = empty_is (waiting_bytes core.outbox) c.0 }
@@ -132,28 +146,39 @@ none_of f (x ∷ xs) h = absurd (cc h)
 entry_of : (d e : Entry) → e.state ≡ states.Live → row d ≡ Open (plain e) → d ≡ e
 entry_of d e l h = same d.state h
   where
-    same : (s : State) → as_row s (plain d) ≡ Open (plain e) → record { birth = d.birth; iface = d.iface; version = d.version; state = s } ≡ e
-    same states.Live k = let q : plain d ≡ plain e = cc k in λ i. record { birth = (q i).birth; iface = (q i).iface; version = (q i).version; state = sym l i }
+    same : (s : State) → as_row s (plain d) ≡ Open (plain e)
+        → record { birth = d.birth; iface = d.iface; version = d.version; state = s } ≡ e
+    same states.Live k = let q : plain d ≡ plain e = cc k
+        in λ i. record { birth = (q i).birth; iface = (q i).iface; version = (q i).version; state = sym l i }
     same states.Zombie k = absurd (cc k)
 
-rows_same : (c o : Option Entry) → ((e : Entry) → o ≡ Some e → e.state ≡ states.Live) → option_map row c ≡ at_client (option_map plain o) → c ≡ o
+rows_same : (c o : Option Entry) → ((e : Entry) → o ≡ Some e → e.state ≡ states.Live)
+    → option_map row c ≡ at_client (option_map plain o) → c ≡ o
 rows_same None None l h = refl
 rows_same None (Some e) l h = absurd (cc h)
 rows_same (Some d) None l h = absurd (cc h)
 rows_same (Some d) (Some e) l h = ap Some (entry_of d e (l e refl) (cc h))
 
-agree_by : (p : PairState) (w : World) (asked : List (Message Known)) (told : List (Coming Known)) → StandsBy p w asked told → drained p → Agree p.client.core.view p.server.core.view
+agree_by : (p : PairState) (w : World) (asked : List (Message Known)) (told : List (Coming Known))
+    → StandsBy p w asked told → drained p → Agree p.client.core.view p.server.core.view
 agree_by p w asked told s d =
     let c = empty_boxes p.client.core d.0 in
     let v = empty_boxes p.server.core d.1 in
-    let a = none_of spelled asked (none_in_flight p.client.core.outbox p.server.core.inbox (map spelled asked) s.to_server v.inbox c.outbox) in
-    let t = none_of spelled_coming told (none_in_flight p.server.core.outbox p.client.core.inbox (map spelled_coming told) s.to_client c.inbox v.outbox) in
-    let rows = same_rows (subst (λ (l : List (Coming Known)). Reads (by_event p.server.core.tables) (all_tells l) (client_rows p.client.core.view) s.meet.middle) t s.meet.reads)
-    (subst (λ (l : List (Message Known)). Tied (by_event p.server.core.tables) (all_asks l) (server_rows p.server.core.view) s.meet.middle) a s.meet.tied) in
-    let same : (id : ℕ) → look p.client.core.view id ≡ look p.server.core.view id = λ id. rows_same (look p.client.core.view id) (look p.server.core.view id) (s.server_live id) (rows id) in
-    record { same = same; live = λ id e h. s.server_live id e (sym (same id) ∙ h) }
+    let a = none_of spelled asked (none_in_flight p.client.core.outbox p.server.core.inbox
+    (map spelled asked) s.requests.in_boxes v.inbox c.outbox) in
+    let t = none_of spelled_coming told (none_in_flight p.server.core.outbox p.client.core.inbox
+    (map spelled_coming told) s.events.in_boxes c.inbox v.outbox) in
+    let rows = same_rows (subst (λ (l : List (Coming Known)). Reads (by_event p.server.core.tables) (all_tells l)
+    (client_rows p.client.core.view) s.meet.middle) t s.meet.reads)
+    (subst (λ (l : List (Message Known)). Tied (by_event p.server.core.tables) (all_asks l)
+    (server_rows p.server.core.view) s.meet.middle) a s.meet.tied) in
+    let same : (id : ℕ) → look p.client.core.view id ≡ look p.server.core.view id =
+    λ id. rows_same (look p.client.core.view id) (look p.server.core.view id) (s.server.live id) (rows id) in
+    record { same = same; live = λ id e h. s.server.live id e (sym (same id) ∙ h) }
 
-pub agree_drained : (p : PairState) (w : World) → Stands p w → w.ended ≡ false → drained p → Agree p.client.core.view p.server.core.view
+-- drained ends that stand have the same objects
+pub agree_drained : (p : PairState) (w : World) → Stands p w → w.ended ≡ false → drained p
+    → Agree p.client.core.view p.server.core.view
 agree_drained p w (ended e) z d = absurd (cc (e, z))
 agree_drained p w (stands asked told e s) z d = agree_by p w asked told s d
 
@@ -163,16 +188,27 @@ pub run_stops : (p : PairState) (w : World) → Runs p w [] [] p
 run_stops p w = refl
 
 -- one step more at the end of a run
-pub record Extended (p : PairState) (w : World) (moves : List Move) (replies : List Reply) (last : PairState) : Type 0 where
+pub record Extended (p : PairState) (w : World) (moves : List Move) (replies : List Reply)
+    (last : PairState) : Type 0 where
   pub world : World
   pub stands : Stands last world
-  pub extends : (move : Move) (reply : Reply) (next : PairState) → Keeps last world move reply next → Runs p w (moves ++ move ∷ []) (replies ++ reply ∷ []) next
+  pub extends : (move : Move) (reply : Reply) (next : PairState) → Keeps last world move reply next
+      → Runs p w (moves ++ move ∷ []) (replies ++ reply ∷ []) next
 
-pub run_more : (p : PairState) (w : World) (moves : List Move) (replies : List Reply) (last : PairState) → Stands p w → Runs p w moves replies last → Extended p w moves replies last
+-- a run can be followed by one more step
+pub run_more : (p : PairState) (w : World) (moves : List Move) (replies : List Reply) (last : PairState) → Stands p w
+    → Runs p w moves replies last → Extended p w moves replies last
 run_more p w [] [] last s r = record {
   world = w;
   stands = subst (λ (q : PairState). Stands q w) r s;
-  extends = λ move reply next k. (next, k.world, subst (λ (q : PairState). Answers q w move reply next k.world) (sym r) k.answers, k.stands, refl);
+  extends = λ move reply next k. (
+    next,
+    k.world,
+    subst (λ (q : PairState). Answers q w move reply next k.world)
+        (sym r) k.answers,
+    k.stands,
+    refl,
+  );
 }
 run_more p w [] (reply ∷ replies) last s r = absurd r
 run_more p w (move ∷ moves) [] last s r = absurd r

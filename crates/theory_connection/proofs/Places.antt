@@ -1,5 +1,6 @@
 -- The place of an interface by its name.
-use Rattle.std.proofs.Common.{◌≡◌, ◌≢◌, ℕ, zero, suc, ◌+◌, ◌<◌, Bool, true, false, cond, List, [], ◌∷◌, length, get_or, refl, ap, ◌∙◌, arith}
+use Rattle.std.proofs.Common.{◌≡◌, ◌≢◌, ℕ, zero, suc, ◌+◌, ◌<◌, Bool, true, false, cond, List, []}
+use Rattle.std.proofs.Common.{◌∷◌, length, get_or, refl, ap, ◌∙◌, arith}
 use Rattle.std.specs.Prelude.{option_map, not, slice_get, bytes_eq}
 use Rattle.std.specs.List.{position, position_or_len}
 use Rattle.std.specs.declared.option.Option.TheVariants.{Some}
@@ -16,7 +17,8 @@ module _ {X : Type 0} (p : X → Bool) where
   step true n k e h = absurd (cc e)
   step false n k e h = omega (arith, h)
 
-  first_at : (xs : List X) (k : ℕ) (x : X) → slice_get xs k ≡ Some x → p x ≡ true → ((j : ℕ) (y : X) → slice_get xs j ≡ Some y → p y ≡ true → j ≡ k) → position_or_len p xs ≡ k
+  first_at : (xs : List X) (k : ℕ) (x : X) → slice_get xs k ≡ Some x → p x ≡ true
+      → ((j : ℕ) (y : X) → slice_get xs j ≡ Some y → p y ≡ true → j ≡ k) → position_or_len p xs ≡ k
   first_at [] k x h e f = absurd (cc h)
   first_at (a ∷ xs) zero x h e f = let q : a ≡ x = cc h in rw (ap p q ∙ e) refl
   first_at (a ∷ xs) (suc k) x h e f =
@@ -24,19 +26,24 @@ module _ {X : Type 0} (p : X → Bool) where
       let r = first_at xs k x h e (λ j y g t. (let z = f (suc j) y g t in omega (arith, z))) in
       step (p a) (position_or_len p xs) k no r
 
-  pub position_at : (xs : List X) (k : ℕ) (x : X) → slice_get xs k ≡ Some x → p x ≡ true → ((j : ℕ) (y : X) → slice_get xs j ≡ Some y → p y ≡ true → j ≡ k) → position p xs ≡ Some k
+  pub position_at : (xs : List X) (k : ℕ) (x : X) → slice_get xs k ≡ Some x → p x ≡ true
+      → ((j : ℕ) (y : X) → slice_get xs j ≡ Some y → p y ≡ true → j ≡ k) → position p xs ≡ Some k
   position_at xs k x h e f =
       let q = first_at xs k x h e f in
       let l : k < length xs = slice_get_within xs k x h in
       rw (q, lt-ltb k (length xs) l) refl
 
+-- equal by test is equal
 pub bytes_same : (xs ys : List ℕ) → bytes_eq xs ys ≡ true → xs ≡ ys
 bytes_same xs ys h = (bytes_eq-Decides xs ys).0 h
 
+-- a text is equal to itself by test
 pub bytes_self : (xs : List ℕ) → bytes_eq xs xs ≡ true
 bytes_self xs = (bytes_eq-Decides xs xs).1 refl
 
-pub place_there : (tables : List Interface) → Valid tables → (iface : Iface) (i : Interface) → interface_at tables iface.0 ≡ Some i → place_of tables i.name ≡ Some iface
+-- the place of an interface's name is its own
+pub place_there : (tables : List Interface) → Valid tables → (iface : Iface) (i : Interface)
+    → interface_at tables iface.0 ≡ Some i → place_of tables i.name ≡ Some iface
 place_there tables v iface i h =
     ap (option_map (λ (place : ℕ). record { 0 = place }))
     (position_at (λ (j : Interface). bytes_eq j.name i.name) tables iface.0 i h (bytes_self i.name)

@@ -1,19 +1,25 @@
 -- What a standing pair's messages in flight say in plain words.
-use Rattle.std.proofs.Common.{true, false, ◌++◌, ◌∷◌, [], ◌≡◌, ℕ, ◌<◌, ◌≤◌, Bool, List, ◌⊎◌, inl, inr, sym, ◌∙◌, ap, subst, arith, ◌≢◌}
+use Rattle.std.proofs.Common.{true, false, ◌++◌, ◌∷◌, [], ◌≡◌, ℕ, ◌<◌, ◌≤◌, Bool, List, ◌⊎◌, inl}
+use Rattle.std.proofs.Common.{inr, sym, ◌∙◌, ap, subst, arith, ◌≢◌}
 use Rattle.std.specs.declared.option.Option.{Option}
 use Rattle.std.specs.declared.option.Option.TheVariants.{None, Some}
 use Rattle.theory_connection.specs.Meant.{Born, Known}
 use Rattle.theory_connection.specs.World.{Row, Open, Ending, Each}
-use Rattle.theory_connection.specs.Flight.{Rows, at, Ask, Make, Destroy, Tell, Delete, at_client, Held, Reads, done, name, end, delete, Tied, drained, use_, make, destroy, Meets}
+use Rattle.theory_connection.specs.Flight.{Rows, at, Ask, Make, Destroy, Tell, Delete, at_client}
+use Rattle.theory_connection.specs.Flight.{Held, Reads, done, name, end, delete, Tied, drained}
+use Rattle.theory_connection.specs.Flight.{use_, make, destroy, Meets}
 use Rattle.theory_connection.specs.Plain.{tell_id, ask_id, In}
 use Rattle.theory_connection.proofs.Flight.{put_tells, put_same, held_at_client, held_other, held_some, free_after}
 
+-- what is held when another ends was held before
 pub kept_end : (v : Rows Row) (x y : Known) → Held v y → Held (at v y.id (Some (Ending y.born))) x → Held v x
 kept_end v x y a h = elim (put_tells v.rows y.id (Some (Ending y.born)) x.id) [
-  | inl p ↦ (let e : x.born ≡ y.born = grind arith in let k : ◌≡◌ {A = Known} y x = λ i. record { id = sym p.0 i; born = sym e i } in subst (Held v) k a)
+  | inl p ↦ (let e : x.born ≡ y.born = grind arith
+      in let k : ◌≡◌ {A = Known} y x = λ i. record { id = sym p.0 i; born = sym e i } in subst (Held v) k a)
   | inr p ↦ elim h [ inl q ↦ inl (sym p.1 ∙ q) | inr q ↦ inr (sym p.1 ∙ q) ]
 ]
 
+-- what is held when an id is closed was held before
 pub kept_delete : (v : Rows Row) (x : Known) (i : ℕ) → Held (at v i None) x → Held v x
 kept_delete v x i h = elim (put_tells v.rows i None x.id) [
   | inl p ↦ elim h [ inl q ↦ absurd (cc (p.1, q)) | inr q ↦ absurd (cc (p.1, q)) ]
@@ -34,28 +40,36 @@ pub record Asked (test : Born → Bool) (m : Rows Row) (n : Known) : Type 0 wher
 
 module _ {test : Born → Bool} where
   -- a free id at the client occurs in no event in flight
-  free_tells : {es : List Tell} {v w : Rows Row} (i : ℕ) → Reads test es v w → v.rows i ≡ None → Each (λ t. tell_id t ≢ i) es
+  free_tells : {es : List Tell} {v w : Rows Row} (i : ℕ) → Reads test es v w → v.rows i ≡ None
+      → Each (λ t. tell_id t ≢ i) es
   free_tells i done h = tt
   free_tells i (name {v = v} {x = n} a r) h = (held_some v n i a h, free_tells i r h)
   free_tells i (end {v = v} {x = n} b a r) h = (held_some v n i a h, free_tells i r (grind (arith, put_tells)))
   free_tells i (delete {v = v} {x = n} z a b r) h = (held_some v n i a h, free_tells i r (grind (arith, put_tells)))
 
   -- nor in a request
-  pub free_asks : {qs : List Ask} {s : Rows Born} {m : Rows Row} (i : ℕ) → Tied test qs s m → m.rows i ≡ None → Each (λ a. ask_id a ≢ i) qs
+  pub free_asks : {qs : List Ask} {s : Rows Born} {m : Rows Row} (i : ℕ) → Tied test qs s m → m.rows i ≡ None
+      → Each (λ a. ask_id a ≢ i) qs
   free_asks i (drained r u b) h = tt
   free_asks i (use_ {m = m} {x = n} a b t) h = (held_some m n i (held_at_client n t a) h, free_asks i t h)
-  free_asks i (make {s = s} {m = m} {x = n} a t) h = (held_some m n i (held_at_client n t (put_same s.rows n.id (Some n.born))) h, free_asks i t h)
-  free_asks i (destroy {m = m} {x = n} z a b c t) h = (held_some m n i (inr c) h, free_asks i t (grind (arith, put_tells)))
+  free_asks i (make {s = s} {m = m} {x = n} a t) h =
+      (held_some m n i (held_at_client n t (put_same s.rows n.id (Some n.born))) h, free_asks i t h)
+  free_asks i (destroy {m = m} {x = n} z a b c t) h =
+      (held_some m n i (inr c) h, free_asks i t (grind (arith, put_tells)))
 
-  pub free_nowhere : {es : List Tell} {qs : List Ask} {v : Rows Row} {s : Rows Born} (i : ℕ) → Meets test es qs v s → v.rows i ≡ None → Each (λ t. tell_id t ≢ i) es × Each (λ a. ask_id a ≢ i) qs
+  -- an id with no row at the client is named nowhere in flight
+  pub free_nowhere : {es : List Tell} {qs : List Ask} {v : Rows Row} {s : Rows Born} (i : ℕ) → Meets test es qs v s
+      → v.rows i ≡ None → Each (λ t. tell_id t ≢ i) es × Each (λ a. ask_id a ≢ i) qs
   free_nowhere i m h = (free_tells i m.reads h, free_asks i m.tied (free_after i m.reads h))
 
   -- what the client holds has its delete in an event in flight, or is held once the events are read
-  deleted_or : {es : List Tell} {v w : Rows Row} (n : Known) → Reads test es v w → Held v n → In (Delete n) es ⊎ Held w n
+  deleted_or : {es : List Tell} {v w : Rows Row} (n : Known) → Reads test es v w → Held v n
+      → In (Delete n) es ⊎ Held w n
   deleted_or n done h = inr h
   deleted_or n (name a r) h = elim (deleted_or n r h) [ inl p ↦ inl (inr p) | inr p ↦ inr p ]
   deleted_or n (end {v = v} {x = x} b a r) h =
-      elim (deleted_or n r (elim (put_tells v.rows x.id (Some (Ending x.born)) n.id) [ inl p ↦ grind arith | inr p ↦ held_other v n x.id _ h p.0 ]))
+      elim (deleted_or n r (elim (put_tells v.rows x.id (Some (Ending x.born)) n.id)
+      [ inl p ↦ grind arith | inr p ↦ held_other v n x.id _ h p.0 ]))
       [ inl p ↦ inl (inr p) | inr p ↦ inr p ]
   deleted_or n (delete {v = v} {x = x} z a b r) h = elim (put_tells v.rows x.id None n.id) [
     | inl p ↦ let e : n.born ≡ x.born = grind arith in
@@ -64,15 +78,21 @@ module _ {test : Born → Bool} where
     | inr p ↦ elim (deleted_or n r (held_other v n x.id _ h p.0)) [ inl q ↦ inl (inr q) | inr q ↦ inr q ]
   ]
 
-  pub held_where : {es : List Tell} {qs : List Ask} {v : Rows Row} {s : Rows Born} (n : Known) → Meets test es qs v s → Held v n → In (Delete n) es ⊎ (s.rows n.id ≡ Some n.born) ⊎ In (Make n) qs
+  -- what the client holds is deleted on the way, open at the server, or made on the way
+  pub held_where : {es : List Tell} {qs : List Ask} {v : Rows Row} {s : Rows Born} (n : Known) → Meets test es qs v s
+      → Held v n → In (Delete n) es ⊎ (s.rows n.id ≡ Some n.born) ⊎ In (Make n) qs
   held_where n m h = elim (deleted_or n m.reads h) [ inl p ↦ inl p | inr p ↦ inr (open_or_made n m.tied p) ]
     where
-      at_some : (o : Option Born) (e : Born) → (at_client o ≡ Some (Open e)) ⊎ (at_client o ≡ Some (Ending e)) → o ≡ Some e
+      at_some : (o : Option Born) (e : Born) → (at_client o ≡ Some (Open e)) ⊎ (at_client o ≡ Some (Ending e))
+          → o ≡ Some e
       at_some None e h = elim h [ inl p ↦ absurd (cc p) | inr p ↦ absurd (cc p) ]
       at_some (Some x) e h = elim h [ inl p ↦ cc | inr p ↦ absurd (cc p) ]
 
-      open_or_made : {qs : List Ask} {s : Rows Born} {m : Rows Row} (n : Known) → Tied test qs s m → Held m n → (s.rows n.id ≡ Some n.born) ⊎ In (Make n) qs
-      open_or_made n (drained {s = s} rows u b) h = inl (at_some (s.rows n.id) n.born (elim h [ inl p ↦ inl (sym (rows n.id) ∙ p) | inr p ↦ inr (sym (rows n.id) ∙ p) ]))
+      open_or_made : {qs : List Ask} {s : Rows Born} {m : Rows Row} (n : Known) → Tied test qs s m → Held m n
+          → (s.rows n.id ≡ Some n.born) ⊎ In (Make n) qs
+      open_or_made n (drained {s = s} rows u b) h =
+          inl (at_some (s.rows n.id) n.born (elim h
+          [ inl p ↦ inl (sym (rows n.id) ∙ p) | inr p ↦ inr (sym (rows n.id) ∙ p) ]))
       open_or_made n (use_ a b t) h = elim (open_or_made n t h) [ inl p ↦ inl p | inr p ↦ inr (inr p) ]
       open_or_made n (make {s = s} {x = x} a t) h = elim (open_or_made n t h) [
         | inl p ↦ elim (put_tells s.rows x.id (Some x.born) n.id) [
@@ -92,7 +112,8 @@ module _ {test : Born → Bool} where
       ]
 
   -- nothing after a delete in flight names its object's id
-  pub deleted_last : (before after : List Tell) (x : Known) {v w : Rows Row} → Reads test (before ++ (Delete x ∷ after)) v w → Each (λ t. tell_id t ≢ x.id) after
+  pub deleted_last : (before after : List Tell) (x : Known) {v w : Rows Row}
+      → Reads test (before ++ (Delete x ∷ after)) v w → Each (λ t. tell_id t ≢ x.id) after
   deleted_last [] after x (delete {v = v} z a b r) = free_tells x.id r (grind (arith, put_tells))
   deleted_last (b ∷ bs) after x (name h r) = deleted_last bs after x r
   deleted_last (b ∷ bs) after x (end t h r) = deleted_last bs after x r
@@ -106,12 +127,18 @@ module _ {test : Born → Bool} where
   held_before x (end {v = v} {x = y} b a r) h = kept_end v x y a (held_before x r h)
   held_before x (delete {v = v} {x = y} z a b r) h = kept_delete v x y.id (held_before x r h)
 
-  deleted_held : {es : List Tell} (x : Known) {v w : Rows Row} → Reads test es v w → In (Delete x) es → Held v x × (w.rows x.id ≡ None)
+  deleted_held : {es : List Tell} (x : Known) {v w : Rows Row} → Reads test es v w → In (Delete x) es
+      → Held v x × (w.rows x.id ≡ None)
   deleted_held x done i = absurd i
   deleted_held x (name a r) i = elim i [ inl p ↦ absurd (cc p) | inr p ↦ deleted_held x r p ]
-  deleted_held x (end {v = v} {x = y} b a r) i = elim i [ inl p ↦ absurd (cc p) | inr p ↦ (let k = deleted_held x r p in (kept_end v x y a k.0, k.1)) ]
+  deleted_held x (end {v = v} {x = y} b a r) i = elim i
+      [ inl p ↦ absurd (cc p) | inr p ↦ (let k = deleted_held x r p in (kept_end v x y a k.0, k.1)) ]
   deleted_held x (delete {v = v} {w = w} {x = y} z a b r) i = elim i [
-    | inl p ↦ (let e : y ≡ x = cc p in (subst (Held v) e a, subst (λ (k : Known). w.rows k.id ≡ None) e (free_after y.id r (put_same v.rows y.id None))))
+    | inl p ↦ (let e : y ≡ x = cc p in (
+      subst (Held v) e a,
+      subst (λ (k : Known). w.rows k.id ≡ None) e
+          (free_after y.id r (put_same v.rows y.id None)),
+    ))
     | inr p ↦ (let k = deleted_held x r p in (kept_delete v x y.id k.0, k.1))
   ]
 
@@ -122,35 +149,51 @@ module _ {test : Born → Bool} where
     | inl p ↦ (let e : y ≡ x = cc p in subst (Held m) e (held_at_client y t (put_same s.rows y.id (Some y.born))))
     | inr p ↦ make_held x t p
   ]
-  make_held x (destroy {m = m} {x = y} z a b c t) i = elim i [ inl p ↦ absurd (cc p) | inr p ↦ kept_delete m x y.id (make_held x t p) ]
+  make_held x (destroy {m = m} {x = y} z a b c t) i =
+      elim i [ inl p ↦ absurd (cc p) | inr p ↦ kept_delete m x y.id (make_held x t p) ]
 
-  make_new : {qs : List Ask} (x : Known) {s : Rows Born} {m : Rows Row} → Tied test qs s m → In (Make x) qs → s.births ≤ x.born.birth
+  make_new : {qs : List Ask} (x : Known) {s : Rows Born} {m : Rows Row} → Tied test qs s m → In (Make x) qs
+      → s.births ≤ x.born.birth
   make_new x (drained r u b) i = absurd i
   make_new x (use_ a b t) i = elim i [ inl p ↦ absurd (cc p) | inr p ↦ make_new x t p ]
   make_new x (make {s = s} {x = y} a t) i = elim i [
-    | inl p ↦ (let e : x ≡ y = cc p in let k = ap (λ (n : Known). n.born.birth) e in let f = a.birth in omega (arith, k, f))
+    | inl p ↦ (let e : x ≡ y = cc p in let k = ap (λ (n : Known). n.born.birth) e in let f = a.birth
+        in omega (arith, k, f))
     | inr p ↦ (let k = make_new x t p in omega (arith, k))
   ]
   make_new x (destroy z a b c t) i = elim i [ inl p ↦ absurd (cc p) | inr p ↦ make_new x t p ]
 
-  pub held_back : {es : List Tell} {qs : List Ask} {v : Rows Row} {s : Rows Born} (x : Known) → Meets test es qs v s → In (Delete x) es ⊎ (s.rows x.id ≡ Some x.born) ⊎ In (Make x) qs → Held v x
+  -- and what is one of these the client holds
+  pub held_back : {es : List Tell} {qs : List Ask} {v : Rows Row} {s : Rows Born} (x : Known) → Meets test es qs v s
+      → In (Delete x) es ⊎ (s.rows x.id ≡ Some x.born) ⊎ In (Make x) qs → Held v x
   held_back x m h = elim h [
     | inl p ↦ (deleted_held x m.reads p).0
-    | inr p ↦ elim p [ inl q ↦ held_before x m.reads (held_at_client x m.tied q) | inr q ↦ held_before x m.reads (make_held x m.tied q) ]
+    | inr p ↦ elim p [
+      | inl q ↦ held_before x m.reads (held_at_client x m.tied q)
+      | inr q ↦ held_before x m.reads
+          (make_held x m.tied q)
+    ]
   ]
 
-  pub not_open_deleted : {es : List Tell} {qs : List Ask} {v : Rows Row} {s : Rows Born} (x : Known) → Meets test es qs v s → s.rows x.id ≡ Some x.born → In (Delete x) es → ⊥
+  -- what is open at the server has no delete on the way
+  pub not_open_deleted : {es : List Tell} {qs : List Ask} {v : Rows Row} {s : Rows Born} (x : Known)
+      → Meets test es qs v s → s.rows x.id ≡ Some x.born → In (Delete x) es → ⊥
   not_open_deleted x m h d = held_some_row m.middle x (held_at_client x m.tied h) (deleted_held x m.reads d).1
 
-  pub not_made_deleted : {es : List Tell} {qs : List Ask} {v : Rows Row} {s : Rows Born} (x : Known) → Meets test es qs v s → In (Make x) qs → In (Delete x) es → ⊥
+  -- what is made on the way has no delete on the way
+  pub not_made_deleted : {es : List Tell} {qs : List Ask} {v : Rows Row} {s : Rows Born} (x : Known)
+      → Meets test es qs v s → In (Make x) qs → In (Delete x) es → ⊥
   not_made_deleted x m h d = held_some_row m.middle x (make_held x m.tied h) (deleted_held x m.reads d).1
 
-  pub not_made_counted : {es : List Tell} {qs : List Ask} {v : Rows Row} {s : Rows Born} (x : Known) → Meets test es qs v s → In (Make x) qs → x.born.birth < s.births → ⊥
+  -- what is made on the way was not counted by the server
+  pub not_made_counted : {es : List Tell} {qs : List Ask} {v : Rows Row} {s : Rows Born} (x : Known)
+      → Meets test es qs v s → In (Make x) qs → x.born.birth < s.births → ⊥
   not_made_counted x m h l = let k = make_new x m.tied h in absurd (omega (arith, k, l))
 
   -- ---- what is ending
 
-  ending_read : {es : List Tell} {v w : Rows Row} (n : Known) → Reads test es v w → v.rows n.id ≡ Some (Ending n.born) → In (Delete n) es ⊎ (w.rows n.id ≡ Some (Ending n.born))
+  ending_read : {es : List Tell} {v w : Rows Row} (n : Known) → Reads test es v w → v.rows n.id ≡ Some (Ending n.born)
+      → In (Delete n) es ⊎ (w.rows n.id ≡ Some (Ending n.born))
   ending_read n done h = inr h
   ending_read n (name a r) h = elim (ending_read n r h) [ inl p ↦ inl (inr p) | inr p ↦ inr p ]
   ending_read n (end {v = v} {x = x} b a r) h =
@@ -166,7 +209,8 @@ module _ {test : Born → Bool} where
     | inr p ↦ elim (ending_read n r (p.1 ∙ h)) [ inl q ↦ inl (inr q) | inr q ↦ inr q ]
   ]
 
-  ending_asked : {qs : List Ask} {s : Rows Born} {m : Rows Row} (n : Known) → Tied test qs s m → m.rows n.id ≡ Some (Ending n.born) → In (Destroy n) qs
+  ending_asked : {qs : List Ask} {s : Rows Born} {m : Rows Row} (n : Known) → Tied test qs s m
+      → m.rows n.id ≡ Some (Ending n.born) → In (Destroy n) qs
   ending_asked n (drained {s = s} rows u b) h = absurd (no_ending (s.rows n.id) n.born (sym (rows n.id) ∙ h))
   ending_asked n (use_ a b t) h = inr (ending_asked n t h)
   ending_asked n (make a t) h = inr (ending_asked n t h)
@@ -177,26 +221,32 @@ module _ {test : Born → Bool} where
     | inr p ↦ inr (ending_asked n t (p.1 ∙ h))
   ]
 
-  pub ending_where : {es : List Tell} {qs : List Ask} {v : Rows Row} {s : Rows Born} (n : Known) → Meets test es qs v s → v.rows n.id ≡ Some (Ending n.born) → In (Delete n) es ⊎ In (Destroy n) qs
+  -- what is ending at the client is deleted or destroyed on the way
+  pub ending_where : {es : List Tell} {qs : List Ask} {v : Rows Row} {s : Rows Born} (n : Known) → Meets test es qs v s
+      → v.rows n.id ≡ Some (Ending n.born) → In (Delete n) es ⊎ In (Destroy n) qs
   ending_where n m h = elim (ending_read n m.reads h) [ inl p ↦ inl p | inr p ↦ inr (ending_asked n m.tied p) ]
 
-  asked_ending : {qs : List Ask} {s : Rows Born} {m : Rows Row} (n : Known) → Tied test qs s m → In (Destroy n) qs → Asked test m n
+  asked_ending : {qs : List Ask} {s : Rows Born} {m : Rows Row} (n : Known) → Tied test qs s m → In (Destroy n) qs
+      → Asked test m n
   asked_ending n (drained r u b) i = absurd i
   asked_ending n (use_ a b t) i = elim i [ inl p ↦ absurd (cc p) | inr p ↦ asked_ending n t p ]
   asked_ending n (make a t) i = elim i [ inl p ↦ absurd (cc p) | inr p ↦ asked_ending n t p ]
   asked_ending n (destroy {m = m} {x = x} z a b c t) i = elim i [
     | inl p ↦ (let e : x ≡ n = cc p in subst (Asked test m) e (record { ending = c; test_is = b }))
     | inr p ↦ (let k = asked_ending n t p in record {
-      ending = elim (put_tells m.rows x.id None n.id) [ inl q ↦ absurd (cc (q.1, k.ending)) | inr q ↦ sym q.1 ∙ k.ending ];
+      ending = elim (put_tells m.rows x.id None n.id)
+          [ inl q ↦ absurd (cc (q.1, k.ending)) | inr q ↦ sym q.1 ∙ k.ending ];
       test_is = k.test_is;
     })
   ]
 
-  open_read : {es : List Tell} {v w : Rows Row} (n : Known) → Reads test es v w → v.rows n.id ≡ Some (Open n.born) → w.rows n.id ≡ Some (Ending n.born) → test n.born ≡ true
+  open_read : {es : List Tell} {v w : Rows Row} (n : Known) → Reads test es v w → v.rows n.id ≡ Some (Open n.born)
+      → w.rows n.id ≡ Some (Ending n.born) → test n.born ≡ true
   open_read n done h k = absurd (cc (h, k))
   open_read n (name a r) h k = open_read n r h k
   open_read n (end {v = v} {x = x} b a r) h k = elim (put_tells v.rows x.id (Some (Ending x.born)) n.id) [
-    | inl p ↦ let e : n.born ≡ x.born = elim a [ inl q ↦ cc (h, q, p.0) | inr q ↦ absurd (cc (h, q, p.0)) ] in ap test e ∙ b
+    | inl p ↦ let e : n.born ≡ x.born = elim a [ inl q ↦ cc (h, q, p.0) | inr q ↦ absurd (cc (h, q, p.0)) ]
+        in ap test e ∙ b
     | inr p ↦ open_read n r (p.1 ∙ h) k
   ]
   open_read n (delete {v = v} {x = x} z a b r) h k = elim (put_tells v.rows x.id None n.id) [
@@ -204,17 +254,21 @@ module _ {test : Born → Bool} where
     | inr p ↦ open_read n r (p.1 ∙ h) k
   ]
 
-  pub open_unasked : {es : List Tell} {qs : List Ask} {v : Rows Row} {s : Rows Born} (n : Known) → Meets test es qs v s → v.rows n.id ≡ Some (Open n.born) → In (Destroy n) qs → ⊥
+  -- no request on the way destroys what is open at the client
+  pub open_unasked : {es : List Tell} {qs : List Ask} {v : Rows Row} {s : Rows Born} (n : Known) → Meets test es qs v s
+      → v.rows n.id ≡ Some (Open n.born) → In (Destroy n) qs → ⊥
   open_unasked n m h i = let k = asked_ending n m.tied i in cc (open_read n m.reads h k.ending, k.test_is)
 
   -- a destroying event alone makes an open object's delete come before its turn
-  pub open_deleted : {es : List Tell} {v w : Rows Row} (n : Known) → Reads test es v w → v.rows n.id ≡ Some (Open n.born) → In (Delete n) es → test n.born ≡ true
+  pub open_deleted : {es : List Tell} {v w : Rows Row} (n : Known) → Reads test es v w
+      → v.rows n.id ≡ Some (Open n.born) → In (Delete n) es → test n.born ≡ true
   open_deleted n done h i = absurd i
   open_deleted n (name a r) h i = elim i [ inl p ↦ absurd (cc p) | inr p ↦ open_deleted n r h p ]
   open_deleted n (end {v = v} {x = x} b a r) h i = elim i [
     | inl p ↦ absurd (cc p)
     | inr p ↦ elim (put_tells v.rows x.id (Some (Ending x.born)) n.id) [
-      | inl q ↦ let e : n.born ≡ x.born = elim a [ inl k ↦ cc (h, k, q.0) | inr k ↦ absurd (cc (h, k, q.0)) ] in ap test e ∙ b
+      | inl q ↦ let e : n.born ≡ x.born = elim a [ inl k ↦ cc (h, k, q.0) | inr k ↦ absurd (cc (h, k, q.0)) ]
+          in ap test e ∙ b
       | inr q ↦ open_deleted n r (q.1 ∙ h) p
     ]
   ]
@@ -230,8 +284,12 @@ module _ {test : Born → Bool} where
   ]
 
   -- what a request in flight destroys the client holds, and no delete of it is in flight
-  pub destroyed_held : {es : List Tell} {qs : List Ask} {v : Rows Row} {s : Rows Born} (n : Known) → Meets test es qs v s → In (Destroy n) qs → Held v n
+  pub destroyed_held : {es : List Tell} {qs : List Ask} {v : Rows Row} {s : Rows Born} (n : Known)
+      → Meets test es qs v s → In (Destroy n) qs → Held v n
   destroyed_held n m i = held_before n m.reads (inr (asked_ending n m.tied i).ending)
 
-  pub not_destroyed_deleted : {es : List Tell} {qs : List Ask} {v : Rows Row} {s : Rows Born} (n : Known) → Meets test es qs v s → In (Destroy n) qs → In (Delete n) es → ⊥
-  not_destroyed_deleted n m i d = let k = (asked_ending n m.tied i).ending in let g = (deleted_held n m.reads d).1 in cc (k, g)
+  -- nothing is both destroyed and deleted on the way
+  pub not_destroyed_deleted : {es : List Tell} {qs : List Ask} {v : Rows Row} {s : Rows Born} (n : Known)
+      → Meets test es qs v s → In (Destroy n) qs → In (Delete n) es → ⊥
+  not_destroyed_deleted n m i d = let k = (asked_ending n m.tied i).ending in let g = (deleted_held n m.reads d).1
+      in cc (k, g)

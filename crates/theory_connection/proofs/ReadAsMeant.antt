@@ -1,5 +1,6 @@
 -- A message in its canonical spelling is read as it was meant.
-use Rattle.std.proofs.Common.{◌≡◌, ℕ, suc, ◌+◌, ◌<◌, ◌≤◌, ◌^◌, true, false, cond, List, [], ◌∷◌, ◌++◌, length, length-append, drop, map, refl, sym, ap, ◌∙◌, arith}
+use Rattle.std.proofs.Common.{◌≡◌, ℕ, suc, ◌+◌, ◌<◌, ◌≤◌, ◌^◌, true, false, cond, List, [], ◌∷◌}
+use Rattle.std.proofs.Common.{◌++◌, length, length-append, drop, map, refl, sym, ap, ◌∙◌, arith}
 use Rattle.std.specs.Prelude.{nat_eq, nat_lt, option_map, if◌then◌else◌}
 use Rattle.std.specs.declared.option.Option.{Option}
 use Rattle.std.specs.declared.option.Option.TheVariants.{None, Some}
@@ -25,10 +26,14 @@ use Rattle.wl_object_map.specs.declared.object.State.{State}
 use Rattle.wl_object_map.specs.declared.object.State.TheVariants as states
 use Rattle.wl_object_map.specs.View.{View, look, free_or_next, has_room}
 use Rattle.wl_objects.specs.declared.lookup.NewId.TheVariants.{Free}
-use Rattle.wl_objects.specs.Reading.{Reader, value_fault, iface_of, is_of, arguments_at, judged, descriptors, is_descriptor_kind, in_state, report_of, reports_of, first_or, tokens_after}
+use Rattle.wl_objects.specs.Reading.{Reader, value_fault, iface_of, is_of, arguments_at, judged}
+use Rattle.wl_objects.specs.Reading.{descriptors, is_descriptor_kind, in_state, report_of}
+use Rattle.wl_objects.specs.Reading.{reports_of, first_or, tokens_after}
 use Rattle.wl_objects.specs.Writing.{spelled as spelled_values, message_len, message_bytes}
 use Rattle.wl_objects.specs.Messages.{reader_of, received, is_error, NewObject, made_by, made, or_else as made_or_else}
-use Rattle.theory_connection.specs.Meant.{Born, Known, Message, Arg, rearg, born_of, birth_of, wire, tokens, token_in, new_in, made_in, or_else, plain, live_entry}
+use Rattle.theory_connection.specs.Meant.{Born, Known, Message, Arg, rearg, born_of, birth_of, wire}
+use Rattle.theory_connection.specs.Meant.{tokens, token_in, new_in, made_in, or_else, plain}
+use Rattle.theory_connection.specs.Meant.{live_entry}
 use Rattle.theory_connection.specs.World.{Row, Each}
 use Rattle.theory_connection.specs.Flight.{row, as_row}
 use Rattle.theory_connection.specs.Answers.{Seen, Live, Dead, seen, seen_by, by_row, birth_at}
@@ -54,6 +59,7 @@ Met view rows (New x) = FreeAt view x
 Met view rows (NewNamed name own x) = FreeAt view x
 Met view rows _ = Unit {0}
 
+-- each argument meets its object or a free id
 abbrev pub AllMet : View → (ℕ → Option Row) → List (Arg Known) → Type 0
 AllMet view rows [] = Unit {0}
 AllMet view rows (a ∷ args) = Met view rows a × AllMet view rows args
@@ -82,44 +88,49 @@ is_of_same (Some iface) e d h k = rw h k
 abbrev strict : Reader → Reader
 strict r = record r { forgives = false }
 
-right : (tables : List Interface) (version place : ℕ) (r : Reader) (kind : Kind) (a : Arg Known) → NamesRightly tables version kind a → Finds r a
+right : (tables : List Interface) (version place : ℕ) (r : Reader) (kind : Kind) (a : Arg Known)
+    → NamesRightly tables version kind a → Finds r a
     → value_fault (strict r) place kind (wire a) ≡ None
-right tables version place r kind (Int v) n m = refl
-right tables version place r kind (Uint v) n m = refl
-right tables version place r kind (Fixed v) n m = refl
-right tables version place r kind (Str v) n m = refl
 right tables version place r kind (Obj None) n m = refl
 right tables version place r kind (Obj (Some x)) n m =
     let some : nat_eq x.id 0 ≡ false = ne_eqb x.id 0 (λ h. omega (arith, n.0)) in
-    let of : is_of (iface_of kind) m.entry ≡ true = is_of_same (iface_of kind) m.entry (live_entry x.born) m.iface n.1 in
+    let of : is_of (iface_of kind) m.entry ≡ true =
+    is_of_same (iface_of kind) m.entry (live_entry x.born) m.iface n.1 in
     rw (some, m.there, of) refl
 right tables version place r kind (New x) n m = rw m refl
 right tables version place r kind (NewNamed name own x) n m = rw m refl
-right tables version place r kind (Array v) n m = refl
-right tables version place r kind (Fd v) n m = refl
+right tables version place r kind a n m = refl
 
-read_one : (r : Reader) (place : ℕ) (kind : Kind) (ks : List Kind) (v : Argument) (rest : List ℕ) (vs : List Argument) → Suits kind v → value_fault (strict r) place kind v ≡ None
-    → arguments_at (strict r) (suc place) ks rest ≡ Ok (vs, []) → arguments_at (strict r) place (kind ∷ ks) (canonical v ++ rest) ≡ Ok (v ∷ vs, [])
+read_one : (r : Reader) (place : ℕ) (kind : Kind) (ks : List Kind) (v : Argument) (rest : List ℕ) (vs : List Argument)
+    → Suits kind v → value_fault (strict r) place kind v ≡ None
+    → arguments_at (strict r) (suc place) ks rest ≡ Ok (vs, [])
+    → arguments_at (strict r) place (kind ∷ ks) (canonical v ++ rest) ≡ Ok (v ∷ vs, [])
 read_one r place kind ks v rest vs s g h =
-    let back : drop (spelled_len v) (canonical v ++ rest) ≡ rest = drop_at (canonical v) rest (spelled_len v) (canonical-len v) in
-    let found : judged (strict r) place kind (reading kind (canonical v ++ rest)) ≡ Ok (v, spelled_len v) = rw (reading-canonical kind v rest s, judged, g) refl in
+    let back : drop (spelled_len v) (canonical v ++ rest) ≡ rest =
+    drop_at (canonical v) rest (spelled_len v) (canonical-len v) in
+    let found : judged (strict r) place kind (reading kind (canonical v ++ rest)) ≡ Ok (v, spelled_len v) =
+    rw (reading-canonical kind v rest s, judged, g) refl in
     rw (found, back, h) refl
 
-values_read : (tables : List Interface) (version place : ℕ) (r : Reader) (ks : List Kind) (args : List (Arg Known)) → AreOf tables version ks args → Each (Finds r) args
+values_read : (tables : List Interface) (version place : ℕ) (r : Reader) (ks : List Kind) (args : List (Arg Known))
+    → AreOf tables version ks args → Each (Finds r) args
     → arguments_at (strict r) place ks (spelled_values (map wire args)) ≡ Ok (map wire args, [])
 values_read tables version place r [] [] f m = refl
 values_read tables version place r (kind ∷ ks) [] f m = absurd f
 values_read tables version place r [] (a ∷ args) f m = absurd f
 values_read tables version place r (kind ∷ ks) (a ∷ args) f m =
-    read_one r place kind ks (wire a) (spelled_values (map wire args)) (map wire args) f.0.0 (right tables version place r kind a f.0.1 m.0)
+    read_one r place kind ks (wire a) (spelled_values (map wire args)) (map wire args) f.0.0
+    (right tables version place r kind a f.0.1 m.0)
     (values_read tables version (suc place) r ks args f.1 m.1)
 
 -- ---- tokens
 
-count_more : (kind : Kind) (ks : List Kind) → descriptors (kind ∷ ks) ≡ cond (is_descriptor_kind kind) 1 0 + descriptors ks
+count_more : (kind : Kind) (ks : List Kind) → descriptors (kind ∷ ks)
+    ≡ cond (is_descriptor_kind kind) 1 0 + descriptors ks
 count_more kind ks = sum_by-cons (λ (k : Kind). if is_descriptor_kind k then 1 else 0) kind ks
 
-tokens_one : (kind : Kind) (a : Arg Known) → Suits kind (wire a) → length (token_in a) ≡ cond (is_descriptor_kind kind) 1 0
+tokens_one : (kind : Kind) (a : Arg Known) → Suits kind (wire a)
+    → length (token_in a) ≡ cond (is_descriptor_kind kind) 1 0
 tokens_one kinds.Int (Int z) s = refl
 tokens_one kinds.Uint (Uint z) s = refl
 tokens_one kinds.Fixed (Fixed z) s = refl
@@ -132,103 +143,143 @@ tokens_one kinds.Array (Array z) s = refl
 tokens_one kinds.Fd (Fd z) s = refl
 tokens_one _ _ s = absurd s
 
-pub tokens_taken : (tables : List Interface) (version : ℕ) (ks : List Kind) (args : List (Arg Known)) → AreOf tables version ks args → descriptors ks ≡ length (tokens args)
+-- the kinds take as many tokens as the arguments have
+pub tokens_taken : (tables : List Interface) (version : ℕ) (ks : List Kind) (args : List (Arg Known))
+    → AreOf tables version ks args → descriptors ks ≡ length (tokens args)
 tokens_taken tables version [] [] f = refl
 tokens_taken tables version (kind ∷ ks) [] f = absurd f
 tokens_taken tables version [] (a ∷ args) f = absurd f
 tokens_taken tables version (kind ∷ ks) (a ∷ args) f =
-    omega (arith, count_more kind ks, tokens_one kind a f.0.0, tokens_taken tables version ks args f.1, length-append (token_in a) (tokens args))
+    omega (
+      arith,
+      count_more kind ks,
+      tokens_one kind a f.0.0,
+      tokens_taken tables version ks args f.1,
+      length-append
+          (token_in a) (tokens args),
+    )
 
 -- ---- the whole message
 
 -- by any reader that knows what it names
-pub received_by_any : (tables : List Interface) (side : Side) (r : Reader) (m : Message Known) (header : Header) (waiting : ℕ) (o : HasObject r m.target) (f : Fits tables side m)
+pub received_by_any : (tables : List Interface) (side : Side) (r : Reader) (m : Message Known) (header : Header)
+    (waiting : ℕ) (o : HasObject r m.target) (f : Fits tables side m)
     → header.object ≡ m.target.id → header.opcode ≡ m.opcode → Each (Finds r) m.args → length (tokens m.args) ≤ waiting
     → received tables side r header (spelled_values (map wire m.args)) waiting
-    ≡ Ok (record { target = record { id = m.target.id; birth = o.entry.birth }; entry = o.entry; signature = f.signature; values = map wire m.args })
+    ≡ Ok (record {
+      target = record { id = m.target.id; birth = o.entry.birth };
+      entry = o.entry;
+      signature = f.signature;
+      values = map wire m.args;
+    })
 received_by_any tables side r m header waiting o f ho hp k w =
     let row_there : r.object header.object ≡ Some o.entry = ap r.object ho ∙ o.there in
     let sig : signature_at tables o.entry.iface.0 side header.opcode ≡ Some f.signature =
-    ap (λ (i : Iface). signature_at tables i.0 side header.opcode) o.iface ∙ ap (signature_at tables m.target.born.iface.0 side) hp ∙ f.there in
-    let old : nat_lt o.entry.version f.signature.since ≡ false = le-ltb o.entry.version f.signature.since (omega (arith, f.old_enough, o.version)) in
-    let forgives : is_error side o.entry.iface header.opcode ≡ false = ap (λ (i : Iface). is_error side i header.opcode) o.iface ∙ ap (is_error side m.target.born.iface) hp ∙ f.no_error in
+    ap (λ (i : Iface). signature_at tables i.0 side header.opcode) o.iface
+    ∙ ap (signature_at tables m.target.born.iface.0 side) hp ∙ f.there in
+    let old : nat_lt o.entry.version f.signature.since ≡ false =
+    le-ltb o.entry.version f.signature.since (omega (arith, f.old_enough, o.version)) in
+    let forgives : is_error side o.entry.iface header.opcode ≡ false =
+    ap (λ (i : Iface). is_error side i header.opcode) o.iface ∙ ap (is_error side m.target.born.iface) hp
+    ∙ f.no_error in
     let enough : nat_lt waiting (descriptors f.signature.kinds) ≡ false =
-    le-ltb waiting (descriptors f.signature.kinds) (omega (arith, w, tokens_taken tables m.target.born.version f.signature.kinds m.args f.args)) in
-    rw (row_there, sig, old, forgives, values_read tables m.target.born.version 0 r f.signature.kinds m.args f.args k, enough, ho) refl
+    le-ltb waiting (descriptors f.signature.kinds)
+    (omega (arith, w, tokens_taken tables m.target.born.version f.signature.kinds m.args f.args)) in
+    rw (
+      row_there,
+      sig,
+      old,
+      forgives,
+      values_read tables m.target.born.version 0 r f.signature.kinds m.args f.args k,
+      enough,
+      ho,
+    ) refl
 
 object_held : (view : View) (rows : ℕ → Option Row) (x : Known) → HeldAt view rows x → HasObject (reader_of view) x
-object_held view rows x h = record { entry = h.entry; there = h.there; iface = ap (λ (b : Born). b.iface) h.same; version = ap (λ (b : Born). b.version) h.same }
+object_held view rows x h = record {
+  entry = h.entry;
+  there = h.there;
+  iface = ap (λ (b : Born). b.iface) h.same;
+  version = ap (λ (b : Born). b.version) h.same;
+}
 
 one_found : (view : View) (rows : ℕ → Option Row) (a : Arg Known) → Met view rows a → Finds (reader_of view) a
 one_found view rows (Obj None) m = tt
 one_found view rows (Obj (Some x)) m = object_held view rows x m
 one_found view rows (New x) m = rw (m.free, m.room) refl
 one_found view rows (NewNamed name own x) m = rw (m.free, m.room) refl
-one_found view rows (Int z) m = tt
-one_found view rows (Uint z) m = tt
-one_found view rows (Fixed z) m = tt
-one_found view rows (Str z) m = tt
-one_found view rows (Array z) m = tt
-one_found view rows (Fd z) m = tt
+one_found view rows a m = tt
 
-all_found : (view : View) (rows : ℕ → Option Row) (args : List (Arg Known)) → AllMet view rows args → Each (Finds (reader_of view)) args
+all_found : (view : View) (rows : ℕ → Option Row) (args : List (Arg Known)) → AllMet view rows args
+    → Each (Finds (reader_of view)) args
 all_found view rows [] m = tt
 all_found view rows (a ∷ args) m = (one_found view rows a m.0, all_found view rows args m.1)
 
 -- by an end
-pub received_right : (tables : List Interface) (side : Side) (view : View) (rows : ℕ → Option Row) (m : Message Known) (header : Header) (waiting : ℕ) (entry : Entry) (f : Fits tables side m)
-    → header.object ≡ m.target.id → header.opcode ≡ m.opcode → look view m.target.id ≡ Some entry → plain entry ≡ m.target.born → AllMet view rows m.args → length (tokens m.args) ≤ waiting
+pub received_right : (tables : List Interface) (side : Side) (view : View) (rows : ℕ → Option Row) (m : Message Known)
+    (header : Header) (waiting : ℕ) (entry : Entry) (f : Fits tables side m)
+    → header.object ≡ m.target.id → header.opcode ≡ m.opcode → look view m.target.id ≡ Some entry
+    → plain entry ≡ m.target.born → AllMet view rows m.args → length (tokens m.args) ≤ waiting
     → received tables side (reader_of view) header (spelled_values (map wire m.args)) waiting
-    ≡ Ok (record { target = record { id = m.target.id; birth = entry.birth }; entry = entry; signature = f.signature; values = map wire m.args })
+    ≡ Ok (record {
+      target = record { id = m.target.id; birth = entry.birth };
+      entry = entry;
+      signature = f.signature;
+      values = map wire m.args;
+    })
 received_right tables side view rows m header waiting entry f ho hp l s k w =
-    let o : HasObject (reader_of view) m.target = record { entry = entry; there = l; iface = ap (λ (b : Born). b.iface) s; version = ap (λ (b : Born). b.version) s } in
+    let o : HasObject (reader_of view) m.target =
+    record {
+      entry = entry;
+      there = l;
+      iface = ap (λ (b : Born). b.iface) s;
+      version = ap (λ (b : Born). b.version) s;
+    } in
     received_by_any tables side (reader_of view) m header waiting o f ho hp (all_found view rows m.args k) w
 
 -- ---- the report
 
-pub report_one : (view : View) (rows : ℕ → Option Row) (a : Arg Known) (args : List (Arg Known)) (more : List ℕ) → Met view rows a
-    → reshaped seen birth_at (λ t. t) (report_of (reader_of view) (first_or (tokens (a ∷ args) ++ more) 0) (wire a)) ≡ reshaped (seen_by rows) birth_of (λ t. t) (rearg born_of a)
-report_one view rows (Int z) args more m = refl
-report_one view rows (Uint z) args more m = refl
-report_one view rows (Fixed z) args more m = refl
-report_one view rows (Str z) args more m = refl
+pub report_one : (view : View) (rows : ℕ → Option Row) (a : Arg Known) (args : List (Arg Known)) (more : List ℕ)
+    → Met view rows a
+    → reshaped seen birth_at (λ t. t) (report_of (reader_of view) (first_or (tokens (a ∷ args) ++ more) 0) (wire a))
+    ≡ reshaped (seen_by rows) birth_of (λ t. t) (rearg born_of a)
 report_one view rows (Obj None) args more m = refl
 report_one view rows (Obj (Some x)) args more m =
     let some : nat_eq x.id 0 ≡ false = ne_eqb x.id 0 (λ h. omega (arith, m.some)) in
-    rw (some, m.there, m.shown) (ap (λ (s : Seen). Obj s) (by_state m.entry.state (record { id = x.id; birth = m.entry.birth }) (plain m.entry) x.born.birth (ap (λ (b : Born). b.birth) m.same)))
+    rw (some, m.there, m.shown) (ap (λ (s : Seen). Obj s)
+    (by_state m.entry.state (record { id = x.id; birth = m.entry.birth }) (plain m.entry) x.born.birth
+    (ap (λ (b : Born). b.birth) m.same)))
   where
-    by_state : (s : State) (object : Object) (b : Born) (birth : ℕ) → object.birth ≡ birth → seen (in_state s object) ≡ by_row birth (Some (as_row s b))
+    by_state : (s : State) (object : Object) (b : Born) (birth : ℕ) → object.birth ≡ birth
+        → seen (in_state s object) ≡ by_row birth (Some (as_row s b))
     by_state states.Live object b birth e = ap Live e
     by_state states.Zombie object b birth e = ap Dead e
 report_one view rows (New x) args more m = ap (λ (b : ℕ). New b) (sym m.birth)
 report_one view rows (NewNamed name own x) args more m = ap (λ (b : ℕ). NewNamed name own b) (sym m.birth)
-report_one view rows (Array z) args more m = refl
-report_one view rows (Fd z) args more m = refl
+report_one view rows a args more m = refl
 
-tokens_left : (a : Arg Known) (args : List (Arg Known)) (more : List ℕ) → tokens_after (wire a) (tokens (a ∷ args) ++ more) ≡ tokens args ++ more
-tokens_left (Int z) args more = refl
-tokens_left (Uint z) args more = refl
-tokens_left (Fixed z) args more = refl
-tokens_left (Str z) args more = refl
+tokens_left : (a : Arg Known) (args : List (Arg Known)) (more : List ℕ)
+    → tokens_after (wire a) (tokens (a ∷ args) ++ more) ≡ tokens args ++ more
 tokens_left (Obj None) args more = refl
-tokens_left (Obj (Some x)) args more = refl
-tokens_left (New x) args more = refl
-tokens_left (NewNamed name own x) args more = refl
-tokens_left (Array z) args more = refl
-tokens_left (Fd z) args more = refl
+tokens_left a args more = refl
 
-pub reports_right : (view : View) (rows : ℕ → Option Row) (args : List (Arg Known)) (more : List ℕ) → AllMet view rows args
-    → map (reshaped seen birth_at (λ t. t)) (reports_of (reader_of view) (tokens args ++ more) (map wire args)) ≡ map (reshaped (seen_by rows) birth_of (λ t. t)) (map (rearg born_of) args)
+-- the reports of arguments, by births
+pub reports_right : (view : View) (rows : ℕ → Option Row) (args : List (Arg Known)) (more : List ℕ)
+    → AllMet view rows args
+    → map (reshaped seen birth_at (λ t. t)) (reports_of (reader_of view) (tokens args ++ more) (map wire args))
+    ≡ map (reshaped (seen_by rows) birth_of (λ t. t)) (map (rearg born_of) args)
 reports_right view rows [] more m = refl
 reports_right view rows (a ∷ args) more m =
     rw (tokens_left a args more, report_one view rows a args more m.0, reports_right view rows args more m.1) refl
 
 -- ---- the object that it makes
 
+-- a new object as its end opens it
 abbrev pub made_of : Known → NewObject
 made_of x = record { id = x.id; iface = x.born.iface; version = x.born.version }
 
-made_one : (tables : List Interface) (version : ℕ) (kind : Kind) (a : Arg Known) → Suits kind (wire a) → NamesRightly tables version kind a → made_by tables version kind (wire a) ≡ option_map made_of (new_in a)
+made_one : (tables : List Interface) (version : ℕ) (kind : Kind) (a : Arg Known) → Suits kind (wire a)
+    → NamesRightly tables version kind a → made_by tables version kind (wire a) ≡ option_map made_of (new_in a)
 made_one tables version kinds.Int (Int z) s n = refl
 made_one tables version kinds.Uint (Uint z) s n = refl
 made_one tables version kinds.Fixed (Fixed z) s n = refl
@@ -241,16 +292,20 @@ made_one tables version kinds.Array (Array z) s n = refl
 made_one tables version kinds.Fd (Fd z) s n = refl
 made_one tables version _ _ s n = absurd s
 
-or_made : (a b : Option Known) → made_or_else (option_map made_of a) (option_map made_of b) ≡ option_map made_of (or_else a b)
+or_made : (a b : Option Known) → made_or_else (option_map made_of a) (option_map made_of b)
+    ≡ option_map made_of (or_else a b)
 or_made None b = refl
 or_made (Some x) b = refl
 
-pub made_read : (tables : List Interface) (version : ℕ) (ks : List Kind) (args : List (Arg Known)) → AreOf tables version ks args → made tables version ks (map wire args) ≡ option_map made_of (made_in args)
+-- what arguments make is what the kinds make of them
+pub made_read : (tables : List Interface) (version : ℕ) (ks : List Kind) (args : List (Arg Known))
+    → AreOf tables version ks args → made tables version ks (map wire args) ≡ option_map made_of (made_in args)
 made_read tables version [] [] f = refl
 made_read tables version (kind ∷ ks) [] f = absurd f
 made_read tables version [] (a ∷ args) f = absurd f
 made_read tables version (kind ∷ ks) (a ∷ args) f =
-    rw (made_one tables version kind a f.0.0 f.0.1, made_read tables version ks args f.1) (or_made (new_in a) (made_in args))
+    rw (made_one tables version kind a f.0.0 f.0.1, made_read tables version ks args f.1)
+    (or_made (new_in a) (made_in args))
 
 -- ---- the header of a message
 
@@ -259,9 +314,14 @@ pub record Parted (bytes : List ℕ) (id opcode : ℕ) (vs : List Argument) : Ty
   pub object : (header_at bytes).object ≡ id
   pub opcode_is : (header_at bytes).opcode ≡ opcode
 
-pub parted : (bytes more : List ℕ) (id opcode : ℕ) (vs : List Argument) → bytes ≡ message_bytes id opcode vs ++ more → id < 2 ^ 32 → opcode < 65536 → message_len vs ≤ greatest_limit → Parted bytes id opcode vs
+-- a message's bytes are its header and its arguments
+pub parted : (bytes more : List ℕ) (id opcode : ℕ) (vs : List Argument) → bytes ≡ message_bytes id opcode vs ++ more
+    → id < 2 ^ 32 → opcode < 65536 → message_len vs ≤ greatest_limit → Parted bytes id opcode vs
 parted bytes more id opcode vs e i o h =
     let header : Header = record { object = id; size = message_len vs; opcode = opcode } in
-    let w : bytes ≡ header_bytes header ++ (spelled_values vs ++ more) = e ∙ append_assoc (header_bytes header) (spelled_values vs) more in
-    let k : header_at bytes ≡ header = ap header_at w ∙ header_at-bytes header (spelled_values vs ++ more) (record { object = i; size = omega (arith, h); opcode = o }) in
+    let w : bytes ≡ header_bytes header ++ (spelled_values vs ++ more) =
+    e ∙ append_assoc (header_bytes header) (spelled_values vs) more in
+    let k : header_at bytes ≡ header = ap header_at w
+    ∙ header_at-bytes header (spelled_values vs ++ more)
+    (record { object = i; size = omega (arith, h); opcode = o }) in
     record { object = ap (λ (x : Header). x.object) k; opcode_is = ap (λ (x : Header). x.opcode) k }

@@ -18,7 +18,8 @@ use Rattle.wl_server.specs.Requests.{registries_after}
 use Rattle.wl_server.proofs.Registries.{has_opened, has_closed, has_fewer, row_kept, births_opened, births_of_sound}
 use Rattle.wl_sigs.specs.Rules.{is_ended_by_event}
 use Rattle.theory_connection.specs.Meant.{Born, Known, born_of, plain}
-use Rattle.theory_connection.specs.World.{Marks, IfThere, marks_birth, registries_without, registries_after as marks_after}
+use Rattle.theory_connection.specs.World.{Marks, IfThere, marks_birth, registries_without}
+use Rattle.theory_connection.specs.World.{registries_after as marks_after}
 use Rattle.theory_connection.specs.Flight.{server_rows, Fresh}
 use Rattle.theory_connection.specs.Answers.{marks_of}
 use Rattle.theory_connection.specs.Stands.{by_event}
@@ -33,24 +34,30 @@ map_more : {X Y : Type 0} (f : X → Y) (xs : List X) (x : X) → map f (xs ++ x
 map_more f [] x = refl
 map_more f (y ∷ xs) x = ap (λ (l : List _). f y ∷ l) (map_more f xs x)
 
-marks_cond : (b : Bool) (xs ys : List server.Registry) → map marks_of (cond b xs ys) ≡ cond b (map marks_of xs) (map marks_of ys)
+marks_cond : (b : Bool) (xs ys : List server.Registry)
+    → map marks_of (cond b xs ys) ≡ cond b (map marks_of xs) (map marks_of ys)
 marks_cond true xs ys = refl
 marks_cond false xs ys = refl
 
-pub marks_with : (c : Core) (rs : List server.Registry) (n : Option Known) → IfThere (λ x. x.born.birth ≡ c.view.births) n
+-- the marks of the registries, with one that is made
+pub marks_with : (c : Core) (rs : List server.Registry) (n : Option Known)
+    → IfThere (λ x. x.born.birth ≡ c.view.births) n
     → map marks_of (registries_after c rs (option_map made_of n)) ≡ marks_after (option_map born_of n) (map marks_of rs)
 marks_with c rs None h = refl
 marks_with c rs (Some x) h =
     let r : server.Registry = untold (record { id = x.id; birth = c.view.births }) in
     marks_cond (same_iface x.born.iface registry) (rs ++ r ∷ []) rs
     ∙ ap (λ (l : List Marks). cond (same_iface x.born.iface registry) l (map marks_of rs))
-    (map_more marks_of rs r ∙ ap (λ (b : ℕ). map marks_of rs ++ record { birth = b; told = r.told; removed = r.removed } ∷ []) (sym h))
+    (map_more marks_of rs r ∙ ap (λ (b : ℕ). map marks_of rs ++ record { birth = b; told = r.told; removed = r.removed }
+    ∷ []) (sym h))
 
-pub marks_without : (b : Bool) (birth : ℕ) (rs : List server.Registry) → map marks_of (without_registry registry_birth b birth rs) ≡ without_registry marks_birth b birth (map marks_of rs)
+pub marks_without : (b : Bool) (birth : ℕ) (rs : List server.Registry)
+    → map marks_of (without_registry registry_birth b birth rs) ≡ without_registry marks_birth b birth (map marks_of rs)
 marks_without false birth rs = refl
 marks_without true birth [] = refl
 marks_without true birth (r ∷ rs) =
-    marks_cond (nat_eq r.object.birth birth) (without_registry registry_birth true birth rs) (r ∷ without_registry registry_birth true birth rs)
+    marks_cond (nat_eq r.object.birth birth) (without_registry registry_birth true birth rs)
+    (r ∷ without_registry registry_birth true birth rs)
     ∙ ap (λ (l : List Marks). cond (nat_eq r.object.birth birth) l (marks_of r ∷ l)) (marks_without true birth rs)
 
 -- the open registries after a message that destroys this
@@ -58,26 +65,35 @@ abbrev pub registries_left : Option Known → List server.Registry → List serv
 registries_left None rs = rs
 registries_left (Some x) rs = without_registry registry_birth true x.born.birth rs
 
-pub marks_left : (o : Option Known) (rs : List server.Registry) → map marks_of (registries_left o rs) ≡ registries_without (option_map born_of o) (map marks_of rs)
+-- the marks without those of a registry that is closed
+pub marks_left : (o : Option Known) (rs : List server.Registry)
+    → map marks_of (registries_left o rs) ≡ registries_without (option_map born_of o) (map marks_of rs)
 marks_left None rs = refl
 marks_left (Some x) rs = marks_without true x.born.birth rs
 
-pub left_are : (b : Bool) (birth : ℕ) (o : Option Known) (rs : List server.Registry) → b ≡ is_some o → IfThere (λ x. x.born.birth ≡ birth) o → without_registry registry_birth b birth rs ≡ registries_left o rs
+-- the registries without what ends
+pub left_are : (b : Bool) (birth : ℕ) (o : Option Known) (rs : List server.Registry) → b ≡ is_some o
+    → IfThere (λ x. x.born.birth ≡ birth) o → without_registry registry_birth b birth rs ≡ registries_left o rs
 left_are b birth None rs f h = ap (λ (c : Bool). without_registry registry_birth c birth rs) f
 left_are b birth (Some x) rs f h = λ i. without_registry registry_birth (f i) (sym h i) rs
 
 -- ---- an object with a destroying event is no registry
 
+-- wl_registry has no destroying event
 pub registry_plain : (tables : List Interface) → Valid tables → is_ended_by_event (interface_at tables 1) ≡ false
 registry_plain tables v = rw v.fixed_four.registry refl
 
-pub no_registry : (tables : List Interface) → Valid tables → (v : View) (x : Known) → ThereRow (server_rows v) x → by_event tables x.born ≡ true → (d : Entry) → look v x.id ≡ Some d → d.iface ≢ registry
+-- what ends by an event is no registry
+pub no_registry : (tables : List Interface) → Valid tables → (v : View) (x : Known) → ThereRow (server_rows v) x
+    → by_event tables x.born ≡ true → (d : Entry) → look v x.id ≡ Some d → d.iface ≢ registry
 no_registry tables valid v x t e d row is =
     let r = there_row v x t in
     let one = sym r.there ∙ row in
     let same : r.entry ≡ d = cc one in
-    let iface : x.born.iface ≡ registry = sym (ap (λ (b : Born). b.iface) r.same) ∙ (ap (λ (y : Entry). y.iface) same ∙ is) in
-    let no : true ≡ false = sym e ∙ (ap (λ (i : Iface). is_ended_by_event (interface_at tables i.0)) iface ∙ registry_plain tables valid) in
+    let iface : x.born.iface ≡ registry = sym (ap (λ (b : Born). b.iface) r.same)
+    ∙ (ap (λ (y : Entry). y.iface) same ∙ is) in
+    let no : true ≡ false = sym e ∙ (ap (λ (i : Iface). is_ended_by_event (interface_at tables i.0)) iface
+    ∙ registry_plain tables valid) in
     cc no
 
 -- ---- the list after a request and after an event
@@ -86,18 +102,26 @@ fresh_look : (o : Option Entry) → option_map plain o ≡ None → o ≡ None
 fresh_look None h = refl
 fresh_look (Some e) h = absurd (cc h)
 
+-- what is fresh has no row
 pub fresh_row : (v : View) (n : Option Known) → IfThere (Fresh (server_rows v)) n → IsFresh v (option_map made_of n)
 fresh_row v None f = tt
 fresh_row v (Some x) f = fresh_look (look v x.id) f.free
 
-pub has_read : (c : Core) (rs : List server.Registry) (n o : Option Known) → Sound c.view → IsFresh c.view (option_map made_of n) → IfThere (HeldRow c.view) o → HasRegistries c.view rs
-    → HasRegistries (ended_view server_end (opens c.view (option_map made_of n)) o) (registries_left o (registries_after c rs (option_map made_of n)))
+-- the registries stand after a request is read
+pub has_read : (c : Core) (rs : List server.Registry) (n o : Option Known) → Sound c.view
+    → IsFresh c.view (option_map made_of n) → IfThere (HeldRow c.view) o → HasRegistries c.view rs
+    → HasRegistries (ended_view server_end (opens c.view (option_map made_of n)) o)
+    (registries_left o (registries_after c rs (option_map made_of n)))
 has_read c rs n None s f r h = has_opened c rs (option_map made_of n) f h
 has_read c rs n (Some x) s f r h =
     let made = option_map made_of n in
-    has_closed (opens c.view made) (registries_after c rs made) x.id x.born.birth r.entry (births_opened c.view made (births_of_sound c.view s)) (row_kept c.view made x.id r.entry f r.there)
+    has_closed (opens c.view made) (registries_after c rs made) x.id x.born.birth r.entry
+    (births_opened c.view made (births_of_sound c.view s)) (row_kept c.view made x.id r.entry f r.there)
     (ap (λ (b : Born). b.birth) r.same) (has_opened c rs made f h)
 
-pub has_told_one : (v : View) (rs : List server.Registry) (o : Option Known) → IfThere (λ (x : Known). (d : Entry) → look v x.id ≡ Some d → d.iface ≢ registry) o → HasRegistries v rs → HasRegistries (ended_view server_end v o) rs
+-- the registries stand after an event that ends no registry
+pub has_told_one : (v : View) (rs : List server.Registry) (o : Option Known)
+    → IfThere (λ (x : Known). (d : Entry) → look v x.id ≡ Some d → d.iface ≢ registry) o → HasRegistries v rs
+    → HasRegistries (ended_view server_end v o) rs
 has_told_one v rs None f h = h
 has_told_one v rs (Some x) f h = has_fewer v rs x.id f h

@@ -1,11 +1,12 @@
 -- The server reads.
-use Rattle.std.proofs.Common.{◌≡◌, ℕ, ◌+◌, ◌<◌, ◌≤◌, Bool, true, false, List, [], ◌∷◌, ◌++◌, map, length, take, refl, sym, ap, subst, ◌∙◌, arith, min}
+use Rattle.std.proofs.Common.{◌≡◌, ℕ, ◌+◌, ◌<◌, ◌≤◌, Bool, true, false, List, [], ◌∷◌, ◌++◌, map}
+use Rattle.std.proofs.Common.{length, refl, sym, ap, subst, ◌∙◌, arith, min}
 use Rattle.std.proofs.lemmas.Bool.{ne_eqb}
-use Rattle.std.specs.Prelude.{option_map, nat_eq, not, ◌&&◌, is_some, slice_get}
+use Rattle.std.specs.Prelude.{option_map, not, ◌&&◌, is_some, slice_get}
 use Rattle.std.specs.declared.option.Option.{Option}
 use Rattle.std.specs.declared.option.Option.TheVariants.{None, Some}
 use Rattle.std.specs.declared.result.Result.TheVariants.{Ok}
-use Rattle.std.proofs.lemmas.List.{append-nil, map-append}
+use Rattle.std.proofs.lemmas.List.{append-nil}
 use Rattle.wl_sigs.specs.declared.signature.Side.TheVariants.{Request as request_side}
 use Rattle.wl_sigs.specs.declared.signature.Destroys.{Destroys}
 use Rattle.wl_sigs.specs.declared.signature.Destroys.TheVariants.{Nothing, Target, Arg as ends_arg}
@@ -19,33 +20,37 @@ use Rattle.wl_message.specs.Outgoing as boxes
 use Rattle.wl_wire.specs.Argument.{Uint, Obj}
 use Rattle.wl_object_map.specs.declared.object.Entry.{Entry}
 use Rattle.wl_object_map.specs.View.{View, Sound, look}
-use Rattle.wl_object_map.specs.Views.{look-opened_at, look-closed}
 use Rattle.wl_objects.specs.Messages.{opens, made as made_message, is_bind, reader_of, Server as server_end, after}
 use Rattle.wl_objects.specs.Reading.{descriptors, reports_of}
 use Rattle.wl_connection.specs.Core.{Core, past, with_view}
 use Rattle.wl_connection.specs.Receiving.{Found, found}
 use Rattle.wl_connection.specs.Sending.{with_following}
 use Rattle.wl_server.specs.State as server
-use Rattle.wl_server.specs.Requests.{judged, request, is_good_bind, made_in as made_by_message, state_past, registries_after, object_in, ended_object, ended, report}
+use Rattle.wl_server.specs.Requests.{judged, request, is_good_bind, made_in as made_by_message}
+use Rattle.wl_server.specs.Requests.{state_past, registries_after, object_in, ended_object, ended}
+use Rattle.wl_server.specs.Requests.{report}
 use Rattle.wl_server.specs.Registries.{without_registry, registry_birth}
-use Rattle.theory_connection.specs.Meant.{Event, Delete, Born, Known, Message, Coming, Arg, renamed, recoming, rearg, born_of, birth_of, wire, tokens, spelled, spelled_coming, made_in, objects, plain, live_entry, ended_by}
-use Rattle.theory_connection.specs.World.{World, display_born, Open, Each, IfThere, delete, request_read, gone, born_into, same, registries_without, registries_after as marks_after}
+use Rattle.theory_connection.specs.Meant.{Event, Delete, Born, Known, Message, Coming, Arg, renamed}
+use Rattle.theory_connection.specs.Meant.{recoming, rearg, born_of, birth_of, wire, tokens, spelled}
+use Rattle.theory_connection.specs.Meant.{spelled_coming, made_in, objects, plain, ended_by}
+use Rattle.theory_connection.specs.World.{World, Open, Each, IfThere, delete, request_read, same}
+use Rattle.theory_connection.specs.World.{registries_without, registries_after as marks_after}
 use Rattle.theory_connection.specs.Pair.{PairState, with_server}
 use Rattle.theory_connection.specs.Answers.{rows_of_server}
 use Rattle.theory_connection.specs.Flight.{Rows, Fresh, Tied, all_asks, server_rows, as_row}
-use Rattle.theory_connection.specs.Stands.{DeletesFollow, BeginsWithDelete, StandsBy, Fits, ComesFitly, InFlight, by_event, Shows}
+use Rattle.theory_connection.specs.Stands.{DeletesFollow, BeginsWithDelete, StandsBy, Fits}
+use Rattle.theory_connection.specs.Stands.{ComesFitly, InFlight, by_event}
 use Rattle.theory_connection.proofs.Flight.{reads_more}
-use Rattle.theory_connection.proofs.WholeInFlight.{ThereRow, server_makes, asks_at, AsksAt, all_tells_more, each_more}
-use Rattle.theory_connection.proofs.Sets.{server_made, server_ended, there_kept}
-use Rattle.theory_connection.proofs.Channels.{pops, pushed}
-use Rattle.theory_connection.proofs.RowsAfterMessage.{there_row, server_after, server_sound, server_live, server_aged, made_map}
+use Rattle.theory_connection.proofs.WholeInFlight.{ThereRow, asks_at, AsksAt, all_tells_more}
+use Rattle.theory_connection.proofs.RowsAfterMessage.{there_row, server_after, made_map}
+use Rattle.theory_connection.proofs.Stands.{server_message, first_read, travel_more}
 use Rattle.theory_connection.proofs.Registries.{marks_with, marks_left, left_are, registries_left, fresh_row, has_read}
 use Rattle.theory_connection.proofs.ReadAsMeant.{HeldAt, AllMet, made_of, made_read, tokens_taken}
 use Rattle.wl_object_map.specs.declared.object.Object.{Object}
 use Rattle.wl_connection.proofs.Messages.{whole_within}
 use Rattle.theory_connection.proofs.Calls.{row_low}
 use Rattle.theory_connection.proofs.FoundInFront.{the_found, the_message, finds, all_met, news_free}
-use Rattle.theory_connection.proofs.EndedObject.{Mortal, EndsAs, ended_view, after_is, argument_is, ended_has, if_by}
+use Rattle.theory_connection.proofs.EndedObject.{EndsAs, ended_view, after_is, argument_is, ends_have, if_by}
 use Rattle.wl_server.proofs.Fronts.{named_object}
 
 -- ---- what is found
@@ -57,34 +62,41 @@ pub record InFront (p : PairState) (w : World) (m : Message Known) (n : ℕ) : T
   pub same_target : plain entry ≡ m.target.born
   pub met : AllMet p.server.core.view (rows_of_server w) m.args
 
-held_at_server : (p : PairState) (w : World) (asked : List (Message Known)) (told : List (Coming Known)) → StandsBy p w asked told → (x : Known) → 0 < x.id → ThereRow (server_rows p.server.core.view) x
+held_at_server : (p : PairState) (w : World) (asked : List (Message Known)) (told : List (Coming Known))
+    → StandsBy p w asked told → (x : Known) → 0 < x.id → ThereRow (server_rows p.server.core.view) x
     → HeldAt p.server.core.view (rows_of_server w) x
 held_at_server p w asked told s x some h =
     let r = there_row p.server.core.view x h in
-    let shown = s.server_sets.shown x.id x.born h in
-    let live = s.server_live x.id r.entry r.there in
+    let shown = s.server.sets.shown x.id x.born h in
+    let live = s.server.live x.id r.entry r.there in
     record {
       some = some;
       entry = r.entry;
       there = r.there;
       same = r.same;
-      shown = ap (option_map Open) shown ∙ ap (λ (b : Born). Some (Open b)) (sym r.same) ∙ ap (λ st. Some (as_row st (plain r.entry))) (sym live);
+      shown = ap (option_map Open) shown ∙ ap (λ (b : Born). Some (Open b)) (sym r.same)
+          ∙ ap (λ st. Some (as_row st (plain r.entry))) (sym live);
     }
 
+-- the test for a destroying event, by the pair's tables
 abbrev pub test_of : PairState → Born → Bool
 test_of p = by_event p.server.core.tables
 
-pub request_front : (p : PairState) (w : World) (m : Message Known) (ms : List (Message Known)) (told : List (Coming Known)) (s : StandsBy p w (m ∷ ms) told) (n : ℕ)
-    → AsksAt (test_of p) (all_asks ms) (server_rows p.server.core.view) s.meet.middle m.target (objects m.args) (made_in m.args) m.ends → InFront p w m n
+pub request_front : (p : PairState) (w : World) (m : Message Known) (ms : List (Message Known))
+    (told : List (Coming Known)) (s : StandsBy p w (m ∷ ms) told) (n : ℕ)
+    → AsksAt (test_of p) (all_asks ms) (server_rows p.server.core.view) s.meet.middle m.target (objects m.args)
+    (made_in m.args) m.ends → InFront p w m n
 request_front p w m ms told s n a =
     let r = there_row p.server.core.view m.target a.target in
-    let f = s.asked_fit.0.fits in
+    let f = s.requests.fit.0.fits in
     record {
       entry = r.entry;
       there = r.there;
       same_target = r.same;
-      met = all_met p.server.core.tables m.target.born.version p.server.core.view (rows_of_server w) (ThereRow (server_rows p.server.core.view)) (held_at_server p w (m ∷ ms) told s)
-          f.signature.kinds m.args f.args a.args (news_free p.server.core.view m.args m.args s.server_sound a.new f.new_is);
+      met = all_met p.server.core.tables m.target.born.version p.server.core.view (rows_of_server w)
+          (ThereRow (server_rows p.server.core.view)) (held_at_server p w (m ∷ ms) told s)
+          f.signature.kinds m.args f.args a.args (news_free p.server.core.view m.args m.args s.server.sound a.new
+          f.new_is);
     }
 
 no_bad_bind : (b g : Bool) → (b ≡ true → g ≡ true) → (b && not g) ≡ false
@@ -93,15 +105,27 @@ no_bad_bind true g h = rw (h refl) refl
 
 -- ---- the end after it
 
+-- the delete of what ends follows in the outbox
 pub followed : (b : Bool) (id : ℕ) (o : Option Known) (c : Core) → b ≡ is_some o → IfThere (λ x. x.id ≡ id) o
-    → with_following b id c ≡ record c { outbox = record c.outbox { messages = c.outbox.messages ++ map spelled_coming (delete o) } }
-followed b id None c f h = ap (λ (k : Bool). with_following k id c) f ∙ (λ i. record c { outbox = record c.outbox { messages = sym (append-nil c.outbox.messages) i } })
+    → with_following b id c ≡ record c {
+      outbox =
+          record c.outbox { messages = c.outbox.messages ++ map spelled_coming (delete o) };
+    }
+followed b id None c f h = ap (λ (k : Bool). with_following k id c) f
+    ∙ (λ i. record c { outbox = record c.outbox { messages = sym (append-nil c.outbox.messages) i } })
 followed b id (Some x) c f h = λ i. with_following (f i) (sym h i) c
 
-pub delete_whole : (limit : Limit) (o : Option Known) → Each (λ (m : boxes.Message). IsMessage limit.bytes m.bytes) (map spelled_coming (delete o))
+-- a delete is a whole message within the limit
+pub delete_whole : (limit : Limit) (o : Option Known)
+    → Each (λ (m : boxes.Message). IsMessage limit.bytes m.bytes) (map spelled_coming (delete o))
 delete_whole limit None = tt
-delete_whole limit (Some x) = (whole_within limit 1 1 (Uint x.id ∷ []) (omega arith) (omega (arith, limit.in_range.0)), tt)
+delete_whole limit (Some x) = (
+  whole_within limit 1 1 (Uint x.id ∷ []) (omega arith)
+      (omega (arith, limit.in_range.0)),
+  tt,
+)
 
+-- the delete of what ends, by births
 pub map_delete : (o : Option Known) → map (recoming born_of) (delete o) ≡ delete (option_map born_of o)
 map_delete None = refl
 map_delete (Some x) = refl
@@ -110,7 +134,9 @@ births_of : (v : View) (n : Option Known) → IfThere (Fresh (server_rows v)) n 
 births_of v None g = tt
 births_of v (Some x) g = g.birth
 
-pub delete_fits : (p : PairState) (o : Option Known) → IfThere (λ x. x.id ≤ 1048576) o → Each (ComesFitly p.server.core.tables p.server.globals) (delete o)
+-- a delete of a low id fits
+pub delete_fits : (p : PairState) (o : Option Known) → IfThere (λ x. x.id ≤ 1048576) o
+    → Each (ComesFitly p.server.core.tables p.server.globals) (delete o)
 delete_fits p None h = tt
 delete_fits p (Some x) h = (h, tt)
 
@@ -123,6 +149,7 @@ left_core c m n = record c {
   read = min (c.read + n) 18446744073709551615;
 }
 
+-- the server as it is left
 abbrev pub left_state : server.State → Message Known → ℕ → server.State
 left_state st m n = record st {
   core = left_core st.core m n;
@@ -134,49 +161,78 @@ record EndsRightly (what : Destroys) (object : Object) (o : Option Known) : Type
   ends : EndsAs what object.id o
   birth : IfThere (λ x. x.born.birth ≡ object.birth) o
 
-ends_named : (c : Core) (target : Known) (args : List (Arg Known)) (k : ℕ) (x : Known) (waiting : List ℕ) → k ≡ 0 → args ≡ Obj (Some x) ∷ [] → 0 < x.id → ThereRow (server_rows c.view) x
-    → EndsRightly (ends_arg k) (object_in (slice_get (reports_of (reader_of c.view) waiting (map wire args)) k)) (ended_by (ends_arg k) target args)
+ends_named : (c : Core) (target : Known) (args : List (Arg Known)) (k : ℕ) (x : Known) (waiting : List ℕ) → k ≡ 0
+    → args ≡ Obj (Some x) ∷ [] → 0 < x.id → ThereRow (server_rows c.view) x
+    → EndsRightly (ends_arg k) (object_in (slice_get (reports_of (reader_of c.view) waiting (map wire args)) k))
+    (ended_by (ends_arg k) target args)
 ends_named c target args k x waiting z e some h =
     let r = there_row c.view x h in
-    let named = named_object (reader_of c.view) waiting x.id r.entry (ne_eqb x.id 0 (λ n. (omega (arith, n, some)))) r.there in
-    subst (λ (l : List (Arg Known)). EndsRightly (ends_arg k) (object_in (slice_get (reports_of (reader_of c.view) waiting (map wire l)) k)) (ended_by (ends_arg k) target l)) (sym e)
-    (subst (λ (n : ℕ). EndsRightly (ends_arg n) (object_in (slice_get (reports_of (reader_of c.view) waiting (map wire (Obj (Some x) ∷ []))) n)) (ended_by (ends_arg n) target (Obj (Some x) ∷ []))) (sym z)
-    (subst (λ (object : Object). EndsRightly (ends_arg 0) object (Some x)) (sym named) (record { ends = record { flag = refl; same = refl }; birth = sym (ap birth_of r.same) })))
+    let named = named_object (reader_of c.view) waiting x.id r.entry
+    (ne_eqb x.id 0 (λ n. (omega (arith, n, some)))) r.there in
+    subst (λ (l : List (Arg Known)). EndsRightly (ends_arg k)
+    (object_in (slice_get (reports_of (reader_of c.view) waiting (map wire l)) k)) (ended_by (ends_arg k) target l))
+    (sym e)
+    (subst (λ (n : ℕ). EndsRightly (ends_arg n) (object_in
+    (slice_get (reports_of (reader_of c.view) waiting (map wire (Obj (Some x) ∷ []))) n))
+    (ended_by (ends_arg n) target (Obj (Some x) ∷ []))) (sym z)
+    (subst (λ (object : Object). EndsRightly (ends_arg 0) object (Some x)) (sym named)
+    (record { ends = record { flag = refl; same = refl }; birth = sym (ap birth_of r.same) })))
 
-ends_rightly : (st : server.State) (m : Message Known) (n : ℕ) (entry : Entry) (f : Fits st.core.tables request_side m) → Valid st.core.tables → plain entry ≡ m.target.born
-    → ThereRow (server_rows st.core.view) m.target → Each (ThereRow (server_rows st.core.view)) (objects m.args) → EndsRightly f.signature.destroys (ended st.core (the_found n m entry f.signature)) m.ends
-ends_rightly st m n entry f v s h hs = subst (EndsRightly f.signature.destroys (ended st.core (the_found n m entry f.signature))) (sym f.ends) (by_what f.signature.destroys refl)
+ends_rightly : (st : server.State) (m : Message Known) (n : ℕ) (entry : Entry) (f : Fits st.core.tables request_side m)
+    → Valid st.core.tables → plain entry ≡ m.target.born
+    → ThereRow (server_rows st.core.view) m.target → Each (ThereRow (server_rows st.core.view)) (objects m.args)
+    → EndsRightly f.signature.destroys (ended st.core (the_found n m entry f.signature)) m.ends
+ends_rightly st m n entry f v s h hs = subst (EndsRightly f.signature.destroys
+    (ended st.core (the_found n m entry f.signature))) (sym f.ends) (by_what f.signature.destroys refl)
   where
-    by_what : (what : Destroys) → f.signature.destroys ≡ what → EndsRightly what (ended_object what (report st.core (the_found n m entry f.signature))) (ended_by what m.target m.args)
+    by_what : (what : Destroys) → f.signature.destroys ≡ what
+        → EndsRightly what (ended_object what (report st.core (the_found n m entry f.signature)))
+        (ended_by what m.target m.args)
     by_what Nothing d = record { ends = record { flag = refl; same = tt }; birth = tt }
     by_what Target d = record { ends = record { flag = refl; same = refl }; birth = sym (ap birth_of s) }
     by_what (ends_arg k) d =
         let a = argument_is st.core.tables request_side m f k v d in
-        let there : ThereRow (server_rows st.core.view) a.1.it = (subst (λ (l : List (Arg Known)). Each (ThereRow (server_rows st.core.view)) (objects l)) a.1.are hs).0 in
+        let there : ThereRow (server_rows st.core.view) a.1.it =
+        (subst (λ (l : List (Arg Known)). Each (ThereRow (server_rows st.core.view)) (objects l)) a.1.are hs).0
+        in
         ends_named st.core m.target m.args k a.1.it st.core.inbox.tokens a.0 a.1.are a.1.some there
 
-pub left_is : (st : server.State) (m : Message Known) (n : ℕ) (entry : Entry) (f : Fits st.core.tables request_side m) → Valid st.core.tables → plain entry ≡ m.target.born
+-- reading a request leaves the server so
+pub left_is : (st : server.State) (m : Message Known) (n : ℕ) (entry : Entry) (f : Fits st.core.tables request_side m)
+    → Valid st.core.tables → plain entry ≡ m.target.born
     → ThereRow (server_rows st.core.view) m.target → Each (ThereRow (server_rows st.core.view)) (objects m.args)
     → state_past st (the_found n m entry f.signature) ≡ left_state st m n
 left_is st m n entry f v s h hs =
     let what = f.signature.destroys in
     let made : made_by_message st.core (the_message m entry f.signature) ≡ option_map made_of (made_in m.args) =
-    ap (λ (b : Born). made_message st.core.tables b.version f.signature.kinds (map wire m.args)) s ∙ made_read st.core.tables m.target.born.version f.signature.kinds m.args f.args in
-    let count : descriptors f.signature.kinds ≡ length (tokens m.args) = tokens_taken st.core.tables m.target.born.version f.signature.kinds m.args f.args in
+    ap (λ (b : Born). made_message st.core.tables b.version f.signature.kinds (map wire m.args)) s
+    ∙ made_read st.core.tables m.target.born.version f.signature.kinds m.args f.args in
+    let count : descriptors f.signature.kinds ≡ length (tokens m.args) =
+    tokens_taken st.core.tables m.target.born.version f.signature.kinds m.args f.args in
     let object = ended st.core (the_found n m entry f.signature) in
     let e = ends_rightly st m n entry f v s h hs in
     let new = option_map made_of (made_in m.args) in
     let view = after_is server_end st.core.view new what object.id m.ends e.ends in
     (λ i. record st {
-      core = with_following (destroys_one what) object.id (with_view (past st.core n (count i)) (after server_end st.core.view (made i) what object.id));
-      registries = without_registry registry_birth (destroys_one what) object.birth (registries_after st.core st.registries (made i));
+      core = with_following (destroys_one what) object.id
+          (with_view (past st.core n (count i)) (after server_end st.core.view (made i) what object.id));
+      registries = without_registry registry_birth (destroys_one what) object.birth
+          (registries_after st.core st.registries (made i));
     })
     ∙ ((λ i. record st {
-      core = with_following (destroys_one what) object.id (with_view (past st.core n (length (tokens m.args))) (view i));
-      registries = left_are (destroys_one what) object.birth m.ends (registries_after st.core st.registries new) e.ends.flag e.birth i;
+      core = with_following (destroys_one what) object.id
+          (with_view (past st.core n (length (tokens m.args))) (view i));
+      registries = left_are (destroys_one what) object.birth m.ends
+          (registries_after st.core st.registries new) e.ends.flag e.birth i;
     })
-    ∙ ap (λ (c : Core). record st { core = c; registries = registries_left m.ends (registries_after st.core st.registries new) })
-    (followed (destroys_one what) object.id m.ends (with_view (past st.core n (length (tokens m.args))) (ended_view server_end (opens st.core.view new) m.ends)) e.ends.flag e.ends.same))
+    ∙ ap (λ (c : Core). record st {
+      core = c;
+      registries = registries_left m.ends
+          (registries_after st.core st.registries new);
+    })
+    (followed (destroys_one what) object.id m.ends
+    (with_view (past st.core n (length (tokens m.args))) (ended_view server_end (opens st.core.view new) m.ends))
+    e.ends.flag e.ends.same))
 
 -- ---- deletes follow
 
@@ -185,135 +241,115 @@ begins_more x [] ds h = absurd h
 begins_more x (Event m ∷ cs) ds h = absurd h
 begins_more x (Delete y ∷ cs) ds h = h
 
+-- deletes still follow in a longer list
 pub follow_more : (cs ds : List (Coming Known)) → DeletesFollow cs → DeletesFollow ds → DeletesFollow (cs ++ ds)
 follow_more [] ds h k = k
 follow_more (Event m ∷ cs) ds h k = (if_by (λ x. begins_more x cs ds) m.ends h.0, follow_more cs ds h.1 k)
 follow_more (Delete x ∷ cs) ds h k = follow_more cs ds h k
 
+-- deletes follow in a delete alone
 pub follow_delete : (o : Option Known) → DeletesFollow (delete o)
 follow_delete None = tt
 follow_delete (Some x) = tt
 
+-- what ends is followed by its delete
 pub begins_delete : (o : Option Known) → IfThere (λ x. BeginsWithDelete x (delete o)) o
 begins_delete None = tt
 begins_delete (Some x) = refl
 
 -- ---- the pair stands again
 
-display_opens : (v : View) (n : Option Known) (e : Entry) → IfThere (Fresh (server_rows v)) n → look v 1 ≡ Some e → look (opens v (option_map made_of n)) 1 ≡ Some e
-display_opens v None e f h = h
-display_opens v (Some x) e f h = look-opened_at v x.id x.born.iface x.born.version 1 ∙ rw (other x.id f.free) h
-  where
-    other : (i : ℕ) → (server_rows v).rows i ≡ None → nat_eq 1 i ≡ false
-    other i g = ne_eqb 1 i (λ k. (let q : ◌≡◌ {A = Option Born} (Some (plain e)) None = ap (option_map plain) (sym h ∙ ap (look v) k) ∙ g in cc q))
-
-pub display_after : (v : View) (n o : Option Known) (e : Entry) → IfThere (Fresh (server_rows v)) n → look v 1 ≡ Some e → IfThere Mortal o
-    → look (ended_view server_end (opens v (option_map made_of n)) o) 1 ≡ Some e
-display_after v n None e f h y = display_opens v n e f h
-display_after v n (Some x) e f h y =
-    let b : nat_eq 1 x.id ≡ false = ne_eqb 1 x.id (λ k. y (sym k)) in look-closed (opens v (option_map made_of n)) x.id 1 ∙ rw b (display_opens v n e f h)
-
 -- an id that has a row is no more than the greatest
 pub low_there : (v : View) → Sound v → (x : Known) → ThereRow (server_rows v) x → x.id ≤ 1048576
 low_there v s x h = let r = there_row v x h in (row_low v x.id r.entry s r.there).1
 
-pub server_read_stands : (p : PairState) (w : World) (m : Message Known) (ms : List (Message Known)) (told : List (Coming Known)) (s : StandsBy p w (m ∷ ms) told) (n : ℕ)
-    → AsksAt (test_of p) (all_asks ms) (server_rows p.server.core.view) s.meet.middle m.target (objects m.args) (made_in m.args) m.ends
+-- a pair stands again after the server has read a request
+pub server_read_stands : (p : PairState) (w : World) (m : Message Known) (ms : List (Message Known))
+    (told : List (Coming Known)) (s : StandsBy p w (m ∷ ms) told) (n : ℕ)
+    → AsksAt (test_of p) (all_asks ms) (server_rows p.server.core.view) s.meet.middle m.target (objects m.args)
+    (made_in m.args) m.ends
     → InFlight p.client.core.outbox (without_first p.server.core.inbox n (length (tokens m.args))) (map spelled ms)
-    → StandsBy (with_server p (left_state p.server m n)) (request_read w (renamed born_of m) (map (renamed born_of) ms)) ms (told ++ delete m.ends)
+    → StandsBy (with_server p (left_state p.server m n))
+    (request_read w (renamed born_of m) (map (renamed born_of) ms)) ms (told ++ delete m.ends)
 server_read_stands p w m ms told s n a up =
-    let f = s.asked_fit.0.fits in
-    let d : ended_by f.signature.destroys m.target m.args ≡ m.ends = sym f.ends in
+    let f = s.requests.fit.0.fits in
     let v = p.server.core.view in
     let new = made_in m.args in
     let rows = server_after v new m.ends a.new in
     let world_new : made_in (map (rearg born_of) m.args) ≡ option_map born_of new = made_map born_of m.args in
-    let there : IfThere (ThereRow (server_rows v)) m.ends = subst (λ (o : Option Known). IfThere (ThereRow (server_rows v)) o) d (ended_has (ThereRow (server_rows v)) f.signature.destroys m.target m.args a.target a.args) in
-    let kept : IfThere (ThereRow (server_makes (server_rows v) new)) m.ends = if_by (λ x h. there_kept (server_rows v) new x a.new h) m.ends there in
-    let sets = server_ended _ _ m.ends (server_made (server_rows v) w.server new s.server_sets a.new) kept in
-    let low : IfThere (λ x. x.id ≤ 1048576) m.ends = if_by (low_there v s.server_sound) m.ends there in
+    let there : IfThere (ThereRow (server_rows v)) m.ends =
+    ends_have (ThereRow (server_rows v)) p.server.core.tables request_side m f a.target a.args in
+    let low : IfThere (λ x. x.id ≤ 1048576) m.ends = if_by (low_there v s.server.sound) m.ends there in
     record {
-      same_tables = s.same_tables;
-      valid = s.valid;
+      terms = s.terms;
+      client = s.client;
+      server = rw world_new (server_message s.server new m.ends a.new f.new_version there a.mortal);
+      requests = record { in_world = refl; in_boxes = up; fit = s.requests.fit.1 };
+      events = travel_more p.server.core.outbox (left_core p.server.core m n).outbox p.client.core.inbox w.events _ told
+          (delete m.ends) s.events (ap (λ (l : List (Coming Born)). w.events ++ l) (sym (map_delete m.ends)))
+          refl refl (delete_whole p.client.core.inbox.limit m.ends) (delete_fits p m.ends low);
       deletes_follow = follow_more told (delete m.ends) s.deletes_follow (follow_delete m.ends);
-      client_sets = s.client_sets;
-      server_sets = rw world_new (subst (λ (r : Rows Born). Shows birth_of r.rows r.births (gone (option_map born_of m.ends) (born_into same (option_map born_of new) w.server))) (sym rows) sets);
-      births = s.births;
-      client_sound = s.client_sound;
-      versions = s.versions;
-      server_sound = server_sound v new m.ends s.server_sound a.new there a.mortal;
-      client_display = s.client_display;
-      server_display = display_after v new m.ends (live_entry display_born) a.new s.server_display a.mortal;
-      server_versions = server_aged v new m.ends f.new_version s.server_versions;
-      server_live = server_live v new m.ends s.server_live;
-      requests = refl;
-      events = ap (λ (l : List (Coming Born)). l ++ delete (option_map born_of m.ends)) s.events ∙ ap (λ (l : List (Coming Born)). map (recoming born_of) told ++ l) (sym (map_delete m.ends))
-          ∙ sym (map-append (recoming born_of) told (delete m.ends));
-      to_server = up;
-      to_client = subst (λ (l : List boxes.Message). InFlight (left_core p.server.core m n).outbox p.client.core.inbox l) (sym (map-append spelled_coming told (delete m.ends)))
-          (pushed p.server.core.outbox (left_core p.server.core m n).outbox p.client.core.inbox (map spelled_coming told) (map spelled_coming (delete m.ends)) s.to_client refl refl (delete_whole p.client.core.inbox.limit m.ends));
-      asked_fit = s.asked_fit.1;
-      told_fit = each_more (ComesFitly p.server.core.tables p.server.globals) told (delete m.ends) s.told_fit (delete_fits p m.ends low);
       meet = record {
         middle = a.past.middle;
         reads = rw (all_tells_more told (delete m.ends)) (reads_more s.meet.reads a.past.reads);
         tied = subst (λ (r : Rows Born). Tied (test_of p) (all_asks ms) r a.past.middle) (sym rows) a.past.tied;
       };
-      client_lives = s.client_lives;
-      server_lives = s.server_lives;
-      remembered = s.remembered;
-      given = s.given;
-      registries = rw world_new (ap (λ (l : List _). registries_without (option_map born_of m.ends) (marks_after (option_map born_of new) l)) s.registries
-          ∙ ap (registries_without (option_map born_of m.ends)) (sym (marks_with p.server.core p.server.registries new (births_of v new a.new)))
-          ∙ sym (marks_left m.ends (registries_after p.server.core p.server.registries (option_map made_of new))));
-      remembers = s.remembers;
       globals = s.globals;
-      up_limit = s.up_limit;
-      down_limit = s.down_limit;
-      one_limit = s.one_limit;
-      few_globals = s.few_globals;
-      open_registries = has_read p.server.core p.server.registries new m.ends s.server_sound (fresh_row v new a.new) (if_by (there_row v) m.ends there) s.open_registries;
+      registries = record {
+        told = rw world_new (ap (λ (l : List _). registries_without (option_map born_of m.ends)
+            (marks_after (option_map born_of new) l)) s.registries.told
+            ∙ ap (registries_without (option_map born_of m.ends))
+            (sym (marks_with p.server.core p.server.registries new (births_of v new a.new)))
+            ∙ sym (marks_left m.ends (registries_after p.server.core p.server.registries (option_map made_of new))));
+        open_registries = has_read p.server.core p.server.registries new m.ends s.server.sound (fresh_row v new a.new)
+            (if_by (there_row v) m.ends there) s.registries.open_registries;
+      };
     }
 
 -- ---- what is answered
 
-pub record InRequest (p : PairState) (w : World) (m : Message Known) (ms : List (Message Known)) (told : List (Coming Known)) (s : StandsBy p w (m ∷ ms) told) (n : ℕ) : Type 0 where
+-- a request in front: its objects are open, it is found, and the rest is in flight
+pub record InRequest (p : PairState) (w : World) (m : Message Known) (ms : List (Message Known))
+    (told : List (Coming Known)) (s : StandsBy p w (m ∷ ms) told) (n : ℕ) : Type 0 where
   pub entry : Entry
   pub same_target : plain entry ≡ m.target.born
   pub met : AllMet p.server.core.view (rows_of_server w) m.args
-  pub finds_it : request p.server ≡ Ok (Some (the_found n m entry s.asked_fit.0.fits.signature))
-  pub asks_it : AsksAt (test_of p) (all_asks ms) (server_rows p.server.core.view) s.meet.middle m.target (objects m.args) (made_in m.args) m.ends
+  pub finds_it : request p.server ≡ Ok (Some (the_found n m entry s.requests.fit.0.fits.signature))
+  pub asks_it : AsksAt (test_of p) (all_asks ms) (server_rows p.server.core.view) s.meet.middle m.target
+      (objects m.args) (made_in m.args) m.ends
   pub up : InFlight p.client.core.outbox (without_first p.server.core.inbox n (length (tokens m.args))) (map spelled ms)
   pub more : List ℕ
   pub tokens_are : p.server.core.inbox.tokens ≡ tokens m.args ++ more
 
-judge : (st : server.State) (f : Found) → (is_bind request_side f.message.entry.iface f.opcode && not (is_good_bind st f.message.values)) ≡ false → found st.core request_side ≡ Ok (Some f) → request st ≡ Ok (Some f)
+judge : (st : server.State) (f : Found) → (is_bind request_side f.message.entry.iface f.opcode
+    && not (is_good_bind st f.message.values)) ≡ false → found st.core request_side ≡ Ok (Some f)
+    → request st ≡ Ok (Some f)
 judge st f h e = ap (judged st) e ∙ rw h refl
 
-pub in_request : (p : PairState) (w : World) (m : Message Known) (ms : List (Message Known)) (told : List (Coming Known)) (s : StandsBy p w (m ∷ ms) told) (n : ℕ)
+-- the first request, where it is whole
+pub in_request : (p : PairState) (w : World) (m : Message Known) (ms : List (Message Known))
+    (told : List (Coming Known)) (s : StandsBy p w (m ∷ ms) told) (n : ℕ)
     → in_front p.server.core.inbox ≡ Whole n → InRequest p w m ms told s n
 in_request p w m ms told s n e =
-    let q = pops p.client.core.outbox p.server.core.inbox (map spelled (m ∷ ms)) n s.to_server e in
-    let first : q.first ≡ spelled m = cc q.is in
-    let rest : q.rest ≡ map spelled ms = cc q.is in
+    let q = first_read p.client.core.outbox p.server.core.inbox (spelled m) (map spelled ms) n s.requests.in_boxes e in
     let a = asks_at m.target (objects m.args) (made_in m.args) m.ends s.meet.tied in
     let i = request_front p w m ms told s n a in
-    let f = s.asked_fit.0.fits in
-    let bytes : take n p.server.core.inbox.bytes ≡ (spelled m).bytes = q.bytes ∙ ap (λ (x : boxes.Message). x.bytes) first in
-    let own : q.first.tokens ≡ tokens m.args = ap (λ (x : boxes.Message). x.tokens) first in
-    let enough : length (tokens m.args) ≤ length p.server.core.inbox.tokens = let k = ap length own in omega (arith, q.enough, k) in
-    let there = finds p.server.core request_side m n (rows_of_server w) i.entry f e bytes i.there i.same_target i.met enough in
-    let binds : is_bind request_side i.entry.iface m.opcode ≡ true → is_good_bind p.server (map wire m.args) ≡ true = λ h. (
-    let b = s.asked_fit.0.binds (sym (ap (λ (x : Born). is_bind request_side x.iface m.opcode) i.same_target) ∙ h) in
+    let f = s.requests.fit.0.fits in
+    let there = finds p.server.core request_side m n
+    (rows_of_server w) i.entry f e q.bytes i.there i.same_target i.met q.enough in
+    let binds : is_bind request_side i.entry.iface m.opcode ≡ true
+    → is_good_bind p.server (map wire m.args) ≡ true = λ h. (
+    let b = s.requests.fit.0.binds (sym (ap (λ (x : Born). is_bind request_side x.iface m.opcode) i.same_target) ∙ h) in
     ap (λ (l : List (Arg Known)). is_good_bind p.server (map wire l)) b.args_are ∙ b.was_given) in
     record {
       entry = i.entry;
       same_target = i.same_target;
       met = i.met;
-      finds_it = judge p.server (the_found n m i.entry f.signature) (no_bad_bind (is_bind request_side i.entry.iface m.opcode) (is_good_bind p.server (map wire m.args)) binds) there;
+      finds_it = judge p.server (the_found n m i.entry f.signature)
+          (no_bad_bind (is_bind request_side i.entry.iface m.opcode) (is_good_bind p.server (map wire m.args)) binds)
+          there;
       asks_it = a;
-      up = subst (λ (l : List boxes.Message). InFlight p.client.core.outbox (without_first p.server.core.inbox n (length (tokens m.args))) l) rest
-          (subst (λ (l : List ℕ). InFlight p.client.core.outbox (without_first p.server.core.inbox n (length l)) q.rest) own q.stay);
+      up = q.stay;
       more = q.more;
-      tokens_are = q.tokens ∙ ap (λ (l : List ℕ). l ++ q.more) own;
+      tokens_are = q.tokens;
     }

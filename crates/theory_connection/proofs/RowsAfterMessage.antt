@@ -1,10 +1,11 @@
 -- An end's objects after a message.
-use Rattle.std.proofs.Common.{◌≡◌, ◌≢◌, ℕ, ◌≤◌, Bool, true, false, cond, eqb, List, [], ◌∷◌, ◌++◌, map, ◌⊎◌, inl, inr, refl, sym, ap, subst, ◌∙◌, arith, is_some, ⊎_elim}
+use Rattle.std.proofs.Common.{◌≡◌, ◌≢◌, ℕ, ◌≤◌, Bool, true, false, cond, eqb, List, [], ◌∷◌, ◌++◌}
+use Rattle.std.proofs.Common.{map, ◌⊎◌, inl, inr, refl, sym, ap, subst, ◌∙◌, arith, is_some, ⊎_elim}
 use Rattle.std.specs.Prelude.{option_map}
 use Rattle.std.specs.declared.option.Option.{Option}
 use Rattle.std.specs.declared.option.Option.TheVariants.{None, Some}
 use Rattle.std.proofs.lemmas.Bool.Decides.{nat_tests}
-use Rattle.wl_wire.specs.Argument.{Int, Uint, Fixed, Str, Obj, New, NewNamed, Array, Fd}
+use Rattle.wl_wire.specs.Argument.{Obj}
 use Rattle.wl_object_map.specs.declared.object.Entry.{Entry}
 use Rattle.wl_object_map.specs.declared.object.State.{State}
 use Rattle.wl_object_map.specs.declared.object.State.TheVariants as states
@@ -12,18 +13,22 @@ use Rattle.wl_object_map.specs.View.{View, Sound, look, opened_at, closed, zombi
 use Rattle.wl_object_map.specs.Views.{look-opened_at, row-opened_at, row-closed, row-zombied}
 use Rattle.wl_object_map.specs.Sounds.{Sound-opened_at, Sound-closed, Sound-zombied}
 use Rattle.wl_objects.specs.Messages.{Client, Server, opens}
-use Rattle.theory_connection.specs.Meant.{Born, Known, Arg, rearg, object_in, objects, new_in, made_in, or_else, token_in, tokens, plain}
+use Rattle.theory_connection.specs.Meant.{Born, Known, Arg, rearg, object_in, objects, new_in}
+use Rattle.theory_connection.specs.Meant.{made_in, or_else, token_in, tokens, plain}
 use Rattle.theory_connection.specs.World.{Row, Open, Ending, IfThere, Each}
 use Rattle.theory_connection.specs.Flight.{Rows, at, row, as_row, client_rows, server_rows, Fresh, Held}
 use Rattle.theory_connection.proofs.WholeInFlight.{ThereRow, client_makes, client_ends, server_makes, server_ends}
 use Rattle.theory_connection.proofs.Sets.{there_kept}
-use Rattle.theory_connection.proofs.Bridges.{map_none, client_opened, server_opened, server_closed, client_zombied, fresh_free, fresh_room}
+use Rattle.theory_connection.proofs.Bridges.{map_none, client_opened, server_opened, server_closed}
+use Rattle.theory_connection.proofs.Bridges.{client_zombied, fresh_free, fresh_room}
 use Rattle.theory_connection.proofs.ReadAsMeant.{made_of}
 use Rattle.theory_connection.proofs.EndedObject.{Mortal, ended_view}
 
 -- ---- what stands under a row
 
-pub map_some : {X Y : Type 0} (f : X → Y) (o : Option X) (y : Y) → option_map f o ≡ Some y → (x : X) × (o ≡ Some x) × (f x ≡ y)
+-- what is mapped to something is something
+pub map_some : {X Y : Type 0} (f : X → Y) (o : Option X) (y : Y) → option_map f o ≡ Some y
+    → (x : X) × (o ≡ Some x) × (f x ≡ y)
 map_some f None y h = absurd (cc h)
 map_some f (Some x) y h = (x, refl, cc h)
 
@@ -40,61 +45,89 @@ pub record HeldRow (v : View) (x : Known) : Type 0 where
   pub there : look v x.id ≡ Some entry
   pub same : plain entry ≡ x.born
 
+-- the entry of what the client holds
 pub held_row : (v : View) (x : Known) → Held (client_rows v) x → HeldRow v x
 held_row v x h = elim h [
-  | inl p ↦ (let m = map_some row (look v x.id) (Open x.born) p in record { entry = m.0; there = m.1; same = row_born m.0.state (plain m.0) x.born (inl m.2) })
-  | inr p ↦ (let m = map_some row (look v x.id) (Ending x.born) p in record { entry = m.0; there = m.1; same = row_born m.0.state (plain m.0) x.born (inr m.2) })
+  | inl p ↦ (let m = map_some row (look v x.id) (Open x.born) p
+      in record { entry = m.0; there = m.1; same = row_born m.0.state (plain m.0) x.born (inl m.2) })
+  | inr p ↦ (let m = map_some row (look v x.id) (Ending x.born) p
+      in record { entry = m.0; there = m.1; same = row_born m.0.state (plain m.0) x.born (inr m.2) })
 ]
 
+-- the entry of what is open at the server
 pub there_row : (v : View) (x : Known) → ThereRow (server_rows v) x → HeldRow v x
 there_row v x h = let m = map_some plain (look v x.id) x.born h in record { entry = m.0; there = m.1; same = m.2 }
 
 -- ---- the rows
 
+-- the server's rows after a message that makes this and ends that
 pub server_after : (v : View) (n o : Option Known) → IfThere (Fresh (server_rows v)) n
-    → server_rows (ended_view Server (opens v (option_map made_of n)) o) ≡ server_ends o (server_makes (server_rows v) n)
+    → server_rows (ended_view Server (opens v (option_map made_of n)) o)
+    ≡ server_ends o (server_makes (server_rows v) n)
 server_after v None None g = refl
 server_after v None (Some x) g = server_closed v x.id
 server_after v (Some y) None g = server_opened v y g.birth
-server_after v (Some y) (Some x) g = server_closed (opened_at v y.id y.born.iface y.born.version) x.id ∙ ap (λ (r : Rows Born). at r x.id None) (server_opened v y g.birth)
+server_after v (Some y) (Some x) g = server_closed (opened_at v y.id y.born.iface y.born.version) x.id
+    ∙ ap (λ (r : Rows Born). at r x.id None) (server_opened v y g.birth)
 
-apart : (v : View) (y : Known) (id : ℕ) (e : Entry) → (client_rows v).rows y.id ≡ None → look v id ≡ Some e → look (opened_at v y.id y.born.iface y.born.version) id ≡ Some e
+apart : (v : View) (y : Known) (id : ℕ) (e : Entry) → (client_rows v).rows y.id ≡ None → look v id ≡ Some e
+    → look (opened_at v y.id y.born.iface y.born.version) id ≡ Some e
 apart v y id e f h =
     let n = map_none row (look v y.id) f in
     let ne : id ≢ y.id = λ s. (let k = sym h ∙ ap (look v) s ∙ n in cc) in
     let b : eqb id y.id ≡ false = grind (arith, nat_tests) in
     look-opened_at v y.id y.born.iface y.born.version id ∙ rw b h
 
+-- the client's rows after a message that makes this and ends that
 pub client_after : (v : View) (n o : Option Known) → IfThere (Fresh (client_rows v)) n → IfThere (HeldRow v) o
-    → client_rows (ended_view Client (opens v (option_map made_of n)) o) ≡ client_ends o (client_makes (client_rows v) n)
+    → client_rows (ended_view Client (opens v (option_map made_of n)) o)
+    ≡ client_ends o (client_makes (client_rows v) n)
 client_after v None None g h = refl
-client_after v None (Some x) g h = client_zombied v x.id h.entry h.there ∙ ap (λ (b : Born). at (client_rows v) x.id (Some (Ending b))) h.same
+client_after v None (Some x) g h = client_zombied v x.id h.entry h.there
+    ∙ ap (λ (b : Born). at (client_rows v) x.id (Some (Ending b))) h.same
 client_after v (Some y) None g h = client_opened v y g.birth
 client_after v (Some y) (Some x) g h =
     client_zombied (opened_at v y.id y.born.iface y.born.version) x.id h.entry (apart v y x.id h.entry g.free h.there)
     ∙ ap (λ (b : Born). at (client_rows (opened_at v y.id y.born.iface y.born.version)) x.id (Some (Ending b))) h.same
     ∙ ap (λ (r : Rows Row). at r x.id (Some (Ending x.born))) (client_opened v y g.birth)
 
+-- ---- the count of births
+
+-- what is made is counted, and no count falls
+pub births_kept : (v : View) (n o : Option Known)
+    → v.births ≤ (ended_view Server (opens v (option_map made_of n)) o).births
+births_kept v None None = omega arith
+births_kept v None (Some x) = omega arith
+births_kept v (Some y) None = omega arith
+births_kept v (Some y) (Some x) = omega arith
+
 -- ---- soundness
 
-server_opens_sound : (v : View) (n : Option Known) → Sound v → IfThere (Fresh (server_rows v)) n → Sound (opens v (option_map made_of n))
+server_opens_sound : (v : View) (n : Option Known) → Sound v → IfThere (Fresh (server_rows v)) n
+    → Sound (opens v (option_map made_of n))
 server_opens_sound v None s g = s
-server_opens_sound v (Some y) s g = Sound-opened_at v y.id y.born.iface y.born.version s (fresh_free v y s g) (fresh_room v y g)
+server_opens_sound v (Some y) s g = Sound-opened_at v y.id y.born.iface y.born.version s (fresh_free v y s g)
+    (fresh_room v y g)
 
-server_opens_rows : (v : View) (n : Option Known) → IfThere (Fresh (server_rows v)) n → server_rows (opens v (option_map made_of n)) ≡ server_makes (server_rows v) n
+server_opens_rows : (v : View) (n : Option Known) → IfThere (Fresh (server_rows v)) n
+    → server_rows (opens v (option_map made_of n)) ≡ server_makes (server_rows v) n
 server_opens_rows v None g = refl
 server_opens_rows v (Some y) g = server_opened v y g.birth
 
-pub server_sound : (v : View) (n o : Option Known) → Sound v → IfThere (Fresh (server_rows v)) n → IfThere (ThereRow (server_rows v)) o → IfThere Mortal o
+-- the server's view stays sound
+pub server_sound : (v : View) (n o : Option Known) → Sound v → IfThere (Fresh (server_rows v)) n
+    → IfThere (ThereRow (server_rows v)) o → IfThere Mortal o
     → Sound (ended_view Server (opens v (option_map made_of n)) o)
 server_sound v n None s g h y = server_opens_sound v n s g
 server_sound v n (Some x) s g h y =
     let k = there_kept (server_rows v) n x g h in
-    let r = there_row (opens v (option_map made_of n)) x (subst (λ (r : Rows Born). ThereRow r x) (sym (server_opens_rows v n g)) k) in
+    let r = there_row (opens v (option_map made_of n)) x
+    (subst (λ (r : Rows Born). ThereRow r x) (sym (server_opens_rows v n g)) k) in
     Sound-closed (opens v (option_map made_of n)) x.id (server_opens_sound v n s g) (some_is _ r.entry r.there) y
 
 -- a new object at the client is free to the tests: it is the next
-pub client_sound : (v : View) (n o : Option Known) → Sound (opens v (option_map made_of n)) → IfThere Mortal o → Sound (ended_view Client (opens v (option_map made_of n)) o)
+pub client_sound : (v : View) (n o : Option Known) → Sound (opens v (option_map made_of n)) → IfThere Mortal o
+    → Sound (ended_view Client (opens v (option_map made_of n)) o)
 client_sound v n None s y = s
 client_sound v n (Some x) s y = Sound-zombied (opens v (option_map made_of n)) x.id s y
 
@@ -105,9 +138,12 @@ AllLive v = (id : ℕ) (e : Entry) → look v id ≡ Some e → e.state ≡ stat
 
 opens_live : (v : View) (n : Option Known) → AllLive v → AllLive (opens v (option_map made_of n))
 opens_live v None l = l
-opens_live v (Some y) l = λ id e h. ⊎_elim (λ p. ap (λ (d : Entry). d.state) p.1) (λ p. l id e p.1) (row-opened_at v y.id y.born.iface y.born.version id e h)
+opens_live v (Some y) l = λ id e h. ⊎_elim (λ p. ap (λ (d : Entry). d.state) p.1) (λ p. l id e p.1)
+    (row-opened_at v y.id y.born.iface y.born.version id e h)
 
-pub server_live : (v : View) (n o : Option Known) → AllLive v → AllLive (ended_view Server (opens v (option_map made_of n)) o)
+-- the server's rows stay live
+pub server_live : (v : View) (n o : Option Known) → AllLive v
+    → AllLive (ended_view Server (opens v (option_map made_of n)) o)
 server_live v n None l = opens_live v n l
 server_live v n (Some x) l = λ id e h. opens_live v n l id e (row-closed (opens v (option_map made_of n)) x.id id e h).1
 
@@ -122,71 +158,56 @@ module _ {A B : Type 0} (f : A → B) where
   or_map (Some x) b = refl
 
   new_map : (a : Arg A) → new_in (rearg f a) ≡ option_map f (new_in a)
-  new_map (Int z) = refl
-  new_map (Uint z) = refl
-  new_map (Fixed z) = refl
-  new_map (Str z) = refl
   new_map (Obj None) = refl
-  new_map (Obj (Some x)) = refl
-  new_map (New x) = refl
-  new_map (NewNamed name own x) = refl
-  new_map (Array z) = refl
-  new_map (Fd z) = refl
+  new_map a = refl
 
+  -- what arguments make, with objects named otherwise
   pub made_map : (args : List (Arg A)) → made_in (map (rearg f) args) ≡ option_map f (made_in args)
   made_map [] = refl
   made_map (a ∷ args) = rw (new_map a, made_map args) (or_map (new_in a) (made_in args))
 
   object_map : (a : Arg A) (xs : List A) → object_in (rearg f a) ++ map f xs ≡ map f (object_in a ++ xs)
-  object_map (Int z) xs = refl
-  object_map (Uint z) xs = refl
-  object_map (Fixed z) xs = refl
-  object_map (Str z) xs = refl
   object_map (Obj None) xs = refl
-  object_map (Obj (Some x)) xs = refl
-  object_map (New x) xs = refl
-  object_map (NewNamed name own x) xs = refl
-  object_map (Array z) xs = refl
-  object_map (Fd z) xs = refl
+  object_map a xs = refl
 
+  -- the objects of arguments, named otherwise
   pub objects_map : (args : List (Arg A)) → objects (map (rearg f) args) ≡ map f (objects args)
   objects_map [] = refl
   objects_map (a ∷ args) = rw (objects_map args) (object_map a (objects args))
 
   token_map : (a : Arg A) (xs : List ℕ) → token_in (rearg f a) ++ xs ≡ token_in a ++ xs
-  token_map (Int z) xs = refl
-  token_map (Uint z) xs = refl
-  token_map (Fixed z) xs = refl
-  token_map (Str z) xs = refl
   token_map (Obj None) xs = refl
-  token_map (Obj (Some x)) xs = refl
-  token_map (New x) xs = refl
-  token_map (NewNamed name own x) xs = refl
-  token_map (Array z) xs = refl
-  token_map (Fd z) xs = refl
+  token_map a xs = refl
 
+  -- the tokens are the same, however objects are named
   pub tokens_map : (args : List (Arg A)) → tokens (map (rearg f) args) ≡ tokens args
   tokens_map [] = refl
   tokens_map (a ∷ args) = rw (tokens_map args) (token_map a (tokens args))
 
+-- what is so of each of these, seen through a function
 pub each_map : {X Y : Type 0} (f : X → Y) (P : Y → Type 0) (xs : List X) → Each (λ x. P (f x)) xs → Each P (map f xs)
 each_map f P [] h = tt
 each_map f P (x ∷ xs) h = (h.0, each_map f P xs h.1)
 
 -- ---- versions are from 1
 
+-- each entry has a version from 1
 abbrev pub Aged : View → Type 0
 Aged v = (id : ℕ) (e : Entry) → look v id ≡ Some e → 1 ≤ e.version
 
-opens_aged : (v : View) (n : Option Known) → IfThere (λ x. 1 ≤ x.born.version) n → Aged v → Aged (opens v (option_map made_of n))
+opens_aged : (v : View) (n : Option Known) → IfThere (λ x. 1 ≤ x.born.version) n → Aged v
+    → Aged (opens v (option_map made_of n))
 opens_aged v None g a = a
-opens_aged v (Some y) g a = λ id e h. ⊎_elim (λ p. (let k = ap (λ (d : Entry). d.version) p.1 in omega (arith, k, g))) (λ p. a id e p.1) (row-opened_at v y.id y.born.iface y.born.version id e h)
+opens_aged v (Some y) g a = λ id e h. ⊎_elim (λ p. (let k = ap (λ (d : Entry). d.version) p.1 in omega (arith, k, g)))
+    (λ p. a id e p.1) (row-opened_at v y.id y.born.iface y.born.version id e h)
 
 kept_version : (b : Bool) (d : Entry) → (cond b (zombie d) d).version ≡ d.version
 kept_version true d = refl
 kept_version false d = refl
 
-pub client_aged : (v : View) (n o : Option Known) → IfThere (λ y. 1 ≤ y.born.version) n → Aged v → Aged (ended_view Client (opens v (option_map made_of n)) o)
+-- versions stay from 1 at the client
+pub client_aged : (v : View) (n o : Option Known) → IfThere (λ y. 1 ≤ y.born.version) n → Aged v
+    → Aged (ended_view Client (opens v (option_map made_of n)) o)
 client_aged v n None g a = opens_aged v n g a
 client_aged v n (Some x) g a = λ id e h.
     let z = row-zombied (opens v (option_map made_of n)) x.id id e h in
@@ -194,9 +215,13 @@ client_aged v n (Some x) g a = λ id e h.
     let q = ap (λ (d : Entry). d.version) z.1.1 ∙ kept_version (eqb id x.id) z.0 in
     omega (arith, k, q)
 
-pub server_aged : (v : View) (n o : Option Known) → IfThere (λ y. 1 ≤ y.born.version) n → Aged v → Aged (ended_view Server (opens v (option_map made_of n)) o)
+-- versions stay from 1 at the server
+pub server_aged : (v : View) (n o : Option Known) → IfThere (λ y. 1 ≤ y.born.version) n → Aged v
+    → Aged (ended_view Server (opens v (option_map made_of n)) o)
 server_aged v n None g a = opens_aged v n g a
-server_aged v n (Some x) g a = λ id e h. opens_aged v n g a id e (row-closed (opens v (option_map made_of n)) x.id id e h).1
+server_aged v n (Some x) g a = λ id e h. opens_aged v n g a id e
+    (row-closed (opens v (option_map made_of n)) x.id id e h).1
 
+-- versions stay from 1 where an id is closed
 pub closed_aged : (v : View) (x : ℕ) → Aged v → Aged (closed v x)
 closed_aged v x a = λ id e h. a id e (row-closed v x id e h).1

@@ -2,9 +2,13 @@
 use Rattle.std.proofs.Common.{List, [], ◌∷◌, refl}
 use Rattle.wl_sigs.specs.Tables.{Interface}
 use Rattle.theory_connection.specs.Meant.{Delete}
-use Rattle.theory_connection.specs.World.{put, nothing, writes_request, reads_request, writes_event, reads_event, reads_delete}
-use Rattle.theory_connection.specs.Samples.{CallbackLives, sync, done, called, DeadArgument, enter, destroy, DeadRegistry, tell, destroy_registry, registered}
+use Rattle.theory_connection.specs.World.{put, nothing, writes_request, reads_request, writes_event}
+use Rattle.theory_connection.specs.World.{reads_event, reads_delete}
+use Rattle.theory_connection.specs.Samples.{CallbackLives, sync, done, called, DeadArgument, enter}
+use Rattle.theory_connection.specs.Samples.{destroy, DeadRegistry, tell, destroy_registry}
+use Rattle.theory_connection.specs.Samples.{registered}
 
+-- the steps of a callback from its making to its delete, in any tables
 pub callback_lives : (tables : List Interface) → CallbackLives tables
 unfolding put nothing
 callback_lives tables = record {
@@ -21,6 +25,7 @@ callback_lives tables = record {
   next = refl;
 }
 
+-- the steps to an event whose argument is dead when it comes, in any tables
 pub dead_argument : (tables : List Interface) → DeadArgument tables
 unfolding put nothing
 dead_argument tables = record {
@@ -32,6 +37,7 @@ dead_argument tables = record {
   deletes = refl;
 }
 
+-- the steps to an event of a registry that is dead when it comes, in any tables
 pub dead_registry : (tables : List Interface) → DeadRegistry tables
 unfolding put nothing
 dead_registry tables = record {

@@ -1,5 +1,6 @@
 -- A move of the server's reading.
-use Rattle.std.proofs.Common.{◌≡◌, ◌≢◌, ℕ, Bool, true, false, cond, List, [], ◌∷◌, ◌++◌, map, refl, sym, ap, subst, ◌∙◌, arith}
+use Rattle.std.proofs.Common.{◌≡◌, ◌≢◌, ℕ, Bool, true, false, cond, List, [], ◌∷◌, ◌++◌, map, refl}
+use Rattle.std.proofs.Common.{sym, ap, subst, ◌∙◌, arith}
 use Rattle.std.specs.Prelude.{not, ◌&&◌}
 use Rattle.std.specs.declared.option.Option.{Option}
 use Rattle.std.specs.declared.option.Option.TheVariants.{None, Some}
@@ -13,7 +14,8 @@ use Rattle.wl_objects.specs.declared.error.NextError.{NextError}
 use Rattle.wl_objects.specs.declared.error.NextError.TheVariants as errors
 use Rattle.wl_objects.specs.Reading.{Reported}
 use Rattle.wl_connection.specs.Receiving.{Found, found_at, is_none}
-use Rattle.wl_server.specs.Requests.{Report, judged, request, report, needs_memory, is_out_full, next_answer, after_next, state_past}
+use Rattle.wl_server.specs.Requests.{Report, judged, request, report, needs_memory, is_out_full}
+use Rattle.wl_server.specs.Requests.{next_answer, after_next, state_past}
 use Rattle.theory_connection.specs.Meant.{Known, Born, Message, Coming, renamed, born_of, birth_of}
 use Rattle.theory_connection.specs.World.{World, IfThere, request_read, reads_request, delete}
 use Rattle.theory_connection.specs.Pair.{PairState, ServerNext, with_server, Nexts, answered, no_memory}
@@ -22,7 +24,7 @@ use Rattle.theory_connection.specs.Stands.{StandsBy}
 use Rattle.theory_connection.proofs.Channels.{pops, never_bad}
 use Rattle.theory_connection.proofs.ReadAsMeant.{reports_right}
 use Rattle.theory_connection.proofs.FoundInFront.{the_found}
-use Rattle.theory_connection.proofs.EndedObject.{ends_as, some_map, ended_has, if_by}
+use Rattle.theory_connection.proofs.EndedObject.{ends_as, some_map, ends_have, if_by}
 use Rattle.theory_connection.proofs.WholeInFlight.{ThereRow}
 use Rattle.theory_connection.specs.Flight.{server_rows}
 use Rattle.theory_connection.proofs.RequestRead.{InRequest, in_request, left_state, left_is, server_read_stands}
@@ -30,11 +32,13 @@ use Rattle.theory_connection.proofs.Moves.{Moves, goes_on, stays, reading_reques
 
 -- ---- nothing in front
 
-idle : (p : PairState) (w : World) (asked : List (Message Known)) (told : List (Coming Known)) (s : StandsBy p w asked told) → in_front p.server.core.inbox ≡ More
+idle : (p : PairState) (w : World) (asked : List (Message Known)) (told : List (Coming Known))
+    (s : StandsBy p w asked told) → in_front p.server.core.inbox ≡ More
     → (request p.server ≡ Ok None) × (next_answer p.server ≡ Ok None) × (after_next p.server ≡ p.server)
 idle p w asked told s e =
-    let r : request p.server ≡ Ok None = ap (λ (f : Front). judged p.server (found_at p.server.core request_side f)) e in
-    (r, rw (s.server_lives, r) refl, rw (s.server_lives, r) refl)
+    let r : request p.server ≡ Ok None = ap (λ (f : Front). judged p.server (found_at p.server.core request_side f)) e
+    in
+    (r, rw (s.server.lives, r) refl, rw (s.server.lives, r) refl)
 
 -- ---- a request in front
 
@@ -42,21 +46,25 @@ record Answered (p : PairState) (m : Message Known) (f : Found) (b : Bool) : Typ
   answer : next_answer p.server ≡ cond b (Err errors.OutFull) (Ok (Some (report p.server.core f)))
   leaves : after_next p.server ≡ cond b p.server (state_past p.server f)
 
-answer_is : (p : PairState) (m : Message Known) (f : Found) (b : Bool) → p.server.core.failed ≡ false → request p.server ≡ Ok (Some f) → is_out_full p.server.core f ≡ b → Answered p m f b
+answer_is : (p : PairState) (m : Message Known) (f : Found) (b : Bool) → p.server.core.failed ≡ false
+    → request p.server ≡ Ok (Some f) → is_out_full p.server.core f ≡ b → Answered p m f b
 answer_is p m f b l r e = record { answer = rw (l, r, e) refl; leaves = rw (l, r, e) refl }
 
 -- the report of a request needs memory where the request has arguments
-is_some_request : (w : World) (m : Message Born) (r : Report) → ReportsRequest w m r → needs_memory r ≡ true → m.args ≢ []
+is_some_request : (w : World) (m : Message Born) (r : Report) → ReportsRequest w m r → needs_memory r ≡ true
+    → m.args ≢ []
 is_some_request w m r t h e = by_args r.args refl
   where
     by_args : (args : List Reported) → r.args ≡ args → ⊥
     by_args [] k = cc (ap (λ (l : List Reported). not (is_none l)) k, h)
     by_args (a ∷ args) k = cc (t.args, e, k)
 
-reports : (p : PairState) (w : World) (m : Message Known) (ms : List (Message Known)) (told : List (Coming Known)) (s : StandsBy p w (m ∷ ms) told) (n : ℕ) (i : InRequest p w m ms told s n)
-    → ReportsRequest w (renamed born_of m) (report p.server.core (the_found n m i.entry s.asked_fit.0.fits.signature))
+reports : (p : PairState) (w : World) (m : Message Known) (ms : List (Message Known)) (told : List (Coming Known))
+    (s : StandsBy p w (m ∷ ms) told) (n : ℕ) (i : InRequest p w m ms told s n)
+    → ReportsRequest w (renamed born_of m) (report p.server.core
+    (the_found n m i.entry s.requests.fit.0.fits.signature))
 reports p w m ms told s n i = record {
-  is_open = s.server_sets.shown m.target.id m.target.born i.asks_it.target;
+  is_open = s.server.sets.shown m.target.id m.target.born i.asks_it.target;
   target = ap birth_of i.same_target;
   opcode = refl;
   args = rw i.tokens_are (reports_right p.server.core.view (rows_of_server w) m.args i.more i.met);
@@ -66,93 +74,139 @@ and_not : (a b : Bool) → (a && b) ≡ false → a ≡ true → b ≡ false
 and_not true b h e = h
 and_not false b h e = absurd (cc e)
 
-keeps_out_full : (p : PairState) (w : World) (m : Message Known) (ms : List (Message Known)) (told : List (Coming Known)) (s : StandsBy p w (m ∷ ms) told) (n : ℕ) → NotEnded p w
-    → in_front p.server.core.inbox ≡ Whole n → InRequest p w m ms told s n → (reply : Result (Option Report) NextError) (p' : PairState)
+keeps_out_full : (p : PairState) (w : World) (m : Message Known) (ms : List (Message Known))
+    (told : List (Coming Known)) (s : StandsBy p w (m ∷ ms) told) (n : ℕ) → NotEnded p w
+    → in_front p.server.core.inbox ≡ Whole n → InRequest p w m ms told s n
+    → (reply : Result (Option Report) NextError) (p' : PairState)
     → (Nexts needs_memory (next_answer p.server) p (with_server p (after_next p.server)) reply p')
     → IsOutFull p (renamed born_of m)
     → Nexts needs_memory (Err errors.OutFull) p p reply p' → Moves p w (m ∷ ms) told ServerNext (ServerNext reply) p'
 keeps_out_full p w m ms told s n z e i reply p' d full answered = record {
   world = w;
-  answers = before z d (record { waits = subst HasMessage (sym e) tt; message = renamed born_of m; rest = map (renamed born_of) ms; first = s.requests; because = full; same = refl });
+  answers = before z d (record {
+    waits = subst HasMessage (sym e) tt;
+    message = renamed born_of m;
+    rest = map (renamed born_of) ms;
+    first = s.requests.in_world;
+    because = full;
+    same = refl;
+  });
   outcome = goes_on (m ∷ ms) told z s stays;
 }
 keeps_out_full p w m ms told s n z e i reply p' d full (no_memory q h) = absurd (cc q)
 
-request_there : (p : PairState) (w : World) (m : Message Known) (ms : List (Message Known)) (told : List (Coming Known)) (s : StandsBy p w (m ∷ ms) told) (n : ℕ) → InRequest p w m ms told s n
+request_there : (p : PairState) (w : World) (m : Message Known) (ms : List (Message Known)) (told : List (Coming Known))
+    (s : StandsBy p w (m ∷ ms) told) (n : ℕ) → InRequest p w m ms told s n
     → IfThere (ThereRow (server_rows p.server.core.view)) m.ends
 request_there p w m ms told s n i =
     let there = ThereRow (server_rows p.server.core.view) in
-    let f = s.asked_fit.0.fits in
-    subst (IfThere there) (sym f.ends) (ended_has there f.signature.destroys m.target m.args i.asks_it.target i.asks_it.args)
+    let f = s.requests.fit.0.fits in
+    ends_have there p.server.core.tables request_side m f i.asks_it.target i.asks_it.args
 
-keeps_read : (p : PairState) (w : World) (m : Message Known) (ms : List (Message Known)) (told : List (Coming Known)) (s : StandsBy p w (m ∷ ms) told) (n : ℕ) → NotEnded p w
-    → in_front p.server.core.inbox ≡ Whole n → (i : InRequest p w m ms told s n) → (reply : Result (Option Report) NextError) (p' : PairState)
+keeps_read : (p : PairState) (w : World) (m : Message Known) (ms : List (Message Known)) (told : List (Coming Known))
+    (s : StandsBy p w (m ∷ ms) told) (n : ℕ) → NotEnded p w
+    → in_front p.server.core.inbox ≡ Whole n → (i : InRequest p w m ms told s n)
+    → (reply : Result (Option Report) NextError) (p' : PairState)
     → (Nexts needs_memory (next_answer p.server) p (with_server p (after_next p.server)) reply p')
     → (IsOutFull p (renamed born_of m) → ⊥)
-    → Nexts needs_memory (Ok (Some (report p.server.core (the_found n m i.entry s.asked_fit.0.fits.signature)))) p
+    → Nexts needs_memory (Ok (Some (report p.server.core (the_found n m i.entry s.requests.fit.0.fits.signature)))) p
     (with_server p (left_state p.server m n)) reply p'
     → Moves p w (m ∷ ms) told ServerNext (ServerNext reply) p'
 keeps_read p w m ms told s n z e i reply p' d room answered = record {
   world = request_read w (renamed born_of m) (map (renamed born_of) ms);
-  answers = before z d (record { waits = subst HasMessage (sym e) tt; message = renamed born_of m; steps = reads_request (renamed born_of m) (map (renamed born_of) ms) s.requests; reports = reports p w m ms told s n i; has_room = room });
+  answers = before z d (record {
+    waits = subst HasMessage (sym e) tt;
+    message = renamed born_of m;
+    steps = reads_request (renamed born_of m) (map (renamed born_of) ms) s.requests.in_world;
+    reports =
+        reports p w m ms told s n i;
+    has_room = room;
+  });
   outcome = goes_on ms (told ++ delete m.ends) z (server_read_stands p w m ms told s n i.asks_it i.up)
-      (reading_request m ms n refl e (if_by (λ x h. s.server_sets.below x.id x.born h) m.ends (request_there p w m ms told s n i)));
+      (reading_request m ms n refl e (if_by (λ x h. s.server.sets.below x.id x.born h) m.ends
+      (request_there p w m ms told s n i)));
 }
 keeps_read p w m ms told s n z e i reply p' d room (no_memory {report = r} q h) =
-    let same : report p.server.core (the_found n m i.entry s.asked_fit.0.fits.signature) ≡ r = cc q in
+    let same : report p.server.core (the_found n m i.entry s.requests.fit.0.fits.signature) ≡ r = cc q in
     let needs = is_some_request w (renamed born_of m) _ (reports p w m ms told s n i) (ap needs_memory same ∙ h) in
     record {
       world = w;
-      answers = before z d (record { waits = subst HasMessage (sym e) tt; message = renamed born_of m; rest = map (renamed born_of) ms; first = s.requests; because = (needs, room); same = refl });
+      answers = before z d (record {
+        waits = subst HasMessage (sym e) tt;
+        message = renamed born_of m;
+        rest = map (renamed born_of) ms;
+        first = s.requests.in_world;
+        because = (needs, room);
+        same = refl;
+      });
       outcome = goes_on (m ∷ ms) told z s stays;
     }
 
-at_request : (p : PairState) (w : World) (m : Message Known) (ms : List (Message Known)) (told : List (Coming Known)) (s : StandsBy p w (m ∷ ms) told) (n : ℕ) → NotEnded p w
-    → in_front p.server.core.inbox ≡ Whole n → (i : InRequest p w m ms told s n) → (reply : Result (Option Report) NextError) (p' : PairState)
+at_request : (p : PairState) (w : World) (m : Message Known) (ms : List (Message Known)) (told : List (Coming Known))
+    (s : StandsBy p w (m ∷ ms) told) (n : ℕ) → NotEnded p w
+    → in_front p.server.core.inbox ≡ Whole n → (i : InRequest p w m ms told s n)
+    → (reply : Result (Option Report) NextError) (p' : PairState)
     → (Nexts needs_memory (next_answer p.server) p (with_server p (after_next p.server)) reply p')
-    → (b : Bool) → is_out_full p.server.core (the_found n m i.entry s.asked_fit.0.fits.signature) ≡ b → Moves p w (m ∷ ms) told ServerNext (ServerNext reply) p'
+    → (b : Bool) → is_out_full p.server.core (the_found n m i.entry s.requests.fit.0.fits.signature) ≡ b
+    → Moves p w (m ∷ ms) told ServerNext (ServerNext reply) p'
 at_request p w m ms told s n z e i reply p' d true h =
-    let a = answer_is p m (the_found n m i.entry s.asked_fit.0.fits.signature) true s.server_lives i.finds_it h in
+    let a = answer_is p m (the_found n m i.entry s.requests.fit.0.fits.signature) true s.server.lives i.finds_it h in
     let k = and_parts _ _ h in
-    let flag = some_map born_of m.ends ∙ sym (ends_as p.server.core.tables request_side m s.asked_fit.0.fits s.valid).flag in
+    let flag = some_map born_of m.ends ∙ sym (ends_as p.server.core.tables request_side m s.requests.fit.0.fits
+    s.terms.valid).flag in
     keeps_out_full p w m ms told s n z e i reply p' d (flag ∙ k.0, ltb-true _ _ k.1)
     (subst (λ st. Nexts needs_memory (Err errors.OutFull) p (with_server p st) reply p') a.leaves
     (subst (λ x. Nexts needs_memory x p (with_server p (after_next p.server)) reply p') a.answer d))
 at_request p w m ms told s n z e i reply p' d false h =
-    let f = the_found n m i.entry s.asked_fit.0.fits.signature in
-    let a = answer_is p m f false s.server_lives i.finds_it h in
-    let flag = some_map born_of m.ends ∙ sym (ends_as p.server.core.tables request_side m s.asked_fit.0.fits s.valid).flag in
+    let f = the_found n m i.entry s.requests.fit.0.fits.signature in
+    let a = answer_is p m f false s.server.lives i.finds_it h in
+    let flag = some_map born_of m.ends ∙ sym (ends_as p.server.core.tables request_side m s.requests.fit.0.fits
+    s.terms.valid).flag in
     keeps_read p w m ms told s n z e i reply p' d
     (λ full. (let no = ltb-false _ _ (and_not _ _ h (sym flag ∙ full.0)) in absurd (omega (arith, no, full.1))))
-    (subst (λ st. Nexts needs_memory (Ok (Some (report p.server.core f))) p (with_server p st) reply p') (a.leaves ∙ left_is p.server m n i.entry s.asked_fit.0.fits s.valid i.same_target i.asks_it.target i.asks_it.args)
+    (subst (λ st. Nexts needs_memory (Ok (Some (report p.server.core f))) p (with_server p st) reply p')
+    (a.leaves ∙ left_is p.server m n i.entry s.requests.fit.0.fits s.terms.valid i.same_target i.asks_it.target
+    i.asks_it.args)
     (subst (λ x. Nexts needs_memory x p (with_server p (after_next p.server)) reply p') a.answer d))
 
-at_whole : (p : PairState) (w : World) (asked : List (Message Known)) (told : List (Coming Known)) (s : StandsBy p w asked told) (n : ℕ) → NotEnded p w
+at_whole : (p : PairState) (w : World) (asked : List (Message Known)) (told : List (Coming Known))
+    (s : StandsBy p w asked told) (n : ℕ) → NotEnded p w
     → in_front p.server.core.inbox ≡ Whole n → (reply : Result (Option Report) NextError) (p' : PairState)
-    → (Nexts needs_memory (next_answer p.server) p (with_server p (after_next p.server)) reply p') → Moves p w asked told ServerNext (ServerNext reply) p'
-at_whole p w [] told s n z e reply p' d = absurd (let q = pops p.client.core.outbox p.server.core.inbox [] n s.to_server e in cc q.is)
+    → (Nexts needs_memory (next_answer p.server) p (with_server p (after_next p.server)) reply p')
+    → Moves p w asked told ServerNext (ServerNext reply) p'
+at_whole p w [] told s n z e reply p' d = absurd (let q = pops p.client.core.outbox p.server.core.inbox [] n
+    s.requests.in_boxes e in cc q.is)
 at_whole p w (m ∷ ms) told s n z e reply p' d =
     let i = in_request p w m ms told s n e in
     at_request p w m ms told s n z e i reply p' d _ refl
 
-keeps_idle : (p : PairState) (w : World) (asked : List (Message Known)) (told : List (Coming Known)) (s : StandsBy p w asked told) → NotEnded p w → in_front p.server.core.inbox ≡ More
-    → (reply : Result (Option Report) NextError) (p' : PairState) → (Nexts needs_memory (next_answer p.server) p (with_server p (after_next p.server)) reply p')
+keeps_idle : (p : PairState) (w : World) (asked : List (Message Known)) (told : List (Coming Known))
+    (s : StandsBy p w asked told) → NotEnded p w → in_front p.server.core.inbox ≡ More
+    → (reply : Result (Option Report) NextError) (p' : PairState)
+    → (Nexts needs_memory (next_answer p.server) p (with_server p (after_next p.server)) reply p')
     → Nexts needs_memory (Ok None) p p reply p' → Moves p w asked told ServerNext (ServerNext reply) p'
-keeps_idle p w asked told s z e reply p' d answered = record { world = w; answers = before z d (λ h. subst HasMessage e h, refl); outcome = goes_on asked told z s stays }
+keeps_idle p w asked told s z e reply p' d answered =
+    record { world = w; answers = before z d (λ h. subst HasMessage e h, refl); outcome = goes_on asked told z s stays }
 keeps_idle p w asked told s z e reply p' d (no_memory q h) = absurd (cc q)
 
-at_front : (p : PairState) (w : World) (asked : List (Message Known)) (told : List (Coming Known)) (s : StandsBy p w asked told) → NotEnded p w
-    → (reply : Result (Option Report) NextError) (p' : PairState) → (Nexts needs_memory (next_answer p.server) p (with_server p (after_next p.server)) reply p')
+at_front : (p : PairState) (w : World) (asked : List (Message Known)) (told : List (Coming Known))
+    (s : StandsBy p w asked told) → NotEnded p w
+    → (reply : Result (Option Report) NextError) (p' : PairState)
+    → (Nexts needs_memory (next_answer p.server) p (with_server p (after_next p.server)) reply p')
     → (f : Front) → in_front p.server.core.inbox ≡ f → Moves p w asked told ServerNext (ServerNext reply) p'
 at_front p w asked told s z reply p' d More e =
     let i = idle p w asked told s e in
     keeps_idle p w asked told s z e reply p' d
     (subst (λ st. Nexts needs_memory (Ok None) p (with_server p st) reply p') i.2
     (subst (λ x. Nexts needs_memory x p (with_server p (after_next p.server)) reply p') i.1 d))
-at_front p w asked told s z reply p' d (Bad n) e = absurd (never_bad p.client.core.outbox p.server.core.inbox _ n s.to_server e)
+at_front p w asked told s z reply p' d (Bad n) e =
+    absurd (never_bad p.client.core.outbox p.server.core.inbox _ n s.requests.in_boxes e)
 at_front p w asked told s z reply p' d (Whole n) e = at_whole p w asked told s n z e reply p' d
 
-pub server_next_keeps : (p : PairState) (w : World) (asked : List (Message Known)) (told : List (Coming Known)) → StandsBy p w asked told → NotEnded p w
-    → (reply : Result (Option Report) NextError) (p' : PairState) → (Nexts needs_memory (next_answer p.server) p (with_server p (after_next p.server)) reply p')
+-- a read by the server keeps what stands
+pub server_next_keeps : (p : PairState) (w : World) (asked : List (Message Known)) (told : List (Coming Known))
+    → StandsBy p w asked told → NotEnded p w
+    → (reply : Result (Option Report) NextError) (p' : PairState)
+    → (Nexts needs_memory (next_answer p.server) p (with_server p (after_next p.server)) reply p')
     → Moves p w asked told ServerNext (ServerNext reply) p'
 server_next_keeps p w asked told s z reply p' d = at_front p w asked told s z reply p' d _ refl

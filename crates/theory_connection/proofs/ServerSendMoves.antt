@@ -1,5 +1,6 @@
 -- Moves of the server's writing.
-use Rattle.std.proofs.Common.{◌≡◌, ℕ, Bool, true, false, cond, List, [], ◌∷◌, ◌++◌, map, length, ◌<◌, refl, sym, ap, subst, ◌∙◌}
+use Rattle.std.proofs.Common.{◌≡◌, ℕ, Bool, true, false, cond, List, [], ◌∷◌, ◌++◌, map, length}
+use Rattle.std.proofs.Common.{◌<◌, refl, sym, ap, subst, ◌∙◌}
 use Rattle.std.proofs.lemmas.Bool.{not-false}
 use Rattle.std.specs.Prelude.{option_map, not, ◌||◌}
 use Rattle.std.specs.declared.option.Option.{Option}
@@ -26,9 +27,14 @@ use Rattle.wl_connection.specs.Sending.{send_answer, after_send, after_checked, 
 use Rattle.wl_connection.proofs.Ends.{no_event}
 use Rattle.wl_sigs.specs.Rules.{is_ended_by_event}
 use Rattle.wl_server.specs.Calls.{drop_refusal, drop_at, after_drop, error_refusal}
-use Rattle.theory_connection.specs.Meant.{Known, Arg, ended_by, Message, Coming, Event as event_of, Delete, renamed, born_of, birth_of, spelled, made_in, objects, plain}
-use Rattle.theory_connection.specs.World.{World, Each, IfThere, IsThere, delete, event_written, dropped, Steps, writes_event, drops, WriteEvent}
-use Rattle.theory_connection.specs.Pair.{marked, after_post, PairState, ServerSend, ServerDrop, PostError, with_server_core, Writes, accepted, refused, no_memory, Calls, done}
+use Rattle.theory_connection.specs.Meant.{Known, Arg, ended_by, Message, Coming, Event as event_of}
+use Rattle.theory_connection.specs.Meant.{Delete, renamed, born_of, birth_of, spelled, made_in}
+use Rattle.theory_connection.specs.Meant.{objects, plain}
+use Rattle.theory_connection.specs.World.{World, Each, IfThere, IsThere, delete, event_written}
+use Rattle.theory_connection.specs.World.{dropped, Steps, writes_event, drops, WriteEvent}
+use Rattle.theory_connection.specs.Pair.{marked, after_post, PairState, ServerSend, ServerDrop}
+use Rattle.theory_connection.specs.Pair.{PostError, with_server_core, Writes, accepted, refused}
+use Rattle.theory_connection.specs.Pair.{no_memory, Calls, done}
 use Rattle.theory_connection.specs.Answers.{NotEnded, birth_at, before}
 use Rattle.theory_connection.specs.Flight.{IsBelow, server_rows, tells, all_tells}
 use Rattle.theory_connection.specs.Stands.{StandsBy, by_event}
@@ -37,13 +43,16 @@ use Rattle.theory_connection.proofs.WholeInFlight.{ThereRow, each_by, each_more}
 use Rattle.theory_connection.proofs.RowsAfterMessage.{made_map, objects_map, each_map}
 use Rattle.theory_connection.proofs.ReadAsMeant.{made_of}
 use Rattle.theory_connection.proofs.RequestRead.{followed}
-use Rattle.theory_connection.proofs.Calls.{Checked, is_checked, LiveAt, live_as, handed_none, no_made, tokens_all, row_low}
+use Rattle.theory_connection.proofs.Calls.{Checked, is_checked, LiveAt, live_as, handed_none}
+use Rattle.theory_connection.proofs.Calls.{no_made, tokens_all, row_low}
 use Rattle.theory_connection.proofs.Rules.{ends_so, no_event_new}
-use Rattle.theory_connection.proofs.Written.{the_new, the_args, the_call, CallIs, call_is, call_ends, accepted_call, opens, no_delete}
+use Rattle.theory_connection.proofs.Written.{the_new, the_args, the_call, CallIs, call_is}
+use Rattle.theory_connection.proofs.Written.{call_ends, accepted_call, opens, no_delete}
 use Rattle.theory_connection.proofs.ClientSendMove.{made_same}
-use Rattle.theory_connection.proofs.EndedObject.{ended_view, ended_has, after_is, if_by, born_ends}
+use Rattle.theory_connection.proofs.EndedObject.{ended_view, ends_have, after_is, if_by, born_ends}
 use Rattle.theory_connection.proofs.EventWritten.{CanTell, told_core, dropped_core, tell_stands, drop_stands}
-use Rattle.theory_connection.proofs.Moves.{LeadsTo, Moves, Outcome, goes_on, ends_it, stays, telling, event_below, delete_below}
+use Rattle.theory_connection.proofs.Moves.{LeadsTo, Moves, Outcome, goes_on, ends_it, stays}
+use Rattle.theory_connection.proofs.Moves.{telling, event_below, delete_below}
 
 there_live : (v : View) (x : Known) → LiveAt v x → ThereRow (server_rows v) x
 there_live v x l = ap (option_map plain) l.there ∙ ap Some l.same
@@ -52,18 +61,24 @@ no_registry : (a b : Bool) → (a || b) ≡ false → b ≡ false
 no_registry true b h = absurd (cc h)
 no_registry false b h = h
 
-event_ends : (tables : List Interface) → Valid tables → (x : Known) (args : List (Arg Known)) (opcode : ℕ) (m : sigs.Message) → signature_at tables x.born.iface.0 Event opcode ≡ Some m
+event_ends : (tables : List Interface) → Valid tables
+    → (x : Known) (args : List (Arg Known)) (opcode : ℕ) (m : sigs.Message)
+    → signature_at tables x.born.iface.0 Event opcode ≡ Some m
     → IfThere (λ y. by_event tables y.born ≡ true) (ended_by m.destroys x args)
 event_ends tables v x args opcode m h = by_what m.destroys refl
   where
-    by_what : (what : Destroys) → m.destroys ≡ what → IfThere (λ y. by_event tables y.born ≡ true) (ended_by what x args)
+    by_what : (what : Destroys) → m.destroys ≡ what
+        → IfThere (λ y. by_event tables y.born ≡ true) (ended_by what x args)
     by_what Nothing d = tt
     by_what Target d = ends_so tables x.born opcode m h (ap destroys_target d)
     by_what (ends_arg k) d = absurd (no_event tables x.born.iface.0 opcode m k v h d)
 
-pub server_can : (p : PairState) (w : World) (asked : List (Message Known)) (told : List (Coming Known)) (s : StandsBy p w asked told) (target : Object) (opcode : ℕ) (given : List Given) (signature : sigs.Message)
-    → (c : Checked p.server.core.outbox.limit.bytes p.server.core.tables Event p.server.core.view target opcode given signature) (k : CallIs p.server.core Event target opcode given signature c.entry)
-    → (made_in (the_args p.server.core c.entry given signature) ≡ None) → CanTell p (the_call p.server.core c.entry target opcode given signature)
+pub server_can : (p : PairState) (w : World) (asked : List (Message Known)) (told : List (Coming Known))
+    (s : StandsBy p w asked told) (target : Object) (opcode : ℕ) (given : List Given) (signature : sigs.Message)
+    → (c : Checked p.server.core.outbox.limit.bytes p.server.core.tables Event p.server.core.view target opcode given
+    signature) (k : CallIs p.server.core Event target opcode given signature c.entry)
+    → (made_in (the_args p.server.core c.entry given signature) ≡ None)
+    → CanTell p (the_call p.server.core c.entry target opcode given signature)
 server_can p w asked told s target opcode given signature c k n =
     let v = p.server.core.view in
     let m = the_call p.server.core c.entry target opcode given signature in
@@ -72,27 +87,35 @@ server_can p w asked told s target opcode given signature c k n =
         fits = k.fits_it;
         makes_none = n;
         no_delete_id = no_delete Event c.entry.iface opcode c.hidden;
-        tells = λ h. absurd (let no = no_registry (same_iface c.entry.iface display) (same_iface c.entry.iface registry) c.hidden in cc (h, no));
+        tells = λ h. absurd (let no = no_registry (same_iface c.entry.iface display)
+            (same_iface c.entry.iface registry) c.hidden in cc (h, no));
       };
       target = there_live v m.target (record { entry = c.entry; there = c.there; same = refl; live = c.live });
       args = each_by (LiveAt v) (ThereRow (server_rows v)) (there_live v) (objects m.args) k.live;
-      ends = event_ends p.server.core.tables s.valid m.target m.args opcode signature c.signed;
+      ends = event_ends p.server.core.tables s.terms.valid m.target m.args opcode signature c.signed;
       short = k.short;
     }
 
-left_by : (core : Core) (target : Object) (opcode : ℕ) (given : List Given) (signature : sigs.Message) → Valid core.tables → checked core.outbox.limit.bytes core.tables Event core.view target opcode given ≡ Ok signature
-    → (c : Checked core.outbox.limit.bytes core.tables Event core.view target opcode given signature) (k : CallIs core Event target opcode given signature c.entry) → made_in (the_args core c.entry given signature) ≡ None
+left_by : (core : Core) (target : Object) (opcode : ℕ) (given : List Given) (signature : sigs.Message)
+    → Valid core.tables → checked core.outbox.limit.bytes core.tables Event core.view target opcode given ≡ Ok signature
+    → (c : Checked core.outbox.limit.bytes core.tables Event core.view target opcode given signature)
+    (k : CallIs core Event target opcode given signature c.entry)
+    → made_in (the_args core c.entry given signature) ≡ None
     → after_send core Event target opcode given ≡ told_core core (the_call core c.entry target opcode given signature)
 left_by core target opcode given signature v e c k n =
     let m = the_call core c.entry target opcode given signature in
-    let mk : made_at core target signature given ≡ None = made_same core target given signature c.entry c.there ∙ k.made_is ∙ ap (option_map made_of) n in
+    let mk : made_at core target signature given ≡ None =
+    made_same core target given signature c.entry c.there ∙ k.made_is ∙ ap (option_map made_of) n in
     let t = sym (tokens_all core.view (the_new core c.entry given signature) given) in
     let id = ended_id signature.destroys target.id (map (wired 0) given) in
     let ended = call_ends core Event target opcode given signature v c k in
     ap (after_checked core Event target opcode given) e
     ∙ (λ i. with_following (destroys_one signature.destroys) id (record core {
       view = after server_end core.view (mk i) signature.destroys id;
-      outbox = record core.outbox { messages = core.outbox.messages ++ message (message_bytes target.id opcode (k.wire_is i)) (t i) ∷ [] };
+      outbox = record core.outbox {
+        messages = core.outbox.messages
+            ++ message (message_bytes target.id opcode (k.wire_is i)) (t i) ∷ [];
+      };
     }))
     ∙ (λ i. with_following (destroys_one signature.destroys) id (record core {
       view = after_is server_end core.view None signature.destroys id m.ends ended i;
@@ -104,48 +127,62 @@ left_by core target opcode given signature v e c k n =
     }) ended.flag ended.same
 
 -- in the world it is a step
-pub tells_world : (p : PairState) (w : World) (asked : List (Message Known)) (told : List (Coming Known)) (s : StandsBy p w asked told) (m : Message Known) → CanTell p m
+pub tells_world : (p : PairState) (w : World) (asked : List (Message Known)) (told : List (Coming Known))
+    (s : StandsBy p w asked told) (m : Message Known) → CanTell p m
     → Steps p.server.core.tables w (WriteEvent (renamed born_of m)) (event_written w (renamed born_of m))
 tells_world p w asked told s m c =
     let v = p.server.core.view in
-    writes_event (renamed born_of m) (s.server_sets.shown m.target.id m.target.born c.target)
-    (rw (objects_map born_of m.args) (each_map born_of (IsThere w.server) (objects m.args) (each_by (ThereRow (server_rows v)) (λ (x : Known). IsThere w.server x.born) (λ x h. s.server_sets.shown x.id x.born h) (objects m.args) c.args)))
+    writes_event (renamed born_of m) (s.server.sets.shown m.target.id m.target.born c.target)
+    (rw (objects_map born_of m.args) (each_map born_of (IsThere w.server) (objects m.args)
+    (each_by (ThereRow (server_rows v)) (λ (x : Known). IsThere w.server x.born)
+    (λ x h. s.server.sets.shown x.id x.born h) (objects m.args) c.args)))
 
 same_births : (v : View) (o : Option Known) → (ended_view server_end v o).births ≡ v.births
 same_births v None = refl
 same_births v (Some x) = refl
 
 -- what is told of it
-tells_one : (p : PairState) (w : World) (asked : List (Message Known)) (told : List (Coming Known)) → StandsBy p w asked told → (m : Message Known) (c : CanTell p m)
+tells_one : (p : PairState) (w : World) (asked : List (Message Known)) (told : List (Coming Known))
+    → StandsBy p w asked told → (m : Message Known) (c : CanTell p m)
     → LeadsTo p asked told (with_server_core p (told_core p.server.core m)) asked (told ++ (event_of m ∷ delete m.ends))
 tells_one p w asked told s m c =
     let v = p.server.core.view in
     let f = c.fitly.fits in
     let there : IfThere (ThereRow (server_rows v)) m.ends =
-    subst (λ (o : Option Known). IfThere (ThereRow (server_rows v)) o) (sym f.ends) (ended_has (ThereRow (server_rows v)) f.signature.destroys m.target m.args c.target c.args) in
+    ends_have (ThereRow (server_rows v)) p.server.core.tables Event m f c.target c.args in
     let news = event_of m ∷ delete m.ends in
-    let below = s.server_sets.below in
+    let below = s.server.sets.below in
     let ended : IfThere (λ x. x.born.birth < v.births) m.ends = if_by (λ x h. below x.id x.born h) m.ends there in
-    telling (ended_view server_end v m.ends) (told_core p.server.core m).outbox p.server.registries news (same_births v m.ends)
-    (each_more (IsBelow v.births) (tells (event_of m)) (all_tells (delete m.ends)) (event_below (server_rows v) v.births below m c.target c.args ended)
+    telling (ended_view server_end v m.ends) (told_core p.server.core m).outbox p.server.registries news
+    (same_births v m.ends)
+    (each_more (IsBelow v.births) (tells (event_of m)) (all_tells (delete m.ends))
+    (event_below (server_rows v) v.births below m c.target c.args ended)
     (delete_below v.births m.ends ended))
 
-pub server_send_keeps : (p : PairState) (w : World) (asked : List (Message Known)) (told : List (Coming Known)) → StandsBy p w asked told → NotEnded p w → (target : Object) (opcode : ℕ) (given : List Given) → Each IsGiven given
+-- a call of the server keeps what stands
+pub server_send_keeps : (p : PairState) (w : World) (asked : List (Message Known)) (told : List (Coming Known))
+    → StandsBy p w asked told → NotEnded p w → (target : Object) (opcode : ℕ) (given : List Given) → Each IsGiven given
     → (reply : Result (Option Object) SendError) (p' : PairState)
-    → Writes (send_answer p.server.core Event target opcode given) (opens_object (checked p.server.core.outbox.limit.bytes p.server.core.tables Event p.server.core.view target opcode given)) p
+    → Writes (send_answer p.server.core Event target opcode given)
+    (opens_object (checked p.server.core.outbox.limit.bytes p.server.core.tables Event p.server.core.view target opcode
+    given)) p
     (with_server_core p (after_send p.server.core Event target opcode given)) reply p'
     → Moves p w asked told (ServerSend target opcode given) (ServerSend reply) p'
 server_send_keeps p w asked told s z target opcode given g reply p' (accepted {new = new} h) =
     let core = p.server.core in
-    let a = accepted_call core Event target opcode given new s.server_lives h in
+    let a = accepted_call core Event target opcode given new s.server.lives h in
     let c = is_checked core.outbox.limit.bytes core.tables Event core.view target opcode given a.signature a.checks in
-    let k = call_is core Event target opcode given a.signature s.valid s.server_sound g c in
+    let k = call_is core Event target opcode given a.signature s.terms.valid s.server.sound g c in
     let o = opens core (made_at core target a.signature given) new a.opens_it in
     let args = the_args core c.entry given a.signature in
-    let n : made_in args ≡ None = no_made core.view (the_new core c.entry given a.signature) a.signature.kinds given k.right (no_event_new core.tables s.valid c.entry.iface.0 opcode a.signature c.signed) in
+    let n : made_in args ≡ None = no_made core.view
+    (the_new core c.entry given a.signature) a.signature.kinds given k.right
+    (no_event_new core.tables s.terms.valid c.entry.iface.0 opcode a.signature c.signed) in
     let can = server_can p w asked told s target opcode given a.signature c k n in
     let m = the_call core c.entry target opcode given a.signature in
-    let none : new ≡ None = o.is ∙ ap (option_map (λ (y : NewObject). record { id = next_id core.view; birth = core.view.births })) (made_same core target given a.signature c.entry c.there ∙ k.made_is ∙ ap (option_map made_of) n) in
+    let none : new ≡ None = o.is ∙ ap (option_map
+    (λ (y : NewObject). record { id = next_id core.view; birth = core.view.births }))
+    (made_same core target given a.signature c.entry c.there ∙ k.made_is ∙ ap (option_map made_of) n) in
     record {
       world = event_written w (renamed born_of m);
       answers = before z (accepted h) (record {
@@ -153,16 +190,21 @@ server_send_keeps p w asked told s z target opcode given g reply p' (accepted {n
         is = record { signature = a.signature; there = c.signed; ends = born_ends m a.signature.destroys refl };
         target_is = c.birth;
         opcode_is = refl;
-        args_are = handed_none core.view (the_new core c.entry given a.signature) w.births a.signature.kinds given n k.right;
-        new_is = ap (option_map birth_of) (made_map born_of args ∙ ap (option_map born_of) n) ∙ ap (option_map birth_at) (sym none);
+        args_are = handed_none core.view (the_new core c.entry given a.signature) w.births a.signature.kinds given n
+            k.right;
+        new_is = ap (option_map birth_of) (made_map born_of args ∙ ap (option_map born_of) n)
+            ∙ ap (option_map birth_at) (sym none);
         steps = tells_world p w asked told s m can;
       });
       outcome = subst (λ (x : Core). Outcome p asked told (with_server_core p x) (event_written w (renamed born_of m)))
-          (sym (left_by core target opcode given a.signature s.valid a.checks c k n))
-          (goes_on asked (told ++ (event_of m ∷ delete m.ends)) z (tell_stands p w asked told s m can) (tells_one p w asked told s m can));
+          (sym (left_by core target opcode given a.signature s.terms.valid a.checks c k n))
+          (goes_on asked (told ++ (event_of m ∷ delete m.ends)) z (tell_stands p w asked told s m can)
+          (tells_one p w asked told s m can));
     }
-server_send_keeps p w asked told s z target opcode given g reply p' (refused h) = record { world = w; answers = before z (refused h) refl; outcome = goes_on asked told z s stays }
-server_send_keeps p w asked told s z target opcode given g reply p' (no_memory h o) = record { world = w; answers = before z (no_memory h o) refl; outcome = goes_on asked told z s stays }
+server_send_keeps p w asked told s z target opcode given g reply p' (refused h) =
+    record { world = w; answers = before z (refused h) refl; outcome = goes_on asked told z s stays }
+server_send_keeps p w asked told s z target opcode given g reply p' (no_memory h o) =
+    record { world = w; answers = before z (no_memory h o) refl; outcome = goes_on asked told z s stays }
 
 -- ---- dropping
 
@@ -172,46 +214,75 @@ record Droppable (core : Core) (object : Object) : Type 0 where
   birth : entry.birth ≡ object.birth
   by : is_ended_by_event (interface_at core.tables entry.iface.0) ≡ true
 
-by_row : (core : Core) (entry : Entry) (b : Bool) (why : SendError) (rest : Option SendError) → not (is_ended_by_event (interface_at core.tables entry.iface.0)) ≡ b → cond b (Some why) rest ≡ None
+by_row : (core : Core) (entry : Entry) (b : Bool) (why : SendError) (rest : Option SendError)
+    → not (is_ended_by_event (interface_at core.tables entry.iface.0)) ≡ b → cond b (Some why) rest ≡ None
     → is_ended_by_event (interface_at core.tables entry.iface.0) ≡ true
 by_row core entry true why rest e h = absurd (cc h)
 by_row core entry false why rest e h = not-false _ e
 
-live_found : (birth : ℕ) (o : Option Entry) (b : Bool) (e : Entry) → is_live_as birth o ≡ b → cond b o None ≡ Some e → (o ≡ Some e) × (e.birth ≡ birth)
+live_found : (birth : ℕ) (o : Option Entry) (b : Bool) (e : Entry) → is_live_as birth o ≡ b → cond b o None ≡ Some e
+    → (o ≡ Some e) × (e.birth ≡ birth)
 live_found birth o true e h k =
     let l = live_as birth o h in
     let same : l.entry ≡ e = cc (l.there, k) in
     (k, ap (λ (x : Entry). x.birth) (sym same) ∙ l.birth_is)
 live_found birth o false e h k = absurd (cc k)
 
-droppable_at : (core : Core) (object : Object) (o : Option Entry) → live_row core.view object ≡ o → drop_at core o ≡ None → Droppable core object
+droppable_at : (core : Core) (object : Object) (o : Option Entry) → live_row core.view object ≡ o
+    → drop_at core o ≡ None → Droppable core object
 droppable_at core object None e h = absurd (cc h)
 droppable_at core object (Some entry) e h =
     let l = live_found object.birth (look core.view object.id) _ entry refl e in
     record { entry = entry; there = l.0; birth = l.1; by = by_row core entry _ _ _ refl h }
 
-droppable : (core : Core) (object : Object) → core.failed ≡ false → drop_refusal core object ≡ None → Droppable core object
+droppable : (core : Core) (object : Object) → core.failed ≡ false → drop_refusal core object ≡ None
+    → Droppable core object
 droppable core object l h =
-    droppable_at core object (live_row core.view object) refl (sym (ap (λ (b : Bool). cond b (Some refusals.Failed) (drop_at core (live_row core.view object))) l) ∙ h)
+    droppable_at core object (live_row core.view object) refl
+    (sym (ap (λ (b : Bool). cond b (Some refusals.Failed) (drop_at core (live_row core.view object))) l) ∙ h)
 
-pub server_drop_keeps : (p : PairState) (w : World) (asked : List (Message Known)) (told : List (Coming Known)) → StandsBy p w asked told → NotEnded p w → (object : Object) (reply : Result (Unit {0}) SendError) (p' : PairState)
-    → Calls (drop_refusal p.server.core object) p (with_server_core p (after_drop p.server.core object)) reply p' → Moves p w asked told (ServerDrop object) (ServerDrop reply) p'
+-- the drop of an object keeps what stands
+pub server_drop_keeps : (p : PairState) (w : World) (asked : List (Message Known)) (told : List (Coming Known))
+    → StandsBy p w asked told → NotEnded p w → (object : Object) (reply : Result (Unit {0}) SendError) (p' : PairState)
+    → Calls (drop_refusal p.server.core object) p (with_server_core p (after_drop p.server.core object)) reply p'
+    → Moves p w asked told (ServerDrop object) (ServerDrop reply) p'
 server_drop_keeps p w asked told s z object reply p' (done h) =
-    let d = droppable p.server.core object s.server_lives h in
+    let d = droppable p.server.core object s.server.lives h in
     let x : Known = record { id = object.id; born = plain d.entry } in
     let there : ThereRow (server_rows p.server.core.view) x = ap (option_map plain) d.there in
-    let low = (row_low p.server.core.view object.id d.entry s.server_sound d.there).1 in
+    let low = (row_low p.server.core.view object.id d.entry s.server.sound d.there).1 in
     record {
       world = dropped w x.born;
-      answers = before z (done h) (record { object = x.born; is = d.birth; steps = drops x.born (s.server_sets.shown x.id x.born there) d.by });
+      answers = before z (done h) (record {
+        object = x.born;
+        is = d.birth;
+        steps = drops x.born (s.server.sets.shown x.id x.born there) d.by;
+      });
       outcome = goes_on asked (told ++ Delete x ∷ []) z (drop_stands p w asked told s x there d.by low)
-          (telling (closed p.server.core.view x.id) (dropped_core p.server.core x).outbox p.server.registries (Delete x ∷ []) refl (s.server_sets.below x.id x.born there, tt));
+          (telling (closed p.server.core.view x.id) (dropped_core p.server.core x).outbox p.server.registries
+          (Delete x ∷ []) refl (s.server.sets.below x.id x.born there, tt));
     }
-server_drop_keeps p w asked told s z object reply p' (refused h) = record { world = w; answers = before z (refused h) refl; outcome = goes_on asked told z s stays }
+server_drop_keeps p w asked told s z object reply p' (refused h) =
+    record { world = w; answers = before z (refused h) refl; outcome = goes_on asked told z s stays }
 
 -- ---- an error
 
-pub post_error_keeps : (p : PairState) (w : World) (asked : List (Message Known)) (told : List (Coming Known)) → StandsBy p w asked told → NotEnded p w → (object : Object) (code : ℕ) (text : List ℕ) (reply : Result (Unit {0}) SendError) (p' : PairState)
-    → Calls (error_refusal p.server.core object text) p (after_post p object code text) reply p' → Moves p w asked told (PostError object code text) (PostError reply) p'
-post_error_keeps p w asked told s z object code text reply p' (done h) = record { world = record w { ended = true }; answers = before z (done h) refl; outcome = ends_it refl (record { tables = refl; limit = refl; pieces = refl; mark = ap (λ (o : Option ℕ). marked o (length p.recording)) z.1 }) }
-post_error_keeps p w asked told s z object code text reply p' (refused h) = record { world = w; answers = before z (refused h) refl; outcome = goes_on asked told z s stays }
+-- an error that is posted ends the world
+pub post_error_keeps : (p : PairState) (w : World) (asked : List (Message Known)) (told : List (Coming Known))
+    → StandsBy p w asked told → NotEnded p w → (object : Object) (code : ℕ) (text : List ℕ)
+    (reply : Result (Unit {0}) SendError) (p' : PairState)
+    → Calls (error_refusal p.server.core object text) p (after_post p object code text) reply p'
+    → Moves p w asked told (PostError object code text) (PostError reply) p'
+post_error_keeps p w asked told s z object code text reply p' (done h) =
+    record {
+      world = record w { ended = true };
+      answers = before z (done h) refl;
+      outcome = ends_it refl (record {
+        tables = refl;
+        limit = refl;
+        pieces = refl;
+        mark = ap (λ (o : Option ℕ). marked o (length p.recording)) z.1;
+      });
+    }
+post_error_keeps p w asked told s z object code text reply p' (refused h) =
+    record { world = w; answers = before z (refused h) refl; outcome = goes_on asked told z s stays }

@@ -4,14 +4,16 @@ use Rattle.std.specs.declared.option.Option.{Option}
 use Rattle.std.specs.declared.option.Option.TheVariants.{None, Some}
 use Rattle.std.specs.Prelude.{option_map}
 use Rattle.theory_connection.specs.Meant.{Born, Known, birth_of, born_of}
-use Rattle.theory_connection.specs.World.{Row, Open, Ending, put, nothing, born_into, same, ending, gone, counted, IfThere}
+use Rattle.theory_connection.specs.World.{Row, Open, Ending, put, nothing, born_into, same, ending}
+use Rattle.theory_connection.specs.World.{gone, counted, IfThere}
 use Rattle.theory_connection.specs.Flight.{Rows, at, Held, Fresh}
 use Rattle.theory_connection.specs.Stands.{Shows, birth_in}
 use Rattle.theory_connection.proofs.Flight.{put_tells}
 use Rattle.theory_connection.proofs.WholeInFlight.{ThereRow, client_makes, client_ends, server_makes, server_ends}
 
 module _ {X : Type 0} (birth : X → ℕ) where
-  pub shows_put : (rows : ℕ → Option X) (n : ℕ) (w : ℕ → Option X) (i : ℕ) (x y : X) → Shows birth rows n w → rows i ≡ Some x → birth y ≡ birth x
+  pub shows_put : (rows : ℕ → Option X) (n : ℕ) (w : ℕ → Option X) (i : ℕ) (x y : X) → Shows birth rows n w
+      → rows i ≡ Some x → birth y ≡ birth x
       → Shows birth (put rows i (Some y)) n (put w (birth y) (Some y))
   shows_put rows n w i x y s h e = record {
     below = λ j z k. grind (arith, put_tells, s.below j z, s.below i x);
@@ -23,7 +25,8 @@ module _ {X : Type 0} (birth : X → ℕ) where
     ];
   }
 
-  pub shows_drop : (rows : ℕ → Option X) (n : ℕ) (w : ℕ → Option X) (i : ℕ) (x : X) → Shows birth rows n w → rows i ≡ Some x
+  pub shows_drop : (rows : ℕ → Option X) (n : ℕ) (w : ℕ → Option X) (i : ℕ) (x : X) → Shows birth rows n w
+      → rows i ≡ Some x
       → Shows birth (put rows i None) n (put w (birth x) None)
   shows_drop rows n w i x s h = record {
     below = λ j z k. grind (arith, put_tells, s.below j z);
@@ -35,7 +38,9 @@ module _ {X : Type 0} (birth : X → ℕ) where
     ];
   }
 
-  pub shows_make : (rows : ℕ → Option X) (n : ℕ) (w : ℕ → Option X) (i : ℕ) (y : X) → Shows birth rows n w → rows i ≡ None → birth y ≡ n
+  -- the set with one more birth
+  pub shows_make : (rows : ℕ → Option X) (n : ℕ) (w : ℕ → Option X) (i : ℕ) (y : X) → Shows birth rows n w
+      → rows i ≡ None → birth y ≡ n
       → Shows birth (put rows i (Some y)) (n + 1) (put w (birth y) (Some y))
   shows_make rows n w i y s h e = record {
     below = λ j z k. grind (arith, put_tells, s.below j z);
@@ -49,20 +54,26 @@ module _ {X : Type 0} (birth : X → ℕ) where
 
 -- ---- the client's
 
+-- what ends leaves the count of births
 pub births_ends : (o : Option Known) (v : Rows Row) → (client_ends o v).births ≡ v.births
 births_ends (Some x) v = refl
 births_ends None v = refl
 
+-- what is made is counted
 pub births_makes : (v : Rows Row) (n : Option Known) → (client_makes v n).births ≡ counted n v.births
 births_makes v None = refl
 births_makes v (Some n) = refl
 
-pub client_made : (v : Rows Row) (w : ℕ → Option Row) (n : Option Known) → Shows birth_in v.rows v.births w → IfThere (Fresh v) n
+-- the client's set with what is made
+pub client_made : (v : Rows Row) (w : ℕ → Option Row) (n : Option Known) → Shows birth_in v.rows v.births w
+    → IfThere (Fresh v) n
     → Shows birth_in (client_makes v n).rows (client_makes v n).births (born_into Open (option_map (λ x. x.born) n) w)
 client_made v w None s c = s
 client_made v w (Some n) s c = shows_make birth_in v.rows v.births w n.id (Open n.born) s c.free c.birth
 
-pub client_ended : (v : Rows Row) (w : ℕ → Option Row) (o : Option Known) → Shows birth_in v.rows v.births w → IfThere (Held v) o
+-- the client's set with what is ending
+pub client_ended : (v : Rows Row) (w : ℕ → Option Row) (o : Option Known) → Shows birth_in v.rows v.births w
+    → IfThere (Held v) o
     → Shows birth_in (client_ends o v).rows (client_ends o v).births (ending (option_map born_of o) w)
 client_ended v w None s h = s
 client_ended v w (Some x) s h = elim h [
@@ -70,6 +81,7 @@ client_ended v w (Some x) s h = elim h [
   | inr p ↦ shows_put birth_in v.rows v.births w x.id (Ending x.born) (Ending x.born) s p refl
 ]
 
+-- the client's set without what is deleted
 pub client_deleted : (v : Rows Row) (w : ℕ → Option Row) (x : Known) → Shows birth_in v.rows v.births w → Held v x
     → Shows birth_in (at v x.id None).rows v.births (put w x.born.birth None)
 client_deleted v w x s h = elim h [
@@ -79,22 +91,29 @@ client_deleted v w x s h = elim h [
 
 -- ---- the server's
 
-pub server_made : (s : Rows Born) (w : ℕ → Option Born) (n : Option Known) → Shows birth_of s.rows s.births w → IfThere (Fresh s) n
+-- the server's set with what is made
+pub server_made : (s : Rows Born) (w : ℕ → Option Born) (n : Option Known) → Shows birth_of s.rows s.births w
+    → IfThere (Fresh s) n
     → Shows birth_of (server_makes s n).rows (server_makes s n).births (born_into same (option_map (λ x. x.born) n) w)
 server_made s w None h g = h
 server_made s w (Some n) h g = shows_make birth_of s.rows s.births w n.id n.born h g.free g.birth
 
-pub server_ended : (s : Rows Born) (w : ℕ → Option Born) (o : Option Known) → Shows birth_of s.rows s.births w → IfThere (ThereRow s) o
+-- the server's set without what ends
+pub server_ended : (s : Rows Born) (w : ℕ → Option Born) (o : Option Known) → Shows birth_of s.rows s.births w
+    → IfThere (ThereRow s) o
     → Shows birth_of (server_ends o s).rows (server_ends o s).births (gone (option_map born_of o) w)
 server_ended s w None h g = h
 server_ended s w (Some x) h g = shows_drop birth_of s.rows s.births w x.id x.born h g
 
-pub there_kept : (s : Rows Born) (n : Option Known) (x : Known) → IfThere (Fresh s) n → ThereRow s x → ThereRow (server_makes s n) x
+-- what is open stays open when another is made
+pub there_kept : (s : Rows Born) (n : Option Known) (x : Known) → IfThere (Fresh s) n → ThereRow s x
+    → ThereRow (server_makes s n) x
 there_kept s None x g h = h
 there_kept s (Some n) x g h = grind (arith, put_tells, g.free)
 
 -- ---- at the beginning
 
+-- no rows are the empty set
 pub no_object : {X : Type 0} (birth : X → ℕ) → Shows birth nothing 0 nothing
 unfolding nothing
 no_object birth = record { below = λ i x h. cc; one = λ i j x y h k e. cc; shown = λ i x h. cc; only = λ b x h. cc }

@@ -1,5 +1,6 @@
 -- The message of a call that nothing stands against.
-use Rattle.std.proofs.Common.{◌≡◌, ℕ, ◌<◌, ◌≤◌, ◌^◌, Bool, true, false, cond, List, map, ◌⊎◌, inl, inr, refl, sym, ap, subst, ◌∙◌, arith}
+use Rattle.std.proofs.Common.{◌≡◌, ℕ, ◌<◌, ◌≤◌, ◌^◌, Bool, true, false, cond, List, map, ◌⊎◌, inl}
+use Rattle.std.proofs.Common.{inr, refl, sym, ap, subst, ◌∙◌, arith}
 use Rattle.std.proofs.lemmas.Bool.{and_left, or_parts}
 use Rattle.std.specs.Prelude.{option_map, slice_get, nat_eq, if◌then◌else◌}
 use Rattle.std.specs.declared.option.Option.{Option}
@@ -24,7 +25,8 @@ use Rattle.wl_sigs.specs.Fixed.{display, registry}
 use Rattle.wl_object_map.specs.View.{View, Sound, next_id, can_open}
 use Rattle.wl_object_map.specs.Views.{free_is, free_or_next-next_id}
 use Rattle.wl_objects.specs.Writing.{Given, wired, message_len}
-use Rattle.wl_objects.specs.Messages.{id_named, id_at, ended_id, NewObject, made, checked, is_hidden, is_error, is_delete_id, same_iface}
+use Rattle.wl_objects.specs.Messages.{id_named, id_at, ended_id, NewObject, made, checked}
+use Rattle.wl_objects.specs.Messages.{is_hidden, is_error, is_delete_id, same_iface}
 use Rattle.wl_objects.proofs.Calls.{len-any}
 use Rattle.wl_connection.specs.Core.{Core}
 use Rattle.wl_connection.specs.Sending.{opening_answer, answer_of, send_answer, made_at}
@@ -33,57 +35,79 @@ use Rattle.theory_connection.specs.World.{Each, IfThere}
 use Rattle.theory_connection.specs.Stands.{Fits}
 use Rattle.theory_connection.specs.Runs.{IsGiven}
 use Rattle.theory_connection.proofs.ReadAsMeant.{made_of, made_read}
-use Rattle.theory_connection.proofs.Calls.{Checked, AllRight, all_right, meant, new_known, wire_all, LiveAt, all_live, matches, fit_all, row_low, new_all, one_new, made_new, version_of}
+use Rattle.theory_connection.proofs.Calls.{Checked, AllRight, all_right, meant, new_known, wire_all}
+use Rattle.theory_connection.proofs.Calls.{LiveAt, all_live, matches, fit_all, row_low, new_all}
+use Rattle.theory_connection.proofs.Calls.{one_new, made_new, version_of}
 use Rattle.theory_connection.proofs.Rules.{opcode_low, few_new, unnamed_none}
 
+-- what a call makes
 abbrev pub the_made : Core → Entry → List Given → sigs.Message → Option NewObject
-the_made core entry given signature = made core.tables entry.version signature.kinds (map (wired (next_id core.view)) given)
+the_made core entry given signature = made core.tables entry.version signature.kinds
+    (map (wired (next_id core.view)) given)
 
+-- the new object of a call
 abbrev pub the_new : Core → Entry → List Given → sigs.Message → Known
 the_new core entry given signature = new_known core.view (the_made core entry given signature)
 
+-- the arguments of a call, as they are meant
 abbrev pub the_args : Core → Entry → List Given → sigs.Message → List (Arg Known)
 the_args core entry given signature = map (meant core.view (the_new core entry given signature)) given
 
+-- the message of a call
 abbrev pub the_call : Core → Entry → Object → ℕ → List Given → sigs.Message → Message Known
 the_call core entry target opcode given signature = record {
   target = record { id = target.id; born = plain entry };
   opcode = opcode;
   args = the_args core entry given signature;
-  ends = ended_by signature.destroys (record { id = target.id; born = plain entry }) (the_args core entry given signature);
+  ends = ended_by signature.destroys (record { id = target.id; born = plain entry })
+      (the_args core entry given signature);
 }
 
+-- a new object gets the next id
 pub new_id : (view : View) (o : Option NewObject) → (new_known view o).id ≡ next_id view
 new_id view None = refl
 new_id view (Some m) = refl
 
+-- a new object gets the next birth
 pub new_birth : (view : View) (o : Option NewObject) → (new_known view o).born.birth ≡ view.births
 new_birth view None = refl
 new_birth view (Some m) = refl
 
-no_error : (side : Side) (iface : Iface) (opcode : ℕ) → is_hidden side iface opcode ≡ false → is_error side iface opcode ≡ false
+no_error : (side : Side) (iface : Iface) (opcode : ℕ) → is_hidden side iface opcode ≡ false
+    → is_error side iface opcode ≡ false
 no_error Request iface opcode h = refl
-no_error Event iface opcode h = and_left (same_iface iface display) (nat_eq opcode 0) (or_parts (same_iface iface display) (same_iface iface registry) h).0
+no_error Event iface opcode h = and_left (same_iface iface display) (nat_eq opcode 0)
+    (or_parts (same_iface iface display) (same_iface iface registry) h).0
 
-pub no_delete : (side : Side) (iface : Iface) (opcode : ℕ) → is_hidden side iface opcode ≡ false → is_delete_id side iface opcode ≡ false
+-- what can be called is no delete_id
+pub no_delete : (side : Side) (iface : Iface) (opcode : ℕ) → is_hidden side iface opcode ≡ false
+    → is_delete_id side iface opcode ≡ false
 no_delete Request iface opcode h = refl
-no_delete Event iface opcode h = and_left (same_iface iface display) (nat_eq opcode 1) (or_parts (same_iface iface display) (same_iface iface registry) h).0
+no_delete Event iface opcode h = and_left (same_iface iface display) (nat_eq opcode 1)
+    (or_parts (same_iface iface display) (same_iface iface registry) h).0
 
-pub record CallIs (core : Core) (side : Side) (target : Object) (opcode : ℕ) (given : List Given) (signature : sigs.Message) (entry : Entry) : Type 0 where
+-- what is so of the message of a call
+pub record CallIs (core : Core) (side : Side) (target : Object) (opcode : ℕ) (given : List Given)
+    (signature : sigs.Message) (entry : Entry) : Type 0 where
   pub right : AllRight core.view signature.kinds given
   pub fits_it : Fits core.tables side (the_call core entry target opcode given signature)
   pub made_is : the_made core entry given signature ≡ option_map made_of (made_in (the_args core entry given signature))
-  pub new : (made_in (the_args core entry given signature) ≡ None) ⊎ (made_in (the_args core entry given signature) ≡ Some (the_new core entry given signature))
+  pub new : (made_in (the_args core entry given signature) ≡ None)
+      ⊎ (made_in (the_args core entry given signature) ≡ Some (the_new core entry given signature))
   pub wire_is : map (wired (next_id core.view)) given ≡ map wire (the_args core entry given signature)
   pub live : Each (LiveAt core.view) (objects (the_args core entry given signature))
   pub short : message_len (map wire (the_args core entry given signature)) ≤ core.outbox.limit.bytes
 
-if_made : (P : Known → Type 0) (o : Option Known) (x : Known) → (o ≡ None) ⊎ (o ≡ Some x) → ((o ≡ None → ⊥) → P x) → IfThere P o
+if_made : (P : Known → Type 0) (o : Option Known) (x : Known) → (o ≡ None) ⊎ (o ≡ Some x) → ((o ≡ None → ⊥) → P x)
+    → IfThere P o
 if_made P None x h f = tt
 if_made P (Some y) x h f = elim h [ inl p ↦ absurd (cc p) | inr p ↦ subst (IfThere P) (sym p) (f (λ e. cc e)) ]
 
-pub call_is : (core : Core) (side : Side) (target : Object) (opcode : ℕ) (given : List Given) (signature : sigs.Message) → Valid core.tables → Sound core.view → Each IsGiven given
-    → (c : Checked core.outbox.limit.bytes core.tables side core.view target opcode given signature) → CallIs core side target opcode given signature c.entry
+-- the message of a call that nothing stands against is so
+pub call_is : (core : Core) (side : Side) (target : Object) (opcode : ℕ) (given : List Given) (signature : sigs.Message)
+    → Valid core.tables → Sound core.view → Each IsGiven given
+    → (c : Checked core.outbox.limit.bytes core.tables side core.view target opcode given signature)
+    → CallIs core side target opcode given signature c.entry
 call_is core side target opcode given signature v s g c =
     let r = all_right core.view 0 signature.kinds given c.suit c.found in
     let mk = the_made core c.entry given signature in
@@ -92,11 +116,16 @@ call_is core side target opcode given signature v s g c =
     let id = new_id core.view mk in
     let f = free_is core.view (next_id core.view) s (free_or_next-next_id core.view) in
     let low : new.id < 2 ^ 32 = omega (arith, id, f.at_most_next, s.ids_end) in
-    let m = matches core.tables core.view c.entry.version (next_id core.view) signature.kinds given r (few_new core.tables v c.entry.iface.0 side opcode signature c.signed) (unnamed_none core.tables v c.entry.iface side opcode signature c.signed c.hidden) in
-    let a = fit_all core.tables core.view new c.entry.version signature.kinds given s low r m g (omega (arith, c.len, core.outbox.limit.in_range.1)) in
-    let w : map wire args ≡ map (wired (next_id core.view)) given = wire_all core.view new given ∙ ap (λ (n : ℕ). map (wired n) given) id in
+    let m = matches core.tables core.view c.entry.version (next_id core.view) signature.kinds given r
+    (few_new core.tables v c.entry.iface.0 side opcode signature c.signed)
+    (unnamed_none core.tables v c.entry.iface side opcode signature c.signed c.hidden) in
+    let a = fit_all core.tables core.view new c.entry.version signature.kinds given s low r m g
+    (omega (arith, c.len, core.outbox.limit.in_range.1)) in
+    let w : map wire args ≡ map (wired (next_id core.view)) given =
+    wire_all core.view new given ∙ ap (λ (n : ℕ). map (wired n) given) id in
     let n = new_all core.view new given in
-    let short : message_len (map wire args) ≤ core.outbox.limit.bytes = let e = ap message_len (wire_all core.view new given) in omega (arith, e, len-any new.id given, c.len) in
+    let short : message_len (map wire args) ≤ core.outbox.limit.bytes = let e =
+    ap message_len (wire_all core.view new given) in omega (arith, e, len-any new.id given, c.len) in
     let since = v.sinces_in_range.from_one side c.entry.iface.0 opcode signature c.signed in
     record {
       right = r;
@@ -110,11 +139,13 @@ call_is core side target opcode given signature v s g c =
         low = (row_low core.view target.id c.entry s c.there).1;
         opcode = opcode_low core.tables v c.entry.iface.0 side opcode signature c.signed;
         new_version = if_made (λ x. 1 ≤ x.born.version) (made_in args) new (made_new new args n)
-            (λ h. (let e = version_of core.view new c.entry.version signature.kinds given r m h in omega (arith, e, since, c.old_enough)));
+            (λ h. (let e = version_of core.view new c.entry.version signature.kinds given r m h
+            in omega (arith, e, since, c.old_enough)));
         new_is = one_new new args n;
         no_error = no_error side c.entry.iface opcode c.hidden;
       };
-      made_is = ap (made core.tables c.entry.version signature.kinds) (sym w) ∙ made_read core.tables c.entry.version signature.kinds args a;
+      made_is = ap (made core.tables c.entry.version signature.kinds) (sym w)
+          ∙ made_read core.tables c.entry.version signature.kinds args a;
       new = made_new new args n;
       wire_is = sym w;
       live = all_live core.view new signature.kinds given r;
@@ -124,7 +155,8 @@ call_is core side target opcode given signature v s g c =
 -- ---- what a call destroys
 
 at_wired : (n : ℕ) (given : List Given) (k : ℕ) → id_at (map (wired 0) given) k ≡ id_at (map (wired n) given) k
-at_wired n given k = ap id_named (slice_get-map (wired 0) given k) ∙ (one (slice_get given k) ∙ sym (ap id_named (slice_get-map (wired n) given k)))
+at_wired n given k = ap id_named (slice_get-map (wired 0) given k)
+    ∙ (one (slice_get given k) ∙ sym (ap id_named (slice_get-map (wired n) given k)))
   where
     one : (o : Option Given) → id_named (option_map (wired 0) o) ≡ id_named (option_map (wired n) o)
     one None = refl
@@ -139,53 +171,74 @@ at_wired n given k = ap id_named (slice_get-map (wired 0) given k) ∙ (one (sli
     one (Some (Array z)) = refl
     one (Some (Fd z)) = refl
 
-ids_wired : (what : Destroys) (id n : ℕ) (given : List Given) → ended_id what id (map (wired 0) given) ≡ ended_id what id (map (wired n) given)
+ids_wired : (what : Destroys) (id n : ℕ) (given : List Given)
+    → ended_id what id (map (wired 0) given) ≡ ended_id what id (map (wired n) given)
 ids_wired Nothing id n given = refl
 ids_wired Target id n given = refl
 ids_wired (ends_arg k) id n given = at_wired n given k
 
 -- what a call destroys, by its id, is what its message means
-pub call_ends : (core : Core) (side : Side) (target : Object) (opcode : ℕ) (given : List Given) (signature : sigs.Message) → Valid core.tables → (c : Checked core.outbox.limit.bytes core.tables side core.view target opcode given signature)
-    (k : CallIs core side target opcode given signature c.entry) → EndsAs signature.destroys (ended_id signature.destroys target.id (map (wired 0) given)) (the_call core c.entry target opcode given signature).ends
+pub call_ends : (core : Core) (side : Side) (target : Object) (opcode : ℕ) (given : List Given)
+    (signature : sigs.Message) → Valid core.tables
+    → (c : Checked core.outbox.limit.bytes core.tables side core.view target opcode given signature)
+    (k : CallIs core side target opcode given signature c.entry)
+    → EndsAs signature.destroys (ended_id signature.destroys target.id (map (wired 0) given))
+    (the_call core c.entry target opcode given signature).ends
 call_ends core side target opcode given signature v c k =
     let m = the_call core c.entry target opcode given signature in
     let there = c.signed in
     let same : k.fits_it.signature ≡ signature = cc (k.fits_it.there, there) in
-    let ids = ids_wired signature.destroys target.id (next_id core.view) given ∙ ap (ended_id signature.destroys target.id) k.wire_is in
+    let ids = ids_wired signature.destroys target.id (next_id core.view) given
+    ∙ ap (ended_id signature.destroys target.id) k.wire_is in
     subst (λ (n : ℕ). EndsAs signature.destroys n m.ends) (sym ids)
-    (subst (λ (x : sigs.Message). EndsAs x.destroys (ended_id x.destroys target.id (map wire m.args)) m.ends) same (ends_as core.tables side m k.fits_it v))
+    (subst (λ (x : sigs.Message). EndsAs x.destroys (ended_id x.destroys target.id (map wire m.args)) m.ends) same
+    (ends_as core.tables side m k.fits_it v))
 
 -- ---- what an accepted call answered
 
-pub record Accepted (core : Core) (side : Side) (target : Object) (opcode : ℕ) (given : List Given) (new : Option Object) : Type 0 where
+pub record Accepted (core : Core) (side : Side) (target : Object) (opcode : ℕ) (given : List Given)
+    (new : Option Object) : Type 0 where
   pub signature : sigs.Message
   pub checks : checked core.outbox.limit.bytes core.tables side core.view target opcode given ≡ Ok signature
   pub opens_it : opening_answer core (made_at core target signature given) ≡ Ok new
 
-fitting : (b : Bool) (x : Result (Option Object) SendError) (new : Option Object) (why : SendError) → cond b x (Err why) ≡ Ok new → x ≡ Ok new
+fitting : (b : Bool) (x : Result (Option Object) SendError) (new : Option Object) (why : SendError)
+    → cond b x (Err why) ≡ Ok new → x ≡ Ok new
 fitting true x new why h = h
 fitting false x new why h = absurd (cc h)
 
-accepted_by : (core : Core) (side : Side) (target : Object) (opcode : ℕ) (given : List Given) (new : Option Object) (r : Result sigs.Message SendError) → checked core.outbox.limit.bytes core.tables side core.view target opcode given ≡ r
+accepted_by : (core : Core) (side : Side) (target : Object) (opcode : ℕ) (given : List Given) (new : Option Object)
+    (r : Result sigs.Message SendError) → checked core.outbox.limit.bytes core.tables side core.view target opcode given
+    ≡ r
     → answer_of core side target given r ≡ Ok new → Accepted core side target opcode given new
 accepted_by core side target opcode given new (Err why) e h = absurd (cc h)
-accepted_by core side target opcode given new (Ok signature) e h = record { signature = signature; checks = e; opens_it = fitting _ _ new _ h }
+accepted_by core side target opcode given new (Ok signature) e h =
+    record { signature = signature; checks = e; opens_it = fitting _ _ new _ h }
 
-pub accepted_call : (core : Core) (side : Side) (target : Object) (opcode : ℕ) (given : List Given) (new : Option Object) → core.failed ≡ false → send_answer core side target opcode given ≡ Ok new
+-- an accepted call was checked, and opens what it says
+pub accepted_call : (core : Core) (side : Side) (target : Object) (opcode : ℕ) (given : List Given)
+    (new : Option Object) → core.failed ≡ false → send_answer core side target opcode given ≡ Ok new
     → Accepted core side target opcode given new
 accepted_call core side target opcode given new l h =
-    accepted_by core side target opcode given new (checked core.outbox.limit.bytes core.tables side core.view target opcode given) refl
-    (sym (ap (λ (b : Bool). if b then Err refusals.Failed else answer_of core side target given (checked core.outbox.limit.bytes core.tables side core.view target opcode given)) l) ∙ h)
+    accepted_by core side target opcode given new
+    (checked core.outbox.limit.bytes core.tables side core.view target opcode given) refl
+    (sym (ap (λ (b : Bool). if b then Err refusals.Failed
+    else answer_of core side target given (checked core.outbox.limit.bytes core.tables side core.view target opcode
+    given)) l) ∙ h)
 
 -- an opening: it can be opened, and is the next
 pub record Opens (core : Core) (o : Option NewObject) (new : Option Object) : Type 0 where
   pub can : IfThere (λ (m : NewObject). can_open core.view ≡ true) o
   pub is : new ≡ option_map (λ (m : NewObject). record { id = next_id core.view; birth = core.view.births }) o
 
-opens_if : (core : Core) (m : NewObject) (new : Option Object) (b : Bool) (why : SendError) → can_open core.view ≡ b → cond b (Ok (Some (record { id = next_id core.view; birth = core.view.births }))) (Err why) ≡ Ok new → Opens core (Some m) new
+opens_if : (core : Core) (m : NewObject) (new : Option Object) (b : Bool) (why : SendError) → can_open core.view ≡ b
+    → cond b (Ok (Some (record { id = next_id core.view; birth = core.view.births }))) (Err why) ≡ Ok new
+    → Opens core (Some m) new
 opens_if core m new true why e h = record { can = e; is = cc h }
 opens_if core m new false why e h = absurd (cc h)
 
-pub opens : (core : Core) (o : Option NewObject) (new : Option Object) → opening_answer core o ≡ Ok new → Opens core o new
+-- a call that returns this object opens it
+pub opens : (core : Core) (o : Option NewObject) (new : Option Object) → opening_answer core o ≡ Ok new
+    → Opens core o new
 opens core None new h = record { can = tt; is = cc h }
 opens core (Some m) new h = opens_if core m new (can_open core.view) _ refl h

@@ -18,10 +18,12 @@ use Rattle.wl_message.specs.Outgoing as boxes
 use Rattle.wl_message.specs.Outgoing.{Outgoing, all_bytes, all_tokens}
 use Rattle.wl_object_map.specs.declared.object.Entry.{Entry}
 use Rattle.wl_object_map.specs.declared.object.State.TheVariants as states
-use Rattle.wl_object_map.specs.View.{Sound, look, max_ids}
+use Rattle.wl_object_map.specs.View.{View, Sound, look, max_ids}
 use Rattle.wl_objects.specs.Reading.{iface_of, is_of}
 use Rattle.wl_objects.specs.Writing.{message_len}
 use Rattle.wl_objects.specs.Messages.{made_by, is_error, is_delete_id, is_bind, same_iface}
+use Rattle.wl_connection.specs.Core.{Core}
+use Rattle.wl_client.specs.declared.globals.Global.{Global as Remembered}
 use Rattle.wl_server.specs.State as server
 use Rattle.wl_server.specs.State.{global_of, max_globals}
 use Rattle.wl_server.specs.Registries.{HasRegistries}
@@ -32,7 +34,7 @@ use Rattle.wl_server.specs.Announcing.{name_at}
 use Rattle.theory_connection.specs.Meant.{Born, Known, Message, Coming, Event, Delete, Arg, renamed}
 use Rattle.theory_connection.specs.Meant.{recoming, born_of, birth_of, made_in, new_in, ended_by, wire}
 use Rattle.theory_connection.specs.Meant.{spelled, spelled_coming, live_entry}
-use Rattle.theory_connection.specs.World.{World, display_born, Row, Open, Ending, Each, IfThere}
+use Rattle.theory_connection.specs.World.{World, display_born, Row, Marks, Open, Ending, Each, IfThere}
 use Rattle.theory_connection.specs.Pair.{PairState}
 use Rattle.theory_connection.specs.Answers.{NotEnded, marks_of}
 use Rattle.theory_connection.specs.Flight.{client_rows, server_rows, all_asks, all_tells, Meets}
@@ -177,56 +179,97 @@ pub record IsGlobal (tables : List Interface) (global : server.Global) : Type 0 
 abbrev pub by_event : List Interface → Born → Bool
 by_event tables x = is_ended_by_event (interface_at tables x.iface.0)
 
+-- What an end goes by: its tables, and the limits of its boxes.
+pub record Terms : Type 0 where
+  pub tables : List Interface
+  pub out_limit : ℕ
+  pub in_limit : ℕ
+
+abbrev pub terms_of : Core → Terms
+terms_of core =
+    record {
+      tables = core.tables;
+      out_limit = core.outbox.limit.bytes;
+      in_limit = core.inbox.limit.bytes;
+    }
+
+pub record SameTerms (client server : Terms) : Type 0 where
+  -- both ends have the same valid tables
+  pub same_tables : client.tables ≡ server.tables
+  pub valid : Valid server.tables
+  -- both ends go by one limit
+  pub up_limit : client.out_limit ≡ server.in_limit
+  pub down_limit : server.out_limit ≡ client.in_limit
+  pub one_limit : client.in_limit ≡ server.in_limit
+
+-- The rows at the client are the births open and ending there.
+pub record ClientStands (view : View) (failed : Bool) (counted : ℕ) (held : ℕ → Option Row)
+    : Type 0 where
+  pub sets : Shows birth_in (client_rows view).rows view.births held
+  pub births : counted ≡ view.births
+  pub sound : Sound view
+  pub display : look view 1 ≡ Some (live_entry display_born)
+  pub versions : (id : ℕ) (e : Entry) → look view id ≡ Some e → 1 ≤ e.version
+  -- it has not failed
+  pub lives : failed ≡ false
+
+-- The rows at the server are the births open there.
+pub record ServerStands (view : View) (failed : Bool) (there : ℕ → Option Born) : Type 0 where
+  pub sets : Shows birth_of (server_rows view).rows view.births there
+  pub sound : Sound view
+  pub display : look view 1 ≡ Some (live_entry display_born)
+  pub versions : (id : ℕ) (e : Entry) → look view id ≡ Some e → 1 ≤ e.version
+  pub live : (id : ℕ) (e : Entry) → look view id ≡ Some e → e.state ≡ states.Live
+  -- it has not failed
+  pub lives : failed ≡ false
+
+-- These messages are in flight from an outbox to an inbox, each of them fit.
+pub record Travel {M W : Type 0} (as_born : M → W) (as_sent : M → boxes.Message)
+    (Fitly : M → Type 0) (from : Outgoing) (to : Arrived) (births : List W) (messages : List M)
+    : Type 0 where
+  -- the world has them in flight by births, and the boxes in their canonical spellings, by ids
+  pub in_world : births ≡ map as_born messages
+  pub in_boxes : InFlight from to (map as_sent messages)
+  -- each fits a signature; each bind and each global told is of a global that was given
+  pub fit : Each Fitly messages
+
+-- The ends' globals are the world's, and the client's were given by the server.
+pub record GlobalsStand (tables : List Interface) (client_knows : List Remembered)
+    (server_gave : List server.Global) (world_remembered : List Remembered)
+    (world_given : List server.Global) : Type 0 where
+  pub remembered : world_remembered ≡ client_knows
+  pub given : world_given ≡ server_gave
+  pub remembers : Each (λ g. WasGiven server_gave g.name g.iface g.version) client_knows
+  pub globals : Each (IsGlobal tables) server_gave
+  pub few_globals : length server_gave ≤ max_globals
+
+pub record RegistriesStand (view : View) (registries : List server.Registry) (marks : List Marks)
+    : Type 0 where
+  pub told : marks ≡ map marks_of registries
+  -- the open registries are the server's objects of interface wl_registry, by rising birth
+  pub open_registries : HasRegistries view registries
+
 -- The requests and events in flight are these, each object by its id and as it was meant.
 pub record StandsBy (p : PairState) (w : World) (asked : List (Message Known))
     (told : List (Coming Known)) : Type 0 where
-  -- both ends have the same valid tables
-  pub same_tables : p.client.core.tables ≡ p.server.core.tables
-  pub valid : Valid p.server.core.tables
-  -- the rows at the client are the births open and ending there, those at the server the births
-  -- open there
-  pub client_sets : Shows birth_in (client_rows p.client.core.view).rows
-      p.client.core.view.births w.client
-  pub server_sets : Shows birth_of (server_rows p.server.core.view).rows
-      p.server.core.view.births w.server
-  pub births : w.births ≡ p.client.core.view.births
-  pub client_sound : Sound p.client.core.view
-  pub server_sound : Sound p.server.core.view
-  pub client_display : look p.client.core.view 1 ≡ Some (live_entry display_born)
-  pub server_display : look p.server.core.view 1 ≡ Some (live_entry display_born)
-  pub versions : (id : ℕ) (e : Entry) → look p.client.core.view id ≡ Some e → 1 ≤ e.version
-  pub server_versions : (id : ℕ) (e : Entry) → look p.server.core.view id ≡ Some e → 1 ≤ e.version
-  pub server_live : (id : ℕ) (e : Entry)
-      → look p.server.core.view id ≡ Some e → e.state ≡ states.Live
-  -- the world has them in flight by births, and the boxes in their canonical spellings, by ids
-  pub requests : w.requests ≡ map (renamed born_of) asked
-  pub events : w.events ≡ map (recoming born_of) told
-  pub to_server : InFlight p.client.core.outbox p.server.core.inbox (map spelled asked)
-  pub to_client : InFlight p.server.core.outbox p.client.core.inbox (map spelled_coming told)
-  -- both ends go by one limit
-  pub up_limit : p.client.core.outbox.limit.bytes ≡ p.server.core.inbox.limit.bytes
-  pub down_limit : p.server.core.outbox.limit.bytes ≡ p.client.core.inbox.limit.bytes
-  pub one_limit : p.client.core.inbox.limit.bytes ≡ p.server.core.inbox.limit.bytes
-  -- each fits a signature; each bind and each global told is of a global that was given
-  pub asked_fit : Each (AsksFitly p.server.core.tables p.server.globals) asked
-  pub told_fit : Each (ComesFitly p.server.core.tables p.server.globals) told
+  pub terms : SameTerms (terms_of p.client.core) (terms_of p.server.core)
+  -- the objects at each end, and that neither end has failed
+  pub client : ClientStands p.client.core.view p.client.core.failed w.births w.client
+  pub server : ServerStands p.server.core.view p.server.core.failed w.server
+  -- what is in flight each way
+  pub requests : Travel (renamed born_of) spelled (AsksFitly p.server.core.tables p.server.globals)
+      p.client.core.outbox p.server.core.inbox w.requests asked
+  pub events : Travel (recoming born_of) spelled_coming
+      (ComesFitly p.server.core.tables p.server.globals)
+      p.server.core.outbox p.client.core.inbox w.events told
   -- an event that destroys an object is directly followed by that object's delete
   pub deletes_follow : DeletesFollow told
   -- when its turn comes, each can be read, and when all is read both ends have the same objects
   pub meet : Meets (by_event p.server.core.tables) (all_tells told) (all_asks asked)
       (client_rows p.client.core.view) (server_rows p.server.core.view)
-  -- neither end has failed; the ends' globals are the world's, and the client's were given by the
-  -- server
-  pub client_lives : p.client.core.failed ≡ false
-  pub server_lives : p.server.core.failed ≡ false
-  pub remembered : w.remembered ≡ p.client.globals
-  pub given : w.given ≡ p.server.globals
-  pub registries : w.registries ≡ map marks_of p.server.registries
-  pub remembers : Each (λ g. WasGiven p.server.globals g.name g.iface g.version) p.client.globals
-  pub globals : Each (IsGlobal p.server.core.tables) p.server.globals
-  pub few_globals : length p.server.globals ≤ max_globals
-  -- the open registries are the server's objects of interface wl_registry, by rising birth
-  pub open_registries : HasRegistries p.server.core.view p.server.registries
+  pub globals : GlobalsStand p.server.core.tables p.client.globals p.server.globals
+      w.remembered w.given
+  pub registries : RegistriesStand p.server.core.view p.server.registries w.registries
 
 -- The pair stands for the world: an ended world stands with every pair.
 pub data Stands (p : PairState) (w : World) : Type 0 where

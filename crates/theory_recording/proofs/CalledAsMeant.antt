@@ -1,5 +1,6 @@
 -- Behind a message that was read as it was meant.
-use Rattle.std.proofs.Common.{◌≡◌, ℕ, zero, suc, ◌+◌, Bool, false, cond, None, Some, List, [], ◌∷◌, ◌++◌, length, map, refl, sym, ap, subst, ◌∙◌, arith}
+use Rattle.std.proofs.Common.{◌≡◌, ℕ, zero, suc, ◌+◌, Bool, false, cond, None, Some, List, [], ◌∷◌}
+use Rattle.std.proofs.Common.{◌++◌, length, map, refl, sym, ap, subst, ◌∙◌, arith}
 use Rattle.std.specs.Prelude.{Option, option_map, is_some}
 use Rattle.std.specs.declared.result.Result.TheVariants.{Ok}
 use Rattle.wl_wire.specs.declared.kind.Iface.{Iface}
@@ -11,12 +12,12 @@ use Rattle.wl_object_map.specs.declared.object.State.TheVariants.{Live}
 use Rattle.wl_objects.specs.Messages.{NewObject, ended_id, is_error}
 use Rattle.wl_recording.specs.declared.piece.Direction.{Direction}
 use Rattle.wl_check.specs.Merged.{mark, framed, same_direction}
-use Rattle.wl_check.specs.Effects.{Call, effect, destroyed, side_of}
+use Rattle.wl_check.specs.Changes.{Call, changes, destroyed, side_of}
 use Rattle.wl_check.specs.Places.{is_id, is_made, frees, entry_of, new_of, used_by, unless_deleted}
 use Rattle.wl_check.specs.Rules.{judged}
 use Rattle.wl_check.specs.Session.{Judged}
-use Rattle.wl_check.proofs.Merging.{same_is}
-use Rattle.wl_check.proofs.Growing.{behind_one, advertised_more}
+use Rattle.wl_check.proofs.MergedPiece.{same_is}
+use Rattle.wl_check.proofs.LongerRecording.{behind_one, advertised_more}
 use Rattle.theory_connection.specs.Meant.{Known, Message, objects, tokens, wire}
 use Rattle.theory_connection.specs.World.{Row, Each, IfThere}
 use Rattle.theory_connection.specs.Flight.{Rows, Held, Fresh}
@@ -27,16 +28,20 @@ use Rattle.theory_recording.specs.Follows.{knowledge, places, maker, KnownAs, Go
 use Rattle.theory_recording.proofs.AdvertisedGlobals.{Grows}
 use Rattle.theory_recording.proofs.JudgedAsMeant.{call_as}
 use Rattle.theory_recording.proofs.KnownBehindMessage.{ended_ids, known_behind, places_behind}
-use Rattle.theory_connection.proofs.EndedObject.{ends_as, ended_has}
+use Rattle.theory_connection.proofs.EndedObject.{ends_as, ends_have}
 
--- The message that stands at a place of a direction's stream, where its direction brought t tokens, keeps all rules; and so it is behind it.
-pub record One (limit : ℕ) (tables : List Interface) (d : Direction) (stream : List ℕ) (t p : ℕ) (sent : boxes.Message) (e : List Judged) (Next : List Judged → Type 0) : Type 0 where
+-- The message that stands at a place of a direction's stream, where its direction brought t tokens,
+-- keeps all rules; and so it is behind it.
+pub record One (limit : ℕ) (tables : List Interface) (d : Direction) (stream : List ℕ) (t p : ℕ) (sent : boxes.Message)
+    (e : List Judged) (Next : List Judged → Type 0) : Type 0 where
   pub call : Call
   pub is : judged limit tables (knowledge tables e) stream (framed d t (mark p (length sent.bytes))) ≡ Ok call
   pub own : (knowledge tables (e ++ Ok call ∷ [])).taken d ≡ (knowledge tables e).taken d + length sent.tokens
-  pub other : (x : Direction) → same_direction d x ≡ false → (knowledge tables (e ++ Ok call ∷ [])).taken x ≡ (knowledge tables e).taken x
+  pub other : (x : Direction) → same_direction d x ≡ false
+      → (knowledge tables (e ++ Ok call ∷ [])).taken x ≡ (knowledge tables e).taken x
   pub next : Next (e ++ Ok call ∷ [])
 
+-- one more message goes on
 pub go_on_more : (e : List Judged) (j : Judged) → AllGoOn e → GoesOn j → AllGoOn (e ++ j ∷ [])
 go_on_more [] j a g zero one is = let same : j ≡ one = cc in subst GoesOn same g
 go_on_more [] j a g (suc k) one is = absurd (cc)
@@ -44,7 +49,8 @@ go_on_more (x ∷ xs) j a g zero one is = a zero one is
 go_on_more (x ∷ xs) j a g (suc k) one is = go_on_more xs j (λ i. a (suc i)) g k one is
 
 -- the session goes on
-pub goes_on_as : (tables : List Interface) (d : Direction) (m : Message Known) (entry : Entry) (f : Fits tables (side_of d) m) → entry.iface ≡ m.target.born.iface → GoesOn (Ok (call_as d m entry f.signature))
+pub goes_on_as : (tables : List Interface) (d : Direction) (m : Message Known) (entry : Entry)
+    (f : Fits tables (side_of d) m) → entry.iface ≡ m.target.born.iface → GoesOn (Ok (call_as d m entry f.signature))
 goes_on_as tables d m entry f iface = record {
   call = call_as d m entry f.signature;
   is = refl;
@@ -53,47 +59,63 @@ goes_on_as tables d m entry f iface = record {
 
 -- ---- the tokens, and what is advertised
 
-pub own_taken : (tables : List Interface) (e : List Judged) (d : Direction) (m : Message Known) (entry : Entry) (f : Fits tables (side_of d) m)
-    → (knowledge tables (e ++ Ok (call_as d m entry f.signature) ∷ [])).taken d ≡ (knowledge tables e).taken d + length (tokens m.args)
+-- a message adds its tokens to those taken in its direction
+pub own_taken : (tables : List Interface) (e : List Judged) (d : Direction) (m : Message Known) (entry : Entry)
+    (f : Fits tables (side_of d) m)
+    → (knowledge tables (e ++ Ok (call_as d m entry f.signature) ∷ [])).taken d
+    ≡ (knowledge tables e).taken d + length (tokens m.args)
 own_taken tables e d m entry f =
     let call = call_as d m entry f.signature in
     let b = (behind_one tables e call).taken_is d in
     let count = tokens_taken tables m.target.born.version f.signature.kinds m.args f.args in
     b ∙ rw (same_is d) (ap (λ (n : ℕ). (knowledge tables e).taken d + n) count)
 
-pub other_taken : (tables : List Interface) (e : List Judged) (call : Call) (x : Direction) → same_direction call.direction x ≡ false
+-- a message takes no tokens of the other direction
+pub other_taken : (tables : List Interface) (e : List Judged) (call : Call) (x : Direction)
+    → same_direction call.direction x ≡ false
     → (knowledge tables (e ++ Ok call ∷ [])).taken x ≡ (knowledge tables e).taken x
 other_taken tables e call x apart =
     let b = (behind_one tables e call).taken_is x in
     b ∙ rw apart (omega arith)
 
-pub call_grows : (tables : List Interface) (e : List Judged) (call : Call) → Grows (knowledge tables e) (knowledge tables (e ++ Ok call ∷ []))
+-- no message makes what was advertised of a global less
+pub call_grows : (tables : List Interface) (e : List Judged) (call : Call)
+    → Grows (knowledge tables e) (knowledge tables (e ++ Ok call ∷ []))
 call_grows tables e call name iface =
     let is = (behind_one tables e call).advertised_is name iface in
-    let more = advertised_more (effect tables call) name iface ((knowledge tables e).advertised_version name iface) in
+    let more = advertised_more (changes tables call) name iface ((knowledge tables e).advertised_version name iface) in
     omega (arith, is, more)
 
 -- ---- the objects
 
-destroyed_as : (b : Bool) (id : ℕ) (o : Option Known) → b ≡ is_some o → IfThere (λ x. x.id ≡ id) o → destroyed b id ≡ ended_ids o
+destroyed_as : (b : Bool) (id : ℕ) (o : Option Known) → b ≡ is_some o → IfThere (λ x. x.id ≡ id) o
+    → destroyed b id ≡ ended_ids o
 destroyed_as b id None f h = ap (λ (t : Bool). destroyed t id) f
 destroyed_as b id (Some x) f h = λ i. destroyed (f i) (sym h i)
 
-pub known_call : (tables : List Interface) (e : List Judged) (here : Rows Row) (d : Direction) (m : Message Known) (entry : Entry) (f : Fits tables (side_of d) m) (n : Option Known)
-    → Valid tables → KnownAs (knowledge tables e) (places tables e) here → IfThere (Fresh here) n → Held here m.target → Each (Held here) (objects m.args)
-    → (effect tables (call_as d m entry f.signature)).made ≡ option_map made_of n → (effect tables (call_as d m entry f.signature)).deleted ≡ None
-    → KnownAs (knowledge tables (e ++ Ok (call_as d m entry f.signature) ∷ [])) (places tables (e ++ Ok (call_as d m entry f.signature) ∷ [])) (client_ends m.ends (client_makes here n))
+-- behind a message that fits, the checker knows the rows that it leaves
+pub known_call : (tables : List Interface) (e : List Judged) (here : Rows Row) (d : Direction) (m : Message Known)
+    (entry : Entry) (f : Fits tables (side_of d) m) (n : Option Known)
+    → Valid tables → KnownAs (knowledge tables e) (places tables e) here → IfThere (Fresh here) n → Held here m.target
+    → Each (Held here) (objects m.args)
+    → (changes tables (call_as d m entry f.signature)).made ≡ option_map made_of n
+    → (changes tables (call_as d m entry f.signature)).deleted ≡ None
+    → KnownAs (knowledge tables (e ++ Ok (call_as d m entry f.signature) ∷ []))
+    (places tables (e ++ Ok (call_as d m entry f.signature) ∷ [])) (client_ends m.ends (client_makes here n))
 known_call tables e here d m entry f n valid a fresh target args made_is deleted_is =
     let call = call_as d m entry f.signature in
     let k = knowledge tables e in
     let k' = knowledge tables (e ++ Ok call ∷ []) in
     let p = suc (length e) in
     let b = behind_one tables e call in
-    let held : IfThere (Held here) m.ends = subst (λ (o : Option Known). IfThere (Held here) o) (sym f.ends) (ended_has (Held here) f.signature.destroys m.target m.args target args) in
+    let held : IfThere (Held here) m.ends = ends_have (Held here) tables (side_of d) m f target args in
     let ended = ends_as tables (side_of d) m f valid in
-    let destroyed_is : (effect tables call).destroyed ≡ ended_ids m.ends = destroyed_as (destroys_one f.signature.destroys) (ended_id f.signature.destroys m.target.id (map wire m.args)) m.ends ended.flag ended.same in
+    let destroyed_is : (changes tables call).destroyed ≡ ended_ids m.ends =
+    destroyed_as (destroys_one f.signature.destroys)
+    (ended_id f.signature.destroys m.target.id (map wire m.args)) m.ends ended.flag ended.same in
     let known = known_behind k k' (places tables e) p here n m.ends a fresh held
-    (λ id. b.objects id ∙ (λ i. cond (is_made (made_is i) id) (Some (entry_of p Live (new_of (made_is i)))) (unless_deleted (frees (deleted_is i) id) (is_id (destroyed_is i) id) (k.object id))))
+    (λ id. b.objects id ∙ (λ i. cond (is_made (made_is i) id) (Some (entry_of p Live (new_of (made_is i))))
+    (unless_deleted (frees (deleted_is i) id) (is_id (destroyed_is i) id) (k.object id))))
     (b.used_is ∙ ap (λ (o : Option NewObject). used_by o k.used) made_is) in
     let there = places_behind tables e call ∙ ap (λ (o : Option NewObject). places tables e ++ maker o p) made_is in
     subst (λ (ps : List ℕ). KnownAs k' ps (client_ends m.ends (client_makes here n))) (sym there) known

@@ -1,8 +1,11 @@
 -- The messages that more bytes complete, one after another.
-use Rattle.std.proofs.Common.{◌≡◌, ℕ, ◌+◌, ◌<◌, ◌≤◌, false, List, [], ◌∷◌, ◌++◌, inl, inr, length, length-append, take, drop, map, refl, sym, ap, subst, ◌∙◌, arith, append-nil}
+use Rattle.std.proofs.Common.{◌≡◌, ℕ, ◌+◌, ◌<◌, ◌≤◌, false, List, [], ◌∷◌, ◌++◌, inl, inr, length}
+use Rattle.std.proofs.Common.{length-append, take, drop, map, refl, sym, ap, subst, ◌∙◌, arith}
+use Rattle.std.proofs.Common.{append-nil}
 use Rattle.std.specs.declared.result.Result.TheVariants.{Ok}
 use Rattle.std.proofs.lemmas.Bool.{cases_lt}
-use Rattle.std.proofs.lemmas.List.{append_assoc, take-append-drop, take-append-le, drop-append-le, take_all, drop_all, drop-drop, length-drop}
+use Rattle.std.proofs.lemmas.List.{append_assoc, take-append-drop, take-append-le, drop-append-le}
+use Rattle.std.proofs.lemmas.List.{take_all, drop_all, drop-drop, length-drop}
 use Rattle.wl_sigs.specs.Tables.{Interface}
 use Rattle.wl_message.specs.Cut.{front, Front, More, Bad, Whole, IsMessage}
 use Rattle.wl_message.specs.Outgoing as boxes
@@ -12,7 +15,7 @@ use Rattle.wl_message.proofs.Fronts.{front_stands}
 use Rattle.wl_recording.specs.declared.piece.Direction.{Direction}
 use Rattle.wl_check.specs.Merged.{mark, Cutting, cutting, cut_at, same_direction, framed}
 use Rattle.wl_check.specs.Session.{Judged, judged_after}
-use Rattle.wl_check.proofs.Cutting.{step}
+use Rattle.wl_check.proofs.MessagesOfStream.{step}
 use Rattle.theory_connection.specs.World.{Each}
 use Rattle.theory_connection.proofs.Channels.{front_nil}
 use Rattle.theory_recording.specs.Follows.{knowledge}
@@ -21,7 +24,8 @@ use Rattle.theory_recording.proofs.CalledAsMeant.{One}
 -- ---- what stands in front
 
 -- a part of a message is not one
-part_front : (limit : ℕ) (x left more : List ℕ) (m : List ℕ) (f : Front) → front limit x ≡ f → x ++ left ≡ m ++ more → IsMessage limit m → length x < length m → front limit x ≡ More
+part_front : (limit : ℕ) (x left more : List ℕ) (m : List ℕ) (f : Front) → front limit x ≡ f → x ++ left ≡ m ++ more
+    → IsMessage limit m → length x < length m → front limit x ≡ More
 part_front limit x left more m More e is whole h = e
 part_front limit x left more m (Bad n) e is whole h =
     let p : front limit (x ++ left) ≡ Bad n = bad_stays limit x left n e in
@@ -43,20 +47,25 @@ pub record Apart (x left m more : List ℕ) : Type 0 where
 apart : (x left m more : List ℕ) → x ++ left ≡ m ++ more → length m ≤ length x → Apart x left m more
 apart x left m more e h =
     let n = length m in
-    let front : take n x ≡ m = sym (take-append-le n x left h) ∙ ap (take n) e ∙ take-append-le n m more (omega arith) ∙ take_all n m (omega arith) in
+    let front : take n x ≡ m = sym (take-append-le n x left h) ∙ ap (take n) e ∙ take-append-le n m more (omega arith)
+    ∙ take_all n m (omega arith) in
     record {
       rest = drop n x;
       is = sym (take-append-drop n x) ∙ ap (λ (l : List ℕ). l ++ drop n x) front;
-      behind = sym (drop-append-le n x left h) ∙ ap (drop n) e ∙ drop-append-le n m more (omega arith) ∙ ap (λ (l : List ℕ). l ++ more) (drop_all n m (omega arith));
+      behind = sym (drop-append-le n x left h) ∙ ap (drop n) e ∙ drop-append-le n m more (omega arith)
+          ∙ ap (λ (l : List ℕ). l ++ more) (drop_all n m (omega arith));
     }
 
 -- ---- the messages from a place of a stream on
 
-module _ {M : Type 0} (sp : M → boxes.Message) (limit : ℕ) (tables : List Interface) (d : Direction) (streams : Direction → List ℕ) (t : ℕ) (F : List Judged → List M → List M → Type 0) where
+module _ {M : Type 0} (sp : M → boxes.Message) (limit : ℕ) (tables : List Interface) (d : Direction)
+    (streams : Direction → List ℕ) (t : ℕ) (F : List Judged → List M → List M → Type 0) where
   -- the message at a place keeps all rules
   abbrev pub KeepsOne : Type 0
-  KeepsOne = (e : List Judged) (seen later : List M) (m : M) (p : ℕ) (more : List ℕ) → F e seen (m ∷ later) → IsMessage limit (sp m).bytes → drop p (streams d) ≡ (sp m).bytes ++ more
-      → (knowledge tables e).taken d + length (sp m).tokens ≤ t → One limit tables d (streams d) t p (sp m) e (λ e'. F e' (seen ++ m ∷ []) later)
+  KeepsOne = (e : List Judged) (seen later : List M) (m : M) (p : ℕ) (more : List ℕ) → F e seen (m ∷ later)
+      → IsMessage limit (sp m).bytes → drop p (streams d) ≡ (sp m).bytes ++ more
+      → (knowledge tables e).taken d + length (sp m).tokens ≤ t
+      → One limit tables d (streams d) t p (sp m) e (λ e'. F e' (seen ++ m ∷ []) later)
 
   -- Of the messages that were not yet recorded these are complete in the stream, and of the next a part stands there.
   pub record Walked (e : List Judged) (seen later : List M) (x : List ℕ) (c : Cutting) : Type 0 where
@@ -67,18 +76,23 @@ module _ {M : Type 0} (sp : M → boxes.Message) (limit : ℕ) (tables : List In
     pub sound : c.is_bad ≡ false
     pub rest : drop c.place (streams d) ≡ part
     pub bytes : all_bytes (map sp fresh) ++ part ≡ x
-    pub own : (knowledge tables (judged_after limit tables streams e (map (framed d t) c.marks))).taken d ≡ (knowledge tables e).taken d + length (all_tokens (map sp fresh))
+    pub own : (knowledge tables (judged_after limit tables streams e (map (framed d t) c.marks))).taken d
+        ≡ (knowledge tables e).taken d + length (all_tokens (map sp fresh))
     pub other : (y : Direction) → same_direction d y ≡ false
-        → (knowledge tables (judged_after limit tables streams e (map (framed d t) c.marks))).taken y ≡ (knowledge tables e).taken y
+        → (knowledge tables (judged_after limit tables streams e (map (framed d t) c.marks))).taken y
+        ≡ (knowledge tables e).taken y
     pub next : F (judged_after limit tables streams e (map (framed d t) c.marks)) (seen ++ fresh) still
 
   -- only a part stands there
-  stops : (e : List Judged) (seen later : List M) (p : ℕ) (x : List ℕ) → F e seen later → drop p (streams d) ≡ x → p ≤ length (streams d) → front limit x ≡ More
+  stops : (e : List Judged) (seen later : List M) (p : ℕ) (x : List ℕ) → F e seen later → drop p (streams d) ≡ x
+      → p ≤ length (streams d) → front limit x ≡ More
       → Walked e seen later x (cutting limit (length (streams d)) (streams d) p)
   unfolding judged_after
   stops e seen later p x f at within more =
       let here : cutting limit (length (streams d)) (streams d) p ≡ record { marks = []; place = p; is_bad = false } =
-      step limit (length (streams d)) (streams d) p within (omega arith) ∙ ap (λ (o : Front). cut_at p o (cutting limit (length (streams d)) (streams d))) (ap (front limit) at ∙ more) in
+      step limit (length (streams d)) (streams d) p within (omega arith)
+      ∙ ap (λ (o : Front). cut_at p o (cutting limit (length (streams d)) (streams d)))
+      (ap (front limit) at ∙ more) in
       subst (Walked e seen later x) (sym here) (record {
         fresh = [];
         still = later;
@@ -93,19 +107,25 @@ module _ {M : Type 0} (sp : M → boxes.Message) (limit : ℕ) (tables : List In
       })
 
   -- one is whole, and what follows it
-  goes : (e : List Judged) (seen later : List M) (m : M) (p : ℕ) (x rest : List ℕ) → IsMessage limit (sp m).bytes → drop p (streams d) ≡ x → p ≤ length (streams d) → x ≡ (sp m).bytes ++ rest
+  goes : (e : List Judged) (seen later : List M) (m : M) (p : ℕ) (x rest : List ℕ) → IsMessage limit (sp m).bytes
+      → drop p (streams d) ≡ x → p ≤ length (streams d) → x ≡ (sp m).bytes ++ rest
       → (o : One limit tables d (streams d) t p (sp m) e (λ e'. F e' (seen ++ m ∷ []) later))
-      → Walked (e ++ Ok o.call ∷ []) (seen ++ m ∷ []) later rest (cutting limit (length (streams d)) (streams d) (p + length (sp m).bytes))
+      → Walked (e ++ Ok o.call ∷ []) (seen ++ m ∷ []) later rest
+      (cutting limit (length (streams d)) (streams d) (p + length (sp m).bytes))
       → Walked e seen (m ∷ later) x (cutting limit (length (streams d)) (streams d) p)
   unfolding judged_after
   goes e seen later m p x rest whole at within is o w =
       let size = length (sp m).bytes in
       let c = cutting limit (length (streams d)) (streams d) (p + size) in
-      let found : front limit (drop p (streams d)) ≡ Whole size = ap (front limit) (at ∙ is) ∙ front_message limit (sp m).bytes rest whole in
-      let here : cutting limit (length (streams d)) (streams d) p ≡ record { marks = mark p size ∷ c.marks; place = c.place; is_bad = c.is_bad } =
-      step limit (length (streams d)) (streams d) p within (omega arith) ∙ ap (λ (f : Front). cut_at p f (cutting limit (length (streams d)) (streams d))) found in
+      let found : front limit (drop p (streams d)) ≡ Whole size =
+      ap (front limit) (at ∙ is) ∙ front_message limit (sp m).bytes rest whole in
+      let here : cutting limit (length (streams d)) (streams d) p
+      ≡ record { marks = mark p size ∷ c.marks; place = c.place; is_bad = c.is_bad } =
+      step limit (length (streams d)) (streams d) p within (omega arith)
+      ∙ ap (λ (f : Front). cut_at p f (cutting limit (length (streams d)) (streams d))) found in
       let e' = e ++ Ok o.call ∷ [] in
-      let after : judged_after limit tables streams e (map (framed d t) (mark p size ∷ c.marks)) ≡ judged_after limit tables streams e' (map (framed d t) c.marks) =
+      let after : judged_after limit tables streams e (map (framed d t) (mark p size ∷ c.marks))
+      ≡ judged_after limit tables streams e' (map (framed d t) c.marks) =
       ap (λ (j : Judged). judged_after limit tables streams (e ++ j ∷ []) (map (framed d t) c.marks)) o.is in
       subst (Walked e seen (m ∷ later) x) (sym here) (record {
         fresh = m ∷ w.fresh;
@@ -114,38 +134,51 @@ module _ {M : Type 0} (sp : M → boxes.Message) (limit : ℕ) (tables : List In
         part = w.part;
         sound = w.sound;
         rest = w.rest;
-        bytes = append_assoc (sp m).bytes (all_bytes (map sp w.fresh)) w.part ∙ ap (λ (l : List ℕ). (sp m).bytes ++ l) w.bytes ∙ sym is;
+        bytes = append_assoc (sp m).bytes (all_bytes (map sp w.fresh)) w.part
+            ∙ ap (λ (l : List ℕ). (sp m).bytes ++ l) w.bytes ∙ sym is;
         own = ap (λ (j : List Judged). (knowledge tables j).taken d) after ∙ w.own
             ∙ (let a = o.own in omega (arith, a, length-append (sp m).tokens (all_tokens (map sp w.fresh))));
-        other = λ y other. ap (λ (j : List Judged). (knowledge tables j).taken y) after ∙ w.other y other ∙ o.other y other;
-        next = subst (λ (s : List M). F (judged_after limit tables streams e (map (framed d t) (mark p size ∷ c.marks))) s w.still) (append_assoc seen (m ∷ []) w.fresh)
+        other = λ y other. ap (λ (j : List Judged). (knowledge tables j).taken y) after ∙ w.other y other
+            ∙ o.other y other;
+        next = subst (λ (s : List M). F (judged_after limit tables streams e (map (framed d t) (mark p size ∷ c.marks)))
+            s w.still) (append_assoc seen (m ∷ []) w.fresh)
             (subst (λ (j : List Judged). F j ((seen ++ m ∷ []) ++ w.fresh) w.still) (sym after) w.next);
       })
 
-  -- Begun are these messages, the first of those not yet recorded: of their bytes these stand in the stream and others are still to come.
-  pub walk : KeepsOne → (later : List M) (begun others : List boxes.Message) (e : List Judged) (seen : List M) (p : ℕ) (x left : List ℕ) → F e seen later → drop p (streams d) ≡ x → p ≤ length (streams d)
+  -- Begun are these messages, the first of those not yet recorded: of their bytes these stand in
+  -- the stream and others are still to come.
+  pub walk : KeepsOne → (later : List M) (begun others : List boxes.Message) (e : List Judged) (seen : List M) (p : ℕ)
+      (x left : List ℕ) → F e seen later → drop p (streams d) ≡ x → p ≤ length (streams d)
       → map sp later ≡ begun ++ others → x ++ left ≡ all_bytes begun → Each (λ m. IsMessage limit m.bytes) begun
-      → (knowledge tables e).taken d + length (all_tokens begun) ≤ t → Walked e seen later x (cutting limit (length (streams d)) (streams d) p)
+      → (knowledge tables e).taken d + length (all_tokens begun) ≤ t
+      → Walked e seen later x (cutting limit (length (streams d)) (streams d) p)
   walk one later [] others e seen p x left f at within is bytes whole enough =
       stops e seen later p x f at within (ap (front limit) (front_nil x left bytes) ∙ front_none limit)
   walk one [] (b ∷ begun) others e seen p x left f at within is bytes whole enough = absurd (cc is)
   walk one (m ∷ later) (b ∷ begun) others e seen p x left f at within is bytes whole enough =
       let first : sp m ≡ b = cc is in
       let rest : map sp later ≡ begun ++ others = cc is in
-      let here : x ++ left ≡ (sp m).bytes ++ all_bytes begun = bytes ∙ ap (λ (y : boxes.Message). y.bytes ++ all_bytes begun) (sym first) in
-      let good : IsMessage limit (sp m).bytes = subst (λ (y : boxes.Message). IsMessage limit y.bytes) (sym first) whole.0 in
+      let here : x ++ left ≡ (sp m).bytes ++ all_bytes begun =
+      bytes ∙ ap (λ (y : boxes.Message). y.bytes ++ all_bytes begun) (sym first) in
+      let good : IsMessage limit (sp m).bytes = subst (λ (y : boxes.Message). IsMessage limit y.bytes)
+      (sym first) whole.0 in
       let count : length b.tokens ≡ length (sp m).tokens = ap (λ (y : boxes.Message). length y.tokens) (sym first) in
       let all = length-append b.tokens (all_tokens begun) in
       elim (cases_lt (length x) (length (sp m).bytes)) [
-        | inl h ↦ stops e seen (m ∷ later) p x f at within (part_front limit x left (all_bytes begun) (sp m).bytes (front limit x) refl here good h)
+        | inl h ↦ stops e seen (m ∷ later) p x f at within
+            (part_front limit x left (all_bytes begun) (sp m).bytes (front limit x) refl here good h)
         | inr h ↦
             let a = apart x left (sp m).bytes (all_bytes begun) here h in
             let o = one e seen later m p a.rest f good (at ∙ a.is) (omega (arith, enough, count, all)) in
             let size = length (sp m).bytes in
             let long : length x ≡ length (drop p (streams d)) = ap length (sym at) in
-            let next : drop (p + size) (streams d) ≡ a.rest = sym (drop-drop size p (streams d)) ∙ ap (drop size) (at ∙ a.is) ∙ drop-append-le size (sp m).bytes a.rest (omega arith)
+            let next : drop (p + size) (streams d) ≡ a.rest =
+            sym (drop-drop size p (streams d)) ∙ ap (drop size) (at ∙ a.is)
+            ∙ drop-append-le size (sp m).bytes a.rest (omega arith)
             ∙ ap (λ (l : List ℕ). l ++ a.rest) (drop_all size (sp m).bytes (omega arith)) in
-            let w = walk one later begun others (e ++ Ok o.call ∷ []) (seen ++ m ∷ []) (p + size) a.rest left o.next next (omega (arith, h, long, length-drop p (streams d), within)) rest a.behind whole.1
+            let w = walk one later begun others (e ++ Ok o.call ∷ []) (seen ++ m ∷ [])
+            (p + size) a.rest left o.next next
+            (omega (arith, h, long, length-drop p (streams d), within)) rest a.behind whole.1
             (let own = o.own in omega (arith, own, enough, count, all)) in
             goes e seen later m p x a.rest good at within a.is o w
       ]

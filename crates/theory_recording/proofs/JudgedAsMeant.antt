@@ -1,11 +1,12 @@
 -- A message that stands in a stream is judged to be what was meant, by a checker that knows what it names.
-use Rattle.std.proofs.Common.{◌≡◌, ℕ, ◌+◌, ◌-◌, ◌≤◌, Bool, true, false, cond, List, [], ◌∷◌, ◌++◌, length, take, drop, map, refl, sym, ap, ◌∙◌, arith}
+use Rattle.std.proofs.Common.{◌≡◌, ℕ, ◌+◌, ◌-◌, ◌≤◌, Bool, true, false, cond, List, [], ◌∷◌, ◌++◌}
+use Rattle.std.proofs.Common.{length, take, drop, map, refl, sym, ap, ◌∙◌, arith}
 use Rattle.std.specs.declared.option.Option.TheVariants.{None, Some}
 use Rattle.std.specs.declared.result.Result.TheVariants.{Ok, Err}
 use Rattle.std.proofs.lemmas.List.{append_assoc, take_at, drop-drop}
 use Rattle.wl_wire.specs.declared.header.Header.{Header}
 use Rattle.wl_wire.specs.Word.{header_at, header_bytes}
-use Rattle.wl_wire.specs.Argument.{Int, Uint, Fixed, Str, Obj, New, NewNamed, Array, Fd}
+use Rattle.wl_wire.specs.Argument.{Obj, New, NewNamed}
 use Rattle.wl_sigs.specs.Tables.{Interface}
 use Rattle.wl_sigs.specs.Tables as sigs
 use Rattle.wl_message.specs.Cut.{IsMessage, is_size}
@@ -18,33 +19,35 @@ use Rattle.wl_objects.specs.Writing.{spelled as spelled_values, message_len}
 use Rattle.wl_objects.proofs.Wholes.{length-message, length-spelled}
 use Rattle.wl_recording.specs.declared.piece.Direction.{Direction}
 use Rattle.wl_check.specs.Merged.{mark, framed}
-use Rattle.wl_check.specs.Effects.{Call, side_of}
+use Rattle.wl_check.specs.Changes.{Call, side_of}
 use Rattle.wl_check.specs.Places.{Known as Knows}
-use Rattle.wl_check.specs.Rules.{reader, called, judged, judged_as, is_bad_bind}
+use Rattle.wl_check.specs.Rules.{reader, called, judged, judged_message, is_bad_bind}
 use Rattle.theory_connection.specs.Meant.{Known, Message, Arg, objects, new_in, wire, tokens, spelled}
 use Rattle.theory_connection.specs.World.{Each, IfThere}
 use Rattle.theory_connection.specs.Stands.{Fits}
 use Rattle.theory_connection.proofs.ReadAsMeant.{HasObject, Finds, received_by_any, parted}
 
-pub all_found : (r : Reader) (args : List (Arg Known)) → Each (HasObject r) (objects args) → Each (λ a. IfThere (λ x. r.new_id x.id ≡ Free) (new_in a)) args → Each (Finds r) args
+-- the checker finds each argument whose object it has and whose new id is free
+pub all_found : (r : Reader) (args : List (Arg Known)) → Each (HasObject r) (objects args)
+    → Each (λ a. IfThere (λ x. r.new_id x.id ≡ Free) (new_in a)) args → Each (Finds r) args
 all_found r [] o n = tt
-all_found r (Int z ∷ args) o n = (tt, all_found r args o n.1)
-all_found r (Uint z ∷ args) o n = (tt, all_found r args o n.1)
-all_found r (Fixed z ∷ args) o n = (tt, all_found r args o n.1)
-all_found r (Str z ∷ args) o n = (tt, all_found r args o n.1)
 all_found r (Obj None ∷ args) o n = (tt, all_found r args o n.1)
 all_found r (Obj (Some x) ∷ args) o n = (o.0, all_found r args o.1 n.1)
 all_found r (New x ∷ args) o n = (n.0, all_found r args o n.1)
 all_found r (NewNamed name own x ∷ args) o n = (n.0, all_found r args o n.1)
-all_found r (Array z ∷ args) o n = (tt, all_found r args o n.1)
-all_found r (Fd z ∷ args) o n = (tt, all_found r args o n.1)
+all_found r (a ∷ args) o n = (tt, all_found r args o n.1)
 
 -- the call as which a message is read, where its target has this row
 abbrev pub call_as : Direction → Message Known → Entry → sigs.Message → Call
 call_as d m entry signature = record {
   direction = d;
   opcode = m.opcode;
-  received = record { target = record { id = m.target.id; birth = entry.birth }; entry = entry; signature = signature; values = map wire m.args };
+  received = record {
+    target = record { id = m.target.id; birth = entry.birth };
+    entry = entry;
+    signature = signature;
+    values = map wire m.args;
+  };
 }
 
 -- the bytes behind the header
@@ -56,16 +59,21 @@ body_is m stream more p e =
     let l = length-message m.target.id m.opcode vs in
     let header : Header = record { object = m.target.id; size = message_len vs; opcode = m.opcode } in
     let n : length (spelled_values vs) ≡ length (spelled m).bytes - 8 = omega (arith, l, s) in
-    let front : drop p stream ≡ header_bytes header ++ (spelled_values vs ++ more) = e ∙ append_assoc (header_bytes header) (spelled_values vs) more in
+    let front : drop p stream ≡ header_bytes header ++ (spelled_values vs ++ more) =
+    e ∙ append_assoc (header_bytes header) (spelled_values vs) more in
     let behind : drop (p + 8) stream ≡ spelled_values vs ++ more = sym (drop-drop 8 p stream) ∙ ap (drop 8) front in
     ap (take (length (spelled m).bytes - 8)) behind ∙ take_at (spelled_values vs) more (length (spelled m).bytes - 8) n
 
--- A message that fits stands in a stream. It keeps all rules where the checker has what it names, it is no bad bind, and the tokens brought
+-- A message that fits stands in a stream. It keeps all rules where the checker has what it names,
+-- it is no bad bind, and the tokens brought
 -- so far are at least those taken before it and its own.
-pub frame_called : (limit : ℕ) (tables : List Interface) (k : Knows) (d : Direction) (m : Message Known) (stream more : List ℕ) (p t : ℕ) (o : HasObject (reader k d) m.target) (f : Fits tables (side_of d) m)
-    → IsMessage limit (spelled m).bytes → drop p stream ≡ (spelled m).bytes ++ more → Each (Finds (reader k d)) m.args → k.taken d + length (tokens m.args) ≤ t
+pub frame_called : (limit : ℕ) (tables : List Interface) (k : Knows) (d : Direction) (m : Message Known)
+    (stream more : List ℕ) (p t : ℕ) (o : HasObject (reader k d) m.target) (f : Fits tables (side_of d) m)
+    → IsMessage limit (spelled m).bytes → drop p stream ≡ (spelled m).bytes ++ more → Each (Finds (reader k d)) m.args
+    → k.taken d + length (tokens m.args) ≤ t
     → is_bad_bind tables k (side_of d) m.opcode (call_as d m o.entry f.signature).received ≡ false
-    → judged limit tables k stream (framed d t (mark p (length (spelled m).bytes))) ≡ Ok (call_as d m o.entry f.signature)
+    → judged limit tables k stream (framed d t (mark p (length (spelled m).bytes)))
+    ≡ Ok (call_as d m o.entry f.signature)
 frame_called limit tables k d m stream more p t o f whole e args w good =
     let vs = map wire m.args in
     let n = length (spelled m).bytes in
@@ -73,10 +81,11 @@ frame_called limit tables k d m stream more p t o f whole e args w good =
     let header = header_at (drop p stream) in
     let q = parted (drop p stream) more m.target.id m.opcode vs e (omega (arith, f.low)) f.opcode f.len in
     let enough : length (tokens m.args) ≤ t - k.taken d = omega (arith, w) in
-    let read = received_by_any tables (side_of d) (reader k d) m header (t - k.taken d) o f q.object q.opcode_is args enough in
-    let whole_one = judged_as tables k (framed d t (mark p n)) header (take (n - 8) (drop (p + 8) stream)) in
+    let read = received_by_any tables (side_of d) (reader k d) m header
+    (t - k.taken d) o f q.object q.opcode_is args enough in
+    let whole_one = judged_message tables k (framed d t (mark p n)) header (take (n - 8) (drop (p + 8) stream)) in
     ap (λ (b : Bool). cond b whole_one (Err BadSize)) size
-    ∙ ap (judged_as tables k (framed d t (mark p n)) header) (body_is m stream more p e)
+    ∙ ap (judged_message tables k (framed d t (mark p n)) header) (body_is m stream more p e)
     ∙ ap (called tables k d header.opcode) read
     ∙ ap (λ (opcode : ℕ). called tables k d opcode (Ok (call_as d m o.entry f.signature).received)) q.opcode_is
     ∙ rw good refl

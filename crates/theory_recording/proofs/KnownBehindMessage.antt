@@ -1,5 +1,7 @@
 -- What a checker knows behind one message, by what it knew before it.
-use Rattle.std.proofs.Common.{◌≡◌, ℕ, zero, suc, ◌<◌, Bool, true, false, cond, None, Some, List, [], ◌∷◌, ◌++◌, ◌⊎◌, inl, inr, length, length-append, get_or, refl, sym, ap, ◌∙◌, arith, ◌≢◌, append-nil}
+use Rattle.std.proofs.Common.{◌≡◌, ℕ, zero, suc, ◌<◌, Bool, true, false, cond, None, Some, List, []}
+use Rattle.std.proofs.Common.{◌∷◌, ◌++◌, ◌⊎◌, inl, inr, length, length-append, get_or, refl, sym}
+use Rattle.std.proofs.Common.{ap, ◌∙◌, arith, ◌≢◌, append-nil}
 use Rattle.std.proofs.lemmas.List.{get_or_append_left}
 use Rattle.std.proofs.lemmas.Bool.{and_right, cases_lt, lt-ltb, le-ltb}
 use Rattle.std.proofs.Math.Seq.{get_or-append_seam}
@@ -10,11 +12,11 @@ use Rattle.wl_sigs.specs.Tables.{Interface}
 use Rattle.wl_object_map.specs.declared.object.Entry.{Entry}
 use Rattle.wl_object_map.specs.declared.object.State.TheVariants.{Live}
 use Rattle.wl_objects.specs.Messages.{NewObject}
-use Rattle.wl_check.specs.Effects.{Call, effect}
+use Rattle.wl_check.specs.Changes.{Call, changes}
 use Rattle.wl_check.specs.Places.{Known as Knows, is_id, is_made, frees, entry_of, new_of, used_by, unless_deleted}
-use Rattle.wl_check.specs.Session.{Judged, effects}
-use Rattle.wl_check.proofs.Reading.{effects_same}
-use Rattle.wl_check.proofs.Growing.{length_last, effect_last}
+use Rattle.wl_check.specs.Session.{Judged, changes_at}
+use Rattle.wl_check.proofs.JudgedByPlaces.{changes_at_same}
+use Rattle.wl_check.proofs.LongerRecording.{length_last, changes_last}
 use Rattle.theory_connection.specs.Meant.{Known}
 use Rattle.theory_connection.specs.World.{Row, Open, Ending, put, IfThere}
 use Rattle.theory_connection.specs.Stands.{birth_in}
@@ -29,11 +31,15 @@ abbrev Below : List ℕ → Rows Row → Type 0
 Below places here = (id : ℕ) (r : Row) → here.rows id ≡ Some r → birth_in r < length places
 
 -- more places tell no known object otherwise
-entry_more : (places more : List ℕ) (r : Row) → birth_in r < length places → entry_at (places ++ more) r ≡ entry_at places r
-entry_more places more (Open x) h = let g = get_or_append_left places more 0 x.birth h in λ i. record (entry_at places (Open x)) { birth = g i }
-entry_more places more (Ending x) h = let g = get_or_append_left places more 0 x.birth h in λ i. record (entry_at places (Ending x)) { birth = g i }
+entry_more : (places more : List ℕ) (r : Row) → birth_in r < length places
+    → entry_at (places ++ more) r ≡ entry_at places r
+entry_more places more (Open x) h = let g = get_or_append_left places more 0 x.birth h
+    in λ i. record (entry_at places (Open x)) { birth = g i }
+entry_more places more (Ending x) h = let g = get_or_append_left places more 0 x.birth h
+    in λ i. record (entry_at places (Ending x)) { birth = g i }
 
-row_more : (places more : List ℕ) (o : Option Row) → ((r : Row) → o ≡ Some r → birth_in r < length places) → option_map (entry_at (places ++ more)) o ≡ option_map (entry_at places) o
+row_more : (places more : List ℕ) (o : Option Row) → ((r : Row) → o ≡ Some r → birth_in r < length places)
+    → option_map (entry_at (places ++ more)) o ≡ option_map (entry_at places) o
 row_more places more None h = refl
 row_more places more (Some r) h = ap (λ (e : Entry). Some e) (entry_more places more r (h r refl))
 
@@ -41,13 +47,16 @@ row_more places more (Some r) h = ap (λ (e : Entry). Some e) (entry_more places
 new_entry : (places : List ℕ) (p : ℕ) (x : Known) → x.born.birth ≡ length places
     → entry_at (places ++ p ∷ []) (Open x.born) ≡ entry_of p Live (made_of x)
 new_entry places p x b =
-    let g : get_or (places ++ p ∷ []) x.born.birth 0 ≡ p = ap (λ n. get_or (places ++ p ∷ []) n 0) b ∙ get_or-append_seam places p [] 0 in
+    let g : get_or (places ++ p ∷ []) x.born.birth 0 ≡ p =
+    ap (λ n. get_or (places ++ p ∷ []) n 0) b ∙ get_or-append_seam places p [] 0 in
     λ i. record (entry_of p Live (made_of x)) { birth = g i }
 
 -- ---- one id, behind what makes an object, destroys one or deletes one
 
-at_made : (places : List ℕ) (p : ℕ) (x : Known) (here : Rows Row) → x.born.birth ≡ length places → Below places here → (id : ℕ) (b : Bool) → is_made (Some (made_of x)) id ≡ b
-    → cond b (Some (entry_of p Live (made_of x))) (option_map (entry_at places) (here.rows id)) ≡ option_map (entry_at (places ++ p ∷ [])) (put here.rows x.id (Some (Open x.born)) id)
+at_made : (places : List ℕ) (p : ℕ) (x : Known) (here : Rows Row) → x.born.birth ≡ length places → Below places here
+    → (id : ℕ) (b : Bool) → is_made (Some (made_of x)) id ≡ b
+    → cond b (Some (entry_of p Live (made_of x))) (option_map (entry_at places) (here.rows id))
+    ≡ option_map (entry_at (places ++ p ∷ [])) (put here.rows x.id (Some (Open x.born)) id)
 at_made places p x here e below id true t =
     let i : id ≡ x.id = grind (arith, nat_tests) in
     let there : put here.rows x.id (Some (Open x.born)) id ≡ Some (Open x.born) = grind (arith, put_tells) in
@@ -62,8 +71,10 @@ zombie_entry : (places : List ℕ) (x : Known) (o : Option Row) → (o ≡ Some 
 zombie_entry places x o (inl h) = rw h refl
 zombie_entry places x o (inr h) = rw h refl
 
-at_ended : (places : List ℕ) (x : Known) (here : Rows Row) → Held here x → (id : ℕ) (b : Bool) → is_id (Some x.id) id ≡ b
-    → unless_deleted false b (option_map (entry_at places) (here.rows id)) ≡ option_map (entry_at places) (put here.rows x.id (Some (Ending x.born)) id)
+at_ended : (places : List ℕ) (x : Known) (here : Rows Row) → Held here x → (id : ℕ) (b : Bool)
+    → is_id (Some x.id) id ≡ b
+    → unless_deleted false b (option_map (entry_at places) (here.rows id))
+    ≡ option_map (entry_at places) (put here.rows x.id (Some (Ending x.born)) id)
 at_ended places x here h id true t =
     let i : id ≡ x.id = grind (arith, nat_tests) in
     let there : put here.rows x.id (Some (Ending x.born)) id ≡ Some (Ending x.born) = grind (arith, put_tells) in
@@ -75,9 +86,14 @@ at_ended places x here h id false t =
     ap (option_map (entry_at places)) (sym there)
 
 at_deleted : (places : List ℕ) (x : Known) (here : Rows Row) (id : ℕ) (b : Bool) → is_id (Some x.id) id ≡ b
-    → unless_deleted b false (option_map (entry_at places) (here.rows id)) ≡ option_map (entry_at places) (put here.rows x.id None id)
-at_deleted places x here id true t = let there : put here.rows x.id None id ≡ None = (let i : id ≡ x.id = grind (arith, nat_tests) in grind (arith, put_tells)) in ap (option_map (entry_at places)) (sym there)
-at_deleted places x here id false t = let there : put here.rows x.id None id ≡ here.rows id = (let i : id ≢ x.id = grind (arith, nat_tests) in grind (arith, put_tells)) in ap (option_map (entry_at places)) (sym there)
+    → unless_deleted b false (option_map (entry_at places) (here.rows id))
+    ≡ option_map (entry_at places) (put here.rows x.id None id)
+at_deleted places x here id true t = let there : put here.rows x.id None id ≡ None =
+    (let i : id ≡ x.id = grind (arith, nat_tests) in grind (arith, put_tells))
+    in ap (option_map (entry_at places)) (sym there)
+at_deleted places x here id false t = let there : put here.rows x.id None id ≡ here.rows id =
+    (let i : id ≢ x.id = grind (arith, nat_tests) in grind (arith, put_tells))
+    in ap (option_map (entry_at places)) (sym there)
 
 -- ---- a message that makes an object, or none, and destroys one, or none
 
@@ -90,23 +106,29 @@ most_is a b = elim (cases_lt a b) [
   | inr h ↦ rw (le-ltb a b h) (omega (arith, h))
 ]
 
-makes_objects : (places : List ℕ) (p : ℕ) (here : Rows Row) (n : Option Known) → length places ≡ here.births → Below places here → IfThere (Fresh here) n → (id : ℕ)
-    → cond (is_made (option_map made_of n) id) (Some (entry_of p Live (new_of (option_map made_of n)))) (option_map (entry_at places) (here.rows id))
+makes_objects : (places : List ℕ) (p : ℕ) (here : Rows Row) (n : Option Known) → length places ≡ here.births
+    → Below places here → IfThere (Fresh here) n → (id : ℕ)
+    → cond (is_made (option_map made_of n) id) (Some (entry_of p Live (new_of (option_map made_of n))))
+    (option_map (entry_at places) (here.rows id))
     ≡ option_map (entry_at (places ++ maker (option_map made_of n) p)) ((client_makes here n).rows id)
-makes_objects places p here None l below f id = ap (λ (ps : List ℕ). option_map (entry_at ps) (here.rows id)) (sym (append-nil places))
-makes_objects places p here (Some y) l below f id = at_made places p y here (f.birth ∙ sym l) below id (is_made (Some (made_of y)) id) refl
+makes_objects places p here None l below f id = ap (λ (ps : List ℕ). option_map (entry_at ps) (here.rows id))
+    (sym (append-nil places))
+makes_objects places p here (Some y) l below f id =
+    at_made places p y here (f.birth ∙ sym l) below id (is_made (Some (made_of y)) id) refl
 
 -- the id of what a message destroys
 abbrev pub ended_ids : Option Known → Option ℕ
 ended_ids o = option_map (λ x. x.id) o
 
 ends_objects : (places : List ℕ) (v : Rows Row) (o : Option Known) → IfThere (Held v) o → (id : ℕ)
-    → unless_deleted (frees None id) (is_id (ended_ids o) id) (option_map (entry_at places) (v.rows id)) ≡ option_map (entry_at places) ((client_ends o v).rows id)
+    → unless_deleted (frees None id) (is_id (ended_ids o) id) (option_map (entry_at places) (v.rows id))
+    ≡ option_map (entry_at places) ((client_ends o v).rows id)
 ends_objects places v None h id = rw (frees_none id) refl
 ends_objects places v (Some x) h id = rw (frees_none id) (at_ended places x v h id (is_id (Some x.id) id) refl)
 
 -- what a message destroys is not what it makes
-apart : (here : Rows Row) (n o : Option Known) → IfThere (Fresh here) n → IfThere (Held here) o → (id : ℕ) → is_made (option_map made_of n) id ≡ true → is_id (ended_ids o) id ≡ false
+apart : (here : Rows Row) (n o : Option Known) → IfThere (Fresh here) n → IfThere (Held here) o → (id : ℕ)
+    → is_made (option_map made_of n) id ≡ true → is_id (ended_ids o) id ≡ false
 apart here None o f h id e = absurd (cc e)
 apart here (Some y) None f h id e = refl
 apart here (Some y) (Some x) f h id e = let ne = held_some here x y.id h f.free in grind (arith, nat_tests)
@@ -116,22 +138,26 @@ swap : (made deleted ended : Bool) (new : Entry) (o : Option Entry) → deleted 
 swap true deleted ended new o d e = rw (d, e refl) refl
 swap false deleted ended new o d e = refl
 
-held_made : (here : Rows Row) (n : Option Known) (x : Known) → IfThere (Fresh here) n → Held here x → Held (client_makes here n) x
+held_made : (here : Rows Row) (n : Option Known) (x : Known) → IfThere (Fresh here) n → Held here x
+    → Held (client_makes here n) x
 held_made here None x f h = h
 held_made here (Some y) x f h = held_other here x y.id (Some (Open y.born)) h (held_some here x y.id h f.free)
 
-used_made : (here : Rows Row) (n : Option Known) (count : ℕ) → count ≡ here.used → used_by (option_map made_of n) count ≡ (client_makes here n).used
+used_made : (here : Rows Row) (n : Option Known) (count : ℕ) → count ≡ here.used
+    → used_by (option_map made_of n) count ≡ (client_makes here n).used
 used_made here None count e = e
 used_made here (Some y) count e = ap (max y.id) e ∙ most_is here.used y.id
 
-births_made : (places : List ℕ) (p : ℕ) (here : Rows Row) (n : Option Known) → length places ≡ here.births → length (places ++ maker (option_map made_of n) p) ≡ (client_makes here n).births
+births_made : (places : List ℕ) (p : ℕ) (here : Rows Row) (n : Option Known) → length places ≡ here.births
+    → length (places ++ maker (option_map made_of n) p) ≡ (client_makes here n).births
 births_made places p here None e = ap length (append-nil places) ∙ e
 births_made places p here (Some y) e = omega (arith, length-append places (p ∷ []), e)
 
 abbrev AllBelow : Rows Row → Type 0
 AllBelow v = (id : ℕ) (r : Row) → v.rows id ≡ Some r → birth_in r < v.births
 
-below_made : (here : Rows Row) (n : Option Known) → IfThere (Fresh here) n → AllBelow here → AllBelow (client_makes here n)
+below_made : (here : Rows Row) (n : Option Known) → IfThere (Fresh here) n → AllBelow here
+    → AllBelow (client_makes here n)
 below_made here None f below = below
 below_made here (Some y) f below = λ id r e. elim (put_tells here.rows y.id (Some (Open y.born)) id) [
   | inl p ↦ (let q : Open y.born ≡ r = cc (p.1, e) in let l = ap birth_in q in let b = f.birth in omega (arith, l, b))
@@ -145,19 +171,24 @@ held_below v x below (inr h) = below x.id (Ending x.born) h
 below_ended : (v : Rows Row) (o : Option Known) → IfThere (Held v) o → AllBelow v → AllBelow (client_ends o v)
 below_ended v None h below = below
 below_ended v (Some x) h below = λ id r e. elim (put_tells v.rows x.id (Some (Ending x.born)) id) [
-  | inl p ↦ (let q : Ending x.born ≡ r = cc (p.1, e) in let l = ap birth_in q in let b = held_below v x below h in omega (arith, l, b))
+  | inl p ↦ (let q : Ending x.born ≡ r = cc (p.1, e) in let l = ap birth_in q in let b = held_below v x below h
+      in omega (arith, l, b))
   | inr p ↦ below id r (sym p.1 ∙ e)
 ]
 
-same_counts : (o : Option Known) (v : Rows Row) → ((client_ends o v).used ≡ v.used) × ((client_ends o v).births ≡ v.births)
+same_counts : (o : Option Known) (v : Rows Row) → ((client_ends o v).used ≡ v.used)
+    × ((client_ends o v).births ≡ v.births)
 same_counts None v = (refl, refl)
 same_counts (Some x) v = (refl, refl)
 
 -- The checker knew the rows before the message; it knows them behind it.
-pub known_behind : (k k' : Knows) (places : List ℕ) (p : ℕ) (here : Rows Row) (n o : Option Known) → KnownAs k places here → IfThere (Fresh here) n → IfThere (Held here) o
+pub known_behind : (k k' : Knows) (places : List ℕ) (p : ℕ) (here : Rows Row) (n o : Option Known)
+    → KnownAs k places here → IfThere (Fresh here) n → IfThere (Held here) o
     → ((id : ℕ) → k'.object id
-    ≡ cond (is_made (option_map made_of n) id) (Some (entry_of p Live (new_of (option_map made_of n)))) (unless_deleted (frees None id) (is_id (ended_ids o) id) (k.object id)))
-    → k'.used ≡ used_by (option_map made_of n) k.used → KnownAs k' (places ++ maker (option_map made_of n) p) (client_ends o (client_makes here n))
+    ≡ cond (is_made (option_map made_of n) id) (Some (entry_of p Live (new_of (option_map made_of n))))
+    (unless_deleted (frees None id) (is_id (ended_ids o) id) (k.object id)))
+    → k'.used ≡ used_by (option_map made_of n) k.used
+    → KnownAs k' (places ++ maker (option_map made_of n) p) (client_ends o (client_makes here n))
 known_behind k k' places p here n o a f h objects used =
     let v = client_makes here n in
     let below : Below places here = λ id r e. (let l = a.below id r e in let q = a.births in omega (arith, l, q)) in
@@ -165,9 +196,13 @@ known_behind k k' places p here n o a f h objects used =
     let same = same_counts o v in
     record {
       objects = λ id. objects id
-          ∙ swap (is_made (option_map made_of n) id) (frees None id) (is_id (ended_ids o) id) (entry_of p Live (new_of (option_map made_of n))) (k.object id) (frees_none id) (apart here n o f h id)
-          ∙ ap (λ (row : Option Entry). unless_deleted (frees None id) (is_id (ended_ids o) id) (cond (is_made (option_map made_of n) id) (Some (entry_of p Live (new_of (option_map made_of n)))) row)) (a.objects id)
-          ∙ ap (unless_deleted (frees None id) (is_id (ended_ids o) id)) (makes_objects places p here n a.births below f id)
+          ∙ swap (is_made (option_map made_of n) id) (frees None id) (is_id (ended_ids o) id)
+          (entry_of p Live (new_of (option_map made_of n))) (k.object id) (frees_none id) (apart here n o f h id)
+          ∙ ap (λ (row : Option Entry). unless_deleted (frees None id) (is_id (ended_ids o) id)
+          (cond (is_made (option_map made_of n) id) (Some (entry_of p Live (new_of (option_map made_of n)))) row))
+          (a.objects id)
+          ∙ ap (unless_deleted (frees None id) (is_id (ended_ids o) id))
+          (makes_objects places p here n a.births below f id)
           ∙ ends_objects (places ++ maker (option_map made_of n) p) v o held id;
       used = used ∙ used_made here n k.used a.used ∙ sym same.0;
       births = births_made places p here n a.births ∙ sym same.1;
@@ -186,8 +221,10 @@ below_deleted v i below = λ id r e. elim (put_tells v.rows i None id) [
   | inr p ↦ below id r (sym p.1 ∙ e)
 ]
 
+-- behind the delete of an object the checker no longer knows it
 pub known_deleted : (k k' : Knows) (places : List ℕ) (here : Rows Row) (x : Known) → KnownAs k places here → x.id ≢ 1
-    → ((id : ℕ) → k'.object id ≡ unless_deleted (frees (Some x.id) id) false (k.object id)) → k'.used ≡ k.used → KnownAs k' places (at here x.id None)
+    → ((id : ℕ) → k'.object id ≡ unless_deleted (frees (Some x.id) id) false (k.object id)) → k'.used ≡ k.used
+    → KnownAs k' places (at here x.id None)
 known_deleted k k' places here x a ne objects used = record {
   objects = λ id. objects id
       ∙ ap (λ (b : Bool). unless_deleted b false (k.object id)) (frees_some x.id id (is_id (Some x.id) id) refl ne)
@@ -208,20 +245,26 @@ makers_same f g (suc n) h =
     let last = h n (omega arith) in
     λ i. front i ++ maker (last i) n
 
-pub places_behind : (tables : List Interface) (e : List Judged) (call : Call) → places tables (e ++ Ok call ∷ []) ≡ places tables e ++ maker (effect tables call).made (suc (length e))
+-- behind one more message there is one more place where it makes an object
+pub places_behind : (tables : List Interface) (e : List Judged) (call : Call)
+    → places tables (e ++ Ok call ∷ []) ≡ places tables e ++ maker (changes tables call).made (suc (length e))
 unfolding makers
 places_behind tables e call =
     let all = e ++ Ok call ∷ [] in
     let n : suc (length all) ≡ suc (suc (length e)) = ap suc (length_last e (Ok call)) in
-    let last = effect_last tables e call in
-    let front = makers_same (λ q. (effects tables all q).made) (λ q. (effects tables e q).made) (suc (length e)) (λ q l. (let s = effects_same tables e (Ok call ∷ []) q l in λ i. (s i).made)) in
-    ap (makers (λ q. (effects tables all q).made)) n ∙ (λ i. front i ++ maker ((last i).made) (suc (length e)))
+    let last = changes_last tables e call in
+    let front = makers_same (λ q. (changes_at tables all q).made) (λ q. (changes_at tables e q).made) (suc (length e))
+    (λ q l. (let s = changes_at_same tables e (Ok call ∷ []) q l in λ i. (s i).made)) in
+    ap (makers (λ q. (changes_at tables all q).made)) n ∙ (λ i. front i ++ maker ((last i).made) (suc (length e)))
 
 -- wl_display is one of them
-makers_some : (made : ℕ → Option NewObject) (n : ℕ) (first : NewObject) → made 0 ≡ Some first → 0 < length (makers made (suc n))
+makers_some : (made : ℕ → Option NewObject) (n : ℕ) (first : NewObject) → made 0 ≡ Some first
+    → 0 < length (makers made (suc n))
 unfolding makers
 makers_some made zero first e = rw e (omega arith)
-makers_some made (suc n) first e = let r = makers_some made n first e in omega (arith, r, length-append (makers made (suc n)) (maker (made (suc n)) (suc n)))
+makers_some made (suc n) first e = let r = makers_some made n first e
+    in omega (arith, r, length-append (makers made (suc n)) (maker (made (suc n)) (suc n)))
 
+-- wl_display is always made
 pub some_place : (tables : List Interface) (e : List Judged) → 0 < length (places tables e)
-some_place tables e = makers_some (λ place. (effects tables e place).made) (length e) _ refl
+some_place tables e = makers_some (λ place. (changes_at tables e place).made) (length e) _ refl

@@ -1,20 +1,26 @@
 -- What a whole message does where requests are not yet recorded and events not yet read.
-use Rattle.std.proofs.Common.{◌≡◌, ℕ, ◌<◌, Bool, true, false, List, [], ◌∷◌, ◌++◌, ◌⊎◌, map, ap, inl, inr, sym, ◌∙◌, subst, arith, ◌≢◌}
+use Rattle.std.proofs.Common.{◌≡◌, ℕ, ◌<◌, Bool, true, false, List, [], ◌∷◌, ◌++◌, ◌⊎◌, map, ap}
+use Rattle.std.proofs.Common.{inl, inr, sym, ◌∙◌, subst, arith, ◌≢◌}
 use Rattle.std.proofs.lemmas.List.{append_assoc, append-nil}
 use Rattle.std.specs.declared.option.Option.{Option}
 use Rattle.std.specs.declared.option.Option.TheVariants.{None, Some}
 use Rattle.theory_connection.specs.Meant.{Born, Known}
 use Rattle.theory_connection.specs.World.{Row, Open, Ending, Each, IfThere}
-use Rattle.theory_connection.specs.Flight.{Rows, at, made, Ask, Use, Tell, Name, Delete, makes, destroys, ends, Held, Fresh, Reads, done as all_read, name, end, delete}
+use Rattle.theory_connection.specs.Flight.{Rows, at, made, Ask, Use, Tell, Name, Delete, makes}
+use Rattle.theory_connection.specs.Flight.{destroys, ends, Held, Fresh, Reads, done as all_read}
+use Rattle.theory_connection.specs.Flight.{name, end, delete}
 use Rattle.theory_connection.specs.Plain.{ask_id}
-use Rattle.theory_connection.proofs.Flight.{free_after, live_after, counts_after, make_before, destroy_before, reads_more, held_other, held_some}
-use Rattle.theory_connection.proofs.WholeInFlight.{OpenRow, client_makes, client_ends, live_made_if, all_live_after, reads_all}
+use Rattle.theory_connection.proofs.Flight.{free_after, live_after, counts_after, make_before}
+use Rattle.theory_connection.proofs.Flight.{destroy_before, reads_more, held_other, held_some}
+use Rattle.theory_connection.proofs.WholeInFlight.{OpenRow, client_makes, client_ends, live_made_if}
+use Rattle.theory_connection.proofs.WholeInFlight.{all_live_after, reads_all}
 use Rattle.theory_connection.proofs.EndedObject.{Mortal}
 use Rattle.theory_recording.specs.Leads.{Joins, Leads, done, use_, make, destroy}
 use Rattle.theory_recording.proofs.LeadsByAction.{held_here, put_elsewhere, use_last, make_last, destroy_last}
 
 -- what is known once a request is recorded
-pub record RecordsAsk (test : Born → Bool) (qs : List Ask) (here common : Rows Row) (x : Known) (xs : List Known) (n o : Option Known) : Type 0 where
+pub record RecordsAsk (test : Born → Bool) (qs : List Ask) (here common : Rows Row) (x : Known) (xs : List Known)
+    (n o : Option Known) : Type 0 where
   pub target : OpenRow here x
   pub args : Each (OpenRow here) xs
   pub new : IfThere (Fresh here) n
@@ -22,7 +28,8 @@ pub record RecordsAsk (test : Born → Bool) (qs : List Ask) (here common : Rows
   pub rest : Leads test qs (client_ends o (client_makes here n)) common
 
 -- what is known once an event is recorded
-pub record RecordsTell (test : Born → Bool) (qs : List Ask) (es fs : List Tell) (here client w : Rows Row) (x : Known) (xs : List Known) (after : Rows Row) : Type 0 where
+pub record RecordsTell (test : Born → Bool) (qs : List Ask) (es fs : List Tell) (here client w : Rows Row) (x : Known)
+    (xs : List Known) (after : Rows Row) : Type 0 where
   pub target : Held here x
   pub args : Each (Held here) xs
   pub joins : Joins test qs es after client
@@ -31,28 +38,41 @@ pub record RecordsTell (test : Born → Bool) (qs : List Ask) (es fs : List Tell
 at_same : (v : Rows Row) {i j : ℕ} {o : Option Row} → i ≡ j → v.rows i ≡ o → v.rows j ≡ o
 at_same v e h = sym (ap v.rows e) ∙ h
 
-other_born : {o : Option Row} (test : Born → Bool) (x n : Known) → (o ≡ Some (Open x.born)) ⊎ (o ≡ Some (Ending x.born)) → o ≡ Some (Open n.born) → test n.born ≡ false → test x.born ≡ true → ⊥
-other_born {o} test x n (inl h) a b t = let q : Some (Open x.born) ≡ Some (Open n.born) = sym h ∙ a in let s : x.born ≡ n.born = cc q in cc (sym t ∙ ap test s ∙ b)
+other_born : {o : Option Row} (test : Born → Bool) (x n : Known) → (o ≡ Some (Open x.born)) ⊎ (o ≡ Some (Ending x.born))
+    → o ≡ Some (Open n.born) → test n.born ≡ false → test x.born ≡ true → ⊥
+other_born {o} test x n (inl h) a b t = let q : Some (Open x.born) ≡ Some (Open n.born) = sym h ∙ a
+    in let s : x.born ≡ n.born = cc q in cc (sym t ∙ ap test s ∙ b)
 other_born {o} test x n (inr h) a b t = let q : Some (Ending x.born) ≡ Some (Open n.born) = sym h ∙ a in absurd (cc q)
 
 module _ {test : Born → Bool} where
   -- ---- the client writes a request
 
-  leads_uses : {qs : List Ask} {v w : Rows Row} (xs : List Known) → Leads test qs v w → Each (OpenRow w) xs → Each (λ x. test x.born ≡ false) xs → Leads test (qs ++ map Use xs) v w
+  leads_uses : {qs : List Ask} {v w : Rows Row} (xs : List Known) → Leads test qs v w → Each (OpenRow w) xs
+      → Each (λ x. test x.born ≡ false) xs → Leads test (qs ++ map Use xs) v w
   leads_uses {qs} {v} {w} [] r h f = subst (λ (l : List Ask). Leads test l v w) (sym (append-nil qs)) r
-  leads_uses {qs} {v} {w} (x ∷ xs) r h f = subst (λ (l : List Ask). Leads test l v w) (append_assoc qs (Use x ∷ []) (map Use xs)) (leads_uses xs (use_last x r h.0 f.0) h.1 f.1)
+  leads_uses {qs} {v} {w} (x ∷ xs) r h f = subst (λ (l : List Ask). Leads test l v w)
+      (append_assoc qs (Use x ∷ []) (map Use xs)) (leads_uses xs (use_last x r h.0 f.0) h.1 f.1)
 
-  makes_last : {qs : List Ask} {es : List Tell} {here v : Rows Row} (n : Option Known) → Joins test qs es here v → IfThere (Fresh v) n → Joins test (qs ++ makes n) es here (client_makes v n)
+  makes_last : {qs : List Ask} {es : List Tell} {here v : Rows Row} (n : Option Known) → Joins test qs es here v
+      → IfThere (Fresh v) n → Joins test (qs ++ makes n) es here (client_makes v n)
   makes_last {qs} {es} {here} {v} None m c = subst (λ (l : List Ask). Joins test l es here v) (sym (append-nil qs)) m
   makes_last (Some n) m c =
       let k = counts_after m.reads in
       record {
         common = made m.common n.id (Open n.born);
-        leads = make_last n m.leads (record { free = free_after n.id m.reads c.free; some = c.some; next = grind (arith, c.next); birth = c.birth ∙ sym k.1; low = c.low; left = grind (arith, c.left) });
+        leads = make_last n m.leads (record {
+          free = free_after n.id m.reads c.free;
+          some = c.some;
+          next = grind (arith, c.next);
+          birth = c.birth ∙ sym k.1;
+          low = c.low;
+          left = grind (arith, c.left);
+        });
         reads = make_before n.id (Open n.born) m.reads c.free;
       }
 
-  ends_last : {qs : List Ask} {es : List Tell} {here v : Rows Row} (o : Option Known) → Joins test qs es here v → IfThere (OpenRow v) o → IfThere (λ x. test x.born ≡ false) o → IfThere Mortal o
+  ends_last : {qs : List Ask} {es : List Tell} {here v : Rows Row} (o : Option Known) → Joins test qs es here v
+      → IfThere (OpenRow v) o → IfThere (λ x. test x.born ≡ false) o → IfThere Mortal o
       → Joins test (qs ++ destroys o) es here (client_ends o v)
   ends_last {qs} {es} {here} {v} None m h f y = subst (λ (l : List Ask). Joins test l es here v) (sym (append-nil qs)) m
   ends_last (Some x) m h f y = record {
@@ -61,34 +81,45 @@ module _ {test : Born → Bool} where
     reads = destroy_before x.id x.born m.reads h f;
   }
 
-  pub asks_more : {qs : List Ask} {es : List Tell} {here v : Rows Row} (x : Known) (xs : List Known) (n o : Option Known)
-      → Joins test qs es here v → OpenRow v x → test x.born ≡ false → Each (OpenRow v) xs → Each (λ o. test o.born ≡ false) xs → IfThere (Fresh v) n
+  -- a request behind those not yet recorded: the rows join again
+  pub asks_more : {qs : List Ask} {es : List Tell} {here v : Rows Row} (x : Known) (xs : List Known)
+      (n o : Option Known)
+      → Joins test qs es here v → OpenRow v x → test x.born ≡ false → Each (OpenRow v) xs
+      → Each (λ o. test o.born ≡ false) xs → IfThere (Fresh v) n
       → IfThere (OpenRow v) o → IfThere (λ x. test x.born ≡ false) o → IfThere Mortal o
       → Joins test (qs ++ (Use x ∷ (map Use xs ++ (makes n ++ destroys o)))) es here (client_ends o (client_makes v n))
   asks_more {qs} {es} {here} {v} x xs n o m h f hs fs c oh of y =
       let a1 = use_last x m.leads (live_after _ _ m.reads h f) f in
       let b1 = leads_uses xs a1 (all_live_after xs m.reads hs fs) fs in
-      let d1 : Joins test ((qs ++ Use x ∷ []) ++ map Use xs) es here v = record { common = m.common; leads = b1; reads = m.reads } in
+      let d1 : Joins test ((qs ++ Use x ∷ []) ++ map Use xs) es here v =
+      record { common = m.common; leads = b1; reads = m.reads } in
       let e1 = makes_last n d1 c in
       let f1 = ends_last o e1 (live_made_if v n o c oh) of y in
       subst (λ (l : List Ask). Joins test l es here (client_ends o (client_makes v n))) (simp append_assoc) f1
 
   -- ---- a request is recorded
 
-  uses_off : {qs : List Ask} {v w : Rows Row} (xs : List Known) → Leads test (map Use xs ++ qs) v w → Each (OpenRow v) xs × Leads test qs v w
+  uses_off : {qs : List Ask} {v w : Rows Row} (xs : List Known) → Leads test (map Use xs ++ qs) v w
+      → Each (OpenRow v) xs × Leads test qs v w
   uses_off [] r = (tt, r)
   uses_off (x ∷ xs) (use_ a b r) = let k = uses_off xs r in ((a, k.0), k.1)
 
-  ends_off : {qs : List Ask} {v w : Rows Row} (o : Option Known) → Leads test (destroys o ++ qs) v w → Leads test qs (client_ends o v) w × IfThere Mortal o
+  ends_off : {qs : List Ask} {v w : Rows Row} (o : Option Known) → Leads test (destroys o ++ qs) v w
+      → Leads test qs (client_ends o v) w × IfThere Mortal o
   ends_off None r = (r, tt)
   ends_off (Some x) (destroy z a b r) = (r, z)
 
-  new_off : {qs : List Ask} {v w : Rows Row} (x : Known) (xs : List Known) (n o : Option Known) → OpenRow v x → Each (OpenRow v) xs → Leads test (makes n ++ (destroys o ++ qs)) v w
+  new_off : {qs : List Ask} {v w : Rows Row} (x : Known) (xs : List Known) (n o : Option Known) → OpenRow v x
+      → Each (OpenRow v) xs → Leads test (makes n ++ (destroys o ++ qs)) v w
       → RecordsAsk test qs v w x xs n o
-  new_off x xs None o h k r = let p = ends_off o r in record { target = h; args = k; new = tt; mortal = p.1; rest = p.0 }
-  new_off x xs (Some n) o h k (make g r) = let p = ends_off o r in record { target = h; args = k; new = g; mortal = p.1; rest = p.0 }
+  new_off x xs None o h k r = let p = ends_off o r
+      in record { target = h; args = k; new = tt; mortal = p.1; rest = p.0 }
+  new_off x xs (Some n) o h k (make g r) = let p = ends_off o r
+      in record { target = h; args = k; new = g; mortal = p.1; rest = p.0 }
 
-  pub ask_recorded : {qs : List Ask} {v w : Rows Row} (x : Known) (xs : List Known) (n o : Option Known) → Leads test ((Use x ∷ (map Use xs ++ (makes n ++ destroys o))) ++ qs) v w
+  -- what the first of the requests that lead on names is open, and the others lead on behind it
+  pub ask_recorded : {qs : List Ask} {v w : Rows Row} (x : Known) (xs : List Known) (n o : Option Known)
+      → Leads test ((Use x ∷ (map Use xs ++ (makes n ++ destroys o))) ++ qs) v w
       → RecordsAsk test qs v w x xs n o
   ask_recorded {qs} {v} {w} x xs n o (use_ h f r) =
       let u = uses_off xs (subst (λ (l : List Ask). Leads test l v w) (simp append_assoc) r) in
@@ -96,15 +127,19 @@ module _ {test : Born → Bool} where
 
   -- ---- an event is recorded
 
-  pub all_held_here : {qs : List Ask} {v w : Rows Row} (xs : List Known) → Leads test qs v w → Each (Held w) xs → Each (λ x. x.born.birth < v.births) xs → Each (Held v) xs
+  pub all_held_here : {qs : List Ask} {v w : Rows Row} (xs : List Known) → Leads test qs v w → Each (Held w) xs
+      → Each (λ x. x.born.birth < v.births) xs → Each (Held v) xs
   all_held_here [] r h l = tt
   all_held_here (x ∷ xs) r h l = (held_here x r h.0 l.0, all_held_here xs r h.1 l.1)
 
   -- what has a destroying event is in no request that is not yet recorded
-  pub mortal_elsewhere : {qs : List Ask} {v w : Rows Row} (x : Known) → Leads test qs v w → Held v x → test x.born ≡ true → Each (λ a. ask_id a ≢ x.id) qs
+  pub mortal_elsewhere : {qs : List Ask} {v w : Rows Row} (x : Known) → Leads test qs v w → Held v x
+      → test x.born ≡ true → Each (λ a. ask_id a ≢ x.id) qs
   mortal_elsewhere x done h t = tt
-  mortal_elsewhere x (use_ {v = v} {x = n} a b r) h t = ((λ e. other_born test x n h (at_same v e a) b t), mortal_elsewhere x r h t)
-  mortal_elsewhere x (make {v = v} {x = n} a r) h t = let ne = held_some v x n.id h a.free in ((λ e. ne (sym e)), mortal_elsewhere x r (held_other v x n.id (Some (Open n.born)) h ne) t)
+  mortal_elsewhere x (use_ {v = v} {x = n} a b r) h t =
+      ((λ e. other_born test x n h (at_same v e a) b t), mortal_elsewhere x r h t)
+  mortal_elsewhere x (make {v = v} {x = n} a r) h t = let ne = held_some v x n.id h a.free
+      in ((λ e. ne (sym e)), mortal_elsewhere x r (held_other v x n.id (Some (Open n.born)) h ne) t)
   mortal_elsewhere x (destroy {v = v} {x = n} z a b r) h t =
       let ne : x.id ≢ n.id = λ e. other_born test x n h (at_same v (sym e) a) b t in
       ((λ e. ne (sym e)), mortal_elsewhere x r (held_other v x n.id (Some (Ending n.born)) h ne) t)
@@ -114,14 +149,23 @@ module _ {test : Born → Bool} where
   names_read [] h = all_read
   names_read (x ∷ xs) h = name h.0 (names_read xs h.1)
 
-  ends_recorded : {qs : List Ask} {fs : List Tell} {here common w : Rows Row} (o : Option Known) → Leads test qs here common → IfThere (λ x. x.born.birth < here.births) o → Reads test (ends o ++ fs) common w
-      → Reads test (ends o) common (client_ends o common) × Leads test qs (client_ends o here) (client_ends o common) × Reads test fs (client_ends o common) w
+  ends_recorded : {qs : List Ask} {fs : List Tell} {here common w : Rows Row} (o : Option Known)
+      → Leads test qs here common → IfThere (λ x. x.born.birth < here.births) o → Reads test (ends o ++ fs) common w
+      → Reads test (ends o) common (client_ends o common) × Leads test qs (client_ends o here) (client_ends o common)
+      × Reads test fs (client_ends o common) w
   ends_recorded None l b r = (all_read, l, r)
-  ends_recorded (Some x) l b (end t a r) = (end t a all_read, put_elsewhere x.id (Some (Ending x.born)) l (mortal_elsewhere x l (held_here x l a b) t), r)
+  ends_recorded (Some x) l b (end t a r) = (
+    end t a all_read,
+    put_elsewhere x.id (Some (Ending x.born)) l
+        (mortal_elsewhere x l (held_here x l a b) t),
+    r,
+  )
 
   -- an event is recorded: what it names is held there, and the meeting goes on behind it
-  pub event_recorded : {qs : List Ask} {es fs : List Tell} {here client w : Rows Row} (x : Known) (xs : List Known) (o : Option Known) (m : Joins test qs es here client)
-      → Reads test ((Name x ∷ (map Name xs ++ ends o)) ++ fs) m.common w → x.born.birth < here.births → Each (λ y. y.born.birth < here.births) xs → IfThere (λ y. y.born.birth < here.births) o
+  pub event_recorded : {qs : List Ask} {es fs : List Tell} {here client w : Rows Row} (x : Known) (xs : List Known)
+      (o : Option Known) (m : Joins test qs es here client)
+      → Reads test ((Name x ∷ (map Name xs ++ ends o)) ++ fs) m.common w → x.born.birth < here.births
+      → Each (λ y. y.born.birth < here.births) xs → IfThere (λ y. y.born.birth < here.births) o
       → RecordsTell test qs (es ++ (Name x ∷ (map Name xs ++ ends o))) fs here client w x xs (client_ends o here)
   event_recorded {fs = fs} {w = w} x xs o m (name a r) l ls lo =
       let n = reads_all xs (subst (λ (l : List Tell). Reads test l m.common w) (simp append_assoc) r) in
@@ -130,17 +174,26 @@ module _ {test : Born → Bool} where
       record {
         target = h;
         args = all_held_here xs m.leads n.0 ls;
-        joins = record { common = client_ends o m.common; leads = e.1; reads = reads_more m.reads (name a (reads_more (names_read xs n.0) e.0)) };
+        joins = record {
+          common = client_ends o m.common;
+          leads = e.1;
+          reads = reads_more m.reads (name a (reads_more (names_read xs n.0) e.0));
+        };
         rest = e.2;
       }
 
   -- a delete is recorded: nothing asked and not yet recorded is about its id
-  pub delete_recorded : {qs : List Ask} {es fs : List Tell} {here client w : Rows Row} (x : Known) (m : Joins test qs es here client)
+  pub delete_recorded : {qs : List Ask} {es fs : List Tell} {here client w : Rows Row} (x : Known)
+      (m : Joins test qs es here client)
       → Reads test (Delete x ∷ fs) m.common w → x.born.birth < here.births → Each (λ a. ask_id a ≢ x.id) qs
       → RecordsTell test qs (es ++ Delete x ∷ []) fs here client w x [] (at here x.id None)
   delete_recorded x m (delete z a b r) l e = record {
     target = held_here x m.leads a l;
     args = tt;
-    joins = record { common = at m.common x.id None; leads = put_elsewhere x.id None m.leads e; reads = reads_more m.reads (delete z a b all_read) };
+    joins = record {
+      common = at m.common x.id None;
+      leads = put_elsewhere x.id None m.leads e;
+      reads = reads_more m.reads (delete z a b all_read);
+    };
     rest = r;
   }

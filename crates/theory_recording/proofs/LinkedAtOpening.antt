@@ -16,7 +16,7 @@ use Rattle.wl_recording.specs.declared.piece.Direction.{Direction}
 use Rattle.wl_recording.specs.declared.piece.Direction.TheVariants.{ToServer, ToClient}
 use Rattle.wl_check.specs.Merged.{merged_within, cutting}
 use Rattle.wl_check.specs.Places.{Known as Knows, known}
-use Rattle.wl_check.specs.Session.{Judged, effects, judged_after, session_of}
+use Rattle.wl_check.specs.Session.{Judged, changes_at, judged_after, session_of}
 use Rattle.wl_check.proofs.Examined.{known_first}
 use Rattle.theory_connection.specs.World.{Row, Open, opening}
 use Rattle.theory_connection.specs.Pair.{new_pair}
@@ -39,28 +39,37 @@ abbrev first_entry : Bool → Option Entry
 first_entry b = cond b (Some (record { birth = 0; iface = display; version = 1; state = Live })) None
 
 abbrev first_known : Knows
-first_known = record { object = λ id. first_entry (nat_eq id 1); used = 1; advertised_version = λ name iface. 0; taken = λ d. 0 }
+first_known = record {
+  object = λ id. first_entry (nat_eq id 1);
+  used = 1;
+  advertised_version = λ name iface. 0;
+  taken = λ d. 0;
+}
 
 known_none : (limit : ℕ) (tables : List Interface) → first_known ≡ knowledge tables []
 known_none limit tables =
-    known_first tables (session_of limit []) first_known (record { objects = λ id. refl; used_is = refl; advertised_is = λ n i. refl; taken_is = λ d. refl })
-    ∙ ap (λ (ms : List Judged). known (effects tables ms) 1) (none_judged limit tables)
+    known_first tables (session_of limit []) first_known
+    (record { objects = λ id. refl; used_is = refl; advertised_is = λ n i. refl; taken_is = λ d. refl })
+    ∙ ap (λ (ms : List Judged). known (changes_at tables ms) 1) (none_judged limit tables)
 
 first_places : (tables : List Interface) → places tables [] ≡ 0 ∷ []
 unfolding makers
 first_places tables = refl
 
-first_row : (b : Bool) → first_entry b ≡ option_map (entry_at (0 ∷ [])) (option_map row (cond b (Some (live_entry display_born)) None))
+first_row : (b : Bool) → first_entry b ≡ option_map (entry_at (0 ∷ []))
+    (option_map row (cond b (Some (live_entry display_born)) None))
 first_row true = refl
 first_row false = refl
 
-first_below : (b : Bool) (r : Row) → option_map row (cond b (Some (live_entry display_born)) None) ≡ Some r → birth_in r < 1
+first_below : (b : Bool) (r : Row) → option_map row (cond b (Some (live_entry display_born)) None) ≡ Some r
+    → birth_in r < 1
 first_below true r e = let same : Open display_born ≡ r = cc e in let b = ap birth_in same in omega (arith, b)
 first_below false r e = absurd (cc e)
 
 known_opening : KnownAs first_known (0 ∷ []) (client_rows (opening_view display))
 known_opening = record {
-  objects = λ id. first_row (nat_eq id 1) ∙ ap (λ (o : Option Entry). option_map (entry_at (0 ∷ [])) (option_map row o)) (sym (look-opening display id));
+  objects = λ id. first_row (nat_eq id 1) ∙ ap (λ (o : Option Entry). option_map (entry_at (0 ∷ [])) (option_map row o))
+      (sym (look-opening display id));
   used = refl;
   births = refl;
   below = λ id r e. first_below (nat_eq id 1) r (ap (option_map row) (sym (look-opening display id)) ∙ e);
@@ -73,32 +82,53 @@ follows_none : (limit : ℕ) (tables : List Interface) → Follows tables [] [] 
 follows_none limit tables = record {
   passed = none_go_on;
   here = client_rows (opening_view display);
-  known_as = subst (λ (k : Knows). KnownAs k (places tables []) (client_rows (opening_view display))) (known_none limit tables)
-      (subst (λ (l : List ℕ). KnownAs first_known l (client_rows (opening_view display))) (sym (first_places tables)) known_opening);
+  known_as = subst (λ (k : Knows). KnownAs k (places tables []) (client_rows (opening_view display)))
+      (known_none limit tables)
+      (subst (λ (l : List ℕ). KnownAs first_known l (client_rows (opening_view display)))
+      (sym (first_places tables)) known_opening);
   joins = record { common = client_rows (opening_view display); leads = done; reads = all_read };
   remembers = tt;
   tells = tt;
   binds = tt;
 }
 
-none_taken : (limit : ℕ) (tables : List Interface) (d : Direction) → 0 ≡ (knowledge tables (judgements limit tables [])).taken d
-none_taken limit tables d = ap (λ (k : Knows). k.taken d) (known_none limit tables) ∙ ap (λ (ms : List Judged). (knowledge tables ms).taken d) (sym (none_judged limit tables))
+none_taken : (limit : ℕ) (tables : List Interface) (d : Direction)
+    → 0 ≡ (knowledge tables (judgements limit tables [])).taken d
+none_taken limit tables d = ap (λ (k : Knows). k.taken d) (known_none limit tables)
+    ∙ ap (λ (ms : List Judged). (knowledge tables ms).taken d) (sym (none_judged limit tables))
 
-none_recorded : (limit : ℕ) (tables : List Interface) (d : Direction) (sizes : Sizes) → sizes.limit.bytes ≡ limit → Recorded limit d [] (nothing_arrived sizes.in_bytes sizes.in_tokens sizes.limit) ((knowledge tables (judgements limit tables [])).taken d) []
+none_recorded : (limit : ℕ) (tables : List Interface) (d : Direction) (sizes : Sizes) → sizes.limit.bytes ≡ limit
+    → Recorded limit d [] (nothing_arrived sizes.in_bytes sizes.in_tokens sizes.limit)
+    ((knowledge tables (judgements limit tables [])).taken d) []
 unfolding cutting
-none_recorded limit tables d sizes same = record { same_limit = same; part = []; sound = refl; rest = refl; waits = refl; tokens = let t = none_taken limit tables d in omega (arith, t) }
+none_recorded limit tables d sizes same = record {
+  same_limit = same;
+  part = [];
+  sound = refl;
+  rest = refl;
+  waits = refl;
+  tokens = let t = none_taken limit tables d in omega (arith, t);
+}
 
-pub new_linked : (tables : List Interface) (client_sizes server_sizes : Sizes) → client_sizes.limit.bytes ≡ server_sizes.limit.bytes → Valid tables → Linked (new_pair tables client_sizes server_sizes) opening
+-- a new pair is linked with the opening world
+pub new_linked : (tables : List Interface) (client_sizes server_sizes : Sizes)
+    → client_sizes.limit.bytes ≡ server_sizes.limit.bytes → Valid tables
+    → Linked (new_pair tables client_sizes server_sizes) opening
 new_linked tables client_sizes server_sizes one v = linked [] [] (refl, refl) (record {
   stands = new_stands_by tables client_sizes server_sizes one v;
-  asked_seen = [];
-  asked_later = [];
-  told_seen = [];
-  told_later = [];
-  asked_is = refl;
-  told_is = refl;
-  to_server = none_recorded server_sizes.limit.bytes tables ToServer server_sizes refl;
-  to_client = none_recorded server_sizes.limit.bytes tables ToClient client_sizes one;
-  follows = subst (λ (ms : List Judged). Follows tables ms [] [] (client_rows (opening_view display)) []) (sym (none_judged server_sizes.limit.bytes tables)) (follows_none server_sizes.limit.bytes tables);
+  requests = record {
+    seen = [];
+    later = [];
+    is = refl;
+    recorded = none_recorded server_sizes.limit.bytes tables ToServer server_sizes refl;
+  };
+  events = record {
+    seen = [];
+    later = [];
+    is = refl;
+    recorded = none_recorded server_sizes.limit.bytes tables ToClient client_sizes one;
+  };
+  follows = subst (λ (ms : List Judged). Follows tables ms [] [] (client_rows (opening_view display)) [])
+      (sym (none_judged server_sizes.limit.bytes tables)) (follows_none server_sizes.limit.bytes tables);
   counted = tt;
 })

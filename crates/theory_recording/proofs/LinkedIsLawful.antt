@@ -23,20 +23,28 @@ if_none true o e = e
 if_none false o e = refl
 
 -- where all messages go on, none breaks a rule
-pub all_lawful : (limit : ℕ) (tables : List Interface) (pieces : List Piece) → AllGoOn (judgements limit tables pieces) → IsLawful tables (session_of limit pieces)
+pub all_lawful : (limit : ℕ) (tables : List Interface) (pieces : List Piece) → AllGoOn (judgements limit tables pieces)
+    → IsLawful tables (session_of limit pieces)
 all_lawful limit tables pieces a k =
     let ms = messages tables (session_of limit pieces) in
     if_none (nat_lt k (examined ms)) (fault_of (slice_get ms k)) (no_fault ms a k (slice_get ms k) refl)
 
-pub linked_lawful : (p : PairState) (w : World) → Linked p w → IsLawful p.server.core.tables (session_of (limit_of p) (up_to p.ended_at p.recording))
-linked_lawful p w (ended e l) = subst (λ (o : Option ℕ). IsLawful p.server.core.tables (session_of (limit_of p) (up_to o p.recording))) (sym l.mark) l.lawful
+-- what a linked pair recorded up to its mark is lawful
+pub linked_lawful : (p : PairState) (w : World) → Linked p w
+    → IsLawful p.server.core.tables (session_of (limit_of p) (up_to p.ended_at p.recording))
+linked_lawful p w (ended e l) = subst (λ (o : Option ℕ). IsLawful p.server.core.tables
+    (session_of (limit_of p) (up_to o p.recording))) (sym l.mark) l.lawful
 linked_lawful p w (linked asked told z l) =
-    subst (λ (o : Option ℕ). IsLawful p.server.core.tables (session_of (limit_of p) (up_to o p.recording))) (sym z.1) (all_lawful (limit_of p) p.server.core.tables p.recording l.follows.passed)
+    subst (λ (o : Option ℕ). IsLawful p.server.core.tables (session_of (limit_of p) (up_to o p.recording))) (sym z.1)
+    (all_lawful (limit_of p) p.server.core.tables p.recording l.follows.passed)
 
 -- whatever a checker answers of it, it says that the session is lawful
-pub check_says_lawful : (p : PairState) (w : World) → Linked p w → (verdict : Verdict) → Answers p.server.core.tables (session_of (limit_of p) (up_to p.ended_at p.recording)) verdict → SaysLawful verdict
-check_says_lawful p w l verdict a = (exact_from p.server.core.tables (session_of (limit_of p) (up_to p.ended_at p.recording)) verdict a).1 (linked_lawful p w l)
+pub check_says_lawful : (p : PairState) (w : World) → Linked p w → (verdict : Verdict)
+    → Answers p.server.core.tables (session_of (limit_of p) (up_to p.ended_at p.recording)) verdict → SaysLawful verdict
+check_says_lawful p w l verdict a = (exact_from p.server.core.tables
+    (session_of (limit_of p) (up_to p.ended_at p.recording)) verdict a).1 (linked_lawful p w l)
 
+-- a linked pair stands for its world
 pub linked_stands : (p : PairState) (w : World) → Linked p w → Stands p w
 linked_stands p w (ended e l) = stands_ended e
 linked_stands p w (linked asked told z l) = stands asked told z l.stands

@@ -1,94 +1,89 @@
 -- Each move that carries nothing keeps what is linked.
-use Rattle.std.proofs.Common.{◌≡◌, ℕ, ◌<◌, ◌≤◌, Bool, true, false, cond, List, [], ◌∷◌, ◌++◌, map, length, inl, refl, sym, ap, subst, ◌∙◌, arith}
-use Rattle.std.specs.Prelude.{option_map, nat_eq, ◌&&◌, not}
-use Rattle.std.specs.declared.option.Option.{Option}
+use Rattle.std.proofs.Common.{◌≡◌, ℕ, ◌<◌, ◌≤◌, Bool, true, false, List, [], ◌∷◌, ◌++◌, map, inl}
+use Rattle.std.proofs.Common.{refl, sym, ap, subst, ◌∙◌, arith, ◌+◌, min, length}
+use Rattle.std.specs.Prelude.{option_map}
 use Rattle.std.specs.declared.option.Option.TheVariants.{None, Some}
 use Rattle.std.proofs.lemmas.Bool.{eqb-true, eq-eqb, and_parts}
 use Rattle.std.proofs.lemmas.List.{append_assoc}
 use Rattle.wl_wire.specs.declared.kind.Iface.{Iface}
 use Rattle.wl_sigs.specs.declared.signature.Side.TheVariants.{Request as request_side, Event as event_side}
 use Rattle.wl_sigs.specs.Tables.{Interface, place_of}
-use Rattle.wl_sigs.specs.Fixed.{registry}
-use Rattle.wl_message.specs.Arrived.{in_front}
+use Rattle.wl_message.specs.Arrived.{without_first, in_front}
 use Rattle.wl_message.specs.Cut.{Whole}
-use Rattle.wl_message.specs.Outgoing as boxes
 use Rattle.wl_message.specs.Outgoing.{Outgoing}
 use Rattle.wl_object_map.specs.declared.object.Entry.{Entry}
-use Rattle.wl_object_map.specs.View.{View}
-use Rattle.wl_objects.specs.Messages.{Client as client_end, Server as server_end, opens, is_bind, same_iface}
+use Rattle.wl_object_map.specs.View.{View, closed}
+use Rattle.wl_objects.specs.Messages.{Client as client_end, Server as server_end, opens, is_bind}
 use Rattle.wl_client.specs.declared.globals.Global.{Global as Remembered}
+use Rattle.wl_client.specs.State as client
 use Rattle.wl_client.specs.State.{is_named}
-use Rattle.wl_client.specs.Reports.{argument, number_in, text_in, forgotten, remembered_as, globals_told}
 use Rattle.wl_server.specs.State.{Global, Registry}
 use Rattle.wl_server.specs.Announcing.{name_at}
 use Rattle.wl_recording.specs.declared.piece.Direction.TheVariants.{ToServer, ToClient}
-use Rattle.wl_check.specs.Effects.{first_number}
+use Rattle.wl_check.specs.Changes.{first_number}
 use Rattle.wl_check.specs.Places.{Known as Knows}
-use Rattle.theory_connection.specs.Meant.{Born, Known, Message, Coming, Event, Delete, Arg, made_in, objects, wire, tokens, spelled, spelled_coming}
+use Rattle.theory_connection.specs.Meant.{Born, Known, Message, Coming, Event, Delete, Arg, made_in}
+use Rattle.theory_connection.specs.Meant.{objects, wire, spelled, spelled_coming}
 use Rattle.theory_connection.specs.World.{World, Row, Each, IfThere, delete, is_registry}
-use Rattle.theory_connection.proofs.EndedObject.{ended_view, ended_has, if_by}
+use Rattle.theory_connection.proofs.EndedObject.{ended_view, ends_have, if_by}
 use Rattle.theory_connection.specs.Pair.{PairState, with_client, with_server}
 use Rattle.theory_connection.specs.Flight.{IsBelow, Rows, Tell, tells, all_asks, all_tells, Reads, Held, client_rows}
-use Rattle.theory_connection.specs.Stands.{StandsBy, Fits, TellsGiven, TellsFitly, by_event}
-use Rattle.theory_connection.proofs.WholeInFlight.{OpenRow, client_ends, tells_at, deletes_at, all_asks_more, all_tells_more, each_more, each_rest, each_by}
+use Rattle.theory_connection.specs.Stands.{StandsBy, Fits, TellsGiven, by_event}
+use Rattle.theory_connection.proofs.WholeInFlight.{OpenRow, client_ends, tells_at, deletes_at}
+use Rattle.theory_connection.proofs.WholeInFlight.{all_asks_more, all_tells_more, each_more}
+use Rattle.theory_connection.proofs.WholeInFlight.{each_rest, each_by}
 use Rattle.theory_connection.proofs.Bridges.{client_closed}
-use Rattle.theory_connection.proofs.RowsAfterMessage.{held_row, client_after}
-use Rattle.theory_connection.proofs.Channels.{pops}
+use Rattle.theory_connection.proofs.RowsAfterMessage.{held_row, client_after, births_kept}
 use Rattle.theory_connection.proofs.ReadAsMeant.{made_of}
-use Rattle.theory_connection.proofs.ClientGlobals.{each_remembered, each_filter}
+use Rattle.theory_connection.proofs.ClientGlobals.{learns}
 use Rattle.theory_connection.proofs.RequestRead.{left_state}
 use Rattle.theory_connection.proofs.EventRead.{after_event, after_delete, teaches}
 use Rattle.theory_connection.proofs.RequestWritten.{CanAsk, asked_pair}
 use Rattle.theory_connection.proofs.ClientBindMove.{find_at}
 use Rattle.theory_connection.proofs.Moves.{BindsRemembered, told_pair, delete_below}
 use Rattle.theory_recording.specs.Leads.{Joins}
-use Rattle.theory_recording.specs.Recorded.{Recorded}
 use Rattle.theory_recording.specs.Follows.{IsAdvertised, TellsAdvertised, BindsAdvertised}
 use Rattle.theory_recording.specs.Linked.{LinkedBy, knows, limit_of}
 use Rattle.theory_recording.proofs.LeadsByMessage.{asks_more}
-use Rattle.theory_recording.proofs.ReadIsRecorded.{seen_first, read_on}
+use Rattle.theory_recording.proofs.ReadIsRecorded.{rest_seen}
 
 -- ---- nothing in flight changes
 
-pub again : (p : PairState) (w w' : World) (asked : List (Message Known)) (told : List (Coming Known)) → LinkedBy p w asked told → StandsBy p w' asked told → LinkedBy p w' asked told
+-- a pair is linked as before where only its world is another
+pub again : (p : PairState) (w w' : World) (asked : List (Message Known)) (told : List (Coming Known))
+    → LinkedBy p w asked told → StandsBy p w' asked told → LinkedBy p w' asked told
 again p w w' asked told l s = record {
   stands = s;
-  asked_seen = l.asked_seen;
-  asked_later = l.asked_later;
-  told_seen = l.told_seen;
-  told_later = l.told_later;
-  asked_is = l.asked_is;
-  told_is = l.told_is;
-  to_server = l.to_server;
-  to_client = l.to_client;
+  requests = l.requests;
+  events = l.events;
   follows = l.follows;
   counted = l.counted;
 }
 
-pub given_links : (p : PairState) (w w' : World) (asked : List (Message Known)) (told : List (Coming Known)) (more : List Global) → LinkedBy p w asked told
-    → StandsBy (with_server p (record p.server { globals = more })) w' asked told → LinkedBy (with_server p (record p.server { globals = more })) w' asked told
+-- a pair stays linked when globals are given or withdrawn
+pub given_links : (p : PairState) (w w' : World) (asked : List (Message Known)) (told : List (Coming Known))
+    (more : List Global) → LinkedBy p w asked told
+    → StandsBy (with_server p (record p.server { globals = more })) w' asked told
+    → LinkedBy (with_server p (record p.server { globals = more })) w' asked told
 given_links p w w' asked told more l s = record {
   stands = s;
-  asked_seen = l.asked_seen;
-  asked_later = l.asked_later;
-  told_seen = l.told_seen;
-  told_later = l.told_later;
-  asked_is = l.asked_is;
-  told_is = l.told_is;
-  to_server = l.to_server;
-  to_client = l.to_client;
+  requests = l.requests;
+  events = l.events;
   follows = l.follows;
   counted = l.counted;
 }
 
 -- ---- the client writes a request
 
-bind_advertised : (k : Knows) (globals : List Remembered) (m : Message Known) → Each (λ g. IsAdvertised k g.name g.iface.0 g.version) globals
+bind_advertised : (k : Knows) (globals : List Remembered) (m : Message Known)
+    → Each (λ g. IsAdvertised k g.name g.iface.0 g.version) globals
     → (is_bind request_side m.target.born.iface m.opcode ≡ true → BindsRemembered globals m.args) → BindsAdvertised k m
 bind_advertised k globals m h binds e name x named made =
     let b = binds e in
-    let f = find_at (λ (g : Remembered). IsAdvertised k g.name g.iface.0 g.version) (is_named b.name) globals b.global h b.there in
-    let some_name : Some b.name ≡ Some name = sym (ap (λ (args : List (Arg Known)). first_number (map wire args)) b.args_are) ∙ named in
+    let f = find_at (λ (g : Remembered). IsAdvertised k g.name g.iface.0 g.version)
+    (is_named b.name) globals b.global h b.there in
+    let some_name : Some b.name ≡ Some name = sym
+    (ap (λ (args : List (Arg Known)). first_number (map wire args)) b.args_are) ∙ named in
     let own : b.name ≡ name = cc some_name in
     let some_new : Some b.new ≡ Some x = sym (ap (λ (args : List (Arg Known)). made_in args) b.args_are) ∙ made in
     let new : b.new ≡ x = cc some_new in
@@ -96,238 +91,241 @@ bind_advertised k globals m h binds e name x named made =
     let iface : b.global.iface ≡ x.born.iface = sym b.iface_is ∙ ap (λ (y : Known). y.born.iface) new in
     let version : b.new.born.version ≡ x.born.version = ap (λ (y : Known). y.born.version) new in
     let told : b.global.version ≤ k.advertised_version name x.born.iface.0 =
-    subst (λ (i : Iface). b.global.version ≤ k.advertised_version name i.0) iface (subst (λ (n : ℕ). b.global.version ≤ k.advertised_version n b.global.iface.0) same_name f.0) in
+    subst (λ (i : Iface). b.global.version ≤ k.advertised_version name i.0) iface
+    (subst (λ (n : ℕ). b.global.version ≤ k.advertised_version n b.global.iface.0) same_name f.0) in
     let most = b.most in
     omega (arith, most, told, version)
 
-asked_joins : (p : PairState) (m : Message Known) (c : CanAsk p m) (asked_later : List (Message Known)) (told_seen : List (Coming Known)) (here : Rows Row)
-    → Joins (by_event p.server.core.tables) (all_asks asked_later) (all_tells told_seen) here (client_rows p.client.core.view)
-    → Joins (by_event p.server.core.tables) (all_asks (asked_later ++ m ∷ [])) (all_tells told_seen) here (client_rows (asked_pair p m).client.core.view)
+asked_joins : (p : PairState) (m : Message Known) (c : CanAsk p m) (asked_later : List (Message Known))
+    (told_seen : List (Coming Known)) (here : Rows Row)
+    → Joins (by_event p.server.core.tables) (all_asks asked_later) (all_tells told_seen) here
+    (client_rows p.client.core.view)
+    → Joins (by_event p.server.core.tables) (all_asks (asked_later ++ m ∷ [])) (all_tells told_seen) here
+    (client_rows (asked_pair p m).client.core.view)
 asked_joins p m c asked_later told_seen here j =
     let test = by_event p.server.core.tables in
     let v = p.client.core.view in
     let f = c.fitly.fits in
     let new = made_in m.args in
-    let opened : IfThere (OpenRow (client_rows v)) m.ends = subst (λ (o : Option Known). IfThere (OpenRow (client_rows v)) o) (sym f.ends) (ended_has (OpenRow (client_rows v)) f.signature.destroys m.target m.args c.target c.args) in
+    let opened : IfThere (OpenRow (client_rows v)) m.ends =
+    ends_have (OpenRow (client_rows v)) p.server.core.tables request_side m f c.target c.args in
     let no_event : IfThere (λ x. test x.born ≡ false) m.ends =
-    subst (λ (o : Option Known). IfThere (λ x. test x.born ≡ false) o) (sym f.ends) (ended_has (λ x. test x.born ≡ false) f.signature.destroys m.target m.args c.target_plain c.args_plain) in
+    ends_have (λ x. test x.born ≡ false) p.server.core.tables request_side m f c.target_plain c.args_plain in
     let rows = client_after v new m.ends c.new (if_by (λ x h. held_row v x (inl h)) m.ends opened) in
-    let more = asks_more m.target (objects m.args) new m.ends j c.target c.target_plain c.args c.args_plain c.new opened no_event c.mortal in
+    let more = asks_more m.target (objects m.args) new m.ends j c.target c.target_plain c.args c.args_plain c.new opened
+    no_event c.mortal in
     record {
       common = more.common;
       leads = rw (all_asks_more asked_later m) more.leads;
       reads = subst (λ (x : Rows Row). Reads test (all_tells told_seen) x more.common) (sym rows) more.reads;
     }
 
-pub asked_links : (p : PairState) (w w' : World) (asked : List (Message Known)) (told : List (Coming Known)) (m : Message Known) (c : CanAsk p m)
-    → (is_bind request_side m.target.born.iface m.opcode ≡ true → BindsRemembered p.client.globals m.args) → LinkedBy p w asked told
+-- a pair stays linked when the client writes a request, which is not yet recorded
+pub asked_links : (p : PairState) (w w' : World) (asked : List (Message Known)) (told : List (Coming Known))
+    (m : Message Known) (c : CanAsk p m)
+    → (is_bind request_side m.target.born.iface m.opcode ≡ true → BindsRemembered p.client.globals m.args)
+    → LinkedBy p w asked told
     → StandsBy (asked_pair p m) w' (asked ++ m ∷ []) told → LinkedBy (asked_pair p m) w' (asked ++ m ∷ []) told
 asked_links p w w' asked told m c binds l s =
     let f = l.follows in
     record {
       stands = s;
-      asked_seen = l.asked_seen;
-      asked_later = l.asked_later ++ m ∷ [];
-      told_seen = l.told_seen;
-      told_later = l.told_later;
-      asked_is = ap (λ (x : List (Message Known)). x ++ m ∷ []) l.asked_is ∙ append_assoc l.asked_seen l.asked_later (m ∷ []);
-      told_is = l.told_is;
-      to_server = l.to_server;
-      to_client = l.to_client;
+      requests = record {
+        seen = l.requests.seen;
+        later = l.requests.later ++ m ∷ [];
+        is = ap (λ (x : List (Message Known)). x ++ m ∷ []) l.requests.is
+            ∙ append_assoc l.requests.seen l.requests.later (m ∷ []);
+        recorded = l.requests.recorded;
+      };
+      events = l.events;
       follows = record {
         passed = f.passed;
         here = f.here;
         known_as = f.known_as;
-        joins = asked_joins p m c l.asked_later l.told_seen f.here f.joins;
+        joins = asked_joins p m c l.requests.later l.events.seen f.here f.joins;
         remembers = f.remembers;
         tells = f.tells;
-        binds = each_more (BindsAdvertised (knows p)) l.asked_later (m ∷ []) f.binds (bind_advertised (knows p) p.client.globals m f.remembers binds, tt);
+        binds = each_more (BindsAdvertised (knows p)) l.requests.later (m ∷ []) f.binds
+            (bind_advertised (knows p) p.client.globals m f.remembers binds, tt);
       };
       counted = l.counted;
     }
 
 -- ---- the server writes
 
-more_counted : (births : ℕ) (told news : List (Coming Known)) → Each (IsBelow births) (all_tells told) → Each (IsBelow births) (all_tells news) → Each (IsBelow births) (all_tells (told ++ news))
+more_counted : (births : ℕ) (told news : List (Coming Known)) → Each (IsBelow births) (all_tells told)
+    → Each (IsBelow births) (all_tells news) → Each (IsBelow births) (all_tells (told ++ news))
 more_counted births told news h below =
     rw (all_tells_more told news) (each_more (IsBelow births) (all_tells told) (all_tells news) h below)
 
-pub told_links : (p : PairState) (w w' : World) (asked : List (Message Known)) (told : List (Coming Known)) (view : View) (outbox : Outgoing) (registries : List Registry) (news : List (Coming Known))
-    → view.births ≡ p.server.core.view.births → Each (IsBelow p.server.core.view.births) (all_tells news) → LinkedBy p w asked told
-    → StandsBy (told_pair p view outbox registries) w' asked (told ++ news) → LinkedBy (told_pair p view outbox registries) w' asked (told ++ news)
+-- a pair stays linked when the server writes, none of which is yet recorded
+pub told_links : (p : PairState) (w w' : World) (asked : List (Message Known)) (told : List (Coming Known))
+    (view : View) (outbox : Outgoing) (registries : List Registry) (news : List (Coming Known))
+    → view.births ≡ p.server.core.view.births → Each (IsBelow p.server.core.view.births) (all_tells news)
+    → LinkedBy p w asked told
+    → StandsBy (told_pair p view outbox registries) w' asked (told ++ news)
+    → LinkedBy (told_pair p view outbox registries) w' asked (told ++ news)
 told_links p w w' asked told view outbox registries news births below l s = record {
   stands = s;
-  asked_seen = l.asked_seen;
-  asked_later = l.asked_later;
-  told_seen = l.told_seen;
-  told_later = l.told_later ++ news;
-  asked_is = l.asked_is;
-  told_is = ap (λ (x : List (Coming Known)). x ++ news) l.told_is ∙ append_assoc l.told_seen l.told_later news;
-  to_server = l.to_server;
-  to_client = l.to_client;
+  requests = l.requests;
+  events = record {
+    seen = l.events.seen;
+    later = l.events.later ++ news;
+    is = ap (λ (x : List (Coming Known)). x ++ news) l.events.is ∙ append_assoc l.events.seen l.events.later news;
+    recorded = l.events.recorded;
+  };
   follows = l.follows;
-  counted = subst (λ (n : ℕ). Each (IsBelow n) (all_tells (told ++ news))) (sym births) (more_counted p.server.core.view.births told news l.counted below);
+  counted = subst (λ (n : ℕ). Each (IsBelow n) (all_tells (told ++ news))) (sym births)
+      (more_counted p.server.core.view.births told news l.counted below);
 }
 
 -- ---- the server reads
 
-births_kept : (v : View) (n o : Option Known) → v.births ≤ (ended_view server_end (opens v (option_map made_of n)) o).births
-births_kept v None None = omega arith
-births_kept v None (Some x) = omega arith
-births_kept v (Some y) None = omega arith
-births_kept v (Some y) (Some x) = omega arith
-
 below_more : (few many : ℕ) → few ≤ many → (t : Tell) → IsBelow few t → IsBelow many t
 below_more few many h t l = omega (arith, h, l)
 
-pub request_links : (p : PairState) (w w' : World) (m : Message Known) (ms : List (Message Known)) (told : List (Coming Known)) (n : ℕ)
-    → in_front p.server.core.inbox ≡ Whole n → IfThere (λ x. x.born.birth < p.server.core.view.births) m.ends → LinkedBy p w (m ∷ ms) told
+-- a pair stays linked when the server reads the first request
+pub request_links : (p : PairState) (w w' : World) (m : Message Known) (ms : List (Message Known))
+    (told : List (Coming Known)) (n : ℕ)
+    → in_front p.server.core.inbox ≡ Whole n → IfThere (λ x. x.born.birth < p.server.core.view.births) m.ends
+    → LinkedBy p w (m ∷ ms) told
     → StandsBy (with_server p (left_state p.server m n)) w' ms (told ++ delete m.ends)
     → LinkedBy (with_server p (left_state p.server m n)) w' ms (told ++ delete m.ends)
 request_links p w w' m ms told n whole there l s =
-    let q = pops p.client.core.outbox p.server.core.inbox (map spelled (m ∷ ms)) n l.stands.to_server whole in
-    let first : q.first ≡ spelled m = cc q.is in
-    let size : n ≡ length (spelled m).bytes = q.size ∙ ap (λ (x : boxes.Message). length x.bytes) first in
-    let enough : length (tokens m.args) ≤ length p.server.core.inbox.tokens = subst (λ (x : boxes.Message). length x.tokens ≤ length p.server.core.inbox.tokens) first q.enough in
-    let seen = seen_first spelled (limit_of p) ToServer p.recording p.server.core.inbox ((knows p).taken ToServer) n m ms l.asked_seen l.asked_later l.asked_is l.to_server whole in
-    let recorded : Recorded (limit_of p) ToServer p.recording p.server.core.inbox ((knows p).taken ToServer) (spelled m ∷ map spelled seen.rest) =
-    subst (λ (x : List (Message Known)). Recorded (limit_of p) ToServer p.recording p.server.core.inbox ((knows p).taken ToServer) (map spelled x)) seen.seen_is l.to_server in
+    let seen = rest_seen spelled (limit_of p) ToServer p.recording p.client.core.outbox p.server.core.inbox
+    ((knows p).taken ToServer) n m ms l.stands.requests.in_boxes whole l.requests in
     let births = p.server.core.view.births in
     let now = (ended_view server_end (opens p.server.core.view (option_map made_of (made_in m.args))) m.ends).births in
     let dead = delete m.ends in
     let counted = more_counted births told dead l.counted (delete_below births m.ends there) in
     record {
       stands = s;
-      asked_seen = seen.rest;
-      asked_later = l.asked_later;
-      told_seen = l.told_seen;
-      told_later = l.told_later ++ dead;
-      asked_is = seen.others;
-      told_is = ap (λ (x : List (Coming Known)). x ++ dead) l.told_is ∙ append_assoc l.told_seen l.told_later dead;
-      to_server = read_on (limit_of p) ToServer p.recording p.server.core.inbox ((knows p).taken ToServer) n (length (tokens m.args)) (spelled m) (map spelled seen.rest) recorded size refl enough;
-      to_client = l.to_client;
+      requests = record { seen = seen.rest; later = l.requests.later; is = seen.others; recorded = seen.recorded };
+      events = record {
+        seen = l.events.seen;
+        later = l.events.later ++ dead;
+        is = ap (λ (x : List (Coming Known)). x ++ dead) l.events.is ∙ append_assoc l.events.seen l.events.later dead;
+        recorded = l.events.recorded;
+      };
       follows = l.follows;
-      counted = each_by (IsBelow births) (IsBelow now) (below_more births now (births_kept p.server.core.view (made_in m.args) m.ends)) (all_tells (told ++ dead)) counted;
+      counted = each_by (IsBelow births) (IsBelow now)
+          (below_more births now (births_kept p.server.core.view (made_in m.args) m.ends))
+          (all_tells (told ++ dead)) counted;
     }
 
 -- ---- the client reads
 
-module _ (k : Knows) where
-  abbrev Learned : Remembered → Type 0
-  Learned g = IsAdvertised k g.name g.iface.0 g.version
+-- a recorded event advertised it
+abbrev Advertised : PairState → Remembered → Type 0
+Advertised p g = IsAdvertised (knows p) g.name g.iface.0 g.version
 
-  told_new : (tables : List Interface) (given : List Global) (globals : List Remembered) (args : List (Arg Known)) → (t : TellsGiven tables given args) → IsAdvertised k t.name t.iface.0 t.version
-      → Each Learned globals
-      → Each Learned (remembered_as (number_in (argument (map wire args) 0)) (number_in (argument (map wire args) 2)) (place_of tables (text_in (argument (map wire args) 1))) globals)
-  told_new tables given globals args t new h =
-      rw (t.args_are, t.known) (each_remembered Learned (record { name = t.name; iface = t.iface; version = t.version }) globals new h)
+-- a global that an event tells was advertised by it
+told_advertised : (tables : List Interface) (given : List Global) (k : Knows) (m : Message Known)
+    → TellsAdvertised tables k (Event m) → is_registry m.target.born ≡ true → m.opcode ≡ 0
+    → (t : TellsGiven tables given m.args) → IsAdvertised k t.name t.iface.0 t.version
+told_advertised tables given k m a r e t = a (rw (r, eq-eqb m.opcode 0 e) refl) t.name t.version
+    (name_at tables t.iface) t.iface (ap (map wire) t.args_are) t.known
 
-  told_keeps : (tables : List Interface) (given : List Global) (globals : List Remembered) (opcode : ℕ) (args : List (Arg Known))
-      → (opcode ≡ 0 → (t : TellsGiven tables given args) × IsAdvertised k t.name t.iface.0 t.version) → Each Learned globals
-      → (b c : Bool) → nat_eq opcode 0 ≡ b
-      → Each Learned (cond b (remembered_as (number_in (argument (map wire args) 0)) (number_in (argument (map wire args) 2)) (place_of tables (text_in (argument (map wire args) 1))) globals)
-      (cond c (forgotten (number_in (argument (map wire args) 0)) globals) globals))
-  told_keeps tables given globals opcode args t h true c e = let n = t (eqb-true opcode 0 e) in told_new tables given globals args n.0 n.1 h
-  told_keeps tables given globals opcode args t h false true e = each_filter Learned (λ g. not (is_named (number_in (argument (map wire args) 0)) g)) globals h
-  told_keeps tables given globals opcode args t h false false e = h
-
-  learns : (tables client_tables : List Interface) (given : List Global) (globals : List Remembered) (m : Message Known) → client_tables ≡ tables → TellsFitly tables given m → TellsAdvertised tables k (Event m)
-      → Each Learned globals → (b : Bool) → (b ≡ true → is_registry m.target.born ≡ true) → Each Learned (cond b (globals_told client_tables globals m.opcode (map wire m.args)) globals)
-  learns tables client_tables given globals m same f a h false r = h
-  learns tables client_tables given globals m same f a h true r =
-      subst (λ (t : List Interface). Each Learned (globals_told t globals m.opcode (map wire m.args))) (sym same)
-      (told_keeps tables given globals m.opcode m.args (λ e. (let t = f.tells (r refl) e in (t, a (global_is (same_iface m.target.born.iface registry) m.opcode (r refl) e) t.name t.version (name_at tables t.iface) t.iface (ap (map wire) t.args_are) t.known))) h
-      (nat_eq m.opcode 0) (nat_eq m.opcode 1) refl)
-    where
-      global_is : (b : Bool) (opcode : ℕ) → b ≡ true → opcode ≡ 0 → (b && nat_eq opcode 0) ≡ true
-      global_is b opcode e z = rw (e, eq-eqb opcode 0 z) refl
-
-event_joins : (test : Born → Bool) (m : Message Known) (asked_later : List (Message Known)) (rest : List (Coming Known)) (here : Rows Row) (v : View) (tables : List Interface) (f : Fits tables event_side m)
-    → Joins test (all_asks asked_later) (all_tells (Event m ∷ rest)) here (client_rows v) → Joins test (all_asks asked_later) (all_tells rest) here (client_rows (ended_view client_end v m.ends))
+event_joins : (test : Born → Bool) (m : Message Known) (asked_later : List (Message Known)) (rest : List (Coming Known))
+    (here : Rows Row) (v : View) (tables : List Interface) (f : Fits tables event_side m)
+    → Joins test (all_asks asked_later) (all_tells (Event m ∷ rest)) here (client_rows v)
+    → Joins test (all_asks asked_later) (all_tells rest) here (client_rows (ended_view client_end v m.ends))
 event_joins test m asked_later rest here v tables f j =
     let t = tells_at m.target (objects m.args) m.ends j.reads in
-    let held : IfThere (Held (client_rows v)) m.ends = subst (λ (o : Option Known). IfThere (Held (client_rows v)) o) (sym f.ends) (ended_has (Held (client_rows v)) f.signature.destroys m.target m.args t.target t.args) in
-    let rows : client_rows (ended_view client_end v m.ends) ≡ client_ends m.ends (client_rows v) = client_after v None m.ends tt (if_by (held_row v) m.ends held) in
-    record { common = j.common; leads = j.leads; reads = subst (λ (x : Rows Row). Reads test (all_tells rest) x j.common) (sym rows) t.rest }
+    let held : IfThere (Held (client_rows v)) m.ends =
+    ends_have (Held (client_rows v)) tables event_side m f t.target t.args in
+    let rows : client_rows (ended_view client_end v m.ends) ≡ client_ends m.ends (client_rows v) =
+    client_after v None m.ends tt (if_by (held_row v) m.ends held) in
+    record {
+      common = j.common;
+      leads = j.leads;
+      reads = subst
+          (λ (x : Rows Row). Reads test (all_tells rest) x j.common) (sym rows) t.rest;
+    }
 
-pub event_links : (p : PairState) (w w' : World) (asked : List (Message Known)) (m : Message Known) (cs : List (Coming Known)) (n : ℕ) (entry : Entry)
-    → in_front p.client.core.inbox ≡ Whole n → LinkedBy p w asked (Event m ∷ cs)
-    → StandsBy (with_client p (after_event p.client m n (teaches m entry))) w' asked cs → LinkedBy (with_client p (after_event p.client m n (teaches m entry))) w' asked cs
-event_links p w w' asked m cs n entry whole l s =
+-- the client behind the first of what comes, with this view and these globals
+abbrev read_client : client.State → Coming Known → ℕ → View → List Remembered → client.State
+read_client st c n view globals = record {
+  core = record st.core {
+    view = view;
+    inbox = without_first st.core.inbox n (length (spelled_coming c).tokens);
+    read = min (st.core.read + n) 18446744073709551615;
+    failed = false;
+  };
+  globals = globals;
+}
+
+-- A pair stays linked when the client reads the first of what comes, where its rows still join and
+-- what it remembers is advertised.
+coming_links : (p : PairState) (w w' : World) (asked : List (Message Known)) (c : Coming Known)
+    (cs : List (Coming Known)) (n : ℕ) (view : View) (globals : List Remembered)
+    → in_front p.client.core.inbox ≡ Whole n → (l : LinkedBy p w asked (c ∷ cs))
+    → ((here : Rows Row) (rest : List (Coming Known))
+    → Joins (by_event p.server.core.tables) (all_asks l.requests.later) (all_tells (c ∷ rest)) here
+    (client_rows p.client.core.view)
+    → Joins (by_event p.server.core.tables) (all_asks l.requests.later) (all_tells rest) here (client_rows view))
+    → (TellsAdvertised p.server.core.tables (knows p) c → Each (Advertised p) globals)
+    → StandsBy (with_client p (read_client p.client c n view globals)) w' asked cs
+    → LinkedBy (with_client p (read_client p.client c n view globals)) w' asked cs
+coming_links p w w' asked c cs n view globals whole l joins learned s =
     let f = l.follows in
     let tables = p.server.core.tables in
-    let inbox = p.client.core.inbox in
-    let taken = (knows p).taken ToClient in
-    let q = pops p.server.core.outbox inbox (map spelled_coming (Event m ∷ cs)) n l.stands.to_client whole in
-    let first : q.first ≡ spelled m = cc q.is in
-    let size : n ≡ length (spelled m).bytes = q.size ∙ ap (λ (x : boxes.Message). length x.bytes) first in
-    let enough : length (tokens m.args) ≤ length inbox.tokens = subst (λ (x : boxes.Message). length x.tokens ≤ length inbox.tokens) first q.enough in
-    let seen = seen_first spelled_coming (limit_of p) ToClient p.recording inbox taken n (Event m) cs l.told_seen l.told_later l.told_is l.to_client whole in
-    let recorded : Recorded (limit_of p) ToClient p.recording inbox taken (spelled m ∷ map spelled_coming seen.rest) =
-    subst (λ (x : List (Coming Known)). Recorded (limit_of p) ToClient p.recording inbox taken (map spelled_coming x)) seen.seen_is l.to_client in
+    let seen = rest_seen spelled_coming (limit_of p) ToClient p.recording p.server.core.outbox p.client.core.inbox
+    ((knows p).taken ToClient) n c cs l.stands.events.in_boxes whole l.events in
     let told = subst (λ (x : List (Coming Known)). Each (TellsAdvertised tables (knows p)) x) seen.seen_is f.tells in
-    let joins = subst (λ (x : List (Coming Known)). Joins (by_event tables) (all_asks l.asked_later) (all_tells x) f.here (client_rows p.client.core.view)) seen.seen_is f.joins in
     record {
       stands = s;
-      asked_seen = l.asked_seen;
-      asked_later = l.asked_later;
-      told_seen = seen.rest;
-      told_later = l.told_later;
-      asked_is = l.asked_is;
-      told_is = seen.others;
-      to_server = l.to_server;
-      to_client = read_on (limit_of p) ToClient p.recording inbox taken n (length (tokens m.args)) (spelled m) (map spelled_coming seen.rest) recorded size refl enough;
+      requests = l.requests;
+      events = record { seen = seen.rest; later = l.events.later; is = seen.others; recorded = seen.recorded };
       follows = record {
         passed = f.passed;
         here = f.here;
         known_as = f.known_as;
-        joins = event_joins (by_event tables) m l.asked_later seen.rest f.here p.client.core.view tables l.stands.told_fit.0.fits joins;
-        remembers = learns (knows p) tables p.client.core.tables p.server.globals p.client.globals m l.stands.same_tables l.stands.told_fit.0 told.0 f.remembers (teaches m entry) (λ h. (and_parts (is_registry m.target.born) _ h).0);
+        joins = joins f.here seen.rest (subst (λ (x : List (Coming Known)). Joins (by_event tables)
+            (all_asks l.requests.later) (all_tells x) f.here (client_rows p.client.core.view)) seen.seen_is f.joins);
+        remembers = learned told.0;
         tells = told.1;
         binds = f.binds;
       };
-      counted = each_rest (IsBelow p.server.core.view.births) (tells (Event m)) (all_tells cs) l.counted;
+      counted = each_rest (IsBelow p.server.core.view.births) (tells c) (all_tells cs) l.counted;
     }
 
-delete_joins : (test : Born → Bool) (x : Known) (asked_later : List (Message Known)) (rest : List (Coming Known)) (here : Rows Row) (p : PairState) (n : ℕ)
-    → Joins test (all_asks asked_later) (all_tells (Delete x ∷ rest)) here (client_rows p.client.core.view) → Joins test (all_asks asked_later) (all_tells rest) here (client_rows (after_delete p.client x n).core.view)
+-- a pair stays linked when the client reads an event
+pub event_links : (p : PairState) (w w' : World) (asked : List (Message Known)) (m : Message Known)
+    (cs : List (Coming Known)) (n : ℕ) (entry : Entry)
+    → in_front p.client.core.inbox ≡ Whole n → LinkedBy p w asked (Event m ∷ cs)
+    → StandsBy (with_client p (after_event p.client m n (teaches m entry))) w' asked cs
+    → LinkedBy (with_client p (after_event p.client m n (teaches m entry))) w' asked cs
+event_links p w w' asked m cs n entry whole l s =
+    let tables = p.server.core.tables in
+    let fit = l.stands.events.fit.0 in
+    coming_links p w w' asked (Event m) cs n (ended_view client_end p.client.core.view m.ends)
+    (after_event p.client m n (teaches m entry)).globals whole l
+    (λ here rest j. event_joins (by_event tables) m l.requests.later rest here p.client.core.view tables fit.fits j)
+    (λ told. learns (Advertised p) tables p.client.core.tables p.server.globals p.client.globals m
+    l.stands.terms.same_tables fit (told_advertised tables p.server.globals (knows p) m told) l.follows.remembers
+    (teaches m entry) (λ h. (and_parts (is_registry m.target.born) _ h).0)) s
+
+delete_joins : (test : Born → Bool) (x : Known) (asked_later : List (Message Known)) (rest : List (Coming Known))
+    (here : Rows Row) (p : PairState) (n : ℕ)
+    → Joins test (all_asks asked_later) (all_tells (Delete x ∷ rest)) here (client_rows p.client.core.view)
+    → Joins test (all_asks asked_later) (all_tells rest) here (client_rows (after_delete p.client x n).core.view)
 delete_joins test x asked_later rest here p n j =
     let t = deletes_at x j.reads in
-    record { common = j.common; leads = j.leads; reads = subst (λ (y : Rows Row). Reads test (all_tells rest) y j.common) (sym (client_closed p.client.core.view x.id)) t.rest }
-
-pub delete_links : (p : PairState) (w w' : World) (asked : List (Message Known)) (x : Known) (cs : List (Coming Known)) (n : ℕ) → in_front p.client.core.inbox ≡ Whole n
-    → LinkedBy p w asked (Delete x ∷ cs) → StandsBy (with_client p (after_delete p.client x n)) w' asked cs → LinkedBy (with_client p (after_delete p.client x n)) w' asked cs
-delete_links p w w' asked x cs n whole l s =
-    let f = l.follows in
-    let tables = p.server.core.tables in
-    let inbox = p.client.core.inbox in
-    let taken = (knows p).taken ToClient in
-    let q = pops p.server.core.outbox inbox (map spelled_coming (Delete x ∷ cs)) n l.stands.to_client whole in
-    let first : q.first ≡ spelled_coming (Delete x) = cc q.is in
-    let size : n ≡ length (spelled_coming (Delete x)).bytes = q.size ∙ ap (λ (y : boxes.Message). length y.bytes) first in
-    let seen = seen_first spelled_coming (limit_of p) ToClient p.recording inbox taken n (Delete x) cs l.told_seen l.told_later l.told_is l.to_client whole in
-    let recorded : Recorded (limit_of p) ToClient p.recording inbox taken (spelled_coming (Delete x) ∷ map spelled_coming seen.rest) =
-    subst (λ (y : List (Coming Known)). Recorded (limit_of p) ToClient p.recording inbox taken (map spelled_coming y)) seen.seen_is l.to_client in
-    let told = subst (λ (y : List (Coming Known)). Each (TellsAdvertised tables (knows p)) y) seen.seen_is f.tells in
-    let joins = subst (λ (y : List (Coming Known)). Joins (by_event tables) (all_asks l.asked_later) (all_tells y) f.here (client_rows p.client.core.view)) seen.seen_is f.joins in
     record {
-      stands = s;
-      asked_seen = l.asked_seen;
-      asked_later = l.asked_later;
-      told_seen = seen.rest;
-      told_later = l.told_later;
-      asked_is = l.asked_is;
-      told_is = seen.others;
-      to_server = l.to_server;
-      to_client = read_on (limit_of p) ToClient p.recording inbox taken n 0 (spelled_coming (Delete x)) (map spelled_coming seen.rest) recorded size refl (omega arith);
-      follows = record {
-        passed = f.passed;
-        here = f.here;
-        known_as = f.known_as;
-        joins = delete_joins (by_event tables) x l.asked_later seen.rest f.here p n joins;
-        remembers = f.remembers;
-        tells = told.1;
-        binds = f.binds;
-      };
-      counted = each_rest (IsBelow p.server.core.view.births) (tells (Delete x)) (all_tells cs) l.counted;
+      common = j.common;
+      leads = j.leads;
+      reads = subst
+          (λ (y : Rows Row). Reads test (all_tells rest) y j.common)
+          (sym (client_closed p.client.core.view x.id)) t.rest;
     }
+
+-- a pair stays linked when the client reads a delete
+pub delete_links : (p : PairState) (w w' : World) (asked : List (Message Known)) (x : Known) (cs : List (Coming Known))
+    (n : ℕ) → in_front p.client.core.inbox ≡ Whole n
+    → LinkedBy p w asked (Delete x ∷ cs) → StandsBy (with_client p (after_delete p.client x n)) w' asked cs
+    → LinkedBy (with_client p (after_delete p.client x n)) w' asked cs
+delete_links p w w' asked x cs n whole l s =
+    coming_links p w w' asked (Delete x) cs n (closed p.client.core.view x.id) p.client.globals whole l
+    (λ here rest j. delete_joins (by_event p.server.core.tables) x l.requests.later rest here p n j)
+    (λ told. l.follows.remembers) s

@@ -1,5 +1,7 @@
 -- An event or a delete is recorded.
-use Rattle.std.proofs.Common.{◌≡◌, ◌≢◌, ℕ, ◌+◌, ◌<◌, ◌≤◌, true, false, cond, None, Some, List, [], ◌∷◌, ◌++◌, length, map, drop, inl, refl, sym, ap, subst, ◌∙◌, arith, append-nil}
+use Rattle.std.proofs.Common.{◌≡◌, ◌≢◌, ℕ, ◌+◌, ◌<◌, ◌≤◌, true, false, cond, None, Some, List, []}
+use Rattle.std.proofs.Common.{◌∷◌, ◌++◌, length, map, drop, inl, refl, sym, ap, subst, ◌∙◌, arith}
+use Rattle.std.proofs.Common.{append-nil}
 use Rattle.std.specs.Prelude.{codes, Option}
 use Rattle.std.specs.declared.result.Result.TheVariants.{Ok}
 use Rattle.wl_wire.specs.declared.kind.Iface.{Iface}
@@ -16,19 +18,22 @@ use Rattle.wl_objects.specs.Messages.{is_delete_id, ended_id}
 use Rattle.wl_client.specs.declared.globals.Global.{Global as Remembered}
 use Rattle.wl_server.specs.State.{Global}
 use Rattle.wl_recording.specs.declared.piece.Direction.TheVariants.{ToClient}
-use Rattle.wl_check.specs.Effects.{effect, destroyed, is_global, first_number}
+use Rattle.wl_check.specs.Changes.{changes, destroyed, is_global, first_number}
 use Rattle.wl_check.specs.Places.{is_id, unless_deleted, frees}
 use Rattle.wl_check.specs.Rules.{reader}
 use Rattle.wl_check.specs.Session.{Judged}
-use Rattle.wl_check.proofs.Growing.{behind_one, advertised_own}
-use Rattle.theory_connection.specs.Meant.{Born, Known, Message, Coming, Event, Delete, objects, wire, tokens, spelled, spelled_coming}
+use Rattle.wl_check.proofs.LongerRecording.{behind_one, advertised_own}
+use Rattle.theory_connection.specs.Meant.{Born, Known, Message, Coming, Event, Delete, objects}
+use Rattle.theory_connection.specs.Meant.{wire, tokens, spelled, spelled_coming}
 use Rattle.theory_connection.specs.World.{Row, Open, Each, IfThere, display_born}
 use Rattle.theory_connection.proofs.EndedObject.{if_by}
-use Rattle.theory_connection.specs.Flight.{IsBelow, Rows, at, Tell, Name, ends, tells, all_tells, all_asks, Held, Reads, Meets}
+use Rattle.theory_connection.specs.Flight.{IsBelow, Rows, at, Tell, Name, ends, tells, all_tells}
+use Rattle.theory_connection.specs.Flight.{all_asks, Held, Reads, Meets}
 use Rattle.theory_connection.specs.Stands.{ComesFitly, TellsFitly, by_event}
 use Rattle.theory_connection.specs.Plain.{ask_id}
 use Rattle.theory_connection.proofs.Flight.{live_after, free_after, put_same}
-use Rattle.theory_connection.proofs.WholeInFlight.{client_ends, each_by, each_more, each_front, each_rest, all_tells_more, deletes_at}
+use Rattle.theory_connection.proofs.WholeInFlight.{client_ends, each_by, each_more, each_front}
+use Rattle.theory_connection.proofs.WholeInFlight.{each_rest, all_tells_more, deletes_at}
 use Rattle.theory_connection.proofs.Plain.{free_asks}
 use Rattle.theory_connection.proofs.EventRead.{deleting, delete_signature}
 use Rattle.theory_connection.proofs.ReadAsMeant.{HasObject}
@@ -40,17 +45,20 @@ use Rattle.theory_recording.proofs.CheckerOfRows.{held_known, news_none}
 use Rattle.theory_recording.proofs.AdvertisedGlobals.{remembers_on, tells_on, binds_on}
 use Rattle.theory_recording.proofs.KnownBehindMessage.{known_deleted, places_behind, some_place}
 use Rattle.theory_recording.proofs.RequestBirths.{recorded_first}
-use Rattle.theory_recording.proofs.CalledAsMeant.{One, go_on_more, goes_on_as, own_taken, other_taken, call_grows, known_call}
+use Rattle.theory_recording.proofs.CalledAsMeant.{One, go_on_more, goes_on_as, own_taken}
+use Rattle.theory_recording.proofs.CalledAsMeant.{other_taken, call_grows, known_call}
 
 -- ---- where the client will read it
 
 -- what is in flight, and what of it was recorded
-pub record Whereabouts (tables : List Interface) (asked_seen asked_later : List (Message Known)) (told : List (Coming Known)) (client : Rows Row) (server : Rows Born) : Type 0 where
+pub record Whereabouts (tables : List Interface) (asked_seen asked_later : List (Message Known))
+    (told : List (Coming Known)) (client : Rows Row) (server : Rows Born) : Type 0 where
   pub meet : Meets (by_event tables) (all_tells told) (all_asks asked_seen ++ all_asks asked_later) client server
   pub counted : Each (IsBelow server.births) (all_tells told)
   pub display : client.rows 1 ≡ Some (Open display_born)
 
-each_counted : (births : ℕ) (xs : List Known) → Each (IsBelow births) (map Name xs) → Each (λ x. x.born.birth < births) xs
+each_counted : (births : ℕ) (xs : List Known) → Each (IsBelow births) (map Name xs)
+    → Each (λ x. x.born.birth < births) xs
 each_counted births [] h = tt
 each_counted births (x ∷ xs) h = (h.0, each_counted births xs h.1)
 
@@ -59,22 +67,31 @@ ends_counted births None h = tt
 ends_counted births (Some x) h = h.0
 
 below_more : (a b : ℕ) → a ≤ b → (xs : List Known) → Each (λ x. x.born.birth < a) xs → Each (λ x. x.born.birth < b) xs
-below_more a b le xs h = each_by (λ (x : Known). x.born.birth < a) (λ (x : Known). x.born.birth < b) (λ x l. omega (arith, l, le)) xs h
+below_more a b le xs h = each_by (λ (x : Known). x.born.birth < a) (λ (x : Known). x.born.birth < b)
+    (λ x l. omega (arith, l, le)) xs h
 
 -- what comes next, where the checker and the client meet
-pub record NextRead (tables : List Interface) (c : Coming Known) (later : List (Coming Known)) (common middle : Rows Row) (births : ℕ) : Type 0 where
+pub record NextRead (tables : List Interface) (c : Coming Known) (later : List (Coming Known))
+    (common middle : Rows Row) (births : ℕ) : Type 0 where
   pub reads : Reads (by_event tables) (tells c ++ all_tells later) common middle
   pub counted : Each (IsBelow births) (tells c)
 
-next_read : (tables : List Interface) (asked_seen asked_later : List (Message Known)) (told seen later : List (Coming Known)) (c : Coming Known) (client common : Rows Row) (server : Rows Born)
-    (w : Whereabouts tables asked_seen asked_later told client server) → told ≡ seen ++ c ∷ later → Reads (by_event tables) (all_tells seen) client common → NextRead tables c later common w.meet.middle server.births
+next_read : (tables : List Interface) (asked_seen asked_later : List (Message Known))
+    (told seen later : List (Coming Known)) (c : Coming Known) (client common : Rows Row) (server : Rows Born)
+    (w : Whereabouts tables asked_seen asked_later told client server) → told ≡ seen ++ c ∷ later
+    → Reads (by_event tables) (all_tells seen) client common
+    → NextRead tables c later common w.meet.middle server.births
 next_read tables asked_seen asked_later told seen later c client common server w is r =
-    let parts : all_tells told ≡ all_tells seen ++ (tells c ++ all_tells later) = ap all_tells is ∙ all_tells_more seen (c ∷ later) in
-    let p = reads_parted (all_tells seen) (subst (λ (es : List Tell). Reads (by_event tables) es client w.meet.middle) parts w.meet.reads) in
+    let parts : all_tells told ≡ all_tells seen ++ (tells c ++ all_tells later) =
+    ap all_tells is ∙ all_tells_more seen (c ∷ later) in
+    let p = reads_parted (all_tells seen) (subst (λ (es : List Tell). Reads (by_event tables) es client w.meet.middle)
+    parts w.meet.reads) in
     let same : p.between ≡ common = reads_one_way p.first r in
-    let n = each_rest (IsBelow server.births) (all_tells seen) (tells c ++ all_tells later) (subst (Each (IsBelow server.births)) parts w.counted) in
+    let n = each_rest (IsBelow server.births) (all_tells seen) (tells c ++ all_tells later)
+    (subst (Each (IsBelow server.births)) parts w.counted) in
     record {
-      reads = subst (λ (v : Rows Row). Reads (by_event tables) (tells c ++ all_tells later) v w.meet.middle) same p.then;
+      reads = subst (λ (v : Rows Row). Reads (by_event tables) (tells c ++ all_tells later) v w.meet.middle) same
+          p.then;
       counted = each_front (IsBelow server.births) (tells c) (all_tells later) n;
     }
 
@@ -84,39 +101,57 @@ seen_more seen c = all_tells_more seen (c ∷ []) ∙ ap (λ (es : List Tell). a
 -- ---- an event
 
 -- what it advertises
-own_global : (tables : List Interface) (e : List Judged) (m : Message Known) (entry : Entry) (signature : sigs.Message) → entry.iface ≡ m.target.born.iface
+own_global : (tables : List Interface) (e : List Judged) (m : Message Known) (entry : Entry) (signature : sigs.Message)
+    → entry.iface ≡ m.target.born.iface
     → TellsAdvertised tables (knowledge tables (e ++ Ok (call_as ToClient m entry signature) ∷ [])) (Event m)
 own_global tables e m entry signature same is name version text iface args place =
     let call = call_as ToClient m entry signature in
     let k = knowledge tables e in
-    let global : is_global event_side entry.iface m.opcode ≡ true = ap (λ (i : Iface). is_global event_side i m.opcode) same ∙ is in
-    let told : (effect tables call).advertised ≡ Some (record { name = name; iface = iface; version = version }) = rw (global, args, place) refl in
-    let own = advertised_own (effect tables call) name iface version (k.advertised_version name iface.0) told in
+    let global : is_global event_side entry.iface m.opcode ≡ true =
+    ap (λ (i : Iface). is_global event_side i m.opcode) same ∙ is in
+    let told : (changes tables call).advertised ≡ Some (record { name = name; iface = iface; version = version }) =
+    rw (global, args, place) refl in
+    let own = advertised_own (changes tables call) name iface version (k.advertised_version name iface.0) told in
     let next = (behind_one tables e call).advertised_is name iface.0 in
     omega (arith, own, next)
 
-event_one : (limit : ℕ) (tables : List Interface) (given : List Global) (asked_seen asked_later : List (Message Known)) (told : List (Coming Known)) (client : Rows Row) (server : Rows Born) (remembered : List Remembered)
-    (stream more : List ℕ) (t p : ℕ) (e : List Judged) (seen later : List (Coming Known)) (m : Message Known) → Valid tables → Whereabouts tables asked_seen asked_later told client server → told ≡ seen ++ Event m ∷ later
-    → Follows tables e asked_later seen client remembered → TellsFitly tables given m → IsMessage limit (spelled m).bytes → drop p stream ≡ (spelled m).bytes ++ more → (knowledge tables e).taken ToClient + length (tokens m.args) ≤ t
-    → One limit tables ToClient stream t p (spelled m) e (λ e'. Follows tables e' asked_later (seen ++ Event m ∷ []) client remembered)
-event_one limit tables given asked_seen asked_later told client server remembered stream more t p e seen later m valid w is f fit whole bytes enough =
+event_one : (limit : ℕ) (tables : List Interface) (given : List Global) (asked_seen asked_later : List (Message Known))
+    (told : List (Coming Known)) (client : Rows Row) (server : Rows Born) (remembered : List Remembered)
+    (stream more : List ℕ) (t p : ℕ) (e : List Judged) (seen later : List (Coming Known)) (m : Message Known)
+    → Valid tables → Whereabouts tables asked_seen asked_later told client server → told ≡ seen ++ Event m ∷ later
+    → Follows tables e asked_later seen client remembered → TellsFitly tables given m
+    → IsMessage limit (spelled m).bytes → drop p stream ≡ (spelled m).bytes ++ more
+    → (knowledge tables e).taken ToClient + length (tokens m.args) ≤ t
+    → One limit tables ToClient stream t p (spelled m) e
+    (λ e'. Follows tables e' asked_later (seen ++ Event m ∷ []) client remembered)
+event_one limit tables given asked_seen asked_later told client server remembered stream more t p e seen later m valid w
+    is f fit whole bytes enough =
     let k = knowledge tables e in
     let a = f.known_as in
     let ps = places tables e in
-    let next = next_read tables asked_seen asked_later told seen later (Event m) client f.joins.common server w is f.joins.reads in
-    let first : server.births ≤ f.here.births = recorded_first (all_asks asked_seen) (all_asks asked_later) f.joins.leads f.joins.reads w.meet in
+    let next = next_read tables asked_seen asked_later told seen later
+    (Event m) client f.joins.common server w is f.joins.reads in
+    let first : server.births ≤ f.here.births = recorded_first (all_asks asked_seen)
+    (all_asks asked_later) f.joins.leads f.joins.reads w.meet in
     let counted = each_front (IsBelow server.births) (map Name (objects m.args)) (ends m.ends) next.counted.1 in
-    let ended = ends_counted server.births m.ends (each_rest (IsBelow server.births) (map Name (objects m.args)) (ends m.ends) next.counted.1) in
-    let below = below_more server.births f.here.births first (objects m.args) (each_counted server.births (objects m.args) counted) in
-    let r = event_recorded m.target (objects m.args) m.ends f.joins next.reads (let l = next.counted.0 in omega (arith, l, first)) below (if_by (λ x l. omega (arith, l, first)) m.ends ended) in
+    let ended = ends_counted server.births m.ends
+    (each_rest (IsBelow server.births) (map Name (objects m.args)) (ends m.ends) next.counted.1) in
+    let below = below_more server.births f.here.births first (objects m.args)
+    (each_counted server.births (objects m.args) counted) in
+    let r = event_recorded m.target (objects m.args) m.ends f.joins next.reads
+    (let l = next.counted.0 in omega (arith, l, first)) below
+    (if_by (λ x l. omega (arith, l, first)) m.ends ended) in
     let o = held_known k ps f.here m.target a r.target in
-    let names = each_by (Held f.here) (HasObject (reader k ToClient)) (λ x h. held_known k ps f.here x a h) (objects m.args) r.args in
-    let args = all_found (reader k ToClient) m.args names (news_none (reader k ToClient) m.args m.args fit.makes_none fit.fits.new_is) in
+    let names = each_by (Held f.here) (HasObject (reader k ToClient)) (λ x h. held_known k ps f.here x a h)
+    (objects m.args) r.args in
+    let args = all_found (reader k ToClient) m.args names
+    (news_none (reader k ToClient) m.args m.args fit.makes_none fit.fits.new_is) in
     let call = call_as ToClient m o.entry fit.fits.signature in
     let e' = e ++ Ok call ∷ [] in
     let k' = knowledge tables e' in
-    let deletes : is_delete_id event_side o.entry.iface m.opcode ≡ false = ap (λ (i : Iface). is_delete_id event_side i m.opcode) o.iface ∙ fit.no_delete_id in
-    let deleted_is : (effect tables call).deleted ≡ None = rw deletes refl in
+    let deletes : is_delete_id event_side o.entry.iface m.opcode ≡ false =
+    ap (λ (i : Iface). is_delete_id event_side i m.opcode) o.iface ∙ fit.no_delete_id in
+    let deleted_is : (changes tables call).deleted ≡ None = rw deletes refl in
     let grows = call_grows tables e call in
     record {
       call = call;
@@ -126,10 +161,17 @@ event_one limit tables given asked_seen asked_later told client server remembere
       next = record {
         passed = go_on_more e (Ok call) f.passed (goes_on_as tables ToClient m o.entry fit.fits o.iface);
         here = client_ends m.ends f.here;
-        known_as = known_call tables e f.here ToClient m o.entry fit.fits None valid a tt r.target r.args refl deleted_is;
-        joins = record { common = r.joins.common; leads = r.joins.leads; reads = subst (λ (es : List Tell). Reads (by_event tables) es client r.joins.common) (sym (seen_more seen (Event m))) r.joins.reads };
+        known_as = known_call tables e f.here ToClient m o.entry fit.fits None valid a tt r.target r.args refl
+            deleted_is;
+        joins = record {
+          common = r.joins.common;
+          leads = r.joins.leads;
+          reads = subst (λ (es : List Tell). Reads (by_event tables) es client r.joins.common)
+              (sym (seen_more seen (Event m))) r.joins.reads;
+        };
         remembers = remembers_on k k' grows remembered f.remembers;
-        tells = each_more (TellsAdvertised tables k') seen (Event m ∷ []) (tells_on tables k k' grows seen f.tells) (own_global tables e m o.entry fit.fits.signature o.iface, tt);
+        tells = each_more (TellsAdvertised tables k') seen (Event m ∷ []) (tells_on tables k k' grows seen f.tells)
+            (own_global tables e m o.entry fit.fits.signature o.iface, tt);
         binds = binds_on k k' grows asked_later f.binds;
       };
     }
@@ -137,47 +179,69 @@ event_one limit tables given asked_seen asked_later told client server remembere
 -- ---- a delete
 
 -- the checker holds wl_display
-display_held : (tables : List Interface) (e : List Judged) (asked_later : List (Message Known)) (seen : List (Coming Known)) (client : Rows Row) (remembered : List Remembered) (f : Follows tables e asked_later seen client remembered)
+display_held : (tables : List Interface) (e : List Judged) (asked_later : List (Message Known))
+    (seen : List (Coming Known)) (client : Rows Row) (remembered : List Remembered)
+    (f : Follows tables e asked_later seen client remembered)
     → Valid tables → client.rows 1 ≡ Some (Open display_born) → Held f.here (record { id = 1; born = display_born })
 display_held tables e asked_later seen client remembered f valid there =
     let plain : by_event tables display_born ≡ false = rw valid.fixed_four.display refl in
     let there_still = live_after 1 display_born f.joins.reads there plain in
-    held_here (record { id = 1; born = display_born }) f.joins.leads (inl there_still) (let s = some_place tables e in let b = f.known_as.births in omega (arith, s, b))
+    held_here (record { id = 1; born = display_born }) f.joins.leads (inl there_still)
+    (let s = some_place tables e in let b = f.known_as.births in omega (arith, s, b))
 
 -- what is known behind a delete
-known_delete : (tables : List Interface) (e : List Judged) (here : Rows Row) (x : Known) (entry : Entry) (signature : sigs.Message) → KnownAs (knowledge tables e) (places tables e) here → x.id ≢ 1
+known_delete : (tables : List Interface) (e : List Judged) (here : Rows Row) (x : Known) (entry : Entry)
+    (signature : sigs.Message) → KnownAs (knowledge tables e) (places tables e) here → x.id ≢ 1
     → entry.iface ≡ display_born.iface → signature.destroys ≡ Nothing
-    → KnownAs (knowledge tables (e ++ Ok (call_as ToClient (deleting x) entry signature) ∷ [])) (places tables (e ++ Ok (call_as ToClient (deleting x) entry signature) ∷ [])) (at here x.id None)
+    → KnownAs (knowledge tables (e ++ Ok (call_as ToClient (deleting x) entry signature) ∷ []))
+    (places tables (e ++ Ok (call_as ToClient (deleting x) entry signature) ∷ [])) (at here x.id None)
 known_delete tables e here x entry signature a mortal iface keeps =
     let call = call_as ToClient (deleting x) entry signature in
     let k = knowledge tables e in
     let k' = knowledge tables (e ++ Ok call ∷ []) in
     let b = behind_one tables e call in
-    let deleted_is : (effect tables call).deleted ≡ Some x.id = ap (λ (i : Iface). cond (is_delete_id event_side i 1) (first_number (map wire (deleting x).args)) None) iface in
-    let destroyed_is : (effect tables call).destroyed ≡ None = ap (λ (d : Destroys). destroyed (destroys_one d) (ended_id d 1 (map wire (deleting x).args))) keeps in
+    let deleted_is : (changes tables call).deleted ≡ Some x.id =
+    ap (λ (i : Iface). cond (is_delete_id event_side i 1) (first_number (map wire (deleting x).args)) None)
+    iface in
+    let destroyed_is : (changes tables call).destroyed ≡ None =
+    ap (λ (d : Destroys). destroyed (destroys_one d) (ended_id d 1 (map wire (deleting x).args))) keeps in
     let known = known_deleted k k' (places tables e) here x a mortal
-    (λ id. b.objects id ∙ (λ i. unless_deleted (frees (deleted_is i) id) (is_id (destroyed_is i) id) (k.object id))) b.used_is in
-    subst (λ (ps : List ℕ). KnownAs k' ps (at here x.id None)) (sym (places_behind tables e call ∙ append-nil (places tables e))) known
+    (λ id. b.objects id ∙ (λ i. unless_deleted (frees (deleted_is i) id) (is_id (destroyed_is i) id) (k.object id)))
+    b.used_is in
+    subst (λ (ps : List ℕ). KnownAs k' ps (at here x.id None))
+    (sym (places_behind tables e call ∙ append-nil (places tables e))) known
 
-delete_one : (limit : ℕ) (tables : List Interface) (asked_seen asked_later : List (Message Known)) (told : List (Coming Known)) (client : Rows Row) (server : Rows Born) (remembered : List Remembered)
-    (stream more : List ℕ) (t p : ℕ) (e : List Judged) (seen later : List (Coming Known)) (x : Known) → Valid tables → Whereabouts tables asked_seen asked_later told client server → told ≡ seen ++ Delete x ∷ later
-    → Follows tables e asked_later seen client remembered → x.id ≤ 1048576 → IsMessage limit (spelled_coming (Delete x)).bytes → drop p stream ≡ (spelled_coming (Delete x)).bytes ++ more → (knowledge tables e).taken ToClient + 0 ≤ t
-    → One limit tables ToClient stream t p (spelled_coming (Delete x)) e (λ e'. Follows tables e' asked_later (seen ++ Delete x ∷ []) client remembered)
-delete_one limit tables asked_seen asked_later told client server remembered stream more t p e seen later x valid w is f low whole bytes enough =
+delete_one : (limit : ℕ) (tables : List Interface) (asked_seen asked_later : List (Message Known))
+    (told : List (Coming Known)) (client : Rows Row) (server : Rows Born) (remembered : List Remembered)
+    (stream more : List ℕ) (t p : ℕ) (e : List Judged) (seen later : List (Coming Known)) (x : Known) → Valid tables
+    → Whereabouts tables asked_seen asked_later told client server → told ≡ seen ++ Delete x ∷ later
+    → Follows tables e asked_later seen client remembered → x.id ≤ 1048576
+    → IsMessage limit (spelled_coming (Delete x)).bytes → drop p stream ≡ (spelled_coming (Delete x)).bytes ++ more
+    → (knowledge tables e).taken ToClient + 0 ≤ t
+    → One limit tables ToClient stream t p (spelled_coming (Delete x)) e
+    (λ e'. Follows tables e' asked_later (seen ++ Delete x ∷ []) client remembered)
+delete_one limit tables asked_seen asked_later told client server remembered stream more t p e seen later x valid w is f
+    low whole bytes enough =
     let k = knowledge tables e in
     let a = f.known_as in
     let ps = places tables e in
-    let next = next_read tables asked_seen asked_later told seen later (Delete x) client f.joins.common server w is f.joins.reads in
-    let first : server.births ≤ f.here.births = recorded_first (all_asks asked_seen) (all_asks asked_later) f.joins.leads f.joins.reads w.meet in
+    let next = next_read tables asked_seen asked_later told seen later
+    (Delete x) client f.joins.common server w is f.joins.reads in
+    let first : server.births ≤ f.here.births = recorded_first (all_asks asked_seen)
+    (all_asks asked_later) f.joins.leads f.joins.reads w.meet in
     let now = deletes_at x next.reads in
     let free : w.meet.middle.rows x.id ≡ None = free_after x.id now.rest (put_same f.joins.common.rows x.id None) in
-    let unnamed = each_rest (λ q. ask_id q ≢ x.id) (all_asks asked_seen) (all_asks asked_later) (free_asks x.id w.meet.tied free) in
+    let unnamed = each_rest (λ q. ask_id q ≢ x.id) (all_asks asked_seen) (all_asks asked_later)
+    (free_asks x.id w.meet.tied free) in
     let r = delete_recorded x f.joins next.reads (let l = next.counted.0 in omega (arith, l, first)) unnamed in
-    let display_there : signature_at tables 0 event_side 1 ≡ Some (fixed.message (codes "delete_id") 1 (fixed.uint ∷ []) Nothing) = rw valid.fixed_four.display refl in
+    let display_there : signature_at tables 0 event_side 1
+    ≡ Some (fixed.message (codes "delete_id") 1 (fixed.uint ∷ []) Nothing) = rw valid.fixed_four.display refl in
     let fits = delete_signature tables display_there x low in
-    let both : Some fits.signature ≡ Some (fixed.message (codes "delete_id") 1 (fixed.uint ∷ []) Nothing) = sym fits.there ∙ display_there in
+    let both : Some fits.signature ≡ Some (fixed.message (codes "delete_id") 1 (fixed.uint ∷ []) Nothing) =
+    sym fits.there ∙ display_there in
     let same : fits.signature ≡ fixed.message (codes "delete_id") 1 (fixed.uint ∷ []) Nothing = cc both in
-    let o = held_known k ps f.here (deleting x).target a (display_held tables e asked_later seen client remembered f valid w.display) in
+    let o = held_known k ps f.here (deleting x).target a
+    (display_held tables e asked_later seen client remembered f valid w.display) in
     let call = call_as ToClient (deleting x) o.entry fits.signature in
     let k' = knowledge tables (e ++ Ok call ∷ []) in
     let grows = call_grows tables e call in
@@ -189,22 +253,39 @@ delete_one limit tables asked_seen asked_later told client server remembered str
       next = record {
         passed = go_on_more e (Ok call) f.passed (goes_on_as tables ToClient (deleting x) o.entry fits o.iface);
         here = at f.here x.id None;
-        known_as = known_delete tables e f.here x o.entry fits.signature a now.mortal o.iface (ap (λ (s : sigs.Message). s.destroys) same);
-        joins = record { common = r.joins.common; leads = r.joins.leads; reads = subst (λ (es : List Tell). Reads (by_event tables) es client r.joins.common) (sym (seen_more seen (Delete x))) r.joins.reads };
+        known_as = known_delete tables e f.here x o.entry fits.signature a now.mortal o.iface
+            (ap (λ (s : sigs.Message). s.destroys) same);
+        joins = record {
+          common = r.joins.common;
+          leads = r.joins.leads;
+          reads = subst (λ (es : List Tell). Reads (by_event tables) es client r.joins.common)
+              (sym (seen_more seen (Delete x))) r.joins.reads;
+        };
         remembers = remembers_on k k' grows remembered f.remembers;
-        tells = each_more (TellsAdvertised tables k') seen (Delete x ∷ []) (tells_on tables k k' grows seen f.tells) (tt, tt);
+        tells = each_more (TellsAdvertised tables k') seen (Delete x ∷ []) (tells_on tables k k' grows seen f.tells)
+            (tt, tt);
         binds = binds_on k k' grows asked_later f.binds;
       };
     }
 
 -- ---- either
 
-pub tell_one : (limit : ℕ) (tables : List Interface) (given : List Global) (asked_seen asked_later : List (Message Known)) (told : List (Coming Known)) (client : Rows Row) (server : Rows Born) (remembered : List Remembered)
-    (stream more : List ℕ) (t p : ℕ) (e : List Judged) (seen later : List (Coming Known)) (c : Coming Known) → Valid tables → Whereabouts tables asked_seen asked_later told client server → told ≡ seen ++ c ∷ later
-    → Follows tables e asked_later seen client remembered → ComesFitly tables given c → IsMessage limit (spelled_coming c).bytes → drop p stream ≡ (spelled_coming c).bytes ++ more
+-- what comes to the client goes on once it is recorded, and the checker follows the ends behind it
+pub tell_one : (limit : ℕ) (tables : List Interface) (given : List Global)
+    (asked_seen asked_later : List (Message Known)) (told : List (Coming Known)) (client : Rows Row)
+    (server : Rows Born) (remembered : List Remembered)
+    (stream more : List ℕ) (t p : ℕ) (e : List Judged) (seen later : List (Coming Known)) (c : Coming Known)
+    → Valid tables → Whereabouts tables asked_seen asked_later told client server → told ≡ seen ++ c ∷ later
+    → Follows tables e asked_later seen client remembered → ComesFitly tables given c
+    → IsMessage limit (spelled_coming c).bytes → drop p stream ≡ (spelled_coming c).bytes ++ more
     → (knowledge tables e).taken ToClient + length (spelled_coming c).tokens ≤ t
-    → One limit tables ToClient stream t p (spelled_coming c) e (λ e'. Follows tables e' asked_later (seen ++ c ∷ []) client remembered)
-tell_one limit tables given asked_seen asked_later told client server remembered stream more t p e seen later (Event m) valid w is f fit whole bytes enough =
-    event_one limit tables given asked_seen asked_later told client server remembered stream more t p e seen later m valid w is f fit whole bytes enough
-tell_one limit tables given asked_seen asked_later told client server remembered stream more t p e seen later (Delete x) valid w is f fit whole bytes enough =
-    delete_one limit tables asked_seen asked_later told client server remembered stream more t p e seen later x valid w is f fit whole bytes enough
+    → One limit tables ToClient stream t p (spelled_coming c) e
+    (λ e'. Follows tables e' asked_later (seen ++ c ∷ []) client remembered)
+tell_one limit tables given asked_seen asked_later told client server remembered stream more t p e seen later
+    (Event m) valid w is f fit whole bytes enough =
+    event_one limit tables given asked_seen asked_later told client server remembered stream more t p e seen later m
+    valid w is f fit whole bytes enough
+tell_one limit tables given asked_seen asked_later told client server remembered stream more t p e seen later
+    (Delete x) valid w is f fit whole bytes enough =
+    delete_one limit tables asked_seen asked_later told client server remembered stream more t p e seen later x valid w
+    is f fit whole bytes enough

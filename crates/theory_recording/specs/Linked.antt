@@ -2,6 +2,9 @@
 use Rattle.std.specs.Prelude.{◌≡◌, ℕ, ◌≤◌, true, List, [], ◌∷◌, ◌++◌, length, map, take, Option}
 use Rattle.std.specs.Prelude.{Some, None}
 use Rattle.wl_sigs.specs.Tables.{Interface}
+use Rattle.wl_message.specs.Arrived.{Arrived}
+use Rattle.wl_message.specs.Outgoing as boxes
+use Rattle.wl_recording.specs.declared.piece.Direction.{Direction}
 use Rattle.wl_recording.specs.declared.piece.Direction.TheVariants.{ToServer, ToClient}
 use Rattle.wl_recording.specs.Piece.{Piece}
 use Rattle.wl_check.specs.Places.{Known as Knows}
@@ -30,24 +33,27 @@ judged_in p = judgements (limit_of p) p.server.core.tables p.recording
 abbrev pub knows : PairState → Knows
 knows p = knowledge p.server.core.tables (judged_in p)
 
+-- Of these messages, which are in flight in one direction, the first were recorded and the others
+-- not.
+pub record RecordedOf {M : Type 0} (as_sent : M → boxes.Message) (limit : ℕ) (direction : Direction)
+    (pieces : List Piece) (inbox : Arrived) (taken : ℕ) (messages : List M) : Type 0 where
+  pub seen : List M
+  pub later : List M
+  pub is : messages ≡ seen ++ later
+  -- the direction's stream, and its tokens
+  pub recorded : Recorded limit direction pieces inbox taken (map as_sent seen)
+
 -- These requests and events are in flight, and of each direction's the first were recorded and the
 -- others not. What was recorded goes on lawfully, and a checker of it follows the ends.
 pub record LinkedBy (p : PairState) (w : World) (asked : List (Message Known))
     (told : List (Coming Known)) : Type 0 where
   pub stands : StandsBy p w asked told
-  pub asked_seen : List (Message Known)
-  pub asked_later : List (Message Known)
-  pub told_seen : List (Coming Known)
-  pub told_later : List (Coming Known)
-  pub asked_is : asked ≡ asked_seen ++ asked_later
-  pub told_is : told ≡ told_seen ++ told_later
-  -- each direction's stream, and its tokens
-  pub to_server : Recorded (limit_of p) ToServer p.recording p.server.core.inbox
-      ((knows p).taken ToServer) (map spelled asked_seen)
-  pub to_client : Recorded (limit_of p) ToClient p.recording p.client.core.inbox
-      ((knows p).taken ToClient) (map spelled_coming told_seen)
+  pub requests : RecordedOf spelled (limit_of p) ToServer p.recording p.server.core.inbox
+      ((knows p).taken ToServer) asked
+  pub events : RecordedOf spelled_coming (limit_of p) ToClient p.recording p.client.core.inbox
+      ((knows p).taken ToClient) told
   -- what the checker knows, and how the ends differ from it
-  pub follows : Follows p.server.core.tables (judged_in p) asked_later told_seen
+  pub follows : Follows p.server.core.tables (judged_in p) requests.later events.seen
       (client_rows p.client.core.view) p.client.globals
   -- what an event in flight is about was counted by the server
   pub counted : Each (IsBelow p.server.core.view.births) (all_tells told)

@@ -1,3 +1,3 @@
 pub mod AsBox
-mod Givens
-mod Tellings
+mod GivenArguments
+mod ToldArguments

@@ -5,6 +5,8 @@ use Rattle.std.specs.declared.result.Result.{Result}
 use Rattle.std.specs.declared.result.Result.TheVariants.{Ok, Err}
 use Rattle.wl_wire.specs.Argument.{Int, Uint, Fixed, Str, Obj, New, NewNamed, Array, Fd}
 use Rattle.wl_object_map.specs.declared.object.Object.{Object}
+use Rattle.wl_object_map.specs.declared.object.Entry.{Entry}
+use Rattle.wl_object_map.specs.View.{View, look}
 use Rattle.wl_objects.specs.declared.argument.Named.{Named}
 use Rattle.wl_objects.specs.declared.argument.Named.TheVariants as named_as
 use Rattle.wl_objects.specs.declared.error.NextError.{NextError}
@@ -164,6 +166,24 @@ abbrev pub args_of : client.Report → List Reported
 args_of (client.Event target opcode args) = args
 args_of _ = []
 
+-- The interface, by its place, and the version that a report tells of the object that it is about.
+pub record ToldEntry : Type 0 where
+  pub interface : ℕ
+  pub version : ℕ
+
+abbrev pub entry_told_by : Report → ToldEntry
+entry_told_by report = record { interface = report.interface; version = report.version }
+
+-- what is told of an entry; zeros of none
+abbrev pub entry_told : Option Entry → ToldEntry
+entry_told None = record { interface = 0; version = 0 }
+entry_told (Some entry) = record { interface = entry.iface.0; version = entry.version }
+
+-- the entry of what a client's report is about, where these objects were there before it
+abbrev pub event_entry : View → Result (Option client.Report) NextError → Option Entry
+event_entry view (Ok (Some report)) = client.entry_of view report
+event_entry view _ = None
+
 abbrev pub event_args : Result (Option client.Report) NextError → List Reported
 event_args (Ok (Some report)) = args_of report
 event_args _ = []
@@ -174,6 +194,11 @@ told_request room (Err why) = told_unread why
 told_request room (Ok None) = of_kind 0
 told_request room (Ok (Some report)) =
     told_message room report.target report.opcode report.args
+
+-- the entry of a request's target
+abbrev pub request_entry : View → Result (Option server.Report) NextError → Option Entry
+request_entry view (Ok (Some report)) = look view report.target.id
+request_entry view _ = None
 
 abbrev pub request_args : Result (Option server.Report) NextError → List Reported
 request_args (Ok (Some report)) = report.args

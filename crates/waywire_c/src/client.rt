@@ -7,6 +7,7 @@ ghost use Rattle.wl_connection.specs.Core.{in_room, is_drained, live, display_ob
 ghost use Rattle.wl_connection.specs.Core.{with_arrived};
 ghost use Rattle.wl_connection.specs.Core.{with_gone};
 ghost use Rattle.wl_connection.specs.Sending.{after_send};
+ghost use Rattle.wl_connection.specs.Waiting.{given_up, waiting, waiting_count};
 ghost use Rattle.wl_client.specs.State.{with_core};
 ghost use Rattle.wl_client.specs.Calls.{after_bind, bind_answer};
 ghost use Rattle.wl_client.specs.Reports.{after_next, next_answer};
@@ -15,7 +16,8 @@ ghost use Rattle.waywire_c.specs.Values.{fed_of, given_in, iface_at, object_of, 
 ghost use Rattle.waywire_c.specs.Calls.{SendTells};
 ghost use Rattle.waywire_c.specs.Inspecting.{IsTried};
 ghost use Rattle.waywire_c.specs.Sizes.{AreAllowed};
-ghost use Rattle.waywire_c.specs.Reports.{event_args, TellsArgs, told_by, told_event};
+ghost use Rattle.waywire_c.specs.Reports.{entry_told, entry_told_by, event_args, event_entry};
+ghost use Rattle.waywire_c.specs.Reports.{TellsArgs, told_by, told_event};
 
 use crate::client_handle::ClientHandle;
 use crate::making;
@@ -27,6 +29,7 @@ use crate::statuses::{BAD_SIZES, BAD_VALUE, NO_MEMORY, NOT_FOUND, OK, send_statu
 use crate::tables_handle::TablesHandle;
 use crate::values::{CAmounts, CObject, CSizes, CallArg, MAX_GIVEN, ReportArg, put_args};
 use std::alloc::Global;
+use wl_connection::End;
 use wl_objects::Arg;
 
 /// Makes a client with wl_display alone and empty boxes, and writes where it is to `client`.
@@ -163,6 +166,24 @@ pub extern "C" fn waywire_c_client_take(
     *taken = CAmounts::taken(client.get_mut().client.take(bytes, tokens));
 }
 
+/// Gives a client up: moves the tokens that wait in its boxes into the caller's memory, and writes how
+/// many these were to `taken`.
+#[unsafe(no_mangle)]
+pub extern "C" fn waywire_c_client_take_waiting_tokens(
+    client: &mut ClientHandle,
+    tokens: &mut [u32],
+    taken: &mut usize,
+)
+    ensures count { taken.new ≡ waiting_count client.old.held.client.core (length tokens.old) }
+    ensures tokens { tokens.new
+        ≡ take taken.new (waiting client.old.held.client.core) ++ drop taken.new tokens.old }
+    ensures state { client.new.held.client
+        ≡ with_core client.old.held.client
+        (given_up client.old.held.client.core (length tokens.old)) }
+{
+    *taken = client.get_mut().client.take_waiting_tokens(tokens);
+}
+
 /// Writes a request, and to `made` the object that it makes. Where an argument is refused, its
 /// place is written to `place`.
 #[unsafe(no_mangle)]
@@ -203,6 +224,8 @@ pub extern "C" fn waywire_c_client_next(
     ensures answer { result ≡ read_outcome (next_answer client.old.held.client) }
     ensures report { told_by report.new
         ≡ told_event (length args.old) (next_answer client.old.held.client) }
+    ensures entry { entry_told_by report.new ≡ entry_told
+        (event_entry client.old.held.client.core.view (next_answer client.old.held.client)) }
     ensures args { TellsArgs (event_args (next_answer client.old.held.client)) args.old args.new }
     ensures state { client.new.held.client ≡ after_next client.old.held.client }
 {

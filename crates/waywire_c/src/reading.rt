@@ -1,11 +1,12 @@
 //! An end reads a message, and what it reports is shown to C.
-ghost use Rattle.std.specs.Prelude.{◌≡◌, ◌≢◌, length};
+ghost use Rattle.std.specs.Prelude.{◌≡◌, ◌≢◌, length, None};
 ghost use Rattle.wl_client.specs.Reports.{after_next as after_event, next_answer};
 ghost use Rattle.wl_server.specs.Requests.{after_next as after_request};
 ghost use Rattle.wl_server.specs.Requests.{next_answer as request_answer};
 ghost use Rattle.wl_server.specs.Requests.{opens_object, request as found_request};
 ghost use Rattle.waywire_c.specs.Statuses.{read_outcome, OrMemory};
 ghost use Rattle.waywire_c.specs.Reports.{event_args, of_kind, request_args, TellsArgs, told_by};
+ghost use Rattle.waywire_c.specs.Reports.{entry_told, entry_told_by, event_entry, request_entry};
 ghost use Rattle.waywire_c.specs.Reports.{told_event, told_request};
 
 use crate::reports::{Report, incoming, nothing, request, unread};
@@ -24,10 +25,12 @@ pub fn read_event<'t>(
     ensures answer { result ≡ read_outcome (next_answer client.old) }
     ensures report { told_by report.new
         ≡ told_event (length args.old) (next_answer client.old) }
+    ensures entry { entry_told_by report.new
+        ≡ entry_told (event_entry client.old.core.view (next_answer client.old)) }
     ensures args { TellsArgs (event_args (next_answer client.old)) args.old args.new }
     ensures state { client.new ≡ after_event client.old }
 {
-    match client.next() {
+    match client.next_with_entry() {
         Ok(Some(read)) => {
             *report = incoming(read, args);
             OK
@@ -53,14 +56,17 @@ pub fn read_request<'t>(
         (read_outcome (request_answer server.old)) result }
     ensures report { result ≢ 11 → told_by report.new
         ≡ told_request (length args.old) (request_answer server.old) }
+    ensures entry { result ≢ 11 → entry_told_by report.new
+        ≡ entry_told (request_entry server.old.core.view (request_answer server.old)) }
     ensures args { result ≢ 11
         → TellsArgs (request_args (request_answer server.old)) args.old args.new }
     ensures state { result ≢ 11 → server.new ≡ after_request server.old }
     ensures no_report { result ≡ 11 → told_by report.new ≡ of_kind 0 }
+    ensures no_entry { result ≡ 11 → entry_told_by report.new ≡ entry_told None }
     ensures no_args { result ≡ 11 → args.new ≡ args.old }
     ensures unchanged { result ≡ 11 → server.new ≡ server.old }
 {
-    match server.next() {
+    match server.next_with_entry() {
         Ok(Some(mut read)) => {
             *report = request(&mut read, args);
             OK

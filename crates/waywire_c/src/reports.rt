@@ -1,16 +1,16 @@
 //! Reports as C has them.
-ghost use Rattle.std.specs.Prelude.{◌≡◌, min, length};
+ghost use Rattle.std.specs.Prelude.{◌≡◌, min, length, None, Some};
 ghost use Rattle.wl_objects.specs.Parsed.{seen_args};
 ghost use Rattle.wl_client.specs.Outlines.{lent_report as lent_event};
 ghost use Rattle.wl_server.specs.Seen.{lent_report as lent_request};
 ghost use Rattle.waywire_c.specs.Reports.{args_of, of_kind, TellsArgs, told_by, told_incoming};
-ghost use Rattle.waywire_c.specs.Reports.{told_message, told_unread};
+ghost use Rattle.waywire_c.specs.Reports.{entry_told, entry_told_by, told_message, told_unread};
 
 use crate::statuses::{fault_place, fault_spelling};
 use crate::values::{CObject, ReportArg, named, shown, start_of, start_of_tokens};
-use wl_client::Incoming;
-use wl_objects::{Args, NextError};
-use wl_server::Request;
+use wl_client::{Incoming, IncomingWithEntry};
+use wl_objects::{Args, Entry, NextError};
+use wl_server::RequestWithEntry;
 
 /// What a report tells.
 const NOTHING: u32 = 0;
@@ -51,12 +51,16 @@ pub struct Report {
     pub text_length: usize,
     pub place: usize,
     pub offset: u64,
+    /// What the object that the report is about had before the message; zeros where there is none.
+    pub interface: u16,
+    pub version: u32,
 }
 
 /// A report of this kind and no more.
 #[inline(always)]
 fn plain(kind: u32) -> Report
-    ensures { told_by result ≡ of_kind kind }
+    ensures report { told_by result ≡ of_kind kind }
+    ensures entry { entry_told_by result ≡ entry_told None }
 {
     Report {
         kind,
@@ -73,13 +77,16 @@ fn plain(kind: u32) -> Report
         text_length: 0,
         place: 0,
         offset: 0,
+        interface: 0,
+        version: 0,
     }
 }
 
 /// The report where no message is whole.
 #[inline(always)]
 pub fn nothing() -> Report
-    ensures { told_by result ≡ of_kind 0 }
+    ensures report { told_by result ≡ of_kind 0 }
+    ensures entry { entry_told_by result ≡ entry_told None }
 {
     plain(NOTHING)
 }
@@ -99,25 +106,56 @@ fn put_shown(args: &mut Args<'_>, slots: &mut [ReportArg]) -> usize
     count
 }
 
+/// A report with the interface and the version of an entry.
+#[inline(always)]
+fn with_entry(report: Report, entry: Option<Entry>) -> Report
+    ensures report { told_by result ≡ told_by report }
+    ensures entry { entry_told_by result ≡ entry_told entry }
+{
+    let (interface, version) = match entry {
+        Some(entry) => (entry.iface.0, entry.version),
+        None => (0, 0),
+    };
+    Report {
+        interface,
+        version,
+        ..report
+    }
+}
+
 /// The report of a request.
 #[inline(always)]
-pub fn request(read: &mut Request<'_>, slots: &mut [ReportArg]) -> Report
+pub fn request(read: &mut RequestWithEntry<'_>, slots: &mut [ReportArg]) -> Report
     ensures report { told_by result
-        ≡ told_message (length slots.old) (lent_request read.old).target
-        (lent_request read.old).opcode (lent_request read.old).args }
-    ensures args { TellsArgs (lent_request read.old).args slots.old slots.new }
+        ≡ told_message (length slots.old) (lent_request read.old.request).target
+        (lent_request read.old.request).opcode (lent_request read.old.request).args }
+    ensures entry { entry_told_by result ≡ entry_told (Some read.old.entry) }
+    ensures args { TellsArgs (lent_request read.old.request).args slots.old slots.new }
 {
-    Report {
-        opcode: u32::from(read.opcode),
-        target: CObject::of(read.target),
-        arg_count: put_shown(&mut read.args, slots),
+    let RequestWithEntry { request, entry } = read;
+    let report = Report {
+        opcode: u32::from(request.opcode),
+        target: CObject::of(request.target),
+        arg_count: put_shown(&mut request.args, slots),
         ..plain(MESSAGE)
-    }
+    };
+    with_entry(report, Some(*entry))
+}
+
+/// The report of what a client read, with the entry of what it is about.
+#[inline(always)]
+pub fn incoming(read: IncomingWithEntry<'_>, slots: &mut [ReportArg]) -> Report
+    ensures report { told_by result
+        ≡ told_incoming (length slots.old) (lent_event read.entry.incoming) }
+    ensures entry { entry_told_by result ≡ entry_told read.entry.entry }
+    ensures args { TellsArgs (args_of (lent_event read.entry.incoming)) slots.old slots.new }
+{
+    with_entry(event(read.incoming, slots), read.entry)
 }
 
 /// The report of what a client read.
 #[inline(always)]
-pub fn incoming(read: Incoming<'_>, slots: &mut [ReportArg]) -> Report
+fn event(read: Incoming<'_>, slots: &mut [ReportArg]) -> Report
     ensures report { told_by result
         ≡ told_incoming (length slots.old) (lent_event read.entry) }
     ensures args { TellsArgs (args_of (lent_event read.entry)) slots.old slots.new }
@@ -171,7 +209,8 @@ pub fn incoming(read: Incoming<'_>, slots: &mut [ReportArg]) -> Report
 
 /// The report where no message can be read.
 pub fn unread(why: NextError) -> Report
-    ensures { told_by result ≡ told_unread why }
+    ensures report { told_by result ≡ told_unread why }
+    ensures entry { entry_told_by result ≡ entry_told None }
 {
     match why {
         NextError::Fault { fault, offset } => Report {

@@ -1,12 +1,13 @@
 //! What C calls of a server.
 ghost use Rattle.std.specs.Prelude.{◌≡◌, ◌≢◌, ◌↔◌, ◌++◌, length, take, drop, true, Ok, IfSome};
-ghost use Rattle.std.specs.Prelude.{MatchOption};
+ghost use Rattle.std.specs.Prelude.{MatchOption, None};
 ghost use Rattle.wl_sigs.specs.declared.signature.Side.TheVariants.{Event as event_side};
 ghost use Rattle.wl_message.specs.Outgoing.{goes, waiting_bytes, waiting_tokens};
 ghost use Rattle.wl_connection.specs.Core.{in_room, is_drained, live, display_object, feeds};
 ghost use Rattle.wl_connection.specs.Core.{with_arrived};
 ghost use Rattle.wl_connection.specs.Core.{with_gone};
 ghost use Rattle.wl_connection.specs.Sending.{after_send};
+ghost use Rattle.wl_connection.specs.Waiting.{given_up, waiting, waiting_count};
 ghost use Rattle.wl_server.specs.State.{with_core};
 ghost use Rattle.wl_server.specs.Announcing.{after_announce, Fitting};
 ghost use Rattle.wl_server.specs.Calls.{add_answer, after_drop, after_error, after_withdraw};
@@ -18,7 +19,8 @@ ghost use Rattle.waywire_c.specs.Values.{fed_of, given_in, iface_at, object_of, 
 ghost use Rattle.waywire_c.specs.Calls.{SendTells};
 ghost use Rattle.waywire_c.specs.Inspecting.{IsTried};
 ghost use Rattle.waywire_c.specs.Sizes.{AreAllowed};
-ghost use Rattle.waywire_c.specs.Reports.{of_kind, request_args, TellsArgs, told_by, told_request};
+ghost use Rattle.waywire_c.specs.Reports.{entry_told, entry_told_by, of_kind, request_args};
+ghost use Rattle.waywire_c.specs.Reports.{request_entry, TellsArgs, told_by, told_request};
 
 use crate::making;
 use crate::parts::address;
@@ -30,6 +32,7 @@ use crate::statuses::{BAD_SIZES, BAD_VALUE, NO_MEMORY, NOT_FOUND, OK, global_sta
 use crate::tables_handle::TablesHandle;
 use crate::values::{CAmounts, CObject, CSizes, CallArg, MAX_GIVEN, ReportArg, put_args};
 use std::alloc::Global;
+use wl_connection::End;
 use wl_objects::Arg;
 use wl_wire::Iface;
 
@@ -167,6 +170,24 @@ pub extern "C" fn waywire_c_server_take(
     *taken = CAmounts::taken(server.get_mut().server.take(bytes, tokens));
 }
 
+/// Gives a server up: moves the tokens that wait in its boxes into the caller's memory, and writes how
+/// many these were to `taken`.
+#[unsafe(no_mangle)]
+pub extern "C" fn waywire_c_server_take_waiting_tokens(
+    server: &mut ServerHandle,
+    tokens: &mut [u32],
+    taken: &mut usize,
+)
+    ensures count { taken.new ≡ waiting_count server.old.held.server.core (length tokens.old) }
+    ensures tokens { tokens.new
+        ≡ take taken.new (waiting server.old.held.server.core) ++ drop taken.new tokens.old }
+    ensures state { server.new.held.server
+        ≡ with_core server.old.held.server
+        (given_up server.old.held.server.core (length tokens.old)) }
+{
+    *taken = server.get_mut().server.take_waiting_tokens(tokens);
+}
+
 /// Writes an event, and to `made` that it makes no object. Where an argument is refused, its place
 /// is written to `place`.
 #[unsafe(no_mangle)]
@@ -209,11 +230,14 @@ pub extern "C" fn waywire_c_server_next(
         (read_outcome (next_answer server.old.held.server)) result }
     ensures report { result ≢ 11 → told_by report.new
         ≡ told_request (length args.old) (next_answer server.old.held.server) }
+    ensures entry { result ≢ 11 → entry_told_by report.new ≡ entry_told
+        (request_entry server.old.held.server.core.view (next_answer server.old.held.server)) }
     ensures args { result ≢ 11
         → TellsArgs (request_args (next_answer server.old.held.server)) args.old args.new }
     ensures state { result ≢ 11
         → server.new.held.server ≡ after_next server.old.held.server }
     ensures no_report { result ≡ 11 → told_by report.new ≡ of_kind 0 }
+    ensures no_entry { result ≡ 11 → entry_told_by report.new ≡ entry_told None }
     ensures no_args { result ≡ 11 → args.new ≡ args.old }
     ensures unchanged { result ≡ 11 → server.new.held ≡ server.old.held }
 {

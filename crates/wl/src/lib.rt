@@ -31,6 +31,9 @@
 //! descriptors pass, `flush` writes what waits to a stream (steps 2 and 3), and `fill` reads from
 //! one (steps 3 and 4). No call waits by itself, and none calls back.
 //!
+//! The calls that both ends have, such as `take` and `feed`, are those of the trait [`End`]: bring
+//! it in with them, and write code for either end over it.
+//!
 //! Messages have names: [`request::wl_surface::COMMIT`](request) is the opcode of
 //! wl_surface.commit, and [`event::wl_callback::DONE`](event) that of wl_callback.done.
 //!
@@ -55,11 +58,13 @@
 //! - An [`Object`] is a plain value: an id and a birth, which tells it from every other object that
 //!   ever had that id. A call that names an object of the past is refused, and never reaches its
 //!   successor.
-//! - A report of `next` ([`Incoming`], [`Request`]) lends its strings, its arrays and its tokens from
-//!   the end, until the end's next call of any kind: to keep one beyond that is an error of the
-//!   compiler. [`Args`] goes through the arguments. A report of `next_owned` ([`OwnedIncoming`],
-//!   [`OwnedRequest`]) owns them. After an event for an object that the client has destroyed
-//!   ([`Incoming::Discarded`]) the caller closes the descriptors that its tokens stand for.
+//! - A report of `next` ([`Incoming`], [`Request`]) lends its strings, its arrays and its tokens
+//!   from the end, until the end's next call of any kind: to keep one beyond that is an error of
+//!   the compiler. [`Args`] goes through the arguments. A report of `next_owned`
+//!   ([`OwnedIncoming`], [`OwnedRequest`]) owns them. `next_with_entry` and `next_owned_with_entry`
+//!   also tell what the object was before the message ([`Entry`]), and `shown` of the first prints
+//!   it. After an event for an object that the client has destroyed ([`Incoming::Discarded`]) the
+//!   caller closes the descriptors that its tokens stand for.
 //! - What allocates is given an allocator first, and returns an error where it has no memory. After
 //!   an end's `new` these allocate: the opening of an object, [`Server::add_global`], and the
 //!   reports of `next_owned` and `read_all`.
@@ -83,7 +88,9 @@
 //! [`Move`]s. A [`Recording`] is what passed at one point of a connection; a [`Tee`] records what
 //! is read from a stream. [`trace`] prints a recording message by message, and [`check`] says
 //! whether it is lawful, and where not. An [`Inspector`] does both while a session goes on, piece
-//! by piece as it passes. [`same_rows`] says whether a client and a server have the same objects.
+//! by piece as it passes. [`Twins`] is what a proxy keeps: which objects of its two ends stand for
+//! each other; the crate `proxy` is one. [`same_rows`] says whether a client and a server have the
+//! same objects.
 //!
 //! # A client and a server
 //!
@@ -97,7 +104,7 @@
 //! use anyhow::{Context, Result, bail};
 //! use std::io::Write;
 //! use wl::{
-//!     Arg, Direction, Got, GotRef, Incoming, Limit, Object, OwnedArgs, OwnedIncoming, Recording,
+//!     Arg, Direction, End, Got, GotRef, Incoming, Limit, Object, OwnedArgs, OwnedIncoming, Recording,
 //!     Sizes, SlotTable, Tables, event, request, trace,
 //! };
 //!
@@ -262,17 +269,23 @@
 #![tactic(auto)]
 
 pub use wl_check::Inspector;
-pub use wl_client::{Client, Incoming, OwnedIncoming, Tokens};
-pub use wl_connection::ReadAll;
+pub use wl_client::{
+    Client, Incoming, IncomingWithEntry, OwnedIncoming, OwnedIncomingWithEntry, ShownIncoming,
+    Tokens,
+};
+pub use wl_connection::{End, ReadAll};
 pub use wl_message::{Fed, FillError, FlushError, Limit, Piece, Sizes, Taken};
 pub use wl_objects::{
     Arg, Args, Entry, Fault, Got, GotRef, MapTable, Named, NextError, Object, OwnedArgs, SendError,
     SlotTable, State, Table, TableError,
 };
-pub use wl_server::{GlobalError, OwnedRequest, Request, Server};
+pub use wl_server::{
+    GlobalError, OwnedRequest, OwnedRequestWithEntry, Request, RequestWithEntry, Server,
+};
 pub use wl_session::{
     Carried, Direction, Move, Pair, Passed, Recording, RecordingError, Reply, SendArg, Tee,
     Verdict, check, same_rows, trace,
 };
 pub use wl_sigs::{Destroys, Side, Signature, TableFault, Tables, event, request};
+pub use wl_twins::Twins;
 pub use wl_wire::{ArgFault, Bytes, Fixed, Iface, Kind};

@@ -1,5 +1,5 @@
 -- What an end finds, where the frame of a message was told.
-use Rattle.std.proofs.Common.{◌≡◌, ℕ, true, ◌≤◌, List, [], ◌++◌, length, take, drop, sym, ap, ◌∙◌, subst, arith}
+use Rattle.std.proofs.Common.{◌≡◌, ℕ, ◌<◌, ◌≤◌, List, [], length, take, drop, get_or, sym, ap, ◌∙◌, subst, arith}
 use Rattle.std.proofs.lemmas.List.{take-take}
 use Rattle.std.specs.Prelude.{if◌then◌else◌}
 use Rattle.std.specs.declared.option.Option.{Option}
@@ -11,23 +11,24 @@ use Rattle.wl_sigs.specs.declared.signature.Side.TheVariants.{Event as event_sid
 use Rattle.wl_sigs.specs.Valid.{Valid}
 use Rattle.wl_message.specs.declared.inbox.Frame.{Frame}
 use Rattle.wl_message.specs.Arrived.{Tells}
+use Rattle.wl_message.specs.Cut.{Whole}
 use Rattle.wl_object_map.specs.declared.object.State.{State as ObjectState}
 use Rattle.wl_object_map.specs.declared.object.State.TheVariants.{Live, Zombie}
 use Rattle.wl_objects.specs.declared.error.Fault.{Fault}
+use Rattle.wl_objects.specs.declared.parsed.ParsedArg.{ParsedArg}
 use Rattle.wl_objects.specs.Messages.{Received, received, reader_of}
 use Rattle.wl_connection.specs.Core.{Core}
 use Rattle.wl_connection.specs.Receiving.{Found, found, found_in, takes, own_tokens}
 use Rattle.wl_client.specs.declared.pending.PendingEvent.{PendingEvent}
-use Rattle.wl_client.specs.declared.pending.Stop.TheVariants as stops
-use Rattle.wl_client.specs.Reports.{Report, report, Event, Discarded, needs_memory, is_error_event, is_delete_event, deleted_id, error_report, delete_report, plain_report}
+use Rattle.wl_client.specs.Reports.{Report, report, Event, Discarded, is_error_event}
+use Rattle.wl_client.specs.Reports.{is_delete_event, deleted_id, error_report, delete_report}
+use Rattle.wl_client.specs.Reports.{plain_report}
 use Rattle.wl_client.specs.Steps.{end_with, report_by}
-use Rattle.wl_connection.proofs.Receivings.{is_received}
-use Rattle.wl_client.specs.Reading.{IsPending, IsPendingOf, IsAhead, IsFront, IsOwnedFront, body_of, headed}
+use Rattle.wl_connection.proofs.ReceivedMessage.{first-tokens, is_received}
+use Rattle.wl_client.specs.Reading.{CanTake, IsPending, IsPendingOf, IsAhead, IsFront, body_of, front_report, headed}
 use Rattle.wl_client.specs.Outlines.{outlined}
-use Rattle.wl_client.specs.Seen.{report_of}
-use Rattle.wl_client.specs.declared.pending.OwnedPendingEvent.{OwnedPendingEvent}
-use Rattle.wl_connection.proofs.Coming.{IsFound, is_found, reported_own}
-use Rattle.wl_connection.proofs.Frames.{IsFrame, descriptors-le, found_frame, framed}
+use Rattle.wl_connection.proofs.FoundStays.{IsFound, is_found, reported_own}
+use Rattle.wl_connection.proofs.Frames.{IsFrame, body-front, descriptors-le, found_frame, framed}
 
 -- ---- what comes of a frame
 
@@ -36,116 +37,116 @@ record FewOf (m : Received) : Type 0 where
   values : length m.values ≤ 20
   taken : takes m ≤ 20
 
-few_of : (core : Core) (h : Header) (body : List ℕ) (waiting : ℕ) (m : Received) → Valid core.tables → received core.tables event_side (reader_of core.view) h body waiting ≡ Ok m → FewOf m
+few_of : (core : Core) (h : Header) (body : List ℕ) (waiting : ℕ) (m : Received) → Valid core.tables
+    → received core.tables event_side (reader_of core.view) h body waiting ≡ Ok m → FewOf m
 few_of core h body waiting m v e =
     let p = is_received core.tables event_side (reader_of core.view) h body waiting m e in
-    let small : length m.signature.kinds ≤ 20 = v.small.arguments event_side m.entry.iface.0 h.opcode m.signature p.signature in
+    let small : length m.signature.kinds ≤ 20 = v.small.arguments event_side m.entry.iface.0 h.opcode m.signature
+    p.signature in
     record { values = omega (arith, p.values); taken = omega (arith, descriptors-le m.signature.kinds) }
 
 -- ---- a message's own tokens are enough for its report
 
-plain_own : (core : Core) (f : Found) (s : ObjectState) → IsFound core event_side f → plain_report (end_with [] core.view (own_tokens core f.message)) f.opcode f.message s ≡ plain_report core f.opcode f.message s
+plain_own : (core : Core) (f : Found) (s : ObjectState) → IsFound core event_side f
+    → plain_report (end_with [] core.view (own_tokens core f.message)) f.opcode f.message s
+    ≡ plain_report core f.opcode f.message s
 plain_own core f Live h = ap (λ l. Event f.message.target f.opcode l) (reported_own core event_side f h)
-plain_own core f Zombie h = ap (λ (l : List ℕ). Discarded f.message.target f.opcode l) (take-take (takes f.message) (takes f.message) core.inbox.tokens (omega arith))
+plain_own core f Zombie h = ap (λ (l : List ℕ). Discarded f.message.target f.opcode l)
+    (take-take (takes f.message) (takes f.message) core.inbox.tokens (omega arith))
 
-report_own : (core : Core) (f : Found) → IsFound core event_side f → report_by core.view (own_tokens core f.message) f ≡ report core f
+report_own : (core : Core) (f : Found) → IsFound core event_side f
+    → report_by core.view (own_tokens core f.message) f ≡ report core f
 report_own core f h =
-    ap (λ (x : Report). if is_error_event f then error_report core f.message.values else if is_delete_event f then delete_report core (deleted_id f) else x)
+    ap (λ (x : Report). if is_error_event f then error_report core f.message.values else if is_delete_event f
+    then delete_report core (deleted_id f) else x)
     (plain_own core f f.message.entry.state h)
 
 -- ---- what comes of a frame
 
 -- what is reported by the tokens that the message takes
-own_reported : (core : Core) (h : Header) (body : List ℕ) (event : PendingEvent) (m : Received) → found core event_side ≡ Ok (Some (headed h m)) → IsPending core.tables core.view body (headed h m) event
-    → outlined body (take event.tokens core.inbox.tokens) event.outline ≡ report core (headed h m)
-own_reported core h body event m found_it s =
-    ap (λ (k : ℕ). outlined body (take k core.inbox.tokens) event.outline) s.tokens_taken
+own_reported : (core : Core) (h : Header) (body : List ℕ) (args : List ParsedArg) (event : PendingEvent) (m : Received)
+    → found core event_side ≡ Ok (Some (headed h m)) → IsPending core.tables core.view body args (headed h m) event
+    → outlined body args (take event.tokens core.inbox.tokens) event.outline ≡ report core (headed h m)
+own_reported core h body args event m found_it s =
+    ap (λ (k : ℕ). outlined body args (take k core.inbox.tokens) event.outline) s.tokens_taken
     ∙ (s.report (own_tokens core m) ∙ report_own core (headed h m) (is_found core event_side (headed h m) found_it))
 
-ahead : (core : Core) (h : Header) (body : List ℕ) (waiting : ℕ) (event : PendingEvent) (m : Received) → Valid core.tables → IsFrame core h body waiting
-    → received core.tables event_side (reader_of core.view) h body waiting ≡ Ok m → found core event_side ≡ Ok (Some (headed h m)) → IsPending core.tables core.view body (headed h m) event
-    → IsAhead core (headed h m) event
-ahead core h body waiting event m v f e found_it s =
+ahead : (core : Core) (h : Header) (body : List ℕ) (args : List ParsedArg) (waiting : ℕ) (event : PendingEvent)
+    (m : Received) → Valid core.tables → IsFrame core h body waiting
+    → received core.tables event_side (reader_of core.view) h body waiting ≡ Ok m
+    → found core event_side ≡ Ok (Some (headed h m)) → IsPending core.tables core.view body args (headed h m) event
+    → IsAhead core args (headed h m) event
+ahead core h body args waiting event m v f e found_it s =
     let p = is_received core.tables event_side (reader_of core.view) h body waiting m e in
     let b = few_of core h body waiting m v e in
     let behind : body_of core h.size ≡ body = ap (drop 8) f.parts in
     record {
       can_take = record {
-        message = f.whole;
-        few = b.taken;
-        waiting = omega (arith, p.tokens, f.tokens);
+        message = f.whole ∙ ap Whole (sym s.bytes);
+        few = omega (arith, b.taken, s.tokens_taken);
+        waiting = omega (arith, p.tokens, f.tokens, s.tokens_taken);
+        change = s.can;
+        entry = s.entry;
       };
-      is_pending = subst (λ (l : List ℕ). IsPending core.tables core.view l (headed h m) event) (sym behind) s;
+      is_pending = subst (λ (l : List ℕ). IsPending core.tables core.view l args (headed h m) event) (sym behind) s;
       is_reported =
-          ap (λ (k : ℕ). outlined (body_of core k) (take event.tokens core.inbox.tokens) event.outline) s.bytes
-          ∙ (ap (λ (l : List ℕ). outlined l (take event.tokens core.inbox.tokens) event.outline) behind ∙ own_reported core h body event m found_it s);
+          ap (λ (k : ℕ). outlined (body_of core k) args (take event.tokens core.inbox.tokens) event.outline) s.bytes
+          ∙ (ap (λ (l : List ℕ). outlined l args (take event.tokens core.inbox.tokens) event.outline) behind
+          ∙ own_reported core h body args event m found_it s);
     }
 
 pub found_headed : (core : Core) (h : Header) (body : List ℕ) (waiting : ℕ) (m : Received) → IsFrame core h body waiting
-    → received core.tables event_side (reader_of core.view) h body waiting ≡ Ok m → found core event_side ≡ Ok (Some (headed h m))
+    → received core.tables event_side (reader_of core.view) h body waiting ≡ Ok m
+    → found core event_side ≡ Ok (Some (headed h m))
 found_headed core h body waiting m f e = found_frame core event_side h body waiting f ∙ ap (found_in h.size h.opcode) e
 
-pending_is : (core : Core) (h : Header) (body : List ℕ) (waiting : ℕ) (event : PendingEvent) → Valid core.tables → IsFrame core h body waiting
-    → IsPendingOf core.tables core.view h body (received core.tables event_side (reader_of core.view) h body waiting) (Ok event)
-    → IsFront core (found core event_side) (Ok (Some event))
-pending_is core h body waiting event v f s =
+pending_is : (core : Core) (h : Header) (body : List ℕ) (args : List ParsedArg) (waiting : ℕ) (event : PendingEvent)
+    → Valid core.tables → IsFrame core h body waiting
+    → IsPendingOf core.tables core.view h body args
+    (received core.tables event_side (reader_of core.view) h body waiting) (Ok event)
+    → IsFront core args (found core event_side) (Ok (Some event))
+pending_is core h body args waiting event v f s =
     let e = found_headed core h body waiting s.0 f s.1 in
-    (headed h s.0, e, ahead core h body waiting event s.0 v f s.1 e s.2)
+    (headed h s.0, e, ahead core h body args waiting event s.0 v f s.1 e s.2)
 
 fault_is : (core : Core) (h : Header) (body : List ℕ) (waiting : ℕ) (fault : Fault) → IsFrame core h body waiting
-    → received core.tables event_side (reader_of core.view) h body waiting ≡ Err fault → found core event_side ≡ Err fault
+    → received core.tables event_side (reader_of core.view) h body waiting ≡ Err fault
+    → found core event_side ≡ Err fault
 fault_is core h body waiting fault f s = found_frame core event_side h body waiting f ∙ ap (found_in h.size h.opcode) s
 
 -- ---- as the code has it
 
-pub pending_told : (core before : Core) (o : Option Frame) (f : Frame) (event : PendingEvent) → core ≡ before → o ≡ Some f → Tells core.inbox (Ok o) → IsHeader f.header → Valid core.tables
-    → IsPendingOf core.tables core.view f.header f.body.now (received core.tables event_side (reader_of core.view) f.header f.body.now f.tokens) (Ok event)
-    → IsFront before (found before event_side) (Ok (Some event))
-pending_told core before o f event same e t h v s =
-    subst (λ (c : Core). IsFront c (found c event_side) (Ok (Some event))) same
-    (pending_is core f.header f.body.now f.tokens event v (framed core o f e t h) s)
+pub pending_told : (core before : Core) (args : List ParsedArg) (o : Option Frame) (f : Frame) (event : PendingEvent)
+    → core ≡ before → o ≡ Some f → Tells core.inbox (Ok o) → IsHeader f.header → Valid core.tables
+    → IsPendingOf core.tables core.view f.header f.body.now args
+    (received core.tables event_side (reader_of core.view) f.header f.body.now f.tokens) (Ok event)
+    → IsFront before args (found before event_side) (Ok (Some event))
+pending_told core before args o f event same e t h v s =
+    subst (λ (c : Core). IsFront c args (found c event_side) (Ok (Some event))) same
+    (pending_is core f.header f.body.now args f.tokens event v (framed core o f e t h) s)
 
-pub fault_told : (core before : Core) (o : Option Frame) (f : Frame) (fault : Fault) → core ≡ before → o ≡ Some f → Tells core.inbox (Ok o) → IsHeader f.header
-    → received core.tables event_side (reader_of core.view) f.header f.body.now f.tokens ≡ Err fault → found before event_side ≡ Err fault
+pub fault_told : (core before : Core) (o : Option Frame) (f : Frame) (fault : Fault) → core ≡ before → o ≡ Some f
+    → Tells core.inbox (Ok o) → IsHeader f.header
+    → received core.tables event_side (reader_of core.view) f.header f.body.now f.tokens ≡ Err fault
+    → found before event_side ≡ Err fault
 fault_told core before o f fault same e t h s =
     subst (λ (c : Core). found c event_side ≡ Err fault) same
     (fault_is core f.header f.body.now f.tokens fault (framed core o f e t h) s)
 
--- an event takes no more tokens than a message can have, and these wait
-pub pending_tokens : (core : Core) (o : Option Frame) (f : Frame) (event : PendingEvent) → o ≡ Some f → Tells core.inbox (Ok o) → Valid core.tables
-    → IsPendingOf core.tables core.view f.header f.body.now (received core.tables event_side (reader_of core.view) f.header f.body.now f.tokens) (Ok event)
-    → (event.tokens ≤ 20) × (event.tokens ≤ length core.inbox.tokens)
-pending_tokens core o f event e t v s =
-    let p = is_received core.tables event_side (reader_of core.view) f.header f.body.now f.tokens s.0 s.1 in
-    let b = few_of core f.header f.body.now f.tokens s.0 v s.1 in
-    let k = rw e at t in
-    (omega (arith, s.2.tokens_taken, b.taken), omega (arith, s.2.tokens_taken, p.tokens, k.2))
+-- ---- the report that is copied
 
-pub owned_told : {A : Type 0} (core before : Core) (o : Option Frame) (f : Frame) (owned : OwnedPendingEvent A) (own : List ℕ) → core ≡ before → o ≡ Some f → Tells core.inbox (Ok o) → IsHeader f.header → Valid core.tables
-    → own ≡ take owned.event.tokens core.inbox.tokens
-    → IsPendingOf core.tables core.view f.header f.body.now (received core.tables event_side (reader_of core.view) f.header f.body.now f.tokens) (Ok owned.event)
-    → report_of owned.report ≡ outlined f.body.now own owned.event.outline
-    → IsOwnedFront before (found before event_side) (Ok (Some owned))
-owned_told core before o f owned own same e t h v w s r =
-    let fr = framed core o f e t h in
-    let there = found_headed core f.header f.body.now f.tokens s.0 fr s.1 in
-    subst (λ (c : Core). IsOwnedFront c (found c event_side) (Ok (Some owned))) same (
-      headed f.header s.0,
-      there,
-      ahead core f.header f.body.now f.tokens owned.event s.0 v fr s.1 there s.2,
-      r ∙ (ap (λ (l : List ℕ). outlined f.body.now l owned.event.outline) w ∙ own_reported core f.header f.body.now owned.event s.0 there s.2),
-    )
-
-pub memory_told : (A : Type 0) (core before : Core) (o : Option Frame) (f : Frame) (event : PendingEvent) (own : List ℕ) → core ≡ before → o ≡ Some f → Tells core.inbox (Ok o) → IsHeader f.header
-    → own ≡ take event.tokens core.inbox.tokens
-    → IsPendingOf core.tables core.view f.header f.body.now (received core.tables event_side (reader_of core.view) f.header f.body.now f.tokens) (Ok event)
-    → needs_memory (outlined f.body.now own event.outline) ≡ true
-    → IsOwnedFront {A = A} before (found before event_side) (Err stops.Memory)
-memory_told A core before o f event own same e t h w s n =
-    let fr = framed core o f e t h in
-    let there = found_headed core f.header f.body.now f.tokens s.0 fr s.1 in
-    subst (λ (c : Core). IsOwnedFront {A = A} c (found c event_side) (Err stops.Memory)) same (
-      headed f.header s.0,
-      there,
-      ap needs_memory (sym (ap (λ (l : List ℕ). outlined f.body.now l event.outline) w ∙ own_reported core f.header f.body.now event s.0 there s.2)) ∙ n,
-    )
+-- the body and the tokens of an event in front, as they were told
+pub front_told : (core inner : Core) (args held : List ParsedArg) (event : PendingEvent) (o : Option Frame) (f : Frame)
+    (tokens : List ℕ) → inner ≡ core → held ≡ args → CanTake core event → o ≡ Some f → Tells inner.inbox (Ok o)
+    → length tokens ≡ 20
+    → ((place : ℕ) → place < event.tokens → place < 20 → get_or tokens place 0 ≡ get_or inner.inbox.tokens place 0)
+    → outlined f.body.now held (take event.tokens tokens) event.outline ≡ front_report core args event
+front_told core inner args held event o f tokens same kept can e t all first =
+    let told = subst (λ (x : Option Frame). Tells core.inbox (Ok x)) e
+    (subst (λ (k : Core). Tells k.inbox (Ok o)) same t) in
+    let body = body-front core.inbox.limit.bytes core.inbox.bytes f.body.now event.size f.header can.message told.0
+    told.1 in
+    let own = first-tokens event.tokens tokens core.inbox.tokens (omega (arith, can.few, all)) can.waiting
+    (λ k less. first k less (omega (arith, less, can.few)) ∙ ap (λ (b : Core). get_or b.inbox.tokens k 0) same)
+    in
+    λ i. outlined (body i) (kept i) (own i) event.outline

@@ -10,7 +10,7 @@ use Rattle.wl_client.specs.State.{State}
 use Rattle.wl_client.specs.Reports.{report, answer_found}
 use Rattle.wl_connection.specs.Reads.{HasReport}
 use Rattle.wl_client.specs.Streams.{reading}
-use Rattle.wl_client.proofs.Comings.{answers}
+use Rattle.wl_client.proofs.ReadingStays.{answers}
 
 -- a report of some arguments needs memory
 pub some_arguments : (args : List Reported) → args ≢ [] → not (is_none args) ≡ true
@@ -18,5 +18,6 @@ some_arguments [] h = absurd (h refl)
 some_arguments (x ∷ args) h = refl
 
 -- a message that is found is reported
-pub has_one : (state : State) (f : Found) → state.core.failed ≡ false → found state.core event_side ≡ Ok (Some f) → HasReport reading state
+pub has_one : (state : State) (f : Found) → state.core.failed ≡ false → found state.core event_side ≡ Ok (Some f)
+    → HasReport reading state
 has_one state f s e = (report state.core f, answers state s ∙ ap (answer_found state.core) e)

@@ -15,24 +15,28 @@ use Rattle.wl_object_map.specs.View.{View, look, zombie, with_zombie, zombied}
 use Rattle.wl_object_map.specs.Views.{get_put}
 use Rattle.wl_objects.specs.Messages.{Client as client, after, ended_id}
 
-at_key : (rows : FinMap nat_cmp Entry) (id q : ℕ) (e : Entry) (b : Bool) → eqb q id ≡ b → get rows id ≡ Some e → cond b (Some e) (get rows q) ≡ get rows q
+at_key : (rows : FinMap nat_cmp Entry) (id q : ℕ) (e : Entry) (b : Bool) → eqb q id ≡ b → get rows id ≡ Some e
+    → cond b (Some e) (get rows q) ≡ get rows q
 at_key rows id q e false t h = refl
 at_key rows id q e true t h = sym h ∙ ap (get rows) (sym (eqb-true q id t))
 
 -- what is there is put there
 put_same : (rows : FinMap nat_cmp Entry) (id : ℕ) (e : Entry) → get rows id ≡ Some e → insert rows id e ≡ rows
-put_same rows id e h = same_map nat_cmp_total nat_cmp-IsAntisymmetric _ _ (λ q. get_put rows id e q ∙ at_key rows id q e (eqb q id) refl h)
+put_same rows id e h = same_map nat_cmp_total nat_cmp-IsAntisymmetric _ _
+    (λ q. get_put rows id e q ∙ at_key rows id q e (eqb q id) refl h)
 
 zombie_same : (e : Entry) → e.state ≡ Zombie → zombie e ≡ e
 zombie_same e h = λ i. record e { state = sym h i }
 
-pub zombied_same : (view : View) (id : ℕ) (e : Entry) → look view id ≡ Some e → e.state ≡ Zombie → zombied view id ≡ view
+pub zombied_same : (view : View) (id : ℕ) (e : Entry) → look view id ≡ Some e → e.state ≡ Zombie
+    → zombied view id ≡ view
 zombied_same view id e l z =
     ap (λ (r : FinMap nat_cmp Entry). record view { rows = r })
     (ap (with_zombie view.rows id) l ∙ ap (insert view.rows id) (zombie_same e z) ∙ put_same view.rows id e l)
 
 -- an event for a zombie changes no object, since no event destroys an argument
-pub after_zombie : (view : View) (what : Destroys) (id : ℕ) (values : List Argument) (e : Entry) → destroys_argument what ≡ false → look view id ≡ Some e → e.state ≡ Zombie
+pub after_zombie : (view : View) (what : Destroys) (id : ℕ) (values : List Argument) (e : Entry)
+    → destroys_argument what ≡ false → look view id ≡ Some e → e.state ≡ Zombie
     → after client view None what (ended_id what id values) ≡ view
 after_zombie view Nothing id values e n l z = refl
 after_zombie view Target id values e n l z = zombied_same view id e l z

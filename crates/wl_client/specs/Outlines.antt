@@ -6,16 +6,19 @@ use Rattle.std.specs.declared.result.Result.{Result}
 use Rattle.std.specs.declared.result.Result.TheVariants.{Ok, Err}
 use Rattle.std.specs.declared.alloc.Allocator as allocator
 use Rattle.std.specs.declared.clone.Clone as clone
-use Rattle.wl_message.specs.Arrived.{Arrived}
 use Rattle.wl_object_map.specs.declared.table.Table as table
+use Rattle.wl_object_map.specs.declared.object.Entry.{Entry}
+use Rattle.wl_object_map.specs.View.{View}
 use Rattle.wl_objects.specs.declared.error.NextError.{NextError}
+use Rattle.wl_objects.specs.declared.parsed.ParsedArg.{ParsedArg}
 use Rattle.wl_objects.specs.Parsed.{reported_in, spelled_in, seen_args}
 use Rattle.wl_client.specs.declared.report.Incoming.{Incoming}
 use Rattle.wl_client.specs.declared.report.Incoming.TheVariants as incoming
 use Rattle.wl_client.specs.declared.outline.Outline.{Outline}
 use Rattle.wl_client.specs.declared.outline.Outline.TheVariants as outlines
+use Rattle.wl_client.specs.declared.report.IncomingWithEntry.{IncomingWithEntry}
 use Rattle.wl_client.specs.Reports.{Report, Event, Discarded, Deleted, Stray, Error, argument}
-use Rattle.wl_client.specs.Reports.{text_in}
+use Rattle.wl_client.specs.Reports.{entry_of, text_in}
 use Rattle.wl_client.specs.contracts.client.Client.{the_row}
 
 -- what a lent report is
@@ -32,23 +35,27 @@ lent_in (Err why) = Err why
 lent_in (Ok None) = Ok None
 lent_in (Ok (Some read)) = Ok (Some (lent_report read))
 
--- what an outline is with a message's body and tokens
-abbrev pub outlined : List ℕ → List ℕ → Outline → Report
-outlined body tokens (outlines.Event target opcode args birth) =
+-- what an outline is with a message's body, its arguments as they were parsed, and its tokens
+abbrev pub outlined : List ℕ → List ParsedArg → List ℕ → Outline → Report
+outlined body args tokens (outlines.Event target opcode birth) =
     Event target opcode (reported_in body birth tokens args)
-outlined body tokens (outlines.Discarded target opcode count) =
+outlined body args tokens (outlines.Discarded target opcode count) =
     Discarded target opcode (take count tokens)
-outlined body tokens (outlines.Deleted object) = Deleted object
-outlined body tokens (outlines.Stray id) = Stray id
-outlined body tokens (outlines.Error id object code args) =
+outlined body args tokens (outlines.Deleted object) = Deleted object
+outlined body args tokens (outlines.Stray id) = Stray id
+outlined body args tokens (outlines.Error id object code) =
     Error id object code (text_in (argument (spelled_in body args) 2))
 
--- what an outline is with the message that was taken out of an inbox last
-abbrev pub outline_in : Arrived → Result (Option Outline) NextError
+-- the entry of the object that an outline's report is about
+abbrev pub outline_entry : View → Outline → Option Entry
+outline_entry view outline = entry_of view (outlined [] [] [] outline)
+
+-- what was read with the entry of what it is about, and what is reported of it
+abbrev pub incoming_in : Result (Option IncomingWithEntry) NextError
     → Result (Option Report) NextError
-outline_in inbox (Err why) = Err why
-outline_in inbox (Ok None) = Ok None
-outline_in inbox (Ok (Some outline)) = Ok (Some (outlined inbox.last inbox.last_tokens outline))
+incoming_in (Err why) = Err why
+incoming_in (Ok None) = Ok None
+incoming_in (Ok (Some read)) = Ok (Some (lent_report read.incoming))
 
 -- The client's type as the logic holds it: `named 0` is the place of its lifetime in a signature.
 abbrev pub client_row : (T : RattleType) (A : RattleType) → table.Ghosts T.Denot A.Denot

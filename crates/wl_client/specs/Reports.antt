@@ -103,6 +103,16 @@ report core f =
     else if is_delete_event f then delete_report core (deleted_id f)
     else plain_report core f.opcode f.message f.message.entry.state
 
+-- The entry of the object that a report is about, where these objects are there: of an event's
+-- target, of what delete_id has ended, of the object that wl_display.error names. None where there
+-- is no such object.
+abbrev pub entry_of : View → Report → Option Entry
+entry_of view (Event target opcode args) = look view target.id
+entry_of view (Discarded target opcode tokens) = look view target.id
+entry_of view (Deleted object) = look view object.id
+entry_of view (Stray id) = None
+entry_of view (Error id named code text) = look view id
+
 -- whether a report needs memory: for an event's arguments, or for the text of wl_display.error
 abbrev pub needs_memory : Report → Bool
 needs_memory (Event target opcode args) = not (is_none args)

@@ -5,6 +5,7 @@ use Rattle.std.specs.declared.result.Result.TheVariants.{Ok, Err}
 use Rattle.wl_objects.specs.declared.error.NextError.{NextError}
 use Rattle.wl_client.specs.declared.report.OwnedIncoming.{OwnedIncoming}
 use Rattle.wl_client.specs.declared.report.OwnedIncoming.TheVariants as incoming
+use Rattle.wl_client.specs.declared.report.OwnedIncomingWithEntry.{OwnedIncomingWithEntry}
 use Rattle.wl_client.specs.Reports.{Report, Event, Discarded, Deleted, Stray, Error}
 
 -- what an owned report is
@@ -14,6 +15,13 @@ report_of (incoming.Discarded target opcode tokens) = Discarded target opcode to
 report_of (incoming.Deleted object) = Deleted object
 report_of (incoming.Stray id) = Stray id
 report_of (incoming.Error id named code text) = Error id named code text
+
+-- what `next_owned_with_entry` returned, but for the entry
+abbrev pub incoming_in : {A : Type 0} → Result (Option (OwnedIncomingWithEntry A)) NextError
+    → Result (Option Report) NextError
+incoming_in (Err why) = Err why
+incoming_in (Ok None) = Ok None
+incoming_in (Ok (Some read)) = Ok (Some (report_of read.incoming))
 
 -- what `next_owned` returned
 abbrev pub report_in : {A : Type 0} → Result (Option (OwnedIncoming A)) NextError

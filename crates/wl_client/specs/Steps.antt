@@ -1,5 +1,5 @@
 -- The steps in which a client reads a message.
-use Rattle.std.specs.Prelude.{◌≢◌, ℕ, Bool, false, IsTrue, List, []}
+use Rattle.std.specs.Prelude.{◌≢◌, ℕ, false, IsTrue, List, []}
 use Rattle.wl_sigs.specs.Tables.{Interface}
 use Rattle.wl_message.specs.Outgoing.{no_messages}
 use Rattle.wl_objects.specs.declared.reading.Received.{Received as Read}
@@ -12,6 +12,7 @@ use Rattle.wl_client.specs.declared.changes.ObjectChange.{ObjectChange}
 use Rattle.wl_client.specs.declared.changes.ObjectChange.TheVariants as object_changes
 use Rattle.wl_client.specs.declared.changes.GlobalChange.{GlobalChange}
 use Rattle.wl_client.specs.declared.changes.GlobalChange.TheVariants as global_changes
+use Rattle.wl_client.specs.declared.pending.PendingEvent.{PendingEvent}
 use Rattle.wl_message.specs.Limits.{usual}
 use Rattle.wl_client.specs.State.{State, Global}
 use Rattle.wl_client.specs.Reports.{Report, report, view_after, globals_after, forgotten}
@@ -62,10 +63,11 @@ changed view object_changes.Nothing = view
 changed view (object_changes.Zombie id) = zombied view id
 changed view (object_changes.Close id) = closed view id
 
--- the end after the message in front was taken, with its bytes and tokens; it fails with the last
-abbrev pub stepped : Core → ObjectChange → ℕ → ℕ → Bool → Core
-stepped core change bytes tokens last =
-    record (with_view (past core bytes tokens) (changed core.view change)) { failed = last }
+-- the end after an event in front was taken, with its bytes and tokens; it fails with the last
+abbrev pub stepped : Core → PendingEvent → Core
+stepped core event =
+    record (with_view (past core event.size event.tokens) (changed core.view event.change.objects))
+    { failed = event.change.last }
 
 -- the change can be made: of an object that is there, and is not wl_display
 abbrev pub CanChange : View → ObjectChange → Type 0

@@ -28,10 +28,10 @@ impl<'t, T: Table> Client<'t, T> {
         ensures ok { OnOk result (self.new ≡ after_bind self.old registry name iface.now version) }
         ensures err { OnErr result (self.new ≡ self.old) }
     {
-        if self.core.failed {
+        if self.end.core.failed {
             return Err(SendError::Failed);
         }
-        let entry = match self.core.table.look(registry.id) {
+        let entry = match self.end.core.table.look(registry.id) {
             Some(entry) if entry.birth == registry.birth && entry.state == State::Live => entry,
             _ => return Err(SendError::Stale),
         };
@@ -39,7 +39,7 @@ impl<'t, T: Table> Client<'t, T> {
             return Err(SendError::NoSuchMessage);
         }
         let global = match self.globals.get(name) {
-            Some(global) if can_bind(self.core.tables, global, iface, version) => global,
+            Some(global) if can_bind(self.end.core.tables, global, iface, version) => global,
             _ => return Err(SendError::BadBind),
         };
         let len = 12
@@ -49,11 +49,12 @@ impl<'t, T: Table> Client<'t, T> {
                 id: 0,
             }
             .spelled_len();
-        if !self.core.fits(len, 0) {
+        if !self.end.core.fits(len, 0) {
             return Err(SendError::Full);
         }
-        let object = self.core.open_next(global.iface, version)?;
-        self.core
+        let object = self.end.core.open_next(global.iface, version)?;
+        self.end
+            .core
             .write_bind(registry.id, name, iface, version, object.id);
         Ok(object)
     }

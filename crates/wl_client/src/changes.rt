@@ -1,6 +1,7 @@
 //! The changes that a message makes at a client: among its objects, and of the globals that it
 //! remembers.
 ghost use Rattle.std.specs.Prelude.{◌≡◌, List};
+ghost use Rattle.wl_object_map.specs.declared.object.State.TheVariants.{Live};
 ghost use Rattle.wl_connection.specs.Core.{with_view};
 ghost use Rattle.wl_client.specs.State.{Global as Told};
 ghost use Rattle.wl_client.specs.Steps.{CanChange, changed, found_as, globals_by};
@@ -9,7 +10,7 @@ ghost use Rattle.wl_client.specs.Steps.{with_global_change};
 use crate::arguments::{number_at, text_at};
 use crate::globals::Global;
 use wl_connection::Core;
-use wl_objects::{REGISTRY, Received, State, Table};
+use wl_objects::{REGISTRY, Received, Table};
 use wl_sigs::Tables;
 use wl_sigs::event::wl_registry::{GLOBAL, GLOBAL_REMOVE};
 
@@ -32,6 +33,15 @@ pub(crate) enum GlobalChange {
     Remember(Global),
 }
 
+/// What a message changes at a client.
+#[derive(Clone, Copy, Debug)]
+pub(crate) struct Change {
+    pub(crate) objects: ObjectChange,
+    pub(crate) globals: GlobalChange,
+    /// Whether nothing is read after it, as after wl_display.error.
+    pub(crate) last: bool,
+}
+
 /// Changes the objects. Allocates nothing.
 pub(crate) fn apply_object_change<T: Table>(core: &mut Core<'_, T>, change: ObjectChange)
     requires { CanChange core.old.view change }
@@ -44,17 +54,18 @@ pub(crate) fn apply_object_change<T: Table>(core: &mut Core<'_, T>, change: Obje
     }
 }
 
-/// What a message changes of the remembered globals: only events on a live wl_registry do.
+/// What an event for a live object changes of the remembered globals: only wl_registry's do.
 pub(crate) fn global_change_of(
     tables: &Tables,
     opcode: u16,
     message: &Received<'_, '_>,
 ) -> GlobalChange
+    requires { message.now.entry.state ≡ Live }
     ensures { (globals : List Told)
         → with_global_change globals result
         ≡ globals_by tables.now globals (found_as opcode message.now) }
 {
-    if message.entry.iface != REGISTRY || message.entry.state != State::Live {
+    if message.entry.iface != REGISTRY {
         return GlobalChange::Nothing;
     }
     let Received { args, body, .. } = message;

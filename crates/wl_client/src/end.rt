@@ -1,33 +1,44 @@
-//! The client as seen by whoever carries its bytes.
+//! The calls of the client that both ends have.
 use crate::client::Client;
-use crate::pending::find_event;
+use crate::pending::find;
 use crate::report::OwnedIncoming;
-use wl_connection::{End, Receiver};
-use wl_message::{Fed, Taken};
+use std::io::{Read, Write};
+use wl_connection::{Core, End, Receiver};
+use wl_message::{Fed, FillError, FlushError, Taken};
 use wl_objects::{NextError, Table};
 
 impl<'t, T: Table> End for Client<'t, T> {
     ghost use Rattle.std.specs.Prelude.{refl};
     ghost use Rattle.wl_client.specs.State.{with_core};
 
+    type Table = T;
+
     ghost core = { λ client. client.core };
 
     ghost with_core = { with_core };
 
-    fn in_room(&self) -> Fed {
-        self.in_room()
-    }
-
-    fn goes(&self, bytes: usize, tokens: usize) -> Taken {
-        self.goes(bytes, tokens)
-    }
-
-    fn take(&mut self, bytes: &mut [u8], tokens: &mut [u32]) -> Taken {
-        self.take(bytes, tokens)
+    fn core(&self) -> &Core<'_, T> {
+        &self.end.core
     }
 
     fn feed(&mut self, bytes: &[u8], tokens: &[u32]) -> Fed {
-        self.feed(bytes, tokens)
+        self.end.core.feed(bytes, tokens)
+    }
+
+    fn take(&mut self, bytes: &mut [u8], tokens: &mut [u32]) -> Taken {
+        self.end.core.outbox.take(bytes, tokens)
+    }
+
+    fn fill<R: Read>(&mut self, reader: &mut R) -> Result<usize, FillError> {
+        self.end.core.fill(reader)
+    }
+
+    fn flush<W: Write>(&mut self, writer: &mut W) -> Result<usize, FlushError> {
+        wl_message::flush(&mut self.end.core.outbox, writer)
+    }
+
+    fn take_waiting_tokens(&mut self, tokens: &mut [u32]) -> usize {
+        self.end.core.take_waiting_tokens(tokens)
     }
 
     ghost laws = { record {
@@ -54,12 +65,8 @@ impl<'t, T: Table> Receiver for Client<'t, T> {
 
     ghost is_last = { is_last };
 
-    fn has_failed(&self) -> bool {
-        self.core.failed
-    }
-
     fn has_report(&mut self) -> bool {
-        match find_event(&mut self.core) {
+        match find(&mut self.end) {
             Ok(Some(_)) => true,
             _ => false,
         }

@@ -15,11 +15,12 @@ mod read_all;
 mod receive;
 mod report;
 mod send;
+mod shown;
 mod tokens;
-mod transport;
 
 pub use client::Client;
 pub use laws::{any_cut_reads, binds_are_spelled, one_reading, whole_messages_are_read};
-pub use report::{Incoming, OwnedIncoming};
+pub use report::{Incoming, IncomingWithEntry, OwnedIncoming, OwnedIncomingWithEntry};
+pub use shown::ShownIncoming;
 pub use tokens::Tokens;
 pub use wl_connection::ReadAll;

@@ -1,126 +1,152 @@
-//! What a message is to a client: what is reported of it, and what it changes among the objects.
+//! What a message is to a client: what is reported of it, and what it changes.
 ghost use Rattle.std.specs.Prelude.{◌≡◌, ◌≢◌, ℕ, List, [], Some, false};
 ghost use Rattle.wl_sigs.specs.declared.signature.Side.TheVariants.{Event};
 ghost use Rattle.wl_sigs.specs.Tables.{destroys_argument};
-ghost use Rattle.wl_object_map.specs.View.{look};
+ghost use Rattle.wl_object_map.specs.View.{View, look};
 ghost use Rattle.wl_connection.specs.Core.{HasDisplay};
-ghost use Rattle.wl_client.specs.Outlines.{outlined};
-ghost use Rattle.wl_client.specs.Reports.{delete_report, error_report, is_error_event};
-ghost use Rattle.wl_client.specs.Steps.{CanChange, changed, end_with, found_as, report_by, view_by};
+ghost use Rattle.wl_client.specs.Outlines.{outline_entry, outlined};
+ghost use Rattle.wl_client.specs.Reports.{argument, delete_report, error_report, id_in};
+ghost use Rattle.wl_client.specs.Reports.{is_error_event};
+ghost use Rattle.wl_client.specs.State.{Global as Told};
+ghost use Rattle.wl_client.specs.Steps.{CanChange, changed, end_with, found_as, globals_by};
+ghost use Rattle.wl_client.specs.Steps.{report_by, view_by, with_global_change};
+ghost use Rattle.wl_objects.specs.declared.parsed.ParsedArg.{ParsedArg};
 ghost use Rattle.wl_objects.specs.Messages.{after_delete_id, is_error, reader_of};
 ghost use Rattle.wl_objects.specs.Parsed.{AreParsed, spelled_in};
 ghost use Rattle.wl_objects.specs.Reading.{descriptors};
 ghost use Rattle.wl_objects.specs.Seen.{message_of};
 
 use crate::arguments::{id_at, number_at};
-use crate::changes::ObjectChange;
+use crate::changes::{Change, GlobalChange, ObjectChange, global_change_of};
 use crate::outline::Outline;
-use wl_objects::{Object, ParsedArgs, Received, State, Table, is_delete_id, named};
-use wl_sigs::{Destroys, Side};
+use wl_objects::{Entry, Object, ParsedArgs, Received, State, Table, is_delete_id};
+use wl_sigs::{Destroys, Side, Tables};
 
-/// What a message is to a client, but for the globals.
-#[derive(Drop)]
-pub(crate) struct Meaning {
-    pub(crate) outline: Outline,
-    pub(crate) change: ObjectChange,
-    /// Whether it is wl_display.error, after which nothing is read.
-    pub(crate) last: bool,
-}
-
-/// What a message is.
-pub(crate) fn meaning_of<T: Table>(table: &T, opcode: u16, message: Received<'_, '_>) -> Meaning
-    requires parsed { AreParsed (reader_of (T.view table.now)) message.body.now message.args
-        (message_of message).values }
-    requires tokens { message.tokens ≡ descriptors message.signature.now.kinds }
-    requires error { message.is_error ≡ is_error Event message.entry.iface opcode }
+/// What is reported of a message, what it changes, and the entry of the object that it is about.
+pub(crate) fn meaning_of<T: Table>(
+    tables: &Tables,
+    table: &T,
+    opcode: u16,
+    message: &Received<'_, '_>,
+) -> (Outline, Change, Option<Entry>)
+    requires parsed { AreParsed (reader_of (T.view table.now)) message.now.body.now
+        message.now.args.now (message_of message.now).values }
+    requires tokens { message.now.tokens ≡ descriptors message.now.signature.now.kinds }
+    requires error { message.now.is_error ≡ is_error Event message.now.entry.iface opcode }
     requires display { HasDisplay (T.view table.now) }
-    requires row { look (T.view table.now) message.target.id ≡ Some message.entry }
-    requires lasts { message.target.id ≡ 1 → message.signature.now.destroys ≢ Destroys.Target }
-    requires argument { destroys_argument message.signature.now.destroys ≡ false }
-    ensures outline { (tokens : List ℕ) → outlined message.entry.body.now tokens result.outline
-        ≡ report_by (T.view table.now) tokens (found_as opcode message.entry) }
-    ensures changed { changed (T.view table.now) result.change
-        ≡ view_by (T.view table.now) (found_as opcode message.entry) }
-    ensures can { CanChange (T.view table.now) result.change }
-    ensures last { result.last ≡ is_error_event (found_as opcode message.entry) }
+    requires row { look (T.view table.now) message.now.target.id ≡ Some message.now.entry }
+    requires lasts { message.now.target.id ≡ 1
+        → message.now.signature.now.destroys ≢ Destroys.Target }
+    requires argument { destroys_argument message.now.signature.now.destroys ≡ false }
+    ensures outline { (tokens : List ℕ)
+        → outlined message.now.body.now message.now.args.now tokens result.0
+        ≡ report_by (T.view table.now) tokens (found_as opcode message.now) }
+    ensures changed { changed (T.view table.now) result.1.objects
+        ≡ view_by (T.view table.now) (found_as opcode message.now) }
+    ensures can { CanChange (T.view table.now) result.1.objects }
+    ensures globals { (globals : List Told) → with_global_change globals result.1.globals
+        ≡ globals_by tables.now globals (found_as opcode message.now) }
+    ensures last { result.1.last ≡ is_error_event (found_as opcode message.now) }
+    ensures entry { result.2 ≡ outline_entry (T.view table.now) result.0 }
 {
     if message.is_error {
-        return Meaning {
-            outline: error_outline(table, message.args, message.body),
-            change: ObjectChange::Nothing,
-            last: true,
-        };
+        let id = id_at(message.args, message.body, 0);
+        let outline = error_outline(message.args, message.body);
+        return (outline, no_change(true), table.look(id));
     }
     if is_delete_id(Side::Event, message.entry.iface, opcode) {
-        return meaning_of_delete_id(table, number_at(&message.args, message.body, 0));
+        return meaning_of_delete_id(table, number_at(message.args, message.body, 0));
     }
     let target = message.target;
     match message.entry.state {
-        State::Zombie => Meaning {
-            outline: Outline::Discarded {
+        State::Zombie => (
+            Outline::Discarded {
                 target,
                 opcode,
                 tokens: message.tokens,
             },
-            change: ObjectChange::Nothing,
-            last: false,
-        },
-        State::Live => Meaning {
-            outline: Outline::Event {
+            no_change(false),
+            Some(message.entry),
+        ),
+        State::Live => (
+            Outline::Event {
                 target,
                 opcode,
-                args: message.args,
                 birth: table.births(),
             },
-            change: match message.signature.destroys() {
-                Destroys::Nothing => ObjectChange::Nothing,
-                // No event destroys an argument.
-                Destroys::Arg(_) => ObjectChange::Nothing,
-                Destroys::Target => ObjectChange::Zombie(target.id),
+            Change {
+                objects: match message.signature.destroys() {
+                    Destroys::Nothing => ObjectChange::Nothing,
+                    // No event destroys an argument.
+                    Destroys::Arg(_) => ObjectChange::Nothing,
+                    Destroys::Target => ObjectChange::Zombie(target.id),
+                },
+                globals: global_change_of(tables, opcode, message),
+                last: false,
             },
-            last: false,
-        },
+            Some(message.entry),
+        ),
+    }
+}
+
+/// No change of objects and globals.
+fn no_change(last: bool) -> Change
+    ensures { result ≡ record {
+      objects = ObjectChange.Nothing;
+      globals = GlobalChange.Nothing;
+      last = last;
+    } }
+{
+    Change {
+        objects: ObjectChange::Nothing,
+        globals: GlobalChange::Nothing,
+        last,
     }
 }
 
 /// The outline of wl_display.error.
-fn error_outline<T: Table>(table: &T, args: ParsedArgs, body: &[u8]) -> Outline
-    ensures { (tokens : List ℕ) → outlined body.now tokens result
-        ≡ error_report (end_with [] (T.view table.now) tokens) (spelled_in body.now args) }
+fn error_outline(args: &ParsedArgs, body: &[u8]) -> Outline
+    ensures outline { (view : View) (tokens : List ℕ)
+        → AreParsed (reader_of view) body.now args.now (spelled_in body.now args.now)
+        → outlined body.now args.now tokens result
+        ≡ error_report (end_with [] view tokens) (spelled_in body.now args.now) }
+    ensures entry { (view : View) → outline_entry view result
+        ≡ look view (id_in (argument (spelled_in body.now args.now) 0)) }
 {
-    let id = id_at(&args, body, 0);
     Outline::Error {
-        id,
-        named: named(table, id),
-        code: number_at(&args, body, 1),
-        args,
+        id: id_at(args, body, 0),
+        named: args.object(0),
+        code: number_at(args, body, 1),
     }
 }
 
 /// What wl_display.delete_id of an id is: the object of the id, if it has one, is gone.
-fn meaning_of_delete_id<T: Table>(table: &T, id: u32) -> Meaning
-    ensures outline { (body tokens : List ℕ) → outlined body tokens result.outline
+fn meaning_of_delete_id<T: Table>(table: &T, id: u32) -> (Outline, Change, Option<Entry>)
+    ensures outline { (body tokens : List ℕ) (args : List ParsedArg)
+        → outlined body args tokens result.0
         ≡ delete_report (end_with [] (T.view table.now) tokens) id }
-    ensures changed { changed (T.view table.now) result.change
+    ensures changed { changed (T.view table.now) result.1.objects
         ≡ after_delete_id (T.view table.now) id }
-    ensures can { CanChange (T.view table.now) result.change }
-    ensures last { result.last ≡ false }
+    ensures can { CanChange (T.view table.now) result.1.objects }
+    ensures globals { result.1.globals ≡ GlobalChange.Nothing }
+    ensures last { result.1.last ≡ false }
+    ensures entry { result.2 ≡ outline_entry (T.view table.now) result.0 }
 {
     match table.look(id) {
-        Some(entry) if id != 1 => Meaning {
-            outline: Outline::Deleted {
+        Some(entry) if id != 1 => (
+            Outline::Deleted {
                 object: Object {
                     id,
                     birth: entry.birth,
                 },
             },
-            change: ObjectChange::Close(id),
-            last: false,
-        },
-        _ => Meaning {
-            outline: Outline::Stray { id },
-            change: ObjectChange::Nothing,
-            last: false,
-        },
+            Change {
+                objects: ObjectChange::Close(id),
+                globals: GlobalChange::Nothing,
+                last: false,
+            },
+            Some(entry),
+        ),
+        _ => (Outline::Stray { id }, no_change(false), None),
     }
 }

@@ -1,8 +1,10 @@
-//! The report of a message without its body and its tokens, which it lends or copies.
+//! The report of a message without its arguments, its body and its tokens, which it lends or
+//! copies.
 ghost use Rattle.std.specs.Prelude.{◌≡◌, IfOk, OnErr, ◌≤◌, true, length, take};
-ghost use Rattle.wl_client.specs.Reports.{needs_memory};
+ghost use Rattle.wl_object_map.specs.View.{View};
+ghost use Rattle.wl_client.specs.Reports.{entry_of, needs_memory};
 ghost use Rattle.wl_client.specs.Seen.{report_of};
-ghost use Rattle.wl_client.specs.Outlines.{lent_report, outlined};
+ghost use Rattle.wl_client.specs.Outlines.{lent_report, outline_entry, outlined};
 
 use crate::arguments::text_at;
 use crate::report::{Incoming, OwnedIncoming};
@@ -13,12 +15,11 @@ use wl_wire::Bytes;
 
 /// What is reported of a message. Where its arguments and its tokens lie is said when the report is
 /// lent or copied.
-#[derive(Drop)]
+#[derive(Clone, Copy, Debug)]
 pub(crate) enum Outline {
     Event {
         target: Object,
         opcode: u16,
-        args: ParsedArgs,
         /// The birth that an object got which the message made.
         birth: u64,
     },
@@ -38,20 +39,25 @@ pub(crate) enum Outline {
         id: u32,
         named: Named,
         code: u32,
-        args: ParsedArgs,
     },
 }
 
 impl Outline {
-    /// The report of a message with this body and these tokens, which are lent.
-    pub(crate) fn lend<'a>(&self, body: &'a [u8], tokens: &'a [u32]) -> Incoming<'a>
-        ensures { lent_report result ≡ outlined body.now tokens.now self.now }
+    /// The report of a message with these arguments, this body and these tokens, which are lent.
+    pub(crate) fn lend<'a>(
+        &self,
+        args: &'a ParsedArgs,
+        body: &'a [u8],
+        tokens: &'a [u32],
+    ) -> Incoming<'a>
+        ensures report { lent_report result ≡ outlined body.now args.now tokens.now self.now }
+        ensures entry { (view : View)
+            → entry_of view (lent_report result) ≡ outline_entry view self.now }
     {
         match self {
             Outline::Event {
                 target,
                 opcode,
-                args,
                 birth,
             } => Incoming::Event {
                 target: *target,
@@ -69,12 +75,7 @@ impl Outline {
             },
             Outline::Deleted { object } => Incoming::Deleted { object: *object },
             Outline::Stray { id } => Incoming::Stray { id: *id },
-            Outline::Error {
-                id,
-                named,
-                code,
-                args,
-            } => Incoming::Error {
+            Outline::Error { id, named, code } => Incoming::Error {
                 id: *id,
                 named: *named,
                 code: *code,
@@ -83,25 +84,28 @@ impl Outline {
         }
     }
 
-    /// The report of a message with this body and these tokens, in memory of its own. Memory is
-    /// taken only for the arguments of an event, where there are some, and for the text of an
-    /// error.
+    /// The report of a message with these arguments, this body and these tokens, in memory of its
+    /// own. Memory is taken only for the arguments of an event, where there are some, and for the
+    /// text of an error.
     pub(crate) fn to_owned<A: Allocator + Clone + Drop>(
         &self,
         alloc: &A,
+        args: &ParsedArgs,
         body: &[u8],
         tokens: &[u32],
     ) -> Result<OwnedIncoming<A>, AllocError>
         requires { length tokens.now ≤ 20 }
         ensures ok { IfOk result
-            (λ report. report_of report ≡ outlined body.now tokens.now self.now) }
-        ensures err { OnErr result (needs_memory (outlined body.now tokens.now self.now) ≡ true) }
+            (λ report. report_of report ≡ outlined body.now args.now tokens.now self.now) }
+        ensures err { OnErr result
+            (needs_memory (outlined body.now args.now tokens.now self.now) ≡ true) }
+        ensures entry { IfOk result (λ report. (view : View)
+            → entry_of view (report_of report) ≡ outline_entry view self.now) }
     {
         match self {
             Outline::Event {
                 target,
                 opcode,
-                args,
                 birth,
             } => Ok(OwnedIncoming::Event {
                 target: *target,
@@ -119,12 +123,7 @@ impl Outline {
             }),
             Outline::Deleted { object } => Ok(OwnedIncoming::Deleted { object: *object }),
             Outline::Stray { id } => Ok(OwnedIncoming::Stray { id: *id }),
-            Outline::Error {
-                id,
-                named,
-                code,
-                args,
-            } => Ok(OwnedIncoming::Error {
+            Outline::Error { id, named, code } => Ok(OwnedIncoming::Error {
                 id: *id,
                 named: *named,
                 code: *code,

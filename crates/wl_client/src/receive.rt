@@ -1,26 +1,26 @@
 //! How a client reads the events that come in.
-ghost use Rattle.std.specs.Prelude.{◌≡◌, ◌≤◌, List, [], false, length};
+ghost use Rattle.std.specs.Prelude.{◌≡◌, List, [], IfOk, IfSome, OnErr, false, true};
 ghost use Rattle.std.specs.Borrow.{sem};
 ghost use Rattle.std.specs.Io.BufRead.{Rests};
-ghost use Rattle.wl_message.specs.Arrived.{in_front};
-ghost use Rattle.wl_message.specs.Cut.{Whole};
-ghost use Rattle.wl_connection.specs.Core.{with_failure};
+ghost use Rattle.wl_object_map.specs.View.{View};
 ghost use Rattle.wl_connection.specs.Outcomes.{left};
 ghost use Rattle.wl_client.specs.State.{Global as Told};
-ghost use Rattle.wl_client.specs.Reports.{IsNext, after_next, next_answer};
-ghost use Rattle.wl_client.specs.Outlines.{client_row, lent_in, lent_report, outline_in, outlined};
-ghost use Rattle.wl_client.specs.Seen.{report_in};
-ghost use Rattle.wl_client.specs.Steps.{CanChange, state_of, stepped};
-ghost use Rattle.wl_client.specs.Reading.{globals_left, globals_left_by_owned};
-ghost use Rattle.wl_client.specs.Reading.{owned_in, pending_in};
+ghost use Rattle.wl_client.specs.Reports.{IsNext, after_next, entry_of, needs_memory, next_answer};
+ghost use Rattle.wl_client.specs.Outlines.{client_row, incoming_in, lent_in, lent_report};
+ghost use Rattle.wl_client.specs.Outlines.{outline_entry, outlined};
+ghost use Rattle.wl_client.specs.Seen.{incoming_in as owned_in, report_in, report_of};
+ghost use Rattle.wl_client.specs.Steps.{state_of, stepped, with_global_change};
+ghost use Rattle.wl_client.specs.Reading.{CanTake, after_front, core_unless, front_report};
+ghost use Rattle.wl_client.specs.Reading.{fronts_in, taken_in};
 
-use crate::changes::{ObjectChange, apply_object_change};
+use crate::changes::apply_object_change;
 use crate::client::Client;
-use crate::outline::Outline;
-use crate::pending::{OwnedPendingEvent, PendingEvent, Stop, find_event, find_owned_event};
-use crate::report::{Incoming, OwnedIncoming};
-use wl_connection::Core;
-use wl_objects::{Fault, NextError, Table};
+use crate::globals::Remembered;
+use crate::pending::{PendingEvent, find};
+use crate::report::{Incoming, IncomingWithEntry, OwnedIncoming, OwnedIncomingWithEntry};
+use std::alloc::AllocError;
+use wl_connection::Endpoint;
+use wl_objects::{NextError, Table};
 
 impl<'t, T: Table> Client<'t, T> {
     /// Reads the next message, once it is whole; none before. Takes no memory, and never returns
@@ -33,8 +33,27 @@ impl<'t, T: Table> Client<'t, T> {
             (λ client. client ≡ after_next self.old)) }
         ensures answer { lent_in result ≡ next_answer self.old }
     {
-        match self.read_event()? {
-            Some(outline) => Ok(Some(self.lend(outline))),
+        match read(&mut self.end, &mut self.globals)? {
+            Some(event) => Ok(Some(lend(&self.end, event))),
+            None => Ok(None),
+        }
+    }
+
+    /// Reads the next message as `next` does, and returns beside its report the entry that the
+    /// object which it is about had before the message. Takes no memory.
+    pub fn next_with_entry(&mut self) -> Result<Option<IncomingWithEntry<'_>>, NextError>
+        ensures* state { sem 𝓛
+            (Rests (client_row T.row T.Alloc.row T.Table T.Alloc.Allocator T.Alloc.Clone) self.entry
+            (λ client. client ≡ after_next self.old)) }
+        ensures answer { incoming_in result ≡ next_answer self.old }
+        ensures entry { IfOk result (λ read. IfSome read (λ told. told.entry
+            ≡ entry_of self.old.core.view (lent_report told.incoming))) }
+    {
+        match read(&mut self.end, &mut self.globals)? {
+            Some(event) => Ok(Some(IncomingWithEntry {
+                incoming: lend(&self.end, event),
+                entry: event.entry,
+            })),
             None => Ok(None),
         }
     }
@@ -48,111 +67,153 @@ impl<'t, T: Table> Client<'t, T> {
         ensures answer { IsNext self.old (report_in result) }
         ensures state { self.new ≡ left self.old (after_next self.old) (report_in result) }
     {
-        match read_owned(&self.alloc, &mut self.core)? {
+        match read_owned(&mut self.end, &mut self.globals, &self.alloc)? {
+            Some(read) => Ok(Some(read.incoming)),
             None => Ok(None),
-            Some(owned) => {
-                self.globals.apply(owned.event.global_change);
-                Ok(Some(owned.report))
-            }
         }
     }
 
-    /// Reads the next message, and leaves its body and its tokens in the inbox.
-    fn read_event(&mut self) -> Result<Option<Outline>, NextError>
-        ensures answer { outline_in self.new.core.inbox result ≡ next_answer self.old }
-        ensures state { self.new ≡ after_next self.old }
+    /// Reads the next message as `next_owned` does, and returns beside its report the entry that
+    /// the object which it is about had before the message.
+    pub fn next_owned_with_entry(
+        &mut self,
+    ) -> Result<Option<OwnedIncomingWithEntry<T::Alloc>>, NextError>
+        ensures answer { IsNext self.old (owned_in result) }
+        ensures state { self.new ≡ left self.old (after_next self.old) (owned_in result) }
+        ensures entry { IfOk result (λ read. IfSome read (λ told. told.entry
+            ≡ entry_of self.old.core.view (report_of told.incoming))) }
     {
-        match read(&mut self.core)? {
-            None => Ok(None),
-            Some(event) => {
-                self.globals.apply(event.global_change);
-                Ok(Some(event.outline))
-            }
-        }
-    }
-
-    /// Lends the report of the message that was read last.
-    fn lend(&self, outline: Outline) -> Incoming<'_>
-        ensures { lent_report result
-            ≡ outlined self.now.core.inbox.last self.now.core.inbox.last_tokens outline }
-    {
-        outline.lend(self.core.inbox.last(), self.core.inbox.last_tokens())
+        read_owned(&mut self.end, &mut self.globals, &self.alloc)
     }
 }
 
-/// Reads the next message at an end, and takes it.
-fn read<T: Table>(core: &mut Core<'_, T>) -> Result<Option<PendingEvent>, NextError>
-    ensures answer { pending_in core.new.inbox result ≡ next_answer (state_of core.old []) }
-    ensures state { (globals : List Told)
-        → state_of core.new (globals_left globals result) ≡ after_next (state_of core.old globals) }
+/// Reads the next message at an end, and takes it. Its report lies in the message that was taken
+/// last.
+fn read<T: Table>(
+    end: &mut Endpoint<'_, T>,
+    globals: &mut Remembered<T::Alloc>,
+) -> Result<Option<PendingEvent>, NextError>
+    ensures answer { taken_in end.new.core end.new.args result
+        ≡ next_answer (state_of end.old.core globals.old) }
+    ensures state { state_of end.new.core globals.new
+        ≡ after_next (state_of end.old.core globals.old) }
+    ensures entry { IfOk result (λ read. IfSome read (λ event. event.entry
+        ≡ outline_entry end.old.core.view event.outline)) }
 {
-    if core.failed {
-        return Err(NextError::Failed);
-    }
-    match find_event(core) {
-        Ok(None) => Ok(None),
-        Ok(Some(event)) => {
-            take(core, event.change, event.size, event.tokens, event.last);
-            Ok(Some(event))
-        }
-        Err(fault) => Err(fail(core, fault)),
-    }
+    let event = match find_or_fail(end)? {
+        Some(event) => event,
+        None => return Ok(None),
+    };
+    take(end, globals, &event);
+    Ok(Some(event))
 }
 
 /// Reads the next message at an end, copies its report, and takes it.
 fn read_owned<T: Table>(
+    end: &mut Endpoint<'_, T>,
+    globals: &mut Remembered<T::Alloc>,
     alloc: &T::Alloc,
-    core: &mut Core<'_, T>,
-) -> Result<Option<OwnedPendingEvent<T::Alloc>>, NextError>
-    ensures answer { IsNext (state_of core.old []) (owned_in result) }
-    ensures state { (globals : List Told)
-        → state_of core.new (globals_left_by_owned globals result)
-        ≡ left (state_of core.old globals) (after_next (state_of core.old globals))
-        (owned_in result) }
+) -> Result<Option<OwnedIncomingWithEntry<T::Alloc>>, NextError>
+    ensures answer { IsNext (state_of end.old.core globals.old) (owned_in result) }
+    ensures state { state_of end.new.core globals.new
+        ≡ left (state_of end.old.core globals.old)
+        (after_next (state_of end.old.core globals.old)) (owned_in result) }
+    ensures entry { IfOk result (λ read. IfSome read (λ told. told.entry
+        ≡ entry_of end.old.core.view (report_of told.incoming))) }
 {
-    if core.failed {
+    let event = match find_or_fail(end)? {
+        Some(event) => event,
+        None => return Ok(None),
+    };
+    let incoming = match copy(end, alloc, &event) {
+        Ok(incoming) => incoming,
+        Err(_) => return Err(NextError::Memory),
+    };
+    take(end, globals, &event);
+    Ok(Some(OwnedIncomingWithEntry {
+        incoming,
+        entry: event.entry,
+    }))
+}
+
+/// The event in front, once it is whole. The end fails with a fault; else nothing changes.
+fn find_or_fail<T: Table>(end: &mut Endpoint<'_, T>) -> Result<Option<PendingEvent>, NextError>
+    ensures answer { fronts_in end.old.core end.new.args result
+        ≡ next_answer (state_of end.old.core []) }
+    ensures core { end.new.core ≡ core_unless end.old.core result }
+    ensures state { (globals : List Told) → after_front end.old.core globals result
+        ≡ after_next (state_of end.old.core globals) }
+    ensures can { IfOk result (λ found. IfSome found (λ event. CanTake end.old.core event)) }
+    ensures lives { IfOk result (λ _. end.old.core.failed ≡ false) }
+{
+    if end.core.failed {
         return Err(NextError::Failed);
     }
-    match find_owned_event(alloc, core) {
-        Ok(None) => Ok(None),
-        Ok(Some(owned)) => {
-            let event = &owned.event;
-            take(core, event.change, event.size, event.tokens, event.last);
-            Ok(Some(owned))
+    match find(end) {
+        Ok(event) => Ok(event),
+        Err(fault) => {
+            end.core.failed = true;
+            Err(NextError::Fault {
+                fault,
+                offset: end.core.read,
+            })
         }
-        Err(Stop::Memory) => Err(NextError::Memory),
-        Err(Stop::Fault(fault)) => Err(fail(core, fault)),
     }
 }
 
-/// Makes the end fail with a fault of the message in front.
-fn fail<T: Table>(core: &mut Core<'_, T>, fault: Fault) -> NextError
-    ensures error { result ≡ NextError.Fault fault core.old.read }
-    ensures state { core.new ≡ with_failure core.old }
+/// Copies the report of an event that stands in front. Nothing changes.
+fn copy<T: Table>(
+    end: &mut Endpoint<'_, T>,
+    alloc: &T::Alloc,
+    event: &PendingEvent,
+) -> Result<OwnedIncoming<T::Alloc>, AllocError>
+    requires { CanTake end.old.core event.now }
+    ensures core { end.new.core ≡ end.old.core }
+    ensures ok { IfOk result
+        (λ report. report_of report ≡ front_report end.old.core end.old.args event.now) }
+    ensures err { OnErr result
+        (needs_memory (front_report end.old.core end.old.args event.now) ≡ true) }
+    ensures entry { IfOk result (λ report. (view : View)
+        → entry_of view (report_of report) ≡ outline_entry view event.now.outline) }
 {
-    core.failed = true;
-    NextError::Fault {
-        fault,
-        offset: core.read,
-    }
+    let tokens = end.core.first_tokens(event.tokens);
+    let frame = match end.core.inbox.frame() {
+        Ok(Some(frame)) => frame,
+        _ => return Err(AllocError),
+    };
+    let tokens = &tokens[..event.tokens];
+    event.outline.to_owned(alloc, &end.args, frame.body, tokens)
 }
 
-/// Takes the message in front, of `bytes` bytes, with its tokens, and makes its change among the
-/// objects. The end fails with the last message.
+/// Takes the message in front with its tokens, and makes its changes. The end fails with the last
+/// message.
 fn take<T: Table>(
-    core: &mut Core<'_, T>,
-    change: ObjectChange,
-    bytes: u16,
-    tokens: usize,
-    last: bool,
+    end: &mut Endpoint<'_, T>,
+    globals: &mut Remembered<T::Alloc>,
+    event: &PendingEvent,
 )
-    requires message { in_front core.old.inbox ≡ Whole bytes }
-    requires waiting { tokens ≤ length core.old.inbox.tokens }
-    requires change { CanChange core.old.view change }
-    requires lives { core.old.failed ≡ false }
-    ensures { core.new ≡ stepped core.old change bytes tokens last }
+    requires can { CanTake end.old.core event.now }
+    requires lives { end.old.core.failed ≡ false }
+    ensures core { end.new.core ≡ stepped end.old.core event.now }
+    ensures args { end.new.args ≡ end.old.args }
+    ensures globals { globals.new ≡ with_global_change globals.old event.now.change.globals }
 {
-    core.pass(bytes, tokens);
-    apply_object_change(core, change);
-    core.failed = last;
+    end.core.pass(event.size, event.tokens);
+    apply_object_change(&mut end.core, event.change.objects);
+    end.core.failed = event.change.last;
+    globals.apply(event.change.globals);
+}
+
+/// The report of the message that was taken last.
+fn lend<'a, T: Table>(end: &'a Endpoint<'_, T>, event: PendingEvent) -> Incoming<'a>
+    ensures report { lent_report result ≡ outlined end.now.core.inbox.last end.now.args
+        end.now.core.inbox.last_tokens event.outline }
+    ensures entry { (view : View)
+        → entry_of view (lent_report result) ≡ outline_entry view event.outline }
+{
+    event.outline.lend(
+        &end.args,
+        end.core.inbox.last(),
+        end.core.inbox.last_tokens(),
+    )
 }

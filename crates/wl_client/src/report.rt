@@ -1,7 +1,7 @@
 //! What a client reports.
 use crate::tokens::Tokens;
 use std::alloc::{Allocator, Global};
-use wl_objects::{Args, Named, Object, OwnedArgs};
+use wl_objects::{Args, Entry, Named, Object, OwnedArgs};
 use wl_wire::Bytes;
 
 /// A message that the client read. What it lends is lent from the client, until the client's next
@@ -64,4 +64,22 @@ pub enum OwnedIncoming<A: Allocator = Global> {
         code: u32,
         text: Bytes<A>,
     },
+}
+
+/// A message that the client read, and what its objects had, before the message, of the one that it
+/// is about.
+#[derive(Clone, Copy)]
+pub struct IncomingWithEntry<'a> {
+    pub incoming: Incoming<'a>,
+    /// The entry, with interface, version and state, of the target of an event, of the object that
+    /// delete_id has ended, or of the one that wl_display.error names. None at `Stray`, and where
+    /// an error names no object that the client has.
+    pub entry: Option<Entry>,
+}
+
+/// The same, in memory of its own.
+#[derive(Debug, Drop)]
+pub struct OwnedIncomingWithEntry<A: Allocator = Global> {
+    pub incoming: OwnedIncoming<A>,
+    pub entry: Option<Entry>,
 }

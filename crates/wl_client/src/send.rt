@@ -28,6 +28,6 @@ impl<'t, T: Table> Client<'t, T> {
             (after_send self.old.core request_side target opcode (given args.now))) }
         ensures err { OnErr result (self.new ≡ self.old) }
     {
-        self.core.send(Side::Request, target, opcode, args)
+        self.end.core.send(Side::Request, target, opcode, args)
     }
 }

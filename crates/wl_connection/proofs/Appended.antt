@@ -17,7 +17,8 @@ kept_more xs ys = take_at xs ys (length xs) refl
 pub more_behind : {X R : Type 0} (f : X → R) (xs ys : List X) → map f (drop (length xs) (xs ++ ys)) ≡ map f ys
 more_behind f xs ys = ap (map f) (drop_at xs ys (length xs) refl)
 
-pub kept_again : {X : Type 0} (xs ys zs : List X) → take (length xs) ys ≡ xs → take (length ys) zs ≡ ys → take (length xs) zs ≡ xs
+pub kept_again : {X : Type 0} (xs ys zs : List X) → take (length xs) ys ≡ xs → take (length ys) zs ≡ ys
+    → take (length xs) zs ≡ xs
 kept_again xs ys zs h g =
     let a = drop (length xs) ys in
     let b = drop (length ys) zs in
@@ -25,7 +26,8 @@ kept_again xs ys zs h g =
     let z : zs ≡ xs ++ (a ++ b) = kept_is ys zs g ∙ ap (λ l. l ++ b) y ∙ append_assoc xs a b in
     ap (take (length xs)) z ∙ kept_more xs (a ++ b)
 
-pub behind_again : {X R : Type 0} (f : X → R) (xs ys zs : List X) → take (length xs) ys ≡ xs → take (length ys) zs ≡ ys → map f (drop (length xs) zs) ≡ map f (drop (length xs) ys) ++ map f (drop (length ys) zs)
+pub behind_again : {X R : Type 0} (f : X → R) (xs ys zs : List X) → take (length xs) ys ≡ xs → take (length ys) zs ≡ ys
+    → map f (drop (length xs) zs) ≡ map f (drop (length xs) ys) ++ map f (drop (length ys) zs)
 behind_again f xs ys zs h g =
     let a = drop (length xs) ys in
     let b = drop (length ys) zs in

@@ -1,5 +1,6 @@
 -- wl_display's row stays as it is, and no message destroys wl_display.
-use Rattle.std.proofs.Common.{◌≡◌, ◌≢◌, ℕ, zero, suc, Bool, true, false, List, refl, sym, ◌∙◌, ap, cond, eqb, subst, arith}
+use Rattle.std.proofs.Common.{◌≡◌, ◌≢◌, ℕ, zero, suc, Bool, true, false, List, refl, sym, ◌∙◌, ap}
+use Rattle.std.proofs.Common.{cond, eqb, subst, arith}
 use Rattle.std.proofs.lemmas.Bool.Decides.{nat_tests}
 use Rattle.std.specs.declared.option.Option.TheVariants.{None, Some}
 use Rattle.std.specs.declared.result.Result.TheVariants.{Ok, Err}
@@ -16,8 +17,10 @@ use Rattle.wl_object_map.specs.declared.object.State.TheVariants.{Live}
 use Rattle.wl_object_map.specs.declared.object.Object.{Object}
 use Rattle.wl_object_map.specs.declared.object.TableError.{TableError}
 use Rattle.wl_object_map.specs.declared.object.TableError.TheVariants as refusals
-use Rattle.wl_object_map.specs.View.{View, Sound, look, is_held, free_or_next, next_id, opening, opened_at, opened, closed, zombied, zombie}
-use Rattle.wl_object_map.specs.Views.{look-opening, look-opened_at, look-closed, look-zombied, free_is, free_or_next-next_id}
+use Rattle.wl_object_map.specs.View.{View, Sound, look, is_held, free_or_next, next_id, opening}
+use Rattle.wl_object_map.specs.View.{opened_at, opened, closed, zombied, zombie}
+use Rattle.wl_object_map.specs.Views.{look-opening, look-opened_at, look-closed, look-zombied}
+use Rattle.wl_object_map.specs.Views.{free_is, free_or_next-next_id}
 use Rattle.wl_connection.specs.Core.{HasDisplay}
 
 pub HasDisplay-opening : HasDisplay (opening display)
@@ -29,20 +32,27 @@ not_display view id d n = by_test (eqb 1 id) refl
   where
     by_test : (b : Bool) → eqb 1 id ≡ b → b ≡ false
     by_test false e = refl
-    by_test true e = let same : 1 ≡ id = grind (arith, nat_tests, e) in let row : look view 1 ≡ None = subst (λ (i : ℕ). look view i ≡ None) (sym same) n in absurd (cc (row, d))
+    by_test true e = let same : 1 ≡ id = grind (arith, nat_tests, e) in let row : look view 1 ≡ None =
+        subst (λ (i : ℕ). look view i ≡ None) (sym same) n in absurd (cc (row, d))
 
-pub HasDisplay-opened_at : (view : View) (id : ℕ) (iface : Iface) (version : ℕ) → Sound view → free_or_next view id ≡ true → HasDisplay view → HasDisplay (opened_at view id iface version)
+pub HasDisplay-opened_at : (view : View) (id : ℕ) (iface : Iface) (version : ℕ) → Sound view
+    → free_or_next view id ≡ true → HasDisplay view → HasDisplay (opened_at view id iface version)
 HasDisplay-opened_at view id iface version s f d =
     look-opened_at view id iface version 1
-    ∙ (ap (λ b. cond b (Some (record { birth = view.births; iface = iface; version = version; state = Live })) (look view 1)) (not_display view id d (free_is view id s f).no_row) ∙ d)
+    ∙ (ap (λ b. cond b (Some (record { birth = view.births; iface = iface; version = version; state = Live }))
+    (look view 1)) (not_display view id d (free_is view id s f).no_row) ∙ d)
 
-pub HasDisplay-opened : (view : View) (iface : Iface) (version : ℕ) → Sound view → HasDisplay view → HasDisplay (opened view iface version)
-HasDisplay-opened view iface version s d = HasDisplay-opened_at view (next_id view) iface version s (free_or_next-next_id view) d
+pub HasDisplay-opened : (view : View) (iface : Iface) (version : ℕ) → Sound view → HasDisplay view
+    → HasDisplay (opened view iface version)
+HasDisplay-opened view iface version s d = HasDisplay-opened_at view (next_id view) iface version s
+    (free_or_next-next_id view) d
 
 -- an opening that may be refused
-pub HasDisplay-opening_next : {X E : Type 0} (result : Result X E) (before now : View) (iface : Iface) (version : ℕ) → Sound before → HasDisplay before
+pub HasDisplay-opening_next : {X E : Type 0} (result : Result X E) (before now : View) (iface : Iface) (version : ℕ)
+    → Sound before → HasDisplay before
     → OnOk result (now ≡ opened before iface version) → OnErr result (now ≡ before) → HasDisplay now
-HasDisplay-opening_next (Ok object) before now iface version s d ok err = subst HasDisplay (sym ok) (HasDisplay-opened before iface version s d)
+HasDisplay-opening_next (Ok object) before now iface version s d ok err =
+    subst HasDisplay (sym ok) (HasDisplay-opened before iface version s d)
 HasDisplay-opening_next (Err why) before now iface version s d ok err = subst HasDisplay (sym err) d
 
 other : (id : ℕ) → id ≢ 1 → eqb 1 id ≡ false
@@ -52,10 +62,12 @@ pub HasDisplay-closed : (view : View) (id : ℕ) → id ≢ 1 → HasDisplay vie
 HasDisplay-closed view id n d = look-closed view id 1 ∙ (ap (λ b. cond b None (look view 1)) (other id n) ∙ d)
 
 pub HasDisplay-zombied : (view : View) (id : ℕ) → id ≢ 1 → HasDisplay view → HasDisplay (zombied view id)
-HasDisplay-zombied view id n d = look-zombied view id 1 ∙ (ap (λ b. cond b (option_map zombie (look view 1)) (look view 1)) (other id n) ∙ d)
+HasDisplay-zombied view id n d = look-zombied view id 1
+    ∙ (ap (λ b. cond b (option_map zombie (look view 1)) (look view 1)) (other id n) ∙ d)
 
 -- what a message of wl_display destroys
-nothing-at : (side : Side) (opcode : ℕ) (m : Message) → slice_get (messages_of side wl_display) opcode ≡ Some m → m.destroys ≡ Nothing
+nothing-at : (side : Side) (opcode : ℕ) (m : Message) → slice_get (messages_of side wl_display) opcode ≡ Some m
+    → m.destroys ≡ Nothing
 nothing-at Request zero m e = let d = ap (option_map (λ (n : Message). n.destroys)) e in cc
 nothing-at Request (suc zero) m e = let d = ap (option_map (λ (n : Message). n.destroys)) e in cc
 nothing-at Request (suc (suc n)) m e = absurd (cc)
@@ -64,13 +76,16 @@ nothing-at Event (suc zero) m e = let d = ap (option_map (λ (n : Message). n.de
 nothing-at Event (suc (suc n)) m e = absurd (cc)
 
 -- no message destroys wl_display
-pub ends-another : (tables : List Interface) (view : View) (side : Side) (id opcode : ℕ) (entry : Entry) (m : Message) → Valid tables → HasDisplay view
+pub ends-another : (tables : List Interface) (view : View) (side : Side) (id opcode : ℕ) (entry : Entry) (m : Message)
+    → Valid tables → HasDisplay view
     → look view id ≡ Some entry → signature_at tables entry.iface.0 side opcode ≡ Some m → m.destroys ≡ Target → id ≢ 1
 ends-another tables view side id opcode entry m valid d row e t = λ same.
-    let one : Some entry ≡ Some (record { birth = 0; iface = display; version = 1; state = Live }) = sym row ∙ ap (look view) same ∙ d in
+    let one : Some entry ≡ Some (record { birth = 0; iface = display; version = 1; state = Live }) =
+    sym row ∙ ap (look view) same ∙ d in
     let place : Some entry.iface.0 ≡ Some 0 = ap (option_map (λ (x : Entry). x.iface.0)) one in
     let zero_place : entry.iface.0 ≡ 0 = cc in
-    let at : signature_at tables 0 side opcode ≡ Some m = subst (λ (n : ℕ). signature_at tables n side opcode ≡ Some m) zero_place e in
+    let at : signature_at tables 0 side opcode ≡ Some m =
+    subst (λ (n : ℕ). signature_at tables n side opcode ≡ Some m) zero_place e in
     let found : slice_get (messages_of side wl_display) opcode ≡ Some m = rw valid.fixed_four.display at at in
     let nothing : m.destroys ≡ Nothing = nothing-at side opcode m found in
     let no : Nothing ≡ Target = sym nothing ∙ t in cc
@@ -80,7 +95,8 @@ is_held-of None e = refl
 is_held-of (Some x) e = absurd (cc e)
 
 -- what `open_at` opens had no row, so it is another
-pub HasDisplay-open : (view after : View) (id : ℕ) (iface : Iface) (version : ℕ) (r : Result Object TableError) → OnOk r (after ≡ opened_at view id iface version) → OnErr r (after ≡ view)
+pub HasDisplay-open : (view after : View) (id : ℕ) (iface : Iface) (version : ℕ) (r : Result Object TableError)
+    → OnOk r (after ≡ opened_at view id iface version) → OnErr r (after ≡ view)
     → ((r ≡ Err refusals.InUse) ↔ IsTrue (is_held view id)) → HasDisplay view → HasDisplay after
 HasDisplay-open view after id iface version (Err why) o e u d = subst HasDisplay (sym e) d
 HasDisplay-open view after id iface version (Ok object) o e u d = by_test (is_held view id) refl
@@ -89,4 +105,5 @@ HasDisplay-open view after id iface version (Ok object) o e u d = by_test (is_he
     by_test true h = let no : Ok object ≡ Err refusals.InUse = u.1 h in absurd (cc no)
     by_test false h =
         subst HasDisplay (sym o) (look-opened_at view id iface version 1
-        ∙ (ap (λ b. cond b (Some (record { birth = view.births; iface = iface; version = version; state = Live })) (look view 1)) (not_display view id d (is_held-of (look view id) h)) ∙ d))
+        ∙ (ap (λ b. cond b (Some (record { birth = view.births; iface = iface; version = version; state = Live }))
+        (look view 1)) (not_display view id d (is_held-of (look view id) h)) ∙ d))

@@ -12,7 +12,7 @@ use Rattle.wl_wire.proofs.Canonicals.{header_at-bytes}
 use Rattle.wl_sigs.specs.declared.signature.Side.{Side}
 use Rattle.wl_message.specs.declared.inbox.Frame.{Frame}
 use Rattle.wl_message.specs.Arrived.{Tells, in_front}
-use Rattle.wl_message.specs.Cut.{Whole}
+use Rattle.wl_message.specs.Cut.{Whole, front}
 use Rattle.wl_objects.specs.Reading.{descriptors, is_descriptor_kind}
 use Rattle.wl_objects.specs.Messages.{received, reader_of}
 use Rattle.wl_connection.specs.Core.{Core}
@@ -31,16 +31,28 @@ found_frame core side h body waiting f =
     let bytes = core.inbox.bytes in
     let rest = drop h.size bytes in
     let whole : bytes ≡ header_bytes h ++ (body ++ rest) =
-    sym (take-append-drop h.size bytes) ∙ ap (λ (x : List ℕ). x ++ rest) f.parts ∙ append_assoc (header_bytes h) body rest in
+    sym (take-append-drop h.size bytes) ∙ ap (λ (x : List ℕ). x ++ rest) f.parts
+    ∙ append_assoc (header_bytes h) body rest in
     let head : header_of bytes ≡ h = ap header_at whole ∙ header_at-bytes h (body ++ rest) f.header in
     ap (found_at core side) f.whole
-    ∙ ap (λ (k : Header). found_in h.size k.opcode (received core.tables side (reader_of core.view) k (drop 8 (take h.size bytes)) (length core.inbox.tokens))) head
-    ∙ ap (λ (x : List ℕ). found_in h.size h.opcode (received core.tables side (reader_of core.view) h x (length core.inbox.tokens))) (ap (drop 8) f.parts)
+    ∙ ap (λ (k : Header). found_in h.size k.opcode
+    (received core.tables side (reader_of core.view) k (drop 8 (take h.size bytes)) (length core.inbox.tokens))) head
+    ∙ ap (λ (x : List ℕ). found_in h.size h.opcode
+    (received core.tables side (reader_of core.view) h x (length core.inbox.tokens))) (ap (drop 8) f.parts)
     ∙ ap (λ (n : ℕ). found_in h.size h.opcode (received core.tables side (reader_of core.view) h body n)) (sym f.tokens)
 
-pub framed : (core : Core) (o : Option Frame) (f : Frame) → o ≡ Some f → Tells core.inbox (Ok o) → IsHeader f.header → IsFrame core f.header f.body.now f.tokens
+pub framed : (core : Core) (o : Option Frame) (f : Frame) → o ≡ Some f → Tells core.inbox (Ok o) → IsHeader f.header
+    → IsFrame core f.header f.body.now f.tokens
 framed core o f e t h = let k = rw e at t in record { header = h; whole = k.0; parts = k.1; tokens = k.2 }
 
 -- a message takes no more tokens than it has arguments
 pub descriptors-le : (ks : List Kind) → descriptors ks ≤ length ks
 descriptors-le ks = count_by-le-length is_descriptor_kind ks
+
+-- the body of the message in front
+pub body-front : (limit : ℕ) (bytes body : List ℕ) (n : ℕ) (h : Header) → front limit bytes ≡ Whole n
+    → front limit bytes ≡ Whole h.size → take h.size bytes ≡ header_bytes h ++ body → body ≡ drop 8 (take n bytes)
+body-front limit bytes body n h f g t =
+    let both = sym f ∙ g in
+    let same : n ≡ h.size = cc both in
+    sym (ap (λ (k : ℕ). drop 8 (take k bytes)) same ∙ ap (drop 8) t)

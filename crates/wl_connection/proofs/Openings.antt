@@ -1,5 +1,6 @@
 -- A call that opens no object.
-use Rattle.std.proofs.Common.{◌≡◌, ◌≢◌, inl, inr, ℕ, ◌+◌, Bool, true, false, List, [], ◌∷◌, map, refl, sym, ap, subst, ◌∙◌}
+use Rattle.std.proofs.Common.{◌≡◌, ◌≢◌, inl, inr, ℕ, ◌+◌, Bool, true, false, List, [], ◌∷◌, map}
+use Rattle.std.proofs.Common.{refl, sym, ap, subst, ◌∙◌}
 use Rattle.std.specs.declared.option.Option.{Option}
 use Rattle.std.specs.declared.option.Option.TheVariants.{None, Some}
 use Rattle.std.specs.declared.result.Result.{Result}
@@ -18,10 +19,12 @@ use Rattle.wl_object_map.specs.View.{View, look, next_id}
 use Rattle.wl_objects.specs.declared.error.SendError.{SendError}
 use Rattle.wl_objects.specs.declared.error.SendError.TheVariants as refusals
 use Rattle.wl_objects.specs.Writing.{Given, wired, wrong_place, lost_place, message_len, tokens_of}
-use Rattle.wl_objects.specs.Messages.{made, NewObject, unless_lost, unless_wrong, checked_as, unless_hidden, checked_by, checked, live_row, is_hidden}
+use Rattle.wl_objects.specs.Messages.{made, NewObject, unless_lost, unless_wrong, checked_as}
+use Rattle.wl_objects.specs.Messages.{unless_hidden, checked_by, checked, live_row, is_hidden}
 use Rattle.wl_connection.specs.Core.{Core}
 use Rattle.wl_connection.specs.Outcomes.{AnswersOrMemory}
-use Rattle.wl_connection.specs.Sending.{IsSendAnswer, OpensNothing, answer_of, opening_answer, opens_object, made_at, version_at, following_len, fits}
+use Rattle.wl_connection.specs.Sending.{IsSendAnswer, OpensNothing, answer_of, opening_answer}
+use Rattle.wl_connection.specs.Sending.{opens_object, made_at, version_at, following_len, fits}
 
 -- what is refused before the room is looked at
 abbrev IsEarly : Result Message SendError → Type 0
@@ -44,21 +47,30 @@ early_old : (b : Bool) (r : Result Message SendError) → IsEarly r → IsEarly 
 early_old true r h = (λ e. cc e, λ e. cc e)
 early_old false r h = h
 
-early_as : (limit : ℕ) (view : View) (given : List Given) (entry : Entry) (o : Option Message) → IsEarly (checked_as limit view given entry o)
+early_as : (limit : ℕ) (view : View) (given : List Given) (entry : Entry) (o : Option Message)
+    → IsEarly (checked_as limit view given entry o)
 early_as limit view given entry None = (λ e. cc e, λ e. cc e)
 early_as limit view given entry (Some m) =
-    early_old (nat_lt entry.version m.since) (unless_wrong limit (wrong_place 0 m.kinds given) (lost_place (look view) 0 m.kinds given) (message_len (map (wired 0) given)) m)
-    (early_wrong limit (message_len (map (wired 0) given)) (wrong_place 0 m.kinds given) (lost_place (look view) 0 m.kinds given) m)
+    early_old (nat_lt entry.version m.since) (unless_wrong limit (wrong_place 0 m.kinds given)
+    (lost_place (look view) 0 m.kinds given) (message_len (map (wired 0) given)) m)
+    (early_wrong limit (message_len (map (wired 0) given)) (wrong_place 0 m.kinds given)
+    (lost_place (look view) 0 m.kinds given) m)
 
-early_by : (limit : ℕ) (tables : List Interface) (side : Side) (view : View) (opcode : ℕ) (given : List Given) (o : Option Entry) → IsEarly (checked_by limit tables side view opcode given o)
+early_by : (limit : ℕ) (tables : List Interface) (side : Side) (view : View) (opcode : ℕ) (given : List Given)
+    (o : Option Entry) → IsEarly (checked_by limit tables side view opcode given o)
 early_by limit tables side view opcode given None = (λ e. cc e, λ e. cc e)
-early_by limit tables side view opcode given (Some entry) = early_as limit view given entry (unless_hidden (is_hidden side entry.iface opcode) (signature_at tables entry.iface.0 side opcode))
+early_by limit tables side view opcode given (Some entry) =
+    early_as limit view given entry (unless_hidden (is_hidden side entry.iface opcode)
+    (signature_at tables entry.iface.0 side opcode))
 
-early_checked : (limit : ℕ) (tables : List Interface) (side : Side) (view : View) (target : Object) (opcode : ℕ) (given : List Given) → IsEarly (checked limit tables side view target opcode given)
-early_checked limit tables side view target opcode given = early_by limit tables side view opcode given (live_row view target)
+early_checked : (limit : ℕ) (tables : List Interface) (side : Side) (view : View) (target : Object) (opcode : ℕ)
+    (given : List Given) → IsEarly (checked limit tables side view target opcode given)
+early_checked limit tables side view target opcode given =
+    early_by limit tables side view opcode given (live_row view target)
 
 -- a message whose signature has no new object makes none
-makes_none : (tables : List Interface) (version : ℕ) (ks : List Kind) (values : List Argument) → is_some (first (new_objects ks)) ≡ false → made tables version ks values ≡ None
+makes_none : (tables : List Interface) (version : ℕ) (ks : List Kind) (values : List Argument)
+    → is_some (first (new_objects ks)) ≡ false → made tables version ks values ≡ None
 makes_none tables version [] values h = refl
 makes_none tables version (k ∷ ks) [] h = refl
 makes_none tables version (kinds.Int ∷ ks) (v ∷ values) h = makes_none tables version ks values h
@@ -70,22 +82,27 @@ makes_none tables version (kinds.New iface ∷ ks) (v ∷ values) h = absurd (cc
 makes_none tables version (kinds.Array ∷ ks) (v ∷ values) h = makes_none tables version ks values h
 makes_none tables version (kinds.Fd ∷ ks) (v ∷ values) h = makes_none tables version ks values h
 
-nothing_room : (core : Core) (b : Bool) (o : Option NewObject) → o ≡ None → OpensNothing (if b then opening_answer core o else Err refusals.Full)
+nothing_room : (core : Core) (b : Bool) (o : Option NewObject) → o ≡ None
+    → OpensNothing (if b then opening_answer core o else Err refusals.Full)
 nothing_room core true o e = rw e refl
 nothing_room core false o e = (λ f. cc f, λ f. cc f)
 
-nothing_of : (core : Core) (side : Side) (target : Object) (given : List Given) (r : Result Message SendError) → IsEarly r → opens_object r ≡ false → OpensNothing (answer_of core side target given r)
+nothing_of : (core : Core) (side : Side) (target : Object) (given : List Given) (r : Result Message SendError)
+    → IsEarly r → opens_object r ≡ false → OpensNothing (answer_of core side target given r)
 nothing_of core side target given (Err why) early h = early
 nothing_of core side target given (Ok m) early h =
-    nothing_room core (fits core.outbox (message_len (map (wired 0) given) + following_len side m.destroys) (length (tokens_of given))) (made_at core target m given)
+    nothing_room core (fits core.outbox (message_len (map (wired 0) given) + following_len side m.destroys)
+    (length (tokens_of given))) (made_at core target m given)
     (makes_none core.tables (version_at (look core.view target.id)) m.kinds (map (wired (next_id core.view)) given) h)
 
-nothing_unless : (b : Bool) (r : Result (Option Object) SendError) → OpensNothing r → OpensNothing (if b then Err refusals.Failed else r)
+nothing_unless : (b : Bool) (r : Result (Option Object) SendError) → OpensNothing r
+    → OpensNothing (if b then Err refusals.Failed else r)
 nothing_unless true r h = (λ e. cc e, λ e. cc e)
 nothing_unless false r h = h
 
 -- what is returned where nothing is opened
-pub opens_nothing : (core : Core) (side : Side) (target : Object) (opcode : ℕ) (given : List Given) (result : Result (Option Object) SendError)
+pub opens_nothing : (core : Core) (side : Side) (target : Object) (opcode : ℕ) (given : List Given)
+    (result : Result (Option Object) SendError)
     → IsSendAnswer core side target opcode given result
     → opens_object (checked core.outbox.limit.bytes core.tables side core.view target opcode given) ≡ false
     → OpensNothing result
@@ -93,11 +110,14 @@ opens_nothing core side target opcode given result (inl e) h =
     let r = checked core.outbox.limit.bytes core.tables side core.view target opcode given in
     subst OpensNothing (sym e)
     (nothing_unless core.failed (answer_of core side target given r)
-    (nothing_of core side target given r (early_checked core.outbox.limit.bytes core.tables side core.view target opcode given) h))
+    (nothing_of core side target given r (early_checked core.outbox.limit.bytes core.tables side core.view target opcode
+    given) h))
 opens_nothing core side target opcode given result (inr m) h = absurd (let yes = m.1 in cc (yes, h))
 
 -- no event opens an object
-event_as : (b : Bool) (o : Option Message) → ((m : Message) → o ≡ Some m → new_objects m.kinds ≡ []) → (limit : ℕ) (view : View) (given : List Given) (entry : Entry) → opens_object (checked_as limit view given entry (unless_hidden b o)) ≡ false
+event_as : (b : Bool) (o : Option Message) → ((m : Message) → o ≡ Some m → new_objects m.kinds ≡ [])
+    → (limit : ℕ) (view : View) (given : List Given) (entry : Entry)
+    → opens_object (checked_as limit view given entry (unless_hidden b o)) ≡ false
 event_as true o h limit view given entry = refl
 event_as false None h limit view given entry = refl
 event_as false (Some m) h limit view given entry =
@@ -114,30 +134,42 @@ event_as false (Some m) h limit view given entry =
     by_lost None = by_len (nat_lt limit (message_len (map (wired 0) given)))
     by_lost (Some place) = refl
 
-    by_wrong : (o lost : Option ℕ) → opens_object (unless_wrong limit o lost (message_len (map (wired 0) given)) m) ≡ false
+    by_wrong : (o lost : Option ℕ) → opens_object (unless_wrong limit o lost (message_len (map (wired 0) given)) m)
+        ≡ false
     by_wrong None lost = by_lost lost
     by_wrong (Some place) lost = refl
 
-    by_test : (b : Bool) (o lost : Option ℕ) → opens_object (if b then Err refusals.TooOld else unless_wrong limit o lost (message_len (map (wired 0) given)) m) ≡ false
+    by_test : (b : Bool) (o lost : Option ℕ) → opens_object
+        (if b then Err refusals.TooOld else unless_wrong limit o lost (message_len (map (wired 0) given)) m) ≡ false
     by_test true o lost = refl
     by_test false o lost = by_wrong o lost
 
-event_by : (limit : ℕ) (tables : List Interface) (view : View) (opcode : ℕ) (given : List Given) (o : Option Entry) → Valid tables → opens_object (checked_by limit tables Event view opcode given o) ≡ false
+event_by : (limit : ℕ) (tables : List Interface) (view : View) (opcode : ℕ) (given : List Given) (o : Option Entry)
+    → Valid tables → opens_object (checked_by limit tables Event view opcode given o) ≡ false
 event_by limit tables view opcode given None v = refl
 event_by limit tables view opcode given (Some entry) v =
-    event_as (is_hidden Event entry.iface opcode) (signature_at tables entry.iface.0 Event opcode) (v.few_objects_made.events entry.iface.0 opcode) limit view given entry
+    event_as (is_hidden Event entry.iface opcode) (signature_at tables entry.iface.0 Event opcode)
+    (v.few_objects_made.events entry.iface.0 opcode) limit view given entry
 
-pub event_opens_none : (limit : ℕ) (tables : List Interface) (view : View) (target : Object) (opcode : ℕ) (given : List Given) → Valid tables → opens_object (checked limit tables Event view target opcode given) ≡ false
-event_opens_none limit tables view target opcode given v = event_by limit tables view opcode given (live_row view target) v
+pub event_opens_none : (limit : ℕ) (tables : List Interface) (view : View) (target : Object) (opcode : ℕ)
+    (given : List Given) → Valid tables → opens_object (checked limit tables Event view target opcode given) ≡ false
+event_opens_none limit tables view target opcode given v =
+    event_by limit tables view opcode given (live_row view target) v
 
 -- an event that passed its checks opens nothing
-pub event_sent : (core : Core) (side : Side) (target : Object) (opcode : ℕ) (given : List Given) (m : Message) (result : Result (Option Object) SendError) → side ≡ Event → Valid core.tables
-    → checked core.outbox.limit.bytes core.tables side core.view target opcode given ≡ Ok m → AnswersOrMemory refusals.Memory (is_some (makes m)) (answer_of core side target given (Ok m)) result → OpensNothing result
+pub event_sent : (core : Core) (side : Side) (target : Object) (opcode : ℕ) (given : List Given) (m : Message)
+    (result : Result (Option Object) SendError) → side ≡ Event → Valid core.tables
+    → checked core.outbox.limit.bytes core.tables side core.view target opcode given ≡ Ok m
+    → AnswersOrMemory refusals.Memory (is_some (makes m)) (answer_of core side target given (Ok m)) result
+    → OpensNothing result
 event_sent core side target opcode given m result s v e answer = by_answer answer
   where
     none : is_some (makes m) ≡ false
-    none = ap opens_object (sym e) ∙ (ap (λ (x : Side). opens_object (checked core.outbox.limit.bytes core.tables x core.view target opcode given)) s ∙ event_opens_none core.outbox.limit.bytes core.tables core.view target opcode given v)
+    none = ap opens_object (sym e) ∙ (ap (λ (x : Side). opens_object
+        (checked core.outbox.limit.bytes core.tables x core.view target opcode given)) s
+        ∙ event_opens_none core.outbox.limit.bytes core.tables core.view target opcode given v)
 
-    by_answer : AnswersOrMemory refusals.Memory (is_some (makes m)) (answer_of core side target given (Ok m)) result → OpensNothing result
+    by_answer : AnswersOrMemory refusals.Memory (is_some (makes m)) (answer_of core side target given (Ok m)) result
+        → OpensNothing result
     by_answer (inl is) = subst OpensNothing (sym is) (nothing_of core side target given (Ok m) tt none)
     by_answer (inr more) = absurd (let yes = more.1 in cc (yes, none))

@@ -1,5 +1,7 @@
 -- Whole messages are spelled by their values.
-use Rattle.std.proofs.Common.{◌≡◌, ◌≢◌, ℕ, suc, ◌+◌, ◌-◌, ◌*◌, ◌/◌, ◌%◌, ◌<◌, ◌≤◌, ◌^◌, Bool, true, false, cond, List, [], ◌∷◌, ◌++◌, length, map, take, drop, Some, None, refl, sym, ap, subst, ◌∙◌, arith, append_assoc}
+use Rattle.std.proofs.Common.{◌≡◌, ◌≢◌, ℕ, suc, ◌+◌, ◌-◌, ◌*◌, ◌/◌, ◌%◌, ◌<◌, ◌≤◌, ◌^◌, Bool, true}
+use Rattle.std.proofs.Common.{false, cond, List, [], ◌∷◌, ◌++◌, length, map, take, drop, Some, None}
+use Rattle.std.proofs.Common.{refl, sym, ap, subst, ◌∙◌, arith, append_assoc}
 use Rattle.std.specs.Prelude.{Option, not, nat_lt, if◌then◌else◌, is_some}
 use Rattle.std.specs.List.{All, concat}
 use Rattle.std.specs.declared.result.Result.{Result}
@@ -29,17 +31,19 @@ use Rattle.wl_objects.specs.Reading.{Reader, forgiving, arguments_at, descriptor
 use Rattle.wl_objects.specs.Spelling.{SpellsAll}
 use Rattle.wl_objects.specs.Spelling as spelling
 use Rattle.wl_wire.specs.Spelling.{Suits}
-use Rattle.wl_objects.specs.Writing.{Given, wired, spelled, lost_place, wrong_place, can_name, is_live_as, message_len, message_bytes}
-use Rattle.wl_objects.specs.Messages.{Received, received, received_by, received_as, received_whole, is_empty, is_error, reader_of}
-use Rattle.wl_objects.proofs.Carrying.{if-none}
+use Rattle.wl_objects.specs.Writing.{Given, wired, spelled, lost_place, wrong_place, can_name}
+use Rattle.wl_objects.specs.Writing.{is_live_as, message_len, message_bytes}
+use Rattle.wl_objects.specs.Messages.{Received, received, received_by, received_as, received_whole}
+use Rattle.wl_objects.specs.Messages.{is_empty, is_error, reader_of}
+use Rattle.wl_objects.proofs.WrittenArrives.{if-none}
 use Rattle.wl_objects.proofs.Calls.{len-any, len-least}
-use Rattle.wl_objects.proofs.Meeting.{met}
+use Rattle.wl_objects.proofs.ArgumentsMeet.{met}
 use Rattle.wl_objects.proofs.Wholes.{length-message, message-words, meets-spelled, written-spelled, passes}
 use Rattle.wl_connection.specs.Core.{Core}
 use Rattle.wl_connection.specs.Receiving.{Found, found, found_at, found_in, header_of}
 use Rattle.wl_connection.specs.Spelled.{MessageSpells, CallsSpell, FoundSpells}
 use Rattle.wl_connection.specs.Streams.{BeginWith}
-use Rattle.wl_connection.proofs.Receivings.{is_received}
+use Rattle.wl_connection.proofs.ReceivedMessage.{is_received}
 
 -- ---- what is written
 
@@ -73,7 +77,8 @@ no_null view kind (NewNamed name own z) s h object e n = absurd (cc e)
 no_null view kind (Array z) s h object e n = absurd (cc e)
 no_null view kind (Fd z) s h object e n = absurd (cc e)
 
-none_null : (view : View) (place : ℕ) (ks : List Kind) (list : List Given) → Sound view → wrong_place place ks list ≡ None → lost_place (look view) place ks list ≡ None → All NoNull list
+none_null : (view : View) (place : ℕ) (ks : List Kind) (list : List Given) → Sound view
+    → wrong_place place ks list ≡ None → lost_place (look view) place ks list ≡ None → All NoNull list
 none_null view place [] [] s w l = All-nil NoNull
 none_null view place [] (x ∷ list) s w l = absurd (cc w)
 none_null view place (k ∷ ks) [] s w l = absurd (cc w)
@@ -82,22 +87,26 @@ none_null view place (k ∷ ks) (x ∷ list) s w l =
     let b = if-none (can_name (look view) k x) (lost_place (look view) (suc place) ks list) place l in
     All-cons NoNull x list (no_null view k x s b.0) (none_null view (suc place) ks list s a.1 b.1)
 
-pub calls_spell : (core : Core) (side : Side) (target : Object) (opcode : ℕ) (list : List Given) (signature : Message) → CallsSpell core side target opcode list signature
+pub calls_spell : (core : Core) (side : Side) (target : Object) (opcode : ℕ) (list : List Given) (signature : Message)
+    → CallsSpell core side target opcode list signature
 calls_spell core side target opcode list signature s e r =
     let n = next_id core.view in
     let values = map (wired n) list in
     let p = passes core.outbox.limit.bytes core.tables side core.view target opcode list signature e in
     let f = free_is core.view n s (free_or_next-next_id core.view) in
     let low : n < 2 ^ 32 = omega (arith, f.at_most_next, s.ids_end) in
-    let len : length (message_bytes target.id opcode values) ≡ message_len values = length-message target.id opcode values in
+    let len : length (message_bytes target.id opcode values) ≡ message_len values =
+    length-message target.id opcode values in
     let any = len-any n list in
     let words = message-words values in
     let least = len-least values in
     let nulls = none_null core.view 0 signature.kinds list s p.suit p.can_name in
     record {
       arguments = spelled values;
-      whole = ap (λ (k : ℕ). header_bytes (record { object = target.id; size = k; opcode = opcode }) ++ spelled values) (sym len);
-      size = subst (IsSize core.outbox.limit.bytes) (sym len) (record { header = least; words = words; within = omega (arith, any, p.len) });
+      whole = ap (λ (k : ℕ). header_bytes (record { object = target.id; size = k; opcode = opcode }) ++ spelled values)
+          (sym len);
+      size = subst (IsSize core.outbox.limit.bytes) (sym len)
+          (record { header = least; words = words; within = omega (arith, any, p.len) });
       each = written-spelled n 0 signature.kinds list low p.suit r (λ object k d h. nulls k d h object);
     }
 
@@ -107,21 +116,26 @@ EachSuits [] [] = Unit {0}
 EachSuits (kind ∷ kinds) (value ∷ values) = Suits kind value × EachSuits kinds values
 EachSuits _ _ = ⊥
 
-suited-spelled : (kinds : List Kind) (values : List Argument) → EachSuits kinds values → SpellsAll kinds values (spelled values)
+suited-spelled : (kinds : List Kind) (values : List Argument) → EachSuits kinds values
+    → SpellsAll kinds values (spelled values)
 suited-spelled [] [] s = spelling.none refl
 suited-spelled [] (value ∷ values) s = absurd s
 suited-spelled (kind ∷ kinds) [] s = absurd s
-suited-spelled (kind ∷ kinds) (value ∷ values) s = spelling.more (canonical-spells kind value s.0) (suited-spelled kinds values s.1) refl
+suited-spelled (kind ∷ kinds) (value ∷ values) s =
+    spelling.more (canonical-spells kind value s.0) (suited-spelled kinds values s.1) refl
 
 -- a message that an end writes of itself
-pub own-spelled : (kinds : List Kind) (object opcode : ℕ) (values : List Argument) → EachSuits kinds values → message_len values ≤ 4096 → MessageSpells usual_limit kinds object opcode values (message_bytes object opcode values)
+pub own-spelled : (kinds : List Kind) (object opcode : ℕ) (values : List Argument) → EachSuits kinds values
+    → message_len values ≤ 4096 → MessageSpells usual_limit kinds object opcode values
+    (message_bytes object opcode values)
 own-spelled kinds object opcode values s l =
     let len : length (message_bytes object opcode values) ≡ message_len values = length-message object opcode values in
     let words = message-words values in
     let least = len-least values in
     record {
       arguments = spelled values;
-      whole = ap (λ (k : ℕ). header_bytes (record { object = object; size = k; opcode = opcode }) ++ spelled values) (sym len);
+      whole = ap (λ (k : ℕ). header_bytes (record { object = object; size = k; opcode = opcode }) ++ spelled values)
+          (sym len);
       size = subst (IsSize usual_limit) (sym len) (record { header = least; words = words; within = l });
       each = suited-spelled kinds values s;
     }
@@ -129,10 +143,12 @@ own-spelled kinds object opcode values s l =
 -- ---- what is read
 
 -- the arguments of a message that was received
-record ReadBy (side : Side) (reader : Reader) (opcode : ℕ) (body : List ℕ) (entry : Entry) (signature : Message) (m : Received) : Type 0 where
+record ReadBy (side : Side) (reader : Reader) (opcode : ℕ) (body : List ℕ) (entry : Entry) (signature : Message)
+    (m : Received) : Type 0 where
   entry_is : m.entry ≡ entry
   signature_is : m.signature ≡ signature
-  arguments : arguments_at (forgiving (is_error side entry.iface opcode) reader) 0 signature.kinds body ≡ Ok (m.values, [])
+  arguments : arguments_at (forgiving (is_error side entry.iface opcode) reader) 0 signature.kinds body
+      ≡ Ok (m.values, [])
 
 not_true : (b : Bool) → not b ≡ false → b ≡ true
 not_true true h = refl
@@ -142,49 +158,77 @@ empty_is : (xs : List ℕ) → is_empty xs ≡ true → xs ≡ []
 empty_is [] h = refl
 empty_is (x ∷ xs) h = absurd (cc h)
 
-read_tests : (side : Side) (reader : Reader) (header : Header) (body : List ℕ) (m : Received) (entry : Entry) (signature : Message) (got : List Argument × List ℕ) (a b : Bool) → not (is_empty got.1) ≡ a
+read_tests : (side : Side) (reader : Reader) (header : Header) (body : List ℕ) (m : Received) (entry : Entry)
+    (signature : Message) (got : List Argument × List ℕ) (a b : Bool) → not (is_empty got.1) ≡ a
     → arguments_at (forgiving (is_error side entry.iface header.opcode) reader) 0 signature.kinds body ≡ Ok got
     → (if a then Err faults.TrailingBytes
     else if b then Err faults.MissingDescriptor
-    else Ok (let it : Received = record { target = record { id = header.object; birth = entry.birth }; entry = entry; signature = signature; values = got.0 } in it)) ≡ Ok m
+    else Ok (let it : Received = record {
+      target = record { id = header.object; birth = entry.birth };
+      entry = entry;
+      signature = signature;
+      values = got.0;
+    } in it)) ≡ Ok m
     → ReadBy side reader header.opcode body entry signature m
 read_tests side reader header body m entry signature got true b t r h = absurd (cc h)
 read_tests side reader header body m entry signature got false true t r h = absurd (cc h)
 read_tests side reader header body m entry signature got false false t r h =
-    let same : record { target = record { id = header.object; birth = entry.birth }; entry = entry; signature = signature; values = got.0 } ≡ m = cc h in
+    let same : record {
+      target = record { id = header.object; birth = entry.birth };
+      entry = entry;
+      signature = signature;
+      values = got.0;
+    } ≡ m = cc h in
     subst (ReadBy side reader header.opcode body entry signature) same
-    (record { entry_is = refl; signature_is = refl; arguments = r ∙ ap (λ (l : List ℕ). Ok (got.0, l)) (empty_is got.1 (not_true (is_empty got.1) t)) })
+    (record {
+      entry_is = refl;
+      signature_is = refl;
+      arguments = r ∙ ap (λ (l : List ℕ). Ok (got.0, l)) (empty_is got.1 (not_true (is_empty got.1) t));
+    })
 
-read_whole : (side : Side) (reader : Reader) (header : Header) (body : List ℕ) (waiting : ℕ) (m : Received) (entry : Entry) (signature : Message) (x : Result (List Argument × List ℕ) Fault)
-    → arguments_at (forgiving (is_error side entry.iface header.opcode) reader) 0 signature.kinds body ≡ x → received_whole header entry signature waiting x ≡ Ok m → ReadBy side reader header.opcode body entry signature m
+read_whole : (side : Side) (reader : Reader) (header : Header) (body : List ℕ) (waiting : ℕ) (m : Received)
+    (entry : Entry) (signature : Message) (x : Result (List Argument × List ℕ) Fault)
+    → arguments_at (forgiving (is_error side entry.iface header.opcode) reader) 0 signature.kinds body ≡ x
+    → received_whole header entry signature waiting x ≡ Ok m → ReadBy side reader header.opcode body entry signature m
 read_whole side reader header body waiting m entry signature (Err fault) r h = absurd (cc h)
 read_whole side reader header body waiting m entry signature (Ok got) r h =
-    read_tests side reader header body m entry signature got (not (is_empty got.1)) (nat_lt waiting (descriptors signature.kinds)) refl r h
+    read_tests side reader header body m entry signature got (not (is_empty got.1))
+    (nat_lt waiting (descriptors signature.kinds)) refl r h
 
-read_as : (side : Side) (reader : Reader) (header : Header) (body : List ℕ) (waiting : ℕ) (m : Received) (entry : Entry) (signature : Message) (b : Bool)
+read_as : (side : Side) (reader : Reader) (header : Header) (body : List ℕ) (waiting : ℕ) (m : Received) (entry : Entry)
+    (signature : Message) (b : Bool)
     → (if b then Err faults.UnknownMessage
-    else received_whole header entry signature waiting (arguments_at (forgiving (is_error side entry.iface header.opcode) reader) 0 signature.kinds body)) ≡ Ok m
+    else received_whole header entry signature waiting
+    (arguments_at (forgiving (is_error side entry.iface header.opcode) reader) 0 signature.kinds body)) ≡ Ok m
     → ReadBy side reader header.opcode body entry signature m
 read_as side reader header body waiting m entry signature true h = absurd (cc h)
-read_as side reader header body waiting m entry signature false h = read_whole side reader header body waiting m entry signature _ refl h
+read_as side reader header body waiting m entry signature false h =
+    read_whole side reader header body waiting m entry signature _ refl h
 
 abbrev pub IsRead : Side → Reader → ℕ → List ℕ → Received → Type 0
-IsRead side reader opcode body m = arguments_at (forgiving (is_error side m.entry.iface opcode) reader) 0 m.signature.kinds body ≡ Ok (m.values, [])
+IsRead side reader opcode body m = arguments_at (forgiving (is_error side m.entry.iface opcode) reader) 0
+    m.signature.kinds body ≡ Ok (m.values, [])
 
-is_read : (side : Side) (reader : Reader) (opcode : ℕ) (body : List ℕ) (entry : Entry) (signature : Message) (m : Received) → ReadBy side reader opcode body entry signature m → IsRead side reader opcode body m
+is_read : (side : Side) (reader : Reader) (opcode : ℕ) (body : List ℕ) (entry : Entry) (signature : Message)
+    (m : Received) → ReadBy side reader opcode body entry signature m → IsRead side reader opcode body m
 is_read side reader opcode body entry signature m r =
-    (λ i. arguments_at (forgiving (is_error side (r.entry_is i).iface opcode) reader) 0 (r.signature_is i).kinds body) ∙ r.arguments
+    (λ i. arguments_at (forgiving (is_error side (r.entry_is i).iface opcode) reader) 0 (r.signature_is i).kinds body)
+    ∙ r.arguments
 
-read_entry : (side : Side) (reader : Reader) (header : Header) (body : List ℕ) (waiting : ℕ) (m : Received) (entry : Entry) (o : Option Message)
+read_entry : (side : Side) (reader : Reader) (header : Header) (body : List ℕ) (waiting : ℕ) (m : Received)
+    (entry : Entry) (o : Option Message)
     → received_as side reader header body waiting entry o ≡ Ok m → IsRead side reader header.opcode body m
 read_entry side reader header body waiting m entry None h = absurd (cc h)
 read_entry side reader header body waiting m entry (Some signature) h =
-    is_read side reader header.opcode body entry signature m (read_as side reader header body waiting m entry signature (nat_lt entry.version signature.since) h)
+    is_read side reader header.opcode body entry signature m
+    (read_as side reader header body waiting m entry signature (nat_lt entry.version signature.since) h)
 
-pub read_row : (tables : List Interface) (side : Side) (reader : Reader) (header : Header) (body : List ℕ) (waiting : ℕ) (m : Received) (o : Option Entry)
+pub read_row : (tables : List Interface) (side : Side) (reader : Reader) (header : Header) (body : List ℕ) (waiting : ℕ)
+    (m : Received) (o : Option Entry)
     → received_by tables side reader header body waiting o ≡ Ok m → IsRead side reader header.opcode body m
 read_row tables side reader header body waiting m None h = absurd (cc h)
-read_row tables side reader header body waiting m (Some entry) h = read_entry side reader header body waiting m entry (signature_at tables entry.iface.0 side header.opcode) h
+read_row tables side reader header body waiting m (Some entry) h =
+    read_entry side reader header body waiting m entry (signature_at tables entry.iface.0 side header.opcode) h
 
 -- ---- the header of a message in front
 
@@ -196,33 +240,46 @@ has_header : (bytes : List ℕ) → All (λ b. b < 256) bytes → 8 ≤ length b
 has_header bytes w l =
     let first = take 8 bytes in
     let n = number_at_fits (drop 4 first) in
-    let i : IsHeader (header_at first) = record { object = number_at_fits first; size = omega (arith, n); opcode = omega arith } in
-    let e : header_bytes (header_at first) ≡ first = header_bytes-at first (All-take (λ b. b < 256) 8 bytes w) (length-take-le 8 bytes l) in
-    let s : bytes ≡ header_bytes (header_at first) ++ drop 8 bytes = sym (take-append-drop 8 bytes) ∙ ap (λ (x : List ℕ). x ++ drop 8 bytes) (sym e) in
-    let same : header_of bytes ≡ header_at first = ap header_at s ∙ header_at-bytes (header_at first) (drop 8 bytes) i in
+    let i : IsHeader (header_at first) = record {
+      object = number_at_fits first;
+      size = omega (arith, n);
+      opcode = omega arith;
+    } in
+    let e : header_bytes (header_at first) ≡ first =
+    header_bytes-at first (All-take (λ b. b < 256) 8 bytes w) (length-take-le 8 bytes l) in
+    let s : bytes ≡ header_bytes (header_at first) ++ drop 8 bytes =
+    sym (take-append-drop 8 bytes) ∙ ap (λ (x : List ℕ). x ++ drop 8 bytes) (sym e) in
+    let same : header_of bytes ≡ header_at first =
+    ap header_at s ∙ header_at-bytes (header_at first) (drop 8 bytes) i in
     record { is = subst IsHeader (sym same) i; first = sym e ∙ ap header_bytes (sym same) }
 
 -- the size that the header tells
-told_header : (n o : ℕ) → n < 65536 → o < 65536 → (n * 65536 + o) / 65536 % 256 + 256 * ((n * 65536 + o) / 16777216 % 256) ≡ n
+told_header : (n o : ℕ) → n < 65536 → o < 65536 → (n * 65536 + o) / 65536 % 256 + 256 *
+    ((n * 65536 + o) / 16777216 % 256) ≡ n
 told_header n o p q = omega arith
 
 header_size : (bytes : List ℕ) (h : Header) → IsHeader h → take 8 bytes ≡ header_bytes h → h.size ≡ told_size bytes
 header_size bytes h i e =
-    let s : bytes ≡ header_bytes h ++ drop 8 bytes = sym (take-append-drop 8 bytes) ∙ ap (λ (x : List ℕ). x ++ drop 8 bytes) e in
+    let s : bytes ≡ header_bytes h ++ drop 8 bytes =
+    sym (take-append-drop 8 bytes) ∙ ap (λ (x : List ℕ). x ++ drop 8 bytes) e in
     let t : told_size (header_bytes h ++ drop 8 bytes) ≡ h.size = told_header h.size h.opcode i.size i.opcode in
     sym (ap told_size s ∙ t)
 
 -- what stands in front, and how it was read
 abbrev IsFront : Core → Side → Front → Found → Type 0
 IsFront core side fr f = (fr ≡ Whole f.size) × (f.opcode ≡ (header_of core.inbox.bytes).opcode)
-    × (received core.tables side (reader_of core.view) (header_of core.inbox.bytes) (drop 8 (take f.size core.inbox.bytes)) (length core.inbox.tokens) ≡ Ok f.message)
+    × (received core.tables side (reader_of core.view) (header_of core.inbox.bytes)
+    (drop 8 (take f.size core.inbox.bytes)) (length core.inbox.tokens) ≡ Ok f.message)
 
-size_of : (core : Core) (side : Side) (f : Found) (fr : Front) → found_at core side fr ≡ Ok (Some f) → IsFront core side fr f
+size_of : (core : Core) (side : Side) (f : Found) (fr : Front) → found_at core side fr ≡ Ok (Some f)
+    → IsFront core side fr f
 size_of core side f More h = absurd (cc h)
 size_of core side f (Bad n) h = absurd (cc h)
-size_of core side f (Whole n) h = by_result (received core.tables side (reader_of core.view) (header_of core.inbox.bytes) (drop 8 (take n core.inbox.bytes)) (length core.inbox.tokens)) refl h
+size_of core side f (Whole n) h = by_result (received core.tables side (reader_of core.view)
+    (header_of core.inbox.bytes) (drop 8 (take n core.inbox.bytes)) (length core.inbox.tokens)) refl h
   where
-    by_result : (r : Result Received Fault) → received core.tables side (reader_of core.view) (header_of core.inbox.bytes) (drop 8 (take n core.inbox.bytes)) (length core.inbox.tokens) ≡ r
+    by_result : (r : Result Received Fault) → received core.tables side (reader_of core.view)
+        (header_of core.inbox.bytes) (drop 8 (take n core.inbox.bytes)) (length core.inbox.tokens) ≡ r
         → found_in n (header_of core.inbox.bytes).opcode r ≡ Ok (Some f) → IsFront core side (Whole n) f
     by_result (Err fault) e k = absurd (cc k)
     by_result (Ok m) e k =
@@ -243,18 +300,22 @@ found_spells core side f w e =
     let body = take (h.size - 8) (drop 8 bytes) in
     let all : take f.size bytes ≡ header_bytes h ++ body = ap (λ (n : ℕ). take n bytes) (sym size) ∙ parts.parts in
     let len : length (take f.size bytes) ≡ f.size = length-take-le f.size bytes fits in
-    let id = (is_received core.tables side (reader_of core.view) h (drop 8 (take f.size bytes)) (length core.inbox.tokens) f.message z.2).id in
+    let id = (is_received core.tables side (reader_of core.view) h (drop 8 (take f.size bytes))
+    (length core.inbox.tokens) f.message z.2).id in
     let behind : drop 8 (take f.size bytes) ≡ body = ap (drop 8) all in
     let opcode = z.1 in
     let r : IsRead side (reader_of core.view) f.opcode body f.message =
     subst (λ (l : List ℕ). IsRead side (reader_of core.view) f.opcode l f.message) behind
     (subst (λ (n : ℕ). IsRead side (reader_of core.view) n (drop 8 (take f.size bytes)) f.message) (sym opcode)
-    (read_row core.tables side (reader_of core.view) h (drop 8 (take f.size bytes)) (length core.inbox.tokens) f.message (look core.view h.object) z.2)) in
-    let wide : All (λ b. b < 256) body = All-take (λ b. b < 256) (h.size - 8) (drop 8 bytes) (All-drop (λ b. b < 256) 8 bytes w) in
+    (read_row core.tables side (reader_of core.view) h (drop 8 (take f.size bytes)) (length core.inbox.tokens) f.message
+    (look core.view h.object) z.2)) in
+    let wide : All (λ b. b < 256) body = All-take (λ b. b < 256) (h.size - 8) (drop 8 bytes)
+    (All-drop (λ b. b < 256) 8 bytes w) in
     let reader = forgiving (is_error side f.message.entry.iface f.opcode) (reader_of core.view) in
     record {
       arguments = body;
-      whole = all ∙ (λ i. header_bytes (record { object = sym id i; size = (size ∙ sym len) i; opcode = sym opcode i }) ++ body);
+      whole = all ∙ (λ i. header_bytes (record { object = sym id i; size = (size ∙ sym len) i; opcode = sym opcode i })
+          ++ body);
       size = subst (IsSize core.inbox.limit.bytes) (sym len) st.size;
       each = meets-spelled (met reader 0 f.message.signature.kinds body f.message.values [] wide r) refl;
     }
@@ -264,7 +325,9 @@ found_spells core side f w e =
 pub begin_none : (limit : ℕ) (bytes : List ℕ) → BeginWith limit bytes 0 bytes
 begin_none limit bytes = record { messages = []; as_many = refl; whole = tt; joined = refl }
 
-pub begin_more : (core : Core) (side : Side) (f : Found) (count : ℕ) (left rest : List ℕ) → found core side ≡ Ok (Some f) → left ≡ drop f.size core.inbox.bytes → BeginWith core.inbox.limit.bytes left count rest
+pub begin_more : (core : Core) (side : Side) (f : Found) (count : ℕ) (left rest : List ℕ)
+    → found core side ≡ Ok (Some f) → left ≡ drop f.size core.inbox.bytes
+    → BeginWith core.inbox.limit.bytes left count rest
     → BeginWith core.inbox.limit.bytes core.inbox.bytes (suc count) rest
 begin_more core side f count left rest e l b =
     let bytes = core.inbox.bytes in
@@ -272,6 +335,11 @@ begin_more core side f count left rest e l b =
     record {
       messages = first ∷ b.messages;
       as_many = ap suc b.as_many;
-      whole = (message_there core.inbox.limit.bytes bytes f.size (size_of core side f (in_front core.inbox) e).0, b.whole);
-      joined = sym (take-append-drop f.size bytes) ∙ ap (λ (x : List ℕ). first ++ x) (sym l ∙ b.joined) ∙ sym (append_assoc first (concat b.messages) rest);
+      whole = (
+        message_there core.inbox.limit.bytes bytes f.size
+            (size_of core side f (in_front core.inbox) e).0,
+        b.whole,
+      );
+      joined = sym (take-append-drop f.size bytes) ∙ ap (λ (x : List ℕ). first ++ x) (sym l ∙ b.joined)
+          ∙ sym (append_assoc first (concat b.messages) rest);
     }

@@ -6,3 +6,4 @@ pub mod Streams
 pub mod Reads
 pub mod Spelled
 pub mod Transport
+pub mod Waiting

@@ -1,26 +1,46 @@
-//! An end as seen by whoever carries its bytes.
-ghost use Rattle.std.specs.Prelude.{◌≡◌, ◌≤◌, ◌++◌, length, take, drop};
+//! An end of a connection, whichever of the two it is.
+ghost use Rattle.std.specs.Prelude.{◌≡◌, ◌≤◌, ◌⊎◌, ◌++◌, [], true, Err, length, take, drop};
 ghost use Rattle.wl_message.specs.Outgoing.{goes, waiting_bytes, waiting_tokens};
-ghost use Rattle.wl_connection.specs.Core.{Core, feeds, in_room, with_arrived, with_gone};
+ghost use Rattle.wl_message.specs.Streams.{Flushes, written_of};
+ghost use Rattle.wl_message.specs.declared.streams.FillError.TheVariants.{NoRoom};
+ghost use Rattle.wl_connection.specs.Core.{Core as CoreState, display_object, live, in_room};
+ghost use Rattle.wl_connection.specs.Core.{is_drained};
+ghost use Rattle.wl_connection.specs.Core.{feeds, with_arrived, with_gone};
 ghost use Rattle.wl_connection.specs.Reads.{IsCoreOf};
+ghost use Rattle.wl_connection.specs.Transport.{EndFills};
+ghost use Rattle.wl_connection.specs.Waiting.{waiting, waiting_count, given_up};
 
-use wl_message::{Fed, Taken};
+use crate::shared::Core;
+use std::io::{Read, Write};
+use wl_message::{Fed, FillError, FlushError, Taken};
+use wl_object_map::DISPLAY_ID;
+use wl_objects::{Object, Table};
+use wl_wire::Iface;
 
-/// A client or a server, as seen by whoever carries its bytes and tokens.
+/// A client or a server: the calls that both have.
 pub trait End {
-    ghost core: { Self → Core };
+    /// What keeps its objects.
+    type Table: Table;
 
-    ghost with_core: { Self → Core → Self };
+    ghost core: { Self → CoreState };
 
-    /// The free bytes and tokens of the inbox; zeros at a failed end.
-    fn in_room(&self) -> Fed
-        ensures { result ≡ in_room (core self.now) };
+    ghost with_core: { Self → CoreState → Self };
 
-    /// How much `take` into slices of these lengths would take.
-    fn goes(&self, bytes: usize, tokens: usize) -> Taken
-        ensures { result ≡ goes (core self.now).outbox bytes tokens };
+    /// What it has in common with the other end.
+    fn core(&self) -> &Core<'_, Self::Table>
+        ensures { result.now ≡ core self.now };
 
-    /// Moves what waits to go into the slices, as much as they hold.
+    /// Takes in what comes: as many tokens as fit, and where these are all, as many bytes as fit.
+    /// A failed end takes nothing. Whatever waits, the inbox can hold the longest message.
+    fn feed(&mut self, bytes: &[u8], tokens: &[u32]) -> Fed
+        ensures fed { result ≡ feeds (core self.old) bytes.now tokens.now }
+        ensures state { self.new
+            ≡ with_core self.old (with_arrived (core self.old)
+            (take result.bytes bytes.now) (take result.tokens tokens.now)) }
+        ensures holds { (core self.old).inbox.limit.bytes ≤ (core self.old).inbox.capacity };
+
+    /// Moves out what waits to be sent, as much as the slices hold. The tokens of a message go with
+    /// its first byte.
     fn take(&mut self, bytes: &mut [u8], tokens: &mut [u32]) -> Taken
         ensures taken { result
             ≡ goes (core self.old).outbox (length bytes.old) (length tokens.old) }
@@ -31,14 +51,111 @@ pub trait End {
         ensures state { self.new
             ≡ with_core self.old (with_gone (core self.old) result.bytes) };
 
-    /// Takes in what comes: as many tokens as fit, and where these are all, as many bytes as fit.
-    /// Whatever waits, the inbox can hold the longest message.
-    fn feed(&mut self, bytes: &[u8], tokens: &[u32]) -> Fed
-        ensures fed { result ≡ feeds (core self.old) bytes.now tokens.now }
+    /// Reads once, at most 4096 bytes and at most as many as are free in the inbox, and adds what
+    /// was read to the bytes that wait. Returns their number; 0 is the end of the input.
+    ///
+    /// Where the read fails, an interrupted one too, nothing is taken in, and the call can be made
+    /// again. With `NoRoom` nothing is read. A failed end reads nothing and returns 0. Allocates
+    /// nothing.
+    fn fill<R: Read>(&mut self, reader: &mut R) -> Result<usize, FillError>
+        ensures fills { EndFills (core self.old) (R.remaining reader.old) result (core self.new)
+            (R.remaining reader.new) }
+        ensures others { self.new ≡ with_core self.old (core self.new) }
+        ensures unread { ((core self.old).failed ≡ true) ⊎ (result ≡ Err NoRoom)
+            → reader.new ≡ reader.old };
+
+    /// Writes the bytes that wait to go, and returns their number. What was written is gone from
+    /// the outbox; also at a failed end.
+    ///
+    /// It sends no tokens: it stops with `NeedsTokens` before a message that is not begun and has
+    /// tokens. It stops with `Io` where a write fails, an interrupted one too, or takes no byte; it
+    /// can then be called again. What is left stays in the outbox. Allocates nothing.
+    fn flush<W: Write>(&mut self, writer: &mut W) -> Result<usize, FlushError>
+        ensures flushes { Flushes (core self.old).outbox (W.contents writer.old) result
+            (core self.new).outbox (W.contents writer.new) }
+        ensures others { self.new
+            ≡ with_core self.old (with_gone (core self.old) (written_of result)) };
+
+    /// Gives the end up, and takes the tokens out that wait in its boxes, as many as the slice
+    /// holds: so no descriptor is lost where a connection ends.
+    ///
+    /// First come those of the inbox, a message at fault first; then those of the outbox, the
+    /// tokens of a message together. Repeat it until it returns 0, with room for those of the
+    /// longest message. The end has failed afterwards, and what waited to go is dropped with its
+    /// tokens: what is still to be sent, as the error of a failed server, is taken before. Allocates
+    /// nothing.
+    fn take_waiting_tokens(&mut self, tokens: &mut [u32]) -> usize
+        ensures count { result ≡ waiting_count (core self.old) (length tokens.old) }
+        ensures tokens { tokens.new
+            ≡ take result (waiting (core self.old)) ++ drop result tokens.old }
         ensures state { self.new
-            ≡ with_core self.old (with_arrived (core self.old)
-            (take result.bytes bytes.now) (take result.tokens tokens.now)) }
-        ensures holds { (core self.old).inbox.limit.bytes ≤ (core self.old).inbox.capacity };
+            ≡ with_core self.old (given_up (core self.old) (length tokens.old)) }
+        ensures all { length (waiting (core self.old)) ≤ length tokens.old
+            → (result ≡ length (waiting (core self.old))) × (waiting (core self.new) ≡ [])
+            × (waiting_bytes (core self.new).outbox ≡ []) };
 
     ghost laws: { IsCoreOf core with_core };
+
+    /// Whether the end has failed.
+    final fn has_failed(&self) -> bool
+        ensures { result ≡ (core self.now).failed }
+    {
+        self.core().failed
+    }
+
+    /// wl_display, id 1 and birth 0 at each end.
+    final fn display(&self) -> Object
+        ensures { result ≡ display_object }
+    {
+        Object {
+            id: DISPLAY_ID,
+            birth: 0,
+        }
+    }
+
+    /// The interface and version of an object that is live. At a failed end too.
+    final fn live(&self, object: Object) -> Option<(Iface, u32)>
+        ensures { result ≡ live (core self.now) object }
+    {
+        self.core().live(object)
+    }
+
+    /// The objects.
+    final fn table(&self) -> &Self::Table
+        ensures { Self.Table.view result.now ≡ (core self.now).view }
+    {
+        &self.core().table
+    }
+
+    /// The free bytes and tokens of the inbox; zeros at a failed end.
+    final fn in_room(&self) -> Fed
+        ensures { result ≡ in_room (core self.now) }
+    {
+        let core = self.core();
+        if core.failed {
+            return Fed {
+                bytes: 0,
+                tokens: 0,
+            };
+        }
+        Fed {
+            bytes: core.inbox.room(),
+            tokens: core.inbox.token_room(),
+        }
+    }
+
+    /// Whether nothing waits in either box.
+    final fn is_drained(&self) -> bool
+        ensures { result ≡ is_drained (core self.now) }
+    {
+        let core = self.core();
+        core.inbox.is_empty() && core.outbox.is_empty()
+    }
+
+    /// How much `take` into slices of these lengths would take.
+    final fn goes(&self, bytes: usize, tokens: usize) -> Taken
+        ensures { result ≡ goes (core self.now).outbox bytes tokens }
+    {
+        self.core().outbox.goes(bytes, tokens)
+    }
 }

@@ -6,6 +6,7 @@
 #![tactic(auto)]
 
 mod end;
+mod endpoint;
 mod laws;
 mod receive;
 mod receiver;
@@ -13,8 +14,10 @@ mod send;
 mod shared;
 mod streams;
 mod transport;
+mod waiting;
 
 pub use end::End;
+pub use endpoint::Endpoint;
 pub use laws::{
     found_stays, messages_are_spelled, openings_alone_need_memory, taking_keeps_pieces,
 };

@@ -15,13 +15,14 @@ use wl_objects::{MAX_ARGS, NewObject, Object, Table, TableError};
 pub const MAX_TOKENS: usize = MAX_ARGS;
 
 impl<'t, T: Table> Core<'t, T> {
-    /// The tokens that wait first, as many as a message can take, and zeros where fewer wait.
-    pub fn first_tokens(&self) -> [u32; MAX_TOKENS]
-        ensures { (place : ℕ) → place < 20
+    /// The tokens that wait first, as many as a message takes that has this number of them, as far
+    /// as there are such; zeros behind them.
+    pub fn first_tokens(&self, count: usize) -> [u32; MAX_TOKENS]
+        ensures { (place : ℕ) → place < count → place < 20
             → slice_index_or result place 0 ≡ slice_index_or self.now.inbox.tokens place 0 }
     {
         let mut tokens = [0; MAX_TOKENS];
-        'places: for place in 0..MAX_TOKENS {
+        'places: for place in 0..count.min(MAX_TOKENS) {
             tokens[place] = self.inbox.token(place).unwrap_or(0);
         }
         tokens

@@ -23,10 +23,6 @@ pub trait Receiver: End {
     // The report after which nothing more is read.
     ghost is_last: { Seen → Bool };
 
-    /// Whether the end has failed.
-    fn has_failed(&self) -> bool
-        ensures { result ≡ (Self.core self.now).failed };
-
     /// Whether a message stands in front that can be read and reported. Nothing changes.
     fn has_report(&mut self) -> bool
         requires { (Self.core self.old).failed ≡ false }

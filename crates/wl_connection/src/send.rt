@@ -6,8 +6,9 @@ ghost use Rattle.wl_sigs.specs.Tables.{destroys_one, makes};
 ghost use Rattle.wl_sigs.specs.Valid.{Valid};
 ghost use Rattle.wl_objects.specs.Messages.{checked, destroys, ended_id, id_named, opens};
 ghost use Rattle.wl_object_map.specs.View.{Sound, closed, is_held, is_live, look, next_id, opened};
-ghost use Rattle.wl_objects.specs.Writing.{EachFits, bind_values, given, given_of, wired};
+ghost use Rattle.wl_objects.specs.Writing.{EachFits, bind_values, call_makes, given, given_of};
 ghost use Rattle.wl_objects.specs.Writing.{has_no_nul, id_of, message_len, on_wire, tokens_of};
+ghost use Rattle.wl_objects.specs.Writing.{wired};
 ghost use Rattle.wl_connection.specs.Core.{HasDisplay, with_view};
 ghost use Rattle.wl_connection.specs.Outcomes.{AnswersOrMemory, new_in};
 ghost use Rattle.wl_connection.specs.Sending.{IsSendAnswer, OpensNothing, after_send, answer_of};
@@ -21,12 +22,12 @@ use crate::receive::MAX_TOKENS;
 use crate::shared::Core;
 use wl_object_map::DISPLAY_ID;
 use wl_objects::{
-    Arg, CheckedCall, Object, SendError, Table, TableError, call_makes, check_call, encode_bind,
-    encode_call, encode_error, encode_number, tokens_of,
+    Arg, BindMessage, CallMessage, CheckedCall, Object, SendError, Table, TableError, check_call,
+    take_tokens,
 };
-use wl_sigs::event::wl_display::DELETE_ID;
+use wl_sigs::event::wl_display::{DELETE_ID, ERROR};
 use wl_sigs::{Destroys, Side};
-use wl_wire::Iface;
+use wl_wire::{Iface, ValueRef};
 
 /// The number of bytes of wl_display.delete_id.
 pub const DELETE_ID_LEN: usize = 12;
@@ -97,8 +98,8 @@ impl<'t, T: Table> Core<'t, T> {
         requires { IsTrue (fits self.old.outbox delete_id_len 0) }
         ensures { self.new ≡ with_delete_id self.old id }
     {
-        encode_number(&mut self.store, DISPLAY_ID, DELETE_ID, id);
-        self.outbox.push_fitting(&self.store, &[]);
+        let args = [Arg::Uint(id)];
+        self.write_call(DISPLAY_ID, DELETE_ID, &args, None, DELETE_ID_LEN, 0);
     }
 
     /// Writes wl_display.error, about an object of this id, into the room that is kept for it. The
@@ -109,8 +110,24 @@ impl<'t, T: Table> Core<'t, T> {
         requires short { length text.now ≤ 40 }
         ensures { self.new ≡ with_error_event self.old object code text.now }
     {
-        encode_error(&mut self.store, object, code, text);
-        self.outbox.push_error(&self.store);
+        // Of an object its id alone is written.
+        let object = Object {
+            id: object,
+            birth: 0,
+        };
+        let args = [
+            Arg::Obj(Some(object)),
+            Arg::Uint(code),
+            Arg::Str(Some(text)),
+        ];
+        let message = CallMessage {
+            object: DISPLAY_ID,
+            opcode: ERROR,
+            args: &args,
+            new_id: 0,
+            len: 16 + ValueRef::Str(Some(text)).spelled_len(),
+        };
+        self.outbox.push_encoded_error(&message, &mut self.store);
         self.failed = true;
     }
 
@@ -123,8 +140,14 @@ impl<'t, T: Table> Core<'t, T> {
         ensures { self.new ≡ with_sent self.old registry 0
             (bind_values name iface.now version id) [] }
     {
-        encode_bind(&mut self.store, registry, name, iface, version, id);
-        self.outbox.push_fitting(&self.store, &[]);
+        let message = BindMessage {
+            registry,
+            name,
+            iface,
+            version,
+            id,
+        };
+        self.outbox.push_encoded(&message, &[], &mut self.store);
     }
 
     /// Opens an object at the next id. S10 is tested before S11.
@@ -162,27 +185,43 @@ impl<'t, T: Table> Core<'t, T> {
         }
     }
 
-    /// Writes the message of this length that a call becomes, where this is its new object.
-    fn write_call(
+    /// Writes the message that a call becomes, where this is its new object: one of this length,
+    /// with this number of tokens. It must fit.
+    pub fn write_call(
         &mut self,
         target: u32,
         opcode: u16,
         args: &[Arg<'_>],
-        tokens: &[u32],
         new: Option<Object>,
         len: usize,
+        tokens: usize,
     )
         requires fits { EachFits (on_wire (id_of new) args.now) }
+        requires few { length args.now ≤ 20 }
         requires len { len ≡ message_len (on_wire (id_of new) args.now) }
         requires short { len ≤ self.old.outbox.limit.bytes }
+        requires tokens { tokens ≡ length (tokens_of (given args.now)) }
         requires room { IsTrue
             (fits self.old.outbox (message_len (on_wire (id_of new) args.now))
-            (length tokens.now)) }
+            (length (tokens_of (given args.now)))) }
         ensures { self.new ≡ with_sent self.old target opcode
-            (on_wire (id_of new) args.now) tokens.now }
+            (on_wire (id_of new) args.now) (tokens_of (given args.now)) }
     {
-        encode_call(&mut self.store, target, opcode, args, id_of(new), len);
-        self.outbox.push_fitting(&self.store, tokens);
+        let message = CallMessage {
+            object: target,
+            opcode,
+            args,
+            new_id: id_of(new),
+            len,
+        };
+        if tokens == 0 {
+            self.outbox.push_encoded(&message, &[], &mut self.store);
+            return;
+        }
+        let mut places = [0; MAX_TOKENS];
+        let count = take_tokens(args, &mut places);
+        self.outbox
+            .push_encoded(&message, &places[..count], &mut self.store);
     }
 
     /// Ends the object that a message destroys, if it destroys one: at a client it is a zombie, at
@@ -216,6 +255,8 @@ impl<'t, T: Table> Core<'t, T> {
             ≡ Ok call.signature.now }
         requires entry { look self.old.view target.id ≡ Some call.entry }
         requires len { (id : ℕ) → call.len ≡ message_len (on_wire id args.now) }
+        requires tokens { call.tokens ≡ length (tokens_of (given args.now)) }
+        requires makes { call.makes ≡ call_makes call.signature.now.kinds }
         requires fits { (id : ℕ) → EachFits (on_wire id args.now)
             × (message_len (on_wire id args.now) ≤ self.old.outbox.limit.bytes) }
         requires few { length args.now ≤ 20 }
@@ -229,19 +270,12 @@ impl<'t, T: Table> Core<'t, T> {
             ≡ sent self.old side target opcode (given args.now) call.entry.signature.now) }
         ensures err { OnErr result (self.new ≡ self.old) }
     {
-        let CheckedCall {
-            entry,
-            signature,
-            len,
-        } = call;
-        let mut tokens = [0; MAX_TOKENS];
-        let count = tokens_of(args, &mut tokens);
-        let what = signature.destroys();
-        if !self.fits(len + following_len(side, what), count) {
+        let what = call.signature.destroys();
+        if !self.fits(call.len + following_len(side, what), call.tokens) {
             return Err(SendError::Full);
         }
-        let new = self.open_new(call_makes(signature.kinds()), entry.version)?;
-        self.write_call(target.id, opcode, args, &tokens[..count], new, len);
+        let new = self.open_new(call.makes, call.entry.version)?;
+        self.write_call(target.id, opcode, args, new, call.len, call.tokens);
         self.end_object(side, what, ended_id(what, target.id, args));
         Ok(new)
     }
@@ -272,10 +306,7 @@ impl<'t, T: Table> Core<'t, T> {
             return Err(SendError::Failed);
         }
         let limit = self.outbox.limit().bytes;
-        let call = match check_call(self.tables, side, &self.table, target, opcode, args, limit) {
-            Ok(call) => call,
-            Err(refusal) => return Err(refusal),
-        };
+        let call = check_call(self.tables, side, &self.table, target, opcode, args, limit)?;
         self.write_checked(side, target, opcode, args, call)
     }
 }

@@ -1,14 +1,11 @@
 //! What both ends of a connection have: tables, objects and two boxes.
-ghost use Rattle.std.specs.Prelude.{◌≡◌, ◌≤◌, ◌↔◌, IfOk, IsTrue, length, take};
+ghost use Rattle.std.specs.Prelude.{◌≡◌, ◌≤◌, IfOk, take};
 ghost use Rattle.wl_message.specs.Arrived.{AreSizes};
-ghost use Rattle.wl_connection.specs.Core.{new_core, display_object, live, in_room, feeds};
-ghost use Rattle.wl_connection.specs.Core.{with_arrived};
-ghost use Rattle.wl_connection.specs.Core.{is_drained};
+ghost use Rattle.wl_connection.specs.Core.{new_core, live, feeds, with_arrived};
 
 use std::alloc::AllocError;
 use std::marker::Model;
 use wl_message::{Fed, Inbox, Outbox, Sizes};
-use wl_object_map::DISPLAY_ID;
 use wl_objects::{DISPLAY, Object, State, Table};
 use wl_sigs::Tables;
 use wl_wire::Iface;
@@ -84,17 +81,7 @@ impl<'t, T: Table> Core<'t, T> {
         })
     }
 
-    /// wl_display, id 1 and birth 0 at each end.
-    pub fn display(&self) -> Object
-        ensures { result ≡ display_object }
-    {
-        Object {
-            id: DISPLAY_ID,
-            birth: 0,
-        }
-    }
-
-    /// The interface and version of an object that is live. At a failed end too.
+    /// The interface and version of an object that is live, as `End::live` says.
     pub fn live(&self, object: Object) -> Option<(Iface, u32)>
         ensures { result ≡ live self.now object }
     {
@@ -106,31 +93,7 @@ impl<'t, T: Table> Core<'t, T> {
         }
     }
 
-    /// The free bytes and tokens of the inbox; zeros at a failed end.
-    pub fn in_room(&self) -> Fed
-        ensures { result ≡ in_room self.now }
-    {
-        if self.failed {
-            return Fed {
-                bytes: 0,
-                tokens: 0,
-            };
-        }
-        Fed {
-            bytes: self.inbox.room(),
-            tokens: self.inbox.token_room(),
-        }
-    }
-
-    /// Whether nothing waits in either box.
-    pub fn is_drained(&self) -> bool
-        ensures { result ≡ is_drained self.now }
-    {
-        self.inbox.is_empty() && self.outbox.is_empty()
-    }
-
-    /// Takes in what comes: as many tokens as fit, and where these are all, as many bytes as fit.
-    /// A failed end takes nothing. Whatever waits, the inbox can hold the longest message.
+    /// Takes in what comes, as `End::feed` says.
     pub fn feed(&mut self, bytes: &[u8], tokens: &[u32]) -> Fed
         ensures fed { result ≡ feeds self.old bytes.now tokens.now }
         ensures state { self.new

@@ -1,5 +1,8 @@
 -- The words of a line spell what is read from them, and no other.
-use Rattle.std.proofs.Common.{◌≡◌, ◌≢◌, ℕ, suc, ◌-◌, ◌<◌, ◌≤◌, ◌==◌, Bool, true, false, cond, List, [], ◌∷◌, ◌++◌, length, get_or, take, drop, slice_index, refl, sym, ap, subst, ◌∙◌, inl, inr, ◌⊎◌, Some, None, Option, append-nil, drop-cons, arith}
+use Rattle.std.proofs.Common.{◌≡◌, ◌≢◌, ℕ, suc, ◌-◌, ◌<◌, ◌≤◌, ◌==◌, Bool, true, false, cond, List}
+use Rattle.std.proofs.Common.{[], ◌∷◌, ◌++◌, length, get_or, take, drop, slice_index, refl, sym, ap}
+use Rattle.std.proofs.Common.{subst, ◌∙◌, inl, inr, ◌⊎◌, Some, None, Option, append-nil, drop-cons}
+use Rattle.std.proofs.Common.{arith}
 use Rattle.std.specs.Prelude.{codes, ◌&&◌, not, bytes_eq, nat_le, position, unwrap_or, option_and_then}
 use Rattle.std.specs.Char.{digit_value, is_ascii_digit}
 use Rattle.std.specs.List.{All, list_all, position_or_len}
@@ -16,8 +19,11 @@ use Rattle.wl_wire.specs.declared.kind.Kind.{Kind}
 use Rattle.wl_wire.specs.declared.kind.Kind.TheVariants as kinds
 use Rattle.wl_line_text.specs.Number.{number_of}
 use Rattle.wl_line_text.proofs.Numbers.{number_is}
-use Rattle.wl_interface_text.specs.Text.{WrittenKind, is_text_byte, is_text_name, kind_of, takes_interface, bracketed, argument_of}
-use Rattle.wl_interface_text.specs.TableText.{IsName, SpellsNumber, SpellsKind, int, uint, fixed, string, null_string, array, descriptor, object, null_object, new_id, SpellsArgument, alone, named}
+use Rattle.wl_interface_text.specs.Text.{WrittenKind, is_text_byte, is_text_name, kind_of}
+use Rattle.wl_interface_text.specs.Text.{takes_interface, bracketed, argument_of}
+use Rattle.wl_interface_text.specs.TableText.{IsName, SpellsNumber, SpellsKind, int, uint, fixed}
+use Rattle.wl_interface_text.specs.TableText.{string, null_string, array, descriptor, object}
+use Rattle.wl_interface_text.specs.TableText.{null_object, new_id, SpellsArgument, alone, named}
 
 both : (a b : Bool) → (a && b) ≡ true → (a ≡ true) × (b ≡ true)
 both true b is = (refl, is)
@@ -59,10 +65,11 @@ are_digits [] all = refl
 are_digits (c ∷ cs) all = rw (is_digit c all.0, are_digits cs all.1) refl
 
 few_digits : (digits : List ℕ) (n : ℕ) → number_of digits ≡ Some n → (length digits ≤ 10) × (n ≤ 4294967295)
-few_digits digits n is = elim (list_all is_ascii_digit digits) as (λ t. list_all is_ascii_digit digits ≡ t → (length digits ≤ 10) × (n ≤ 4294967295)) [
-  | true ↦ λ all. (grind (arith, nat_tests), grind (arith, nat_tests))
-  | false ↦ λ other. absurd (grind (arith, nat_tests))
-] refl
+few_digits digits n is = elim (list_all is_ascii_digit digits) as
+    (λ t. list_all is_ascii_digit digits ≡ t → (length digits ≤ 10) × (n ≤ 4294967295)) [
+      | true ↦ λ all. (grind (arith, nat_tests), grind (arith, nat_tests))
+      | false ↦ λ other. absurd (grind (arith, nat_tests))
+    ] refl
 
 pub number_spells : (digits : List ℕ) (n : ℕ) → number_of digits ≡ Some n → SpellsNumber digits n
 number_spells digits n is =
@@ -80,7 +87,8 @@ spelled_number digits n spelled =
     rw are (grind (arith, nat_tests))
 
 -- kinds
-tried : {P : Type 0} (letters word : List ℕ) (k kind : Kind) (rest : Option Kind) → cond (bytes_eq letters word) (Some k) rest ≡ Some kind
+tried : {P : Type 0} (letters word : List ℕ) (k kind : Kind) (rest : Option Kind)
+    → cond (bytes_eq letters word) (Some k) rest ≡ Some kind
     → (letters ≡ word → kind ≡ k → P) → (rest ≡ Some kind → P) → P
 tried {P} letters word k kind rest is same other = by (bytes_eq letters word) refl is
   where
@@ -140,10 +148,12 @@ letter_bytes byte is = (
 )
 
 pub letters_no_space : (letters : List ℕ) (kind : Kind) → SpellsKind letters kind → All (λ b. b ≢ 32) letters
-letters_no_space letters kind spelled = λ k d lt. (letter_bytes _ (AllPass-from_list_all is_letter letters (letters_are letters kind spelled) k d lt)).0
+letters_no_space letters kind spelled = λ k d lt.
+    (letter_bytes _ (AllPass-from_list_all is_letter letters (letters_are letters kind spelled) k d lt)).0
 
 letters_no_open : (letters : List ℕ) (kind : Kind) → SpellsKind letters kind → All (λ b. b ≢ 40) letters
-letters_no_open letters kind spelled = λ k d lt. (letter_bytes _ (AllPass-from_list_all is_letter letters (letters_are letters kind spelled) k d lt)).1
+letters_no_open letters kind spelled = λ k d lt. (letter_bytes _
+    (AllPass-from_list_all is_letter letters (letters_are letters kind spelled) k d lt)).1
 
 -- where the first ( of a word stands, or its length
 abbrev opens_at : List ℕ → ℕ
@@ -154,20 +164,25 @@ opens_behind front rest clean =
     let len : length front < length (front ++ 40 ∷ rest) = grind (arith, common_steps) in
     let at : position_or_len (λ b. b == 40) (front ++ 40 ∷ rest) ≡ length front =
     position_or_len_is (λ b. b == 40) (front ++ 40 ∷ rest) (length front) 0 (omega arith)
-    (λ k lt. rw (get_or_append_left front (40 ∷ rest) 0 k lt) (ne_eqb _ _ (clean k 0 lt))) (λ lt. rw (get_or-append_seam front 40 rest 0) refl) in
+    (λ k lt. rw (get_or_append_left front (40 ∷ rest) 0 k lt) (ne_eqb _ _ (clean k 0 lt)))
+    (λ lt. rw (get_or-append_seam front 40 rest 0) refl) in
     rw (at, (Decides-ltb _ _).1 len) refl
 
 opens_nowhere : (word : List ℕ) → All (λ b. b ≢ 40) word → opens_at word ≡ length word
 opens_nowhere word clean =
     let at : position_or_len (λ b. b == 40) word ≡ length word =
-    position_or_len_is (λ b. b == 40) word (length word) 0 (omega arith) (λ k lt. ne_eqb _ _ (clean k 0 lt)) (λ lt. absurd (omega arith)) in
+    position_or_len_is (λ b. b == 40) word (length word) 0 (omega arith) (λ k lt. ne_eqb _ _ (clean k 0 lt))
+    (λ lt. absurd (omega arith)) in
     rw at (grind (arith, nat_tests))
 
 -- a word from its first ( on
-behind_letters : (word : List ℕ) → (drop (opens_at word) word ≡ []) ⊎ ((rest : List ℕ) × (drop (opens_at word) word ≡ 40 ∷ rest))
+behind_letters : (word : List ℕ) → (drop (opens_at word) word ≡ [])
+    ⊎ ((rest : List ℕ) × (drop (opens_at word) word ≡ 40 ∷ rest))
 behind_letters word = by (position (λ b. b == 40) word) refl
   where
-    by : (o : Option ℕ) → position (λ b. b == 40) word ≡ o → (drop (unwrap_or o (length word)) word ≡ []) ⊎ ((rest : List ℕ) × (drop (unwrap_or o (length word)) word ≡ 40 ∷ rest))
+    by : (o : Option ℕ) → position (λ b. b == 40) word ≡ o
+        → (drop (unwrap_or o (length word)) word ≡ [])
+        ⊎ ((rest : List ℕ) × (drop (unwrap_or o (length word)) word ≡ 40 ∷ rest))
     by None is = inl (drop-length word)
     by (Some i) is =
         let at = position-Some (λ b. b == 40) word i 0 is in
@@ -179,20 +194,26 @@ behind_letters word = by (position (λ b. b == 40) word) refl
 abbrev naming : Kind → List ℕ → WrittenKind
 naming kind name = record { kind = kind; iface = Some name }
 
-bracketed_by : (kind : Kind) (tail name : List ℕ) → takes_interface kind ≡ true → nat_le 1 (length tail) ≡ true → slice_index tail (length tail - 1) ≡ 41
-    → take (length tail - 1) tail ≡ name → is_text_name name ≡ true → bracketed kind (40 ∷ tail) ≡ Some (naming kind name)
+bracketed_by : (kind : Kind) (tail name : List ℕ) → takes_interface kind ≡ true → nat_le 1 (length tail) ≡ true
+    → slice_index tail (length tail - 1) ≡ 41
+    → take (length tail - 1) tail ≡ name → is_text_name name ≡ true
+    → bracketed kind (40 ∷ tail) ≡ Some (naming kind name)
 bracketed_by kind tail name takes some close inner good = rw (takes, some, close, inner, good) refl
 
-bracketed_name : (kind : Kind) (name : List ℕ) → takes_interface kind ≡ true → IsName name → bracketed kind (40 ∷ (name ++ 41 ∷ [])) ≡ Some (naming kind name)
+bracketed_name : (kind : Kind) (name : List ℕ) → takes_interface kind ≡ true → IsName name
+    → bracketed kind (40 ∷ (name ++ 41 ∷ [])) ≡ Some (naming kind name)
 bracketed_name kind name takes good =
     let len : length (name ++ 41 ∷ []) - 1 ≡ length name = grind (arith, common_steps) in
-    bracketed_by kind (name ++ 41 ∷ []) name takes (grind (arith, common_steps, nat_tests)) (rw len (get_or-append_seam name 41 [] 0))
+    bracketed_by kind (name ++ 41 ∷ []) name takes (grind (arith, common_steps, nat_tests))
+    (rw len (get_or-append_seam name 41 [] 0))
     (rw len (take-append_seam name (41 ∷ []))) (is_name name good)
 
-name_ends : (tail : List ℕ) → 1 ≤ length tail → slice_index tail (length tail - 1) ≡ 41 → tail ≡ take (length tail - 1) tail ++ 41 ∷ []
+name_ends : (tail : List ℕ) → 1 ≤ length tail → slice_index tail (length tail - 1) ≡ 41
+    → tail ≡ take (length tail - 1) tail ++ 41 ∷ []
 name_ends tail some close =
     let lt : length tail - 1 < length tail = omega arith in
-    let last : drop (length tail - 1) tail ≡ 41 ∷ [] = drop-cons tail (length tail - 1) 0 lt ∙ (rw close (grind (arith, common_steps))) in
+    let last : drop (length tail - 1) tail ≡ 41 ∷ [] =
+    drop-cons tail (length tail - 1) 0 lt ∙ (rw close (grind (arith, common_steps))) in
     sym (take-append-drop (length tail - 1) tail) ∙ ap (λ (end : List ℕ). take (length tail - 1) tail ++ end) last
 
 record InBrackets (kind : Kind) (tail : List ℕ) (found : WrittenKind) : Type 0 where
@@ -202,10 +223,12 @@ record InBrackets (kind : Kind) (tail : List ℕ) (found : WrittenKind) : Type 0
   is : found ≡ naming kind name
   whole : tail ≡ name ++ 41 ∷ []
 
-in_brackets : (kind : Kind) (b : ℕ) (tail : List ℕ) (found : WrittenKind) → bracketed kind (b ∷ tail) ≡ Some found → InBrackets kind tail found
+in_brackets : (kind : Kind) (b : ℕ) (tail : List ℕ) (found : WrittenKind) → bracketed kind (b ∷ tail) ≡ Some found
+    → InBrackets kind tail found
 in_brackets kind b tail found is = by _ refl is
   where
-    by : (t : Bool) → (takes_interface kind && nat_le 1 (length tail) && (slice_index tail (length tail - 1) == 41) && is_text_name (take (length tail - 1) tail)) ≡ t
+    by : (t : Bool) → (takes_interface kind && nat_le 1 (length tail) && (slice_index tail (length tail - 1) == 41)
+        && is_text_name (take (length tail - 1) tail)) ≡ t
         → cond t (Some (naming kind (take (length tail - 1) tail))) None ≡ Some found → InBrackets kind tail found
     by false other e = cc e
     by true passes e =
@@ -222,7 +245,8 @@ in_brackets kind b tail found is = by _ refl is
         }
 
 -- arguments
-put_together : (front back rest name word : List ℕ) → front ++ back ≡ word → back ≡ 40 ∷ rest → rest ≡ name ++ 41 ∷ [] → word ≡ front ++ 40 ∷ (name ++ 41 ∷ [])
+put_together : (front back rest name word : List ℕ) → front ++ back ≡ word → back ≡ 40 ∷ rest → rest ≡ name ++ 41 ∷ []
+    → word ≡ front ++ 40 ∷ (name ++ 41 ∷ [])
 put_together front back rest name word whole opens closes = rw (← whole, opens, closes) refl
 
 pub argument_spells : (word : List ℕ) (found : WrittenKind) → argument_of word ≡ Some found → SpellsArgument word found
@@ -231,18 +255,23 @@ argument_spells word found is = by (kind_of (take (opens_at word) word)) refl is
     whole : take (opens_at word) word ++ drop (opens_at word) word ≡ word
     whole = take-append-drop (opens_at word) word
 
-    by : (o : Option Kind) → kind_of (take (opens_at word) word) ≡ o → option_and_then (λ kind. bracketed kind (drop (opens_at word) word)) o ≡ Some found → SpellsArgument word found
+    by : (o : Option Kind) → kind_of (take (opens_at word) word) ≡ o
+        → option_and_then (λ kind. bracketed kind (drop (opens_at word) word)) o ≡ Some found
+        → SpellsArgument word found
     by None other e = cc e
     by (Some kind) letters e = elim (behind_letters word) [
       | inl none ↦
-          let plain : found ≡ record { kind = kind; iface = None } = let at : bracketed kind [] ≡ Some found = rw none at e in cc at in
-          let front : take (opens_at word) word ≡ word = sym (append-nil (take (opens_at word) word)) ∙ (rw none at whole) in
+          let plain : found ≡ record { kind = kind; iface = None } = let at : bracketed kind [] ≡ Some found =
+          rw none at e in cc at in
+          let front : take (opens_at word) word ≡ word =
+          sym (append-nil (take (opens_at word) word)) ∙ (rw none at whole) in
           let spelled : SpellsKind word kind = rw front at (kind_spells (take (opens_at word) word) kind letters) in
           rw plain (alone spelled refl)
       | inr more ↦
           let it = in_brackets kind 40 more.0 found (rw more.1 at e) in
           let split = put_together (take (opens_at word) word) _ more.0 it.name word whole more.1 it.whole in
-          rw it.is (named (take (opens_at word) word) it.name (kind_spells (take (opens_at word) word) kind letters) it.takes it.good refl split)
+          rw it.is (named (take (opens_at word) word) it.name
+          (kind_spells (take (opens_at word) word) kind letters) it.takes it.good refl split)
     ]
 
 pub spelled_argument : (word : List ℕ) (found : WrittenKind) → SpellsArgument word found → argument_of word ≡ Some found
@@ -250,13 +279,27 @@ spelled_argument word found spelled = elim spelled [
   | alone kind none ↦ unnamed word found kind none
   | named letters name kind takes good is whole ↦ rw whole (with_name letters name found kind takes good is)
 ] where
-  unnamed : (word : List ℕ) (found : WrittenKind) → SpellsKind word found.kind → found.iface ≡ None → argument_of word ≡ Some found
-  unnamed word found kind none = rw (opens_nowhere word (letters_no_open word _ kind), take-length, drop-length, spelled_kind word _ kind, ← none) refl
+  unnamed : (word : List ℕ) (found : WrittenKind) → SpellsKind word found.kind → found.iface ≡ None
+      → argument_of word ≡ Some found
+  unnamed word found kind none = rw (
+    opens_nowhere word
+        (letters_no_open word _ kind),
+    take-length,
+    drop-length,
+    spelled_kind word _ kind,
+    ← none,
+  ) refl
 
-  with_name : (letters name : List ℕ) (found : WrittenKind) → SpellsKind letters found.kind → takes_interface found.kind ≡ true → IsName name → found.iface ≡ Some name
+  with_name : (letters name : List ℕ) (found : WrittenKind) → SpellsKind letters found.kind
+      → takes_interface found.kind ≡ true → IsName name → found.iface ≡ Some name
       → argument_of (letters ++ 40 ∷ (name ++ 41 ∷ [])) ≡ Some found
   with_name letters name found kind takes good is =
-      rw (opens_behind letters (name ++ 41 ∷ []) (letters_no_open letters _ kind), take-append_seam, drop-append_seam, spelled_kind letters _ kind)
+      rw (
+        opens_behind letters (name ++ 41 ∷ []) (letters_no_open letters _ kind),
+        take-append_seam,
+        drop-append_seam,
+        spelled_kind letters _ kind,
+      )
       (bracketed_name found.kind name takes good ∙ (rw (← is) refl))
 
 -- a word that begins with @ spells no argument
@@ -266,7 +309,8 @@ same_first a b more others same = cc
 letter_first : (b : ℕ) (more : List ℕ) → list_all is_letter (b ∷ more) ≡ true → is_letter b ≡ true
 letter_first b more all = (both (is_letter b) (list_all is_letter more) all).0
 
-begins_otherwise : (a : ℕ) (rest letters more : List ℕ) → is_letter a ≡ false → a ≢ 40 → list_all is_letter letters ≡ true → a ∷ rest ≡ letters ++ 40 ∷ more → ⊥
+begins_otherwise : (a : ℕ) (rest letters more : List ℕ) → is_letter a ≡ false → a ≢ 40
+    → list_all is_letter letters ≡ true → a ∷ rest ≡ letters ++ 40 ∷ more → ⊥
 begins_otherwise a rest [] more sign other all same = other (same_first a 40 rest more same)
 begins_otherwise a rest (b ∷ letters) more sign other all same =
     let here : a ≡ b = same_first a b rest (letters ++ 40 ∷ more) same in
@@ -275,8 +319,10 @@ begins_otherwise a rest (b ∷ letters) more sign other all same =
 
 no_argument : (word rest : List ℕ) (found : WrittenKind) → word ≡ 64 ∷ rest → SpellsArgument word found → ⊥
 no_argument word rest found begins spelled = elim spelled [
-  | alone kind none ↦ let no : list_all is_letter (64 ∷ rest) ≡ true = subst (λ (w : List ℕ). list_all is_letter w ≡ true) begins (letters_are word _ kind) in cc no
-  | named letters name kind takes good at whole ↦ begins_otherwise 64 rest letters (name ++ 41 ∷ []) refl (λ e. absurd (omega (arith, e))) (letters_are letters _ kind) (sym begins ∙ whole)
+  | alone kind none ↦ let no : list_all is_letter (64 ∷ rest) ≡ true =
+      subst (λ (w : List ℕ). list_all is_letter w ≡ true) begins (letters_are word _ kind) in cc no
+  | named letters name kind takes good at whole ↦ begins_otherwise 64 rest letters (name ++ 41 ∷ []) refl
+      (λ e. absurd (omega (arith, e))) (letters_are letters _ kind) (sym begins ∙ whole)
 ]
 
 never_some : {X : Type 0} (o : Option X) → ((x : X) → o ≡ Some x → ⊥) → o ≡ None
@@ -284,4 +330,5 @@ never_some None never = refl
 never_some (Some x) never = absurd (never x refl)
 
 pub at_sign : (word rest : List ℕ) → word ≡ 64 ∷ rest → argument_of word ≡ None
-at_sign word rest begins = never_some (argument_of word) (λ found is. no_argument word rest found begins (argument_spells word found is))
+at_sign word rest begins = never_some (argument_of word)
+    (λ found is. no_argument word rest found begins (argument_spells word found is))

@@ -1,5 +1,7 @@
 -- The lines of a text say what is read from them, and no other.
-use Rattle.std.proofs.Common.{◌≡◌, ◌≢◌, ℕ, ◌<◌, ◌==◌, Bool, true, false, cond, List, [], ◌∷◌, ◌++◌, length, refl, sym, ap, subst, ◌∙◌, Some, None, Option, append-nil, arith}
+use Rattle.std.proofs.Common.{◌≡◌, ◌≢◌, ℕ, ◌<◌, ◌==◌, Bool, true, false, cond, List, [], ◌∷◌, ◌++◌}
+use Rattle.std.proofs.Common.{length, refl, sym, ap, subst, ◌∙◌, Some, None, Option, append-nil}
+use Rattle.std.proofs.Common.{arith}
 use Rattle.std.specs.Prelude.{codes, bytes_eq, option_map, option_and_then, not}
 use Rattle.std.specs.List.{All, list_all, onto_first}
 use Rattle.std.specs.Str.Parse.{AllDigits}
@@ -11,10 +13,18 @@ use Rattle.std.proofs.lemmas.List.Splits.{slice_split_at, slice_split_none}
 use Rattle.std.proofs.lemmas.Slice.Eq.{bytes_eq-Decides}
 use Rattle.wl_line_text.specs.Lines.{IsSkipped, is_empty, is_comment, says_nothing, words}
 use Rattle.wl_line_text.specs.Number.{number_of}
-use Rattle.wl_interface_text.specs.Text.{WrittenKind, WrittenMessage, WrittenInterface, Tail, is_text_name, argument_of, at_number, since_of, ending_of, with_kinds, tail_from, tail_of, message_of, interface_of, message_added, words_added, line_added}
-use Rattle.wl_interface_text.specs.TableText.{SpellsNumber, SpellsArgument, alone, named, tail_with, SpellsTail, ends, destroys, since, destroys_since, argument, tail_in, side_word, IsMessageLine, IsInterfaceLine}
+use Rattle.wl_interface_text.specs.Text.{WrittenKind, WrittenMessage, WrittenInterface, Tail}
+use Rattle.wl_interface_text.specs.Text.{is_text_name, argument_of, at_number, since_of, ending_of}
+use Rattle.wl_interface_text.specs.Text.{with_kinds, tail_from, tail_of, message_of, interface_of}
+use Rattle.wl_interface_text.specs.Text.{message_added, words_added, line_added}
+use Rattle.wl_interface_text.specs.TableText.{SpellsNumber, SpellsArgument, alone, named, tail_with}
+use Rattle.wl_interface_text.specs.TableText.{SpellsTail, ends, destroys, since, destroys_since}
+use Rattle.wl_interface_text.specs.TableText.{argument, tail_in, side_word, IsMessageLine}
+use Rattle.wl_interface_text.specs.TableText.{IsInterfaceLine}
 use Rattle.wl_interface_text.proofs.Words.{words_some}
-use Rattle.wl_interface_text.proofs.Spelling.{name_is, is_name, number_spells, spelled_number, letters_no_space, argument_spells, spelled_argument, at_sign}
+use Rattle.wl_interface_text.proofs.Spelling.{name_is, is_name, number_spells, spelled_number}
+use Rattle.wl_interface_text.proofs.Spelling.{letters_no_space, argument_spells, spelled_argument}
+use Rattle.wl_interface_text.proofs.Spelling.{at_sign}
 
 abbrev NoSpace : List ℕ → Type 0
 NoSpace text = All (λ byte. byte ≢ 32) text
@@ -32,8 +42,10 @@ no_space : (word : List ℕ) → NoSpace word → All (λ b. (b == 32) ≡ false
 no_space word clean = λ k d lt. ne_eqb _ _ (clean k d lt)
 
 -- the words of a line that is put together from words
-pub words_joined : (word : List ℕ) (more : List (List ℕ)) → NoSpace word → AreWords more → words (word ++ spaced more) ≡ word ∷ more
-words_joined word [] clean rest = ap words (append-nil word) ∙ slice_split_none (λ b. b == 32) word (no_space word clean)
+pub words_joined : (word : List ℕ) (more : List (List ℕ)) → NoSpace word → AreWords more
+    → words (word ++ spaced more) ≡ word ∷ more
+words_joined word [] clean rest = ap words (append-nil word)
+    ∙ slice_split_none (λ b. b == 32) word (no_space word clean)
 words_joined word (next ∷ more) clean rest =
     slice_split_at (λ b. b == 32) word 32 (next ++ spaced more) (no_space word clean) refl
     ∙ ap (λ (ws : List (List ℕ)). word ∷ ws) (words_joined next more rest.0 rest.1)
@@ -44,10 +56,13 @@ joined_words [] word more is =
     let first : [] ≡ word = cc is in
     let none : [] ≡ more = cc is in
     rw (← first, ← none) refl
-joined_words (b ∷ line) word more is = let w = words_some line in by w.0 w.1 (b == 32) w.2 (joined_words line w.0 w.1 w.2) refl is
+joined_words (b ∷ line) word more is = let w = words_some line
+    in by w.0 w.1 (b == 32) w.2 (joined_words line w.0 w.1 w.2) refl is
   where
-    by : (first : List ℕ) (others : List (List ℕ)) (t : Bool) → words line ≡ first ∷ others → line ≡ first ++ spaced others
-        → (b == 32) ≡ t → cond t ([] ∷ words line) (onto_first b (words line)) ≡ word ∷ more → b ∷ line ≡ word ++ spaced more
+    by : (first : List ℕ) (others : List (List ℕ)) (t : Bool) → words line ≡ first ∷ others
+        → line ≡ first ++ spaced others
+        → (b == 32) ≡ t → cond t ([] ∷ words line) (onto_first b (words line)) ≡ word ∷ more
+        → b ∷ line ≡ word ++ spaced more
     by first others true cut rest space e =
         let none : [] ≡ word = cc e in
         let left : words line ≡ more = cc e in
@@ -64,7 +79,8 @@ joined_words (b ∷ line) word more is = let w = words_some line in by w.0 w.1 (
 digits_no_space : (digits : List ℕ) → AllDigits 10 digits → NoSpace digits
 digits_no_space [] all = All-nil (λ byte. byte ≢ 32)
 digits_no_space (c ∷ cs) all =
-    All-cons (λ byte. byte ≢ 32) c cs (λ e. let no : digit_value 32 < 10 = subst (λ (b : ℕ). digit_value b < 10) e all.0 in absurd (omega (arith, no))) (digits_no_space cs all.1)
+    All-cons (λ byte. byte ≢ 32) c cs (λ e. let no : digit_value 32 < 10 = subst (λ (b : ℕ). digit_value b < 10) e all.0
+    in absurd (omega (arith, no))) (digits_no_space cs all.1)
 
 argument_no_space : (word : List ℕ) (found : WrittenKind) → SpellsArgument word found → NoSpace word
 argument_no_space word found spelled = elim spelled [
@@ -72,7 +88,8 @@ argument_no_space word found spelled = elim spelled [
   | named letters name kind takes good is whole ↦ rw whole
       (All-append (λ byte. byte ≢ 32) letters (40 ∷ (name ++ 41 ∷ [])) (letters_no_space _ _ kind)
       (All-cons (λ byte. byte ≢ 32) 40 (name ++ 41 ∷ []) (λ e. cc e)
-      (All-append (λ byte. byte ≢ 32) name (41 ∷ []) good.no_space (All-cons (λ byte. byte ≢ 32) 41 [] (λ e. cc e) (All-nil (λ byte. byte ≢ 32))))))
+      (All-append (λ byte. byte ≢ 32) name (41 ∷ []) good.no_space
+      (All-cons (λ byte. byte ≢ 32) 41 [] (λ e. cc e) (All-nil (λ byte. byte ≢ 32))))))
 ]
 
 -- since numbers
@@ -92,69 +109,91 @@ at_number_is [] number is = cc is
 at_number_is (b ∷ digits) number is = by (b == 64) refl (sym (at_number_from b digits) ∙ is)
   where
     by : (t : Bool) → (b == 64) ≡ t → cond t (number_of digits) None ≡ Some number → AtNumber (b ∷ digits) number
-    by true sign e = record { digits = digits; whole = ap (λ (x : ℕ). x ∷ digits) (eqb-true _ _ sign); spelled = number_spells digits number e }
+    by true sign e = record {
+      digits = digits;
+      whole = ap (λ (x : ℕ). x ∷ digits) (eqb-true _ _ sign);
+      spelled = number_spells digits number e;
+    }
     by false other e = cc e
 
 at_number_spelled : (digits : List ℕ) (number : ℕ) → SpellsNumber digits number → at_number (64 ∷ digits) ≡ Some number
 at_number_spelled digits number spelled = at_number_from 64 digits ∙ spelled_number digits number spelled
 
 -- tails
-since_from : (word digits : List ℕ) (number : ℕ) → word ≡ 64 ∷ digits → SpellsNumber digits number → SpellsTail (spaced (word ∷ [])) (tail_with false number)
+since_from : (word digits : List ℕ) (number : ℕ) → word ≡ 64 ∷ digits → SpellsNumber digits number
+    → SpellsTail (spaced (word ∷ [])) (tail_with false number)
 since_from word digits number whole spelled =
     let same : codes " @" ++ digits ≡ spaced (word ∷ []) = rw (whole, append-nil) refl in
     subst (λ (bytes : List ℕ). SpellsTail bytes (tail_with false number)) same (since spelled)
 
-since_spells : (word : List ℕ) (number : ℕ) → at_number word ≡ Some number → SpellsTail (spaced (word ∷ [])) (tail_with false number)
-since_spells word number is = let it = at_number_is word number is in since_from word it.digits number it.whole it.spelled
+since_spells : (word : List ℕ) (number : ℕ) → at_number word ≡ Some number
+    → SpellsTail (spaced (word ∷ [])) (tail_with false number)
+since_spells word number is = let it = at_number_is word number is
+    in since_from word it.digits number it.whole it.spelled
 
-destroys_since_from : (word digits : List ℕ) (number : ℕ) → word ≡ 64 ∷ digits → SpellsNumber digits number → SpellsTail (spaced (codes "D" ∷ word ∷ [])) (tail_with true number)
+destroys_since_from : (word digits : List ℕ) (number : ℕ) → word ≡ 64 ∷ digits → SpellsNumber digits number
+    → SpellsTail (spaced (codes "D" ∷ word ∷ [])) (tail_with true number)
 destroys_since_from word digits number whole spelled =
     let same : codes " D @" ++ digits ≡ spaced (codes "D" ∷ word ∷ []) = rw (whole, append-nil) refl in
     subst (λ (bytes : List ℕ). SpellsTail bytes (tail_with true number)) same (destroys_since spelled)
 
-destroys_since_spells : (word : List ℕ) (number : ℕ) → at_number word ≡ Some number → SpellsTail (spaced (codes "D" ∷ word ∷ [])) (tail_with true number)
-destroys_since_spells word number is = let it = at_number_is word number is in destroys_since_from word it.digits number it.whole it.spelled
+destroys_since_spells : (word : List ℕ) (number : ℕ) → at_number word ≡ Some number
+    → SpellsTail (spaced (codes "D" ∷ word ∷ [])) (tail_with true number)
+destroys_since_spells word number is = let it = at_number_is word number is
+    in destroys_since_from word it.digits number it.whole it.spelled
 
-with_destroys : (more : List (List ℕ)) (tail : Tail) → option_map (tail_with true) (since_of more) ≡ Some tail → SpellsTail (spaced (codes "D" ∷ more)) tail
+with_destroys : (more : List (List ℕ)) (tail : Tail) → option_map (tail_with true) (since_of more) ≡ Some tail
+    → SpellsTail (spaced (codes "D" ∷ more)) tail
 with_destroys [] tail is = let same : tail_with true 1 ≡ tail = cc is in rw (← same) destroys
 with_destroys (word ∷ []) tail is = by (at_number word) refl is
   where
-    by : (o : Option ℕ) → at_number word ≡ o → option_map (tail_with true) o ≡ Some tail → SpellsTail (spaced (codes "D" ∷ word ∷ [])) tail
+    by : (o : Option ℕ) → at_number word ≡ o → option_map (tail_with true) o ≡ Some tail
+        → SpellsTail (spaced (codes "D" ∷ word ∷ [])) tail
     by None at e = cc e
-    by (Some number) at e = let same : tail_with true number ≡ tail = cc e in rw (← same) (destroys_since_spells word number at)
+    by (Some number) at e = let same : tail_with true number ≡ tail = cc e
+        in rw (← same) (destroys_since_spells word number at)
 with_destroys (word ∷ next ∷ more) tail is = cc is
 
-without_destroys : (word : List ℕ) (more : List (List ℕ)) (tail : Tail) → option_map (tail_with false) (since_of (word ∷ more)) ≡ Some tail → SpellsTail (spaced (word ∷ more)) tail
+without_destroys : (word : List ℕ) (more : List (List ℕ)) (tail : Tail)
+    → option_map (tail_with false) (since_of (word ∷ more)) ≡ Some tail → SpellsTail (spaced (word ∷ more)) tail
 without_destroys word [] tail is = by (at_number word) refl is
   where
-    by : (o : Option ℕ) → at_number word ≡ o → option_map (tail_with false) o ≡ Some tail → SpellsTail (spaced (word ∷ [])) tail
+    by : (o : Option ℕ) → at_number word ≡ o → option_map (tail_with false) o ≡ Some tail
+        → SpellsTail (spaced (word ∷ [])) tail
     by None at e = cc e
     by (Some number) at e = let same : tail_with false number ≡ tail = cc e in rw (← same) (since_spells word number at)
 without_destroys word (next ∷ more) tail is = cc is
 
-ending_spells : (word : List ℕ) (more : List (List ℕ)) (tail : Tail) → ending_of word more ≡ Some tail → SpellsTail (spaced (word ∷ more)) tail
+ending_spells : (word : List ℕ) (more : List (List ℕ)) (tail : Tail) → ending_of word more ≡ Some tail
+    → SpellsTail (spaced (word ∷ more)) tail
 ending_spells word more tail is = by (bytes_eq word (codes "D")) refl is
   where
-    by : (t : Bool) → bytes_eq word (codes "D") ≡ t → cond t (option_map (tail_with true) (since_of more)) (option_map (tail_with false) (since_of (word ∷ more))) ≡ Some tail
+    by : (t : Bool) → bytes_eq word (codes "D") ≡ t
+        → cond t (option_map (tail_with true) (since_of more)) (option_map (tail_with false) (since_of (word ∷ more)))
+        ≡ Some tail
         → SpellsTail (spaced (word ∷ more)) tail
     by true same e = rw ((bytes_eq-Decides word (codes "D")).0 same) (with_destroys more tail e)
     by false other e = without_destroys word more tail e
 
-argument_first : (word : List ℕ) (more : List (List ℕ)) (tail : Tail) (kind : WrittenKind) → argument_of word ≡ Some kind
-    → (o : Option Tail) → ((found : Tail) → o ≡ Some found → SpellsTail (spaced more) found) → option_map (with_kinds (kind ∷ [])) o ≡ Some tail → SpellsTail (spaced (word ∷ more)) tail
+argument_first : (word : List ℕ) (more : List (List ℕ)) (tail : Tail) (kind : WrittenKind)
+    → argument_of word ≡ Some kind
+    → (o : Option Tail) → ((found : Tail) → o ≡ Some found → SpellsTail (spaced more) found)
+    → option_map (with_kinds (kind ∷ [])) o ≡ Some tail → SpellsTail (spaced (word ∷ more)) tail
 argument_first word more tail kind here None rest e = cc e
 argument_first word more tail kind here (Some found) rest e =
     let same : with_kinds (kind ∷ []) found ≡ tail = cc e in
     rw (← same) (argument (argument_spells word kind here) (rest found refl))
 
-tail_first : (word : List ℕ) (more : List (List ℕ)) (tail : Tail) → (o : Option WrittenKind) → argument_of word ≡ o → ((found : Tail) → tail_of more ≡ Some found → SpellsTail (spaced more) found)
+tail_first : (word : List ℕ) (more : List (List ℕ)) (tail : Tail) → (o : Option WrittenKind) → argument_of word ≡ o
+    → ((found : Tail) → tail_of more ≡ Some found → SpellsTail (spaced more) found)
     → tail_from o (tail_of more) (ending_of word more) ≡ Some tail → SpellsTail (spaced (word ∷ more)) tail
 tail_first word more tail None here rest e = ending_spells word more tail e
 tail_first word more tail (Some kind) here rest e = argument_first word more tail kind here (tail_of more) rest e
 
 pub tail_spells : (more : List (List ℕ)) (tail : Tail) → tail_of more ≡ Some tail → SpellsTail (spaced more) tail
 tail_spells [] tail is = let same : tail_with false 1 ≡ tail = cc is in rw (← same) ends
-tail_spells (word ∷ more) tail is = tail_first word more tail (argument_of word) refl (λ found e. tail_spells more found e) is
+tail_spells (word ∷ more) tail is = tail_first word more tail (argument_of word) refl
+    (λ found e. tail_spells more found e) is
 
 -- the words of a tail
 pub record TailWords (bytes : List ℕ) (tail : Tail) : Type 0 where
@@ -170,19 +209,24 @@ d_word : NoSpace (codes "D")
 d_word = All-cons (λ byte. byte ≢ 32) 68 [] (λ e. cc e) (All-nil (λ byte. byte ≢ 32))
 
 -- the word with a since number is no argument
-since_read : (word digits : List ℕ) (number : ℕ) → word ≡ 64 ∷ digits → SpellsNumber digits number → tail_of (word ∷ []) ≡ Some (tail_with false number)
+since_read : (word digits : List ℕ) (number : ℕ) → word ≡ 64 ∷ digits → SpellsNumber digits number
+    → tail_of (word ∷ []) ≡ Some (tail_with false number)
 since_read word digits number whole spelled =
     let ending : ending_of word [] ≡ Some (tail_with false number) =
-    subst (λ (w : List ℕ). ending_of w [] ≡ Some (tail_with false number)) (sym whole) (ap (option_map (tail_with false)) (at_number_spelled digits number spelled)) in
+    subst (λ (w : List ℕ). ending_of w [] ≡ Some (tail_with false number)) (sym whole)
+    (ap (option_map (tail_with false)) (at_number_spelled digits number spelled)) in
     ap (λ (o : Option WrittenKind). tail_from o (tail_of []) (ending_of word [])) (at_sign word digits whole) ∙ ending
 
-destroys_since_read : (digits : List ℕ) (number : ℕ) → SpellsNumber digits number → tail_of (codes "D" ∷ (64 ∷ digits) ∷ []) ≡ Some (tail_with true number)
+destroys_since_read : (digits : List ℕ) (number : ℕ) → SpellsNumber digits number
+    → tail_of (codes "D" ∷ (64 ∷ digits) ∷ []) ≡ Some (tail_with true number)
 destroys_since_read digits number spelled = ap (option_map (tail_with true)) (at_number_spelled digits number spelled)
 
-argument_read : (word : List ℕ) (more : List (List ℕ)) (kind : WrittenKind) (tail : Tail) → argument_of word ≡ Some kind → tail_of more ≡ Some tail
+argument_read : (word : List ℕ) (more : List (List ℕ)) (kind : WrittenKind) (tail : Tail) → argument_of word ≡ Some kind
+    → tail_of more ≡ Some tail
     → tail_of (word ∷ more) ≡ Some (with_kinds (kind ∷ []) tail)
 argument_read word more kind tail here rest =
-    ap (λ (o : Option WrittenKind). tail_from o (tail_of more) (ending_of word more)) here ∙ ap (option_map (with_kinds (kind ∷ []))) rest
+    ap (λ (o : Option WrittenKind). tail_from o (tail_of more) (ending_of word more)) here
+    ∙ ap (option_map (with_kinds (kind ∷ []))) rest
 
 pub spelled_tail : {bytes : List ℕ} {tail : Tail} → SpellsTail bytes tail → TailWords bytes tail
 spelled_tail ends = record { more = []; whole = refl; clean = tt; read = refl }
@@ -210,27 +254,43 @@ spelled_tail (argument {word} {rest} {kind} {tail} spelled more) =
 
 -- messages
 abbrev message_with : ℕ → List ℕ → Tail → WrittenMessage
-message_with n name tail = record { line = n; name = name; since = tail.since; kinds = tail.kinds; destroys = tail.destroys }
+message_with n name tail = record {
+  line = n;
+  name = name;
+  since = tail.since;
+  kinds = tail.kinds;
+  destroys = tail.destroys;
+}
 
 pub message_says : (n : ℕ) (is_request : Bool) (more : List (List ℕ)) (m : WrittenMessage) → message_of n more ≡ Some m
     → (m.line ≡ n) × IsMessageLine (side_word is_request ++ spaced more) is_request m
 message_says n side [] m is = cc is
 message_says n side (name ∷ more) m is = by (is_text_name name) (tail_of more) refl refl is
   where
-    by : (t : Bool) (o : Option Tail) → is_text_name name ≡ t → tail_of more ≡ o → cond t (option_map (message_with n name) o) None ≡ Some m
+    by : (t : Bool) (o : Option Tail) → is_text_name name ≡ t → tail_of more ≡ o
+        → cond t (option_map (message_with n name) o) None ≡ Some m
         → (m.line ≡ n) × IsMessageLine (side_word side ++ spaced (name ∷ more)) side m
     by false o here at e = cc e
     by true None here at e = cc e
     by true (Some tail) here at e =
         let same : message_with n name tail ≡ m = cc e in
-        rw (← same) (refl, record { rest = spaced more; whole = refl; named = name_is name here; tail = tail_spells more tail at })
+        rw (← same) (
+          refl,
+          record {
+            rest = spaced more;
+            whole = refl;
+            named = name_is name here;
+            tail = tail_spells more tail at;
+          },
+        )
 
 -- a literal word
 plain_word : (word : List ℕ) → list_all (λ b. not (b == 32)) word ≡ true → NoSpace word
 plain_word word all = λ k d lt e. plain_byte _ (AllPass-from_list_all (λ b. not (b == 32)) word all k d lt) e
   where
     plain_byte : (b : ℕ) → not (b == 32) ≡ true → b ≡ 32 → ⊥
-    plain_byte b other same = let no : not (32 == 32) ≡ true = subst (λ (x : ℕ). not (x == 32) ≡ true) same other in cc no
+    plain_byte b other same = let no : not (32 == 32) ≡ true = subst (λ (x : ℕ). not (x == 32) ≡ true) same other
+        in cc no
 
 side_no_space : (is_request : Bool) → NoSpace (side_word is_request)
 side_no_space true = plain_word (codes "request") refl
@@ -241,17 +301,22 @@ pub record MessageWords (n : ℕ) (line : List ℕ) (is_request : Bool) (m : Wri
   pub cut : words line ≡ side_word is_request ∷ more
   pub read : message_of n more ≡ Some m
 
-read_message : (n : ℕ) (m : WrittenMessage) (more : List (List ℕ)) → m.line ≡ n → is_text_name m.name ≡ true → tail_of more ≡ Some (tail_in m) → message_of n (m.name ∷ more) ≡ Some m
+read_message : (n : ℕ) (m : WrittenMessage) (more : List (List ℕ)) → m.line ≡ n → is_text_name m.name ≡ true
+    → tail_of more ≡ Some (tail_in m) → message_of n (m.name ∷ more) ≡ Some m
 read_message n m more line good tail =
-    rw good (ap (option_map (message_with n m.name)) tail ∙ ap (λ (l : ℕ). Some (message_with l m.name (tail_in m))) (sym line))
+    rw good (ap (option_map (message_with n m.name)) tail
+    ∙ ap (λ (l : ℕ). Some (message_with l m.name (tail_in m))) (sym line))
 
-spelled_message : (n : ℕ) (line : List ℕ) (is_request : Bool) (m : WrittenMessage) → IsMessageLine line is_request m → m.line ≡ n → MessageWords n line is_request m
+spelled_message : (n : ℕ) (line : List ℕ) (is_request : Bool) (m : WrittenMessage) → IsMessageLine line is_request m
+    → m.line ≡ n → MessageWords n line is_request m
 spelled_message n line side m said at =
     let it = spelled_tail said.tail in
-    let whole : line ≡ side_word side ++ spaced (m.name ∷ it.more) = said.whole ∙ ap (λ (bytes : List ℕ). side_word side ++ 32 ∷ (m.name ++ bytes)) it.whole in
+    let whole : line ≡ side_word side ++ spaced (m.name ∷ it.more) =
+    said.whole ∙ ap (λ (bytes : List ℕ). side_word side ++ 32 ∷ (m.name ++ bytes)) it.whole in
     record {
       more = m.name ∷ it.more;
-      cut = ap words whole ∙ words_joined (side_word side) (m.name ∷ it.more) (side_no_space side) (said.named.no_space, it.clean);
+      cut = ap words whole ∙ words_joined (side_word side) (m.name ∷ it.more) (side_no_space side)
+          (said.named.no_space, it.clean);
       read = read_message n m it.more at (is_name m.name said.named) it.read;
     }
 
@@ -265,24 +330,32 @@ record InterfaceSaid (n : ℕ) (more : List (List ℕ)) (i : WrittenInterface) :
   is : i ≡ opened n name version
   said : IsInterfaceLine (codes "interface" ++ spaced more) name version
 
-interface_says : (n : ℕ) (more : List (List ℕ)) (i : WrittenInterface) → interface_of n more ≡ Some i → InterfaceSaid n more i
+interface_says : (n : ℕ) (more : List (List ℕ)) (i : WrittenInterface) → interface_of n more ≡ Some i
+    → InterfaceSaid n more i
 interface_says n [] i is = cc is
 interface_says n (name ∷ []) i is = cc is
 interface_says n (name ∷ digits ∷ []) i is = by (is_text_name name) (number_of digits) refl refl is
   where
-    by : (t : Bool) (o : Option ℕ) → is_text_name name ≡ t → number_of digits ≡ o → cond t (option_map (opened n name) o) None ≡ Some i → InterfaceSaid n (name ∷ digits ∷ []) i
+    by : (t : Bool) (o : Option ℕ) → is_text_name name ≡ t → number_of digits ≡ o
+        → cond t (option_map (opened n name) o) None ≡ Some i → InterfaceSaid n (name ∷ digits ∷ []) i
     by false o good at e = cc e
     by true None good at e = cc e
     by true (Some version) good at e = record {
       name = name;
       version = version;
       is = let same : opened n name version ≡ i = cc e in sym same;
-      said = record { digits = digits; whole = rw append-nil refl; named = name_is name good; number = number_spells digits version at };
+      said = record {
+        digits = digits;
+        whole = rw append-nil refl;
+        named = name_is name good;
+        number = number_spells digits version at;
+      };
     }
 interface_says n (name ∷ digits ∷ next ∷ more) i is = cc is
 
 spelled_interface : (n : ℕ) (line name : List ℕ) (version : ℕ) → IsInterfaceLine line name version
-    → (more : List (List ℕ)) × (words line ≡ codes "interface" ∷ more) × (interface_of n more ≡ Some (opened n name version))
+    → (more : List (List ℕ)) × (words line ≡ codes "interface" ∷ more)
+    × (interface_of n more ≡ Some (opened n name version))
 spelled_interface n line name version said =
     let whole : line ≡ codes "interface" ++ spaced (name ∷ said.digits ∷ []) =
     said.whole ∙ ap (λ (end : List ℕ). codes "interface " ++ (name ++ 32 ∷ end)) (sym (append-nil said.digits)) in
@@ -305,35 +378,43 @@ skipped_is [] is = is_empty refl
 skipped_is (b ∷ more) is = is_comment more (ap (λ (x : ℕ). x ∷ more) (eqb-true _ _ is))
 
 -- what a line does to the interfaces so far
-pub skipped_added : (n : ℕ) (line : List ℕ) → IsSkipped line → (written : List WrittenInterface) → line_added n line written ≡ Some written
+pub skipped_added : (n : ℕ) (line : List ℕ) → IsSkipped line → (written : List WrittenInterface)
+    → line_added n line written ≡ Some written
 skipped_added n line skipped written = rw (skips_it line skipped) refl
 
-added_by_words : (n : ℕ) (line : List ℕ) (ws : List (List ℕ)) (written : List WrittenInterface) → says_nothing line ≡ false → words line ≡ ws → line_added n line written ≡ words_added n ws written
+added_by_words : (n : ℕ) (line : List ℕ) (ws : List (List ℕ)) (written : List WrittenInterface)
+    → says_nothing line ≡ false → words line ≡ ws → line_added n line written ≡ words_added n ws written
 added_by_words n line ws written says cut =
-    ap (λ (t : Bool). cond t (Some written) (words_added n (words line) written)) says ∙ ap (λ (w : List (List ℕ)). words_added n w written) cut
+    ap (λ (t : Bool). cond t (Some written) (words_added n (words line) written)) says
+    ∙ ap (λ (w : List (List ℕ)). words_added n w written) cut
 
-speaks : (line word rest : List ℕ) → line ≡ word ++ rest → says_nothing (word ++ rest) ≡ false → says_nothing line ≡ false
+speaks : (line word rest : List ℕ) → line ≡ word ++ rest → says_nothing (word ++ rest) ≡ false
+    → says_nothing line ≡ false
 speaks line word rest whole says = rw whole says
 
 message_speaks : (line rest : List ℕ) (side : Bool) → line ≡ side_word side ++ rest → says_nothing line ≡ false
 message_speaks line rest true whole = speaks line (codes "request") rest whole refl
 message_speaks line rest false whole = speaks line (codes "event") rest whole refl
 
-by_side : (n : ℕ) (side : Bool) (more : List (List ℕ)) (m : WrittenMessage) (written : List WrittenInterface) → message_of n more ≡ Some m → words_added n (side_word side ∷ more) written ≡ message_added side m written
+by_side : (n : ℕ) (side : Bool) (more : List (List ℕ)) (m : WrittenMessage) (written : List WrittenInterface)
+    → message_of n more ≡ Some m → words_added n (side_word side ∷ more) written ≡ message_added side m written
 by_side n true more m written read = ap (option_and_then (λ x. message_added true x written)) read
 by_side n false more m written read = ap (option_and_then (λ x. message_added false x written)) read
 
-pub message_line_added : (n : ℕ) (line : List ℕ) (side : Bool) (m : WrittenMessage) → IsMessageLine line side m → m.line ≡ n
+pub message_line_added : (n : ℕ) (line : List ℕ) (side : Bool) (m : WrittenMessage) → IsMessageLine line side m
+    → m.line ≡ n
     → (written : List WrittenInterface) → line_added n line written ≡ message_added side m written
 message_line_added n line side m said at written =
     let it = spelled_message n line side m said at in
-    added_by_words n line (side_word side ∷ it.more) written (message_speaks line _ side said.whole) it.cut ∙ by_side n side it.more m written it.read
+    added_by_words n line (side_word side ∷ it.more) written (message_speaks line _ side said.whole) it.cut
+    ∙ by_side n side it.more m written it.read
 
 pub interface_line_added : (n : ℕ) (line name : List ℕ) (version : ℕ) → IsInterfaceLine line name version
     → (written : List WrittenInterface) → line_added n line written ≡ Some (written ++ opened n name version ∷ [])
 interface_line_added n line name version said written =
     let it = spelled_interface n line name version said in
-    added_by_words n line (codes "interface" ∷ it.0) written (speaks line (codes "interface ") (name ++ 32 ∷ said.digits) said.whole refl) it.1
+    added_by_words n line (codes "interface" ∷ it.0) written
+    (speaks line (codes "interface ") (name ++ 32 ∷ said.digits) said.whole refl) it.1
     ∙ ap (option_map (λ i. written ++ i ∷ [])) it.2
 
 -- what a line says
@@ -343,36 +424,50 @@ pub data LineSays (n : ℕ) (line : List ℕ) : Type 0 where
   it_adds : (side : Bool) (m : WrittenMessage) → m.line ≡ n → IsMessageLine line side m → LineSays n line
   it_fails : ((written : List WrittenInterface) → line_added n line written ≡ None) → LineSays n line
 
-fails_so : (n : ℕ) (line : List ℕ) (ws : List (List ℕ)) → says_nothing line ≡ false → words line ≡ ws → ((written : List WrittenInterface) → words_added n ws written ≡ None) → LineSays n line
+fails_so : (n : ℕ) (line : List ℕ) (ws : List (List ℕ)) → says_nothing line ≡ false → words line ≡ ws
+    → ((written : List WrittenInterface) → words_added n ws written ≡ None) → LineSays n line
 fails_so n line ws says cut none = it_fails (λ written. added_by_words n line ws written says cut ∙ none written)
 
-opens_so : (n : ℕ) (line : List ℕ) (more : List (List ℕ)) → says_nothing line ≡ false → words line ≡ codes "interface" ∷ more
+opens_so : (n : ℕ) (line : List ℕ) (more : List (List ℕ)) → says_nothing line ≡ false
+    → words line ≡ codes "interface" ∷ more
     → (o : Option WrittenInterface) → interface_of n more ≡ o → LineSays n line
-opens_so n line more says cut None is = fails_so n line (codes "interface" ∷ more) says cut (λ written. ap (option_map (λ i. written ++ i ∷ [])) is)
+opens_so n line more says cut None is = fails_so n line (codes "interface" ∷ more) says cut
+    (λ written. ap (option_map (λ i. written ++ i ∷ [])) is)
 opens_so n line more says cut (Some i) is =
     let it = interface_says n more i is in
-    it_opens it.name it.version (subst (λ (l : List ℕ). IsInterfaceLine l it.name it.version) (sym (joined_words line (codes "interface") more cut)) it.said)
+    it_opens it.name it.version (subst (λ (l : List ℕ). IsInterfaceLine l it.name it.version)
+    (sym (joined_words line (codes "interface") more cut)) it.said)
 
-side_fails : (n : ℕ) (side : Bool) (more : List (List ℕ)) (written : List WrittenInterface) → message_of n more ≡ None → words_added n (side_word side ∷ more) written ≡ None
+side_fails : (n : ℕ) (side : Bool) (more : List (List ℕ)) (written : List WrittenInterface) → message_of n more ≡ None
+    → words_added n (side_word side ∷ more) written ≡ None
 side_fails n true more written none = ap (option_and_then (λ x. message_added true x written)) none
 side_fails n false more written none = ap (option_and_then (λ x. message_added false x written)) none
 
-adds_so : (n : ℕ) (line : List ℕ) (side : Bool) (more : List (List ℕ)) → says_nothing line ≡ false → words line ≡ side_word side ∷ more
+adds_so : (n : ℕ) (line : List ℕ) (side : Bool) (more : List (List ℕ)) → says_nothing line ≡ false
+    → words line ≡ side_word side ∷ more
     → (o : Option WrittenMessage) → message_of n more ≡ o → LineSays n line
-adds_so n line side more says cut None is = fails_so n line (side_word side ∷ more) says cut (λ written. side_fails n side more written is)
+adds_so n line side more says cut None is = fails_so n line (side_word side ∷ more) says cut
+    (λ written. side_fails n side more written is)
 adds_so n line side more says cut (Some m) is =
     let it = message_says n side more m is in
-    it_adds side m it.0 (subst (λ (l : List ℕ). IsMessageLine l side m) (sym (joined_words line (side_word side) more cut)) it.1)
+    it_adds side m it.0 (subst (λ (l : List ℕ). IsMessageLine l side m)
+    (sym (joined_words line (side_word side) more cut)) it.1)
 
-word_is : (word literal : List ℕ) (more ws : List (List ℕ)) → ws ≡ word ∷ more → bytes_eq word literal ≡ true → ws ≡ literal ∷ more
+word_is : (word literal : List ℕ) (more ws : List (List ℕ)) → ws ≡ word ∷ more → bytes_eq word literal ≡ true
+    → ws ≡ literal ∷ more
 word_is word literal more ws cut same = cut ∙ ap (λ (w : List ℕ). w ∷ more) ((bytes_eq-Decides word literal).0 same)
 
 by_word : (n : ℕ) (line word : List ℕ) (more : List (List ℕ)) → says_nothing line ≡ false → words line ≡ word ∷ more
-    → (i r e : Bool) → bytes_eq word (codes "interface") ≡ i → bytes_eq word (codes "request") ≡ r → bytes_eq word (codes "event") ≡ e → LineSays n line
-by_word n line word more says cut true r e is is' is'' = opens_so n line more says (word_is word (codes "interface") more _ cut is) (interface_of n more) refl
-by_word n line word more says cut false true e is is' is'' = adds_so n line true more says (word_is word (codes "request") more _ cut is') (message_of n more) refl
-by_word n line word more says cut false false true is is' is'' = adds_so n line false more says (word_is word (codes "event") more _ cut is'') (message_of n more) refl
-by_word n line word more says cut false false false is is' is'' = fails_so n line (word ∷ more) says cut (λ written. rw (is, is', is'') refl)
+    → (i r e : Bool) → bytes_eq word (codes "interface") ≡ i → bytes_eq word (codes "request") ≡ r
+    → bytes_eq word (codes "event") ≡ e → LineSays n line
+by_word n line word more says cut true r e is is' is'' =
+    opens_so n line more says (word_is word (codes "interface") more _ cut is) (interface_of n more) refl
+by_word n line word more says cut false true e is is' is'' =
+    adds_so n line true more says (word_is word (codes "request") more _ cut is') (message_of n more) refl
+by_word n line word more says cut false false true is is' is'' =
+    adds_so n line false more says (word_is word (codes "event") more _ cut is'') (message_of n more) refl
+by_word n line word more says cut false false false is is' is'' =
+    fails_so n line (word ∷ more) says cut (λ written. rw (is, is', is'') refl)
 
 by_silence : (n : ℕ) (line : List ℕ) (t : Bool) → says_nothing line ≡ t → LineSays n line
 by_silence n line true says = it_skips (skipped_is line says)

@@ -1,45 +1,62 @@
 -- A text lists the interfaces that are read from it, and no others.
-use Rattle.std.proofs.Common.{◌≡◌, ℕ, ◌+◌, ◌<◌, Bool, true, false, List, [], ◌∷◌, ◌++◌, length, refl, sym, ap, subst, ◌∙◌, Some, None, Option, append-nil, append_assoc, arith}
+use Rattle.std.proofs.Common.{◌≡◌, ℕ, ◌+◌, ◌<◌, Bool, true, false, List, [], ◌∷◌, ◌++◌, length}
+use Rattle.std.proofs.Common.{refl, sym, ap, subst, ◌∙◌, Some, None, Option, append-nil}
+use Rattle.std.proofs.Common.{append_assoc, arith}
 use Rattle.std.specs.Prelude.{Ok, Err, ◌↔◌, option_map}
 use Rattle.std.specs.Option.{option_map_or}
 use Rattle.std.specs.Str.Lines.{lines}
-use Rattle.wl_interface_text.specs.Text.{WrittenMessage, WrittenInterface, with_message, message_added, line_added, listed}
-use Rattle.wl_interface_text.specs.TableText.{IsMessageLine, IsInterfaceLine, Say, nothing, skipped, request, event, interface, TableText, MayStand, skips, opens, adds, IsFirstBadLine}
+use Rattle.wl_interface_text.specs.Text.{WrittenMessage, WrittenInterface, with_message}
+use Rattle.wl_interface_text.specs.Text.{message_added, line_added, listed}
+use Rattle.wl_interface_text.specs.TableText.{IsMessageLine, IsInterfaceLine, Say, nothing, skipped}
+use Rattle.wl_interface_text.specs.TableText.{request, event, interface, TableText, MayStand, skips}
+use Rattle.wl_interface_text.specs.TableText.{opens, adds, IsFirstBadLine}
 use Rattle.wl_interface_text.proofs.Words.{added_last}
-use Rattle.wl_interface_text.proofs.TextLines.{opened, skipped_added, message_line_added, interface_line_added, LineSays, it_skips, it_opens, it_adds, it_fails, line_says}
+use Rattle.wl_interface_text.proofs.TextLines.{opened, skipped_added, message_line_added}
+use Rattle.wl_interface_text.proofs.TextLines.{interface_line_added, LineSays, it_skips, it_opens}
+use Rattle.wl_interface_text.proofs.TextLines.{it_adds, it_fails, line_says}
 
 -- an interface with further messages
 abbrev with_more : WrittenInterface → List WrittenMessage → List WrittenMessage → WrittenInterface
 with_more i requests events = record i { requests = i.requests ++ requests; events = i.events ++ events }
 
 -- the reading of a line and those below it
-listed_on : (n : ℕ) (line : List ℕ) (more : List (List ℕ)) (written : List WrittenInterface) (o : Option (List WrittenInterface)) → line_added n line written ≡ o
+listed_on : (n : ℕ) (line : List ℕ) (more : List (List ℕ)) (written : List WrittenInterface)
+    (o : Option (List WrittenInterface)) → line_added n line written ≡ o
     → listed n (line ∷ more) written ≡ option_map_or (λ all. listed (n + 1) more all) o (Err n)
-listed_on n line more written o is = ap (λ (x : Option (List WrittenInterface)). option_map_or (λ all. listed (n + 1) more all) x (Err n)) is
+listed_on n line more written o is = ap (λ (x : Option (List WrittenInterface)). option_map_or
+    (λ all. listed (n + 1) more all) x (Err n)) is
 
 with_none : (i : WrittenInterface) → with_more i [] [] ≡ i
 with_none i = rw (append-nil i.requests, append-nil i.events) refl
 
-abbrev with_first : Bool → WrittenMessage → WrittenInterface → List WrittenMessage → List WrittenMessage → WrittenInterface
+abbrev with_first : Bool → WrittenMessage → WrittenInterface → List WrittenMessage → List WrittenMessage
+    → WrittenInterface
 with_first true m i requests events = with_more i (m ∷ requests) events
 with_first false m i requests events = with_more i requests (m ∷ events)
 
-first_then : (side : Bool) (m : WrittenMessage) (i : WrittenInterface) (requests events : List WrittenMessage) → with_more (with_message side m i) requests events ≡ with_first side m i requests events
+first_then : (side : Bool) (m : WrittenMessage) (i : WrittenInterface) (requests events : List WrittenMessage)
+    → with_more (with_message side m i) requests events ≡ with_first side m i requests events
 first_then true m i requests events = rw (append_assoc i.requests (m ∷ []) requests) refl
 first_then false m i requests events = rw (append_assoc i.events (m ∷ []) events) refl
 
 -- what lines say is read, below an interface
-pub said_below : {n : ℕ} {all : List (List ℕ)} {requests events : List WrittenMessage} {interfaces : List WrittenInterface} → Say n all requests events interfaces
-    → (before : List WrittenInterface) (i : WrittenInterface) → listed n all (before ++ i ∷ []) ≡ Ok (before ++ with_more i requests events ∷ interfaces)
+pub said_below : {n : ℕ} {all : List (List ℕ)} {requests events : List WrittenMessage} {interfaces : List
+    WrittenInterface} → Say n all requests events interfaces
+    → (before : List WrittenInterface) (i : WrittenInterface)
+    → listed n all (before ++ i ∷ []) ≡ Ok (before ++ with_more i requests events ∷ interfaces)
 said_below nothing before i = ap (λ (x : WrittenInterface). Ok (before ++ x ∷ [])) (sym (with_none i))
 said_below (skipped {n} {line} {more} skip rest) before i =
     listed_on n line more (before ++ i ∷ []) _ (skipped_added n line skip (before ++ i ∷ [])) ∙ said_below rest before i
 said_below (request {n} {line} {more} {m} {requests} {events} {interfaces} said at rest) before i =
-    listed_on n line more (before ++ i ∷ []) _ (message_line_added n line true m said at (before ++ i ∷ []) ∙ added_last true m before i)
-    ∙ said_below rest before (with_message true m i) ∙ ap (λ (x : WrittenInterface). Ok (before ++ x ∷ interfaces)) (first_then true m i requests events)
+    listed_on n line more (before ++ i ∷ []) _ (message_line_added n line true m said at (before ++ i ∷ [])
+    ∙ added_last true m before i)
+    ∙ said_below rest before (with_message true m i)
+    ∙ ap (λ (x : WrittenInterface). Ok (before ++ x ∷ interfaces)) (first_then true m i requests events)
 said_below (event {n} {line} {more} {m} {requests} {events} {interfaces} said at rest) before i =
-    listed_on n line more (before ++ i ∷ []) _ (message_line_added n line false m said at (before ++ i ∷ []) ∙ added_last false m before i)
-    ∙ said_below rest before (with_message false m i) ∙ ap (λ (x : WrittenInterface). Ok (before ++ x ∷ interfaces)) (first_then false m i requests events)
+    listed_on n line more (before ++ i ∷ []) _ (message_line_added n line false m said at (before ++ i ∷ [])
+    ∙ added_last false m before i)
+    ∙ said_below rest before (with_message false m i)
+    ∙ ap (λ (x : WrittenInterface). Ok (before ++ x ∷ interfaces)) (first_then false m i requests events)
 said_below (interface {n} {line} {more} {i = j} {interfaces} said at rest) before i =
     listed_on n line more (before ++ i ∷ []) _ (interface_line_added n line j.name j.version said (before ++ i ∷ []))
     ∙ said_below rest (before ++ i ∷ []) (opened n j.name j.version)
@@ -48,10 +65,12 @@ said_below (interface {n} {line} {more} {i = j} {interfaces} said at rest) befor
     ∙ ap (λ (x : WrittenInterface). Ok (before ++ x ∷ j ∷ interfaces)) (sym (with_none i))
 
 -- and above every interface
-pub said_first : {n : ℕ} {all : List (List ℕ)} {requests events : List WrittenMessage} {interfaces : List WrittenInterface} → Say n all requests events interfaces
+pub said_first : {n : ℕ} {all : List (List ℕ)} {requests events : List WrittenMessage} {interfaces : List
+    WrittenInterface} → Say n all requests events interfaces
     → requests ≡ [] → events ≡ [] → listed n all [] ≡ Ok interfaces
 said_first nothing r e = refl
-said_first (skipped {n} {line} {more} skip rest) r e = listed_on n line more [] _ (skipped_added n line skip []) ∙ said_first rest r e
+said_first (skipped {n} {line} {more} skip rest) r e =
+    listed_on n line more [] _ (skipped_added n line skip []) ∙ said_first rest r e
 said_first (request said at rest) r e = cc r
 said_first (event said at rest) r e = cc e
 said_first (interface {n} {line} {more} {i = j} {interfaces} said at rest) r e =
@@ -60,7 +79,8 @@ said_first (interface {n} {line} {more} {i = j} {interfaces} said at rest) r e =
     ∙ ap (λ (l : ℕ). Ok (record j { line = l } ∷ interfaces)) (sym at)
 
 -- what is read is said
-record Below (n : ℕ) (all : List (List ℕ)) (before : List WrittenInterface) (i : WrittenInterface) (written : List WrittenInterface) : Type 0 where
+record Below (n : ℕ) (all : List (List ℕ)) (before : List WrittenInterface) (i : WrittenInterface)
+    (written : List WrittenInterface) : Type 0 where
   requests : List WrittenMessage
   events : List WrittenMessage
   interfaces : List WrittenInterface
@@ -68,10 +88,13 @@ record Below (n : ℕ) (all : List (List ℕ)) (before : List WrittenInterface) 
   is : written ≡ before ++ with_more i requests events ∷ interfaces
 
 abbrev Reads : ℕ → List (List ℕ) → Type 0
-Reads n all = (before : List WrittenInterface) (i : WrittenInterface) (written : List WrittenInterface) → listed n all (before ++ i ∷ []) ≡ Ok written → Below n all before i written
+Reads n all = (before : List WrittenInterface) (i : WrittenInterface) (written : List WrittenInterface)
+    → listed n all (before ++ i ∷ []) ≡ Ok written → Below n all before i written
 
-below_added : (n : ℕ) (line : List ℕ) (more : List (List ℕ)) (before : List WrittenInterface) (i : WrittenInterface) (written : List WrittenInterface)
-    → (side : Bool) (m : WrittenMessage) → m.line ≡ n → IsMessageLine line side m → Below (n + 1) more before (with_message side m i) written → Below n (line ∷ more) before i written
+below_added : (n : ℕ) (line : List ℕ) (more : List (List ℕ)) (before : List WrittenInterface) (i : WrittenInterface)
+    (written : List WrittenInterface)
+    → (side : Bool) (m : WrittenMessage) → m.line ≡ n → IsMessageLine line side m
+    → Below (n + 1) more before (with_message side m i) written → Below n (line ∷ more) before i written
 below_added n line more before i written true m at said it = record {
   requests = m ∷ it.requests;
   events = it.events;
@@ -87,8 +110,10 @@ below_added n line more before i written false m at said it = record {
   is = it.is ∙ ap (λ (x : WrittenInterface). before ++ x ∷ it.interfaces) (first_then false m i it.requests it.events);
 }
 
-below_opened : (n : ℕ) (line name : List ℕ) (version : ℕ) (more : List (List ℕ)) (before : List WrittenInterface) (i : WrittenInterface) (written : List WrittenInterface)
-    → IsInterfaceLine line name version → Below (n + 1) more (before ++ i ∷ []) (opened n name version) written → Below n (line ∷ more) before i written
+below_opened : (n : ℕ) (line name : List ℕ) (version : ℕ) (more : List (List ℕ)) (before : List WrittenInterface)
+    (i : WrittenInterface) (written : List WrittenInterface)
+    → IsInterfaceLine line name version → Below (n + 1) more (before ++ i ∷ []) (opened n name version) written
+    → Below n (line ∷ more) before i written
 below_opened n line name version more before i written said it =
     let j : WrittenInterface = with_more (opened n name version) it.requests it.events in
     record {
@@ -96,22 +121,35 @@ below_opened n line name version more before i written said it =
       events = [];
       interfaces = with_more (opened n name version) it.requests it.events ∷ it.interfaces;
       say = interface said refl it.say;
-      is = it.is ∙ append_assoc before (i ∷ []) (j ∷ it.interfaces) ∙ ap (λ (x : WrittenInterface). before ++ x ∷ j ∷ it.interfaces) (sym (with_none i));
+      is = it.is ∙ append_assoc before (i ∷ []) (j ∷ it.interfaces)
+          ∙ ap (λ (x : WrittenInterface). before ++ x ∷ j ∷ it.interfaces) (sym (with_none i));
     }
 
-below_line : (n : ℕ) (line : List ℕ) (more : List (List ℕ)) → LineSays n line → Reads (n + 1) more → Reads n (line ∷ more)
+below_line : (n : ℕ) (line : List ℕ) (more : List (List ℕ)) → LineSays n line → Reads (n + 1) more
+    → Reads n (line ∷ more)
 below_line n line more says reads = λ before i written is. elim says [
   | it_skips skip ↦
-      let it = reads before i written (sym (listed_on n line more (before ++ i ∷ []) _ (skipped_added n line skip (before ++ i ∷ []))) ∙ is) in
-      record { requests = it.requests; events = it.events; interfaces = it.interfaces; say = skipped skip it.say; is = it.is }
+      let it = reads before i written (sym (listed_on n line more (before ++ i ∷ []) _
+      (skipped_added n line skip (before ++ i ∷ []))) ∙ is) in
+      record {
+        requests = it.requests;
+        events = it.events;
+        interfaces = it.interfaces;
+        say = skipped skip it.say;
+        is = it.is;
+      }
   | it_opens name version said ↦
       below_opened n line name version more before i written said
-      (reads (before ++ i ∷ []) (opened n name version) written (sym (listed_on n line more (before ++ i ∷ []) _ (interface_line_added n line name version said (before ++ i ∷ []))) ∙ is))
+      (reads (before ++ i ∷ []) (opened n name version) written
+      (sym (listed_on n line more (before ++ i ∷ []) _
+      (interface_line_added n line name version said (before ++ i ∷ []))) ∙ is))
   | it_adds side m at said ↦
       below_added n line more before i written side m at said
       (reads before (with_message side m i) written
-      (sym (listed_on n line more (before ++ i ∷ []) _ (message_line_added n line side m said at (before ++ i ∷ []) ∙ added_last side m before i)) ∙ is))
-  | it_fails fails ↦ let no : Err n ≡ Ok written = sym (listed_on n line more (before ++ i ∷ []) _ (fails (before ++ i ∷ []))) ∙ is in cc no
+      (sym (listed_on n line more (before ++ i ∷ []) _
+      (message_line_added n line side m said at (before ++ i ∷ []) ∙ added_last side m before i)) ∙ is))
+  | it_fails fails ↦ let no : Err n ≡ Ok written =
+      sym (listed_on n line more (before ++ i ∷ []) _ (fails (before ++ i ∷ []))) ∙ is in cc no
 ]
 
 read_below : (n : ℕ) (all : List (List ℕ)) → Reads n all
@@ -120,63 +158,80 @@ read_below n [] = λ before i written is. record {
   events = [];
   interfaces = [];
   say = nothing;
-  is = let same : before ++ i ∷ [] ≡ written = cc is in sym same ∙ ap (λ (x : WrittenInterface). before ++ x ∷ []) (sym (with_none i));
+  is = let same : before ++ i ∷ [] ≡ written = cc is
+      in sym same ∙ ap (λ (x : WrittenInterface). before ++ x ∷ []) (sym (with_none i));
 }
 read_below n (line ∷ more) = below_line n line more (line_says n line) (read_below (n + 1) more)
 
-first_line : (n : ℕ) (line : List ℕ) (more : List (List ℕ)) (written : List WrittenInterface) → LineSays n line → (listed (n + 1) more [] ≡ Ok written → Say (n + 1) more [] [] written)
+first_line : (n : ℕ) (line : List ℕ) (more : List (List ℕ)) (written : List WrittenInterface) → LineSays n line
+    → (listed (n + 1) more [] ≡ Ok written → Say (n + 1) more [] [] written)
     → listed n (line ∷ more) [] ≡ Ok written → Say n (line ∷ more) [] [] written
 first_line n line more written says rest is = elim says [
   | it_skips skip ↦ skipped skip (rest (sym (listed_on n line more [] _ (skipped_added n line skip [])) ∙ is))
   | it_opens name version said ↦
-      let it = read_below (n + 1) more [] (opened n name version) written (sym (listed_on n line more [] _ (interface_line_added n line name version said [])) ∙ is) in
+      let it = read_below (n + 1) more [] (opened n name version) written
+      (sym (listed_on n line more [] _ (interface_line_added n line name version said [])) ∙ is) in
       subst (λ (w : List WrittenInterface). Say n (line ∷ more) [] [] w) (sym it.is) (interface said refl it.say)
-  | it_adds side m at said ↦ let no : Err n ≡ Ok written = sym (listed_on n line more [] _ (message_line_added n line side m said at [])) ∙ is in cc no
+  | it_adds side m at said ↦ let no : Err n ≡ Ok written =
+      sym (listed_on n line more [] _ (message_line_added n line side m said at [])) ∙ is in cc no
   | it_fails fails ↦ let no : Err n ≡ Ok written = sym (listed_on n line more [] _ (fails [])) ∙ is in cc no
 ]
 
-pub read_first : (n : ℕ) (all : List (List ℕ)) (written : List WrittenInterface) → listed n all [] ≡ Ok written → Say n all [] [] written
-read_first n [] written is = let same : [] ≡ written = cc is in subst (λ (w : List WrittenInterface). Say n [] [] [] w) same nothing
-read_first n (line ∷ more) written is = first_line n line more written (line_says n line) (read_first (n + 1) more written) is
+pub read_first : (n : ℕ) (all : List (List ℕ)) (written : List WrittenInterface) → listed n all [] ≡ Ok written
+    → Say n all [] [] written
+read_first n [] written is = let same : [] ≡ written = cc is
+    in subst (λ (w : List WrittenInterface). Say n [] [] [] w) same nothing
+read_first n (line ∷ more) written is = first_line n line more written (line_says n line)
+    (read_first (n + 1) more written) is
 
-pub text_lists : (text : List ℕ) (written : List WrittenInterface) → (listed 1 (lines text) [] ≡ Ok written) ↔ TableText text written
+pub text_lists : (text : List ℕ) (written : List WrittenInterface)
+    → (listed 1 (lines text) [] ≡ Ok written) ↔ TableText text written
 text_lists text written = (read_first 1 (lines text) written, λ say. said_first say refl refl)
 
-pub one_list : (text : List ℕ) (written others : List WrittenInterface) → TableText text written → TableText text others → written ≡ others
+pub one_list : (text : List ℕ) (written others : List WrittenInterface) → TableText text written → TableText text others
+    → written ≡ others
 one_list text written others x y =
     let same : Ok written ≡ Ok others = sym (said_first x refl refl) ∙ said_first y refl refl in cc same
 
 -- a line that may not stand adds nothing
-added_somewhere : (side : Bool) (m : WrittenMessage) (i : WrittenInterface) (written : List WrittenInterface) → message_added side m (i ∷ written) ≡ None → ⊥
+added_somewhere : (side : Bool) (m : WrittenMessage) (i : WrittenInterface) (written : List WrittenInterface)
+    → message_added side m (i ∷ written) ≡ None → ⊥
 added_somewhere side m i [] is = cc is
-added_somewhere side m i (j ∷ written) is = by (message_added side m (j ∷ written)) (added_somewhere side m j written) is
+added_somewhere side m i (j ∷ written) is = by (message_added side m (j ∷ written))
+    (added_somewhere side m j written) is
   where
     by : (o : Option (List WrittenInterface)) → (o ≡ None → ⊥) → option_map (λ all. i ∷ all) o ≡ None → ⊥
     by None never e = never refl
     by (Some all) never e = cc e
 
-numbered : (n : ℕ) (line : List ℕ) (side : Bool) (m : WrittenMessage) → IsMessageLine line side m → IsMessageLine line side (record m { line = n })
+numbered : (n : ℕ) (line : List ℕ) (side : Bool) (m : WrittenMessage) → IsMessageLine line side m
+    → IsMessageLine line side (record m { line = n })
 numbered n line side m said = record { rest = said.rest; whole = said.whole; named = said.named; tail = said.tail }
 
-message_stands : (n : ℕ) (line : List ℕ) (written : List WrittenInterface) (side : Bool) (m : WrittenMessage) → IsMessageLine line side m → 0 < length written → line_added n line written ≡ None → ⊥
+message_stands : (n : ℕ) (line : List ℕ) (written : List WrittenInterface) (side : Bool) (m : WrittenMessage)
+    → IsMessageLine line side m → 0 < length written → line_added n line written ≡ None → ⊥
 message_stands n line [] side m said some is = absurd (omega (arith, some))
 message_stands n line (i ∷ written) side m said some is =
     let at : WrittenMessage = record m { line = n } in
     added_somewhere side (record m { line = n }) i written
     (sym (message_line_added n line side (record m { line = n }) (numbered n line side m said) refl (i ∷ written)) ∙ is)
 
-none_stands : (n : ℕ) (line : List ℕ) (written : List WrittenInterface) → line_added n line written ≡ None → MayStand written line → ⊥
+none_stands : (n : ℕ) (line : List ℕ) (written : List WrittenInterface) → line_added n line written ≡ None
+    → MayStand written line → ⊥
 none_stands n line written is stands = elim stands [
   | skips skip ↦ let no : Some written ≡ None = sym (skipped_added n line skip written) ∙ is in cc no
-  | opens name version said ↦ let no : Some (written ++ opened n name version ∷ []) ≡ None = sym (interface_line_added n line name version said written) ∙ is in cc no
+  | opens name version said ↦ let no : Some (written ++ opened n name version ∷ []) ≡ None =
+      sym (interface_line_added n line name version said written) ∙ is in cc no
   | adds side m said some ↦ message_stands n line written side m said some is
 ]
 
-alone_fails : (n : ℕ) (line : List ℕ) (side : Bool) (m : WrittenMessage) → m.line ≡ n → IsMessageLine line side m → (written : List WrittenInterface) → ¬ MayStand written line → line_added n line written ≡ None
+alone_fails : (n : ℕ) (line : List ℕ) (side : Bool) (m : WrittenMessage) → m.line ≡ n → IsMessageLine line side m
+    → (written : List WrittenInterface) → ¬ MayStand written line → line_added n line written ≡ None
 alone_fails n line side m at said [] bad = message_line_added n line side m said at []
 alone_fails n line side m at said (i ∷ written) bad = absurd (bad (adds side m said (omega arith)))
 
-may_not_stand : (n : ℕ) (line : List ℕ) (written : List WrittenInterface) → ¬ MayStand written line → line_added n line written ≡ None
+may_not_stand : (n : ℕ) (line : List ℕ) (written : List WrittenInterface) → ¬ MayStand written line
+    → line_added n line written ≡ None
 may_not_stand n line written bad = elim (line_says n line) [
   | it_skips skip ↦ absurd (bad (skips skip))
   | it_opens name version said ↦ absurd (bad (opens name version said))
@@ -185,22 +240,26 @@ may_not_stand n line written bad = elim (line_says n line) [
 ]
 
 -- lines are read one after another
-read_before : (before rest : List (List ℕ)) (n : ℕ) (so_far written : List WrittenInterface) → listed n before so_far ≡ Ok written
+read_before : (before rest : List (List ℕ)) (n : ℕ) (so_far written : List WrittenInterface)
+    → listed n before so_far ≡ Ok written
     → listed n (before ++ rest) so_far ≡ listed (n + length before) rest written
 read_before [] rest n so_far written is =
     let same : so_far ≡ written = cc is in
     let at : n ≡ n + 0 = omega arith in
     ap (λ (w : List WrittenInterface). listed n rest w) same ∙ ap (λ (k : ℕ). listed k rest written) at
-read_before (line ∷ before) rest n so_far written is = by (line_added n line so_far) refl (λ all e. read_before before rest (n + 1) all written e) is
+read_before (line ∷ before) rest n so_far written is =
+    by (line_added n line so_far) refl (λ all e. read_before before rest (n + 1) all written e) is
   where
     by : (o : Option (List WrittenInterface)) → line_added n line so_far ≡ o
-        → ((all : List WrittenInterface) → listed (n + 1) before all ≡ Ok written → listed (n + 1) (before ++ rest) all ≡ listed (n + 1 + length before) rest written)
+        → ((all : List WrittenInterface) → listed (n + 1) before all ≡ Ok written
+        → listed (n + 1) (before ++ rest) all ≡ listed (n + 1 + length before) rest written)
         → option_map_or (λ all. listed (n + 1) before all) o (Err n) ≡ Ok written
         → listed n (line ∷ (before ++ rest)) so_far ≡ listed (n + length (line ∷ before)) rest written
     by None here later e = cc e
     by (Some all) here later e =
         let at : n + 1 + length before ≡ n + length (line ∷ before) = omega arith in
-        listed_on n line (before ++ rest) so_far (Some all) here ∙ later all e ∙ ap (λ (k : ℕ). listed k rest written) at
+        listed_on n line (before ++ rest) so_far (Some all) here ∙ later all e
+        ∙ ap (λ (k : ℕ). listed k rest written) at
 
 record Stops (n : ℕ) (all : List (List ℕ)) (so_far : List WrittenInterface) (number : ℕ) : Type 0 where
   before : List (List ℕ)
@@ -212,7 +271,8 @@ record Stops (n : ℕ) (all : List (List ℕ)) (so_far : List WrittenInterface) 
   read : listed n before so_far ≡ Ok written
   fails : line_added number line written ≡ None
 
-stops_on : (n : ℕ) (line : List ℕ) (more : List (List ℕ)) (so_far : List WrittenInterface) (number : ℕ) (o : Option (List WrittenInterface)) → line_added n line so_far ≡ o
+stops_on : (n : ℕ) (line : List ℕ) (more : List (List ℕ)) (so_far : List WrittenInterface) (number : ℕ)
+    (o : Option (List WrittenInterface)) → line_added n line so_far ≡ o
     → ((all : List WrittenInterface) → listed (n + 1) more all ≡ Err number → Stops (n + 1) more all number)
     → option_map_or (λ all. listed (n + 1) more all) o (Err n) ≡ Err number → Stops n (line ∷ more) so_far number
 stops_on n line more so_far number None here later e =
@@ -241,9 +301,11 @@ stops_on n line more so_far number (Some all) here later e =
       fails = it.fails;
     }
 
-stops : (n : ℕ) (all : List (List ℕ)) (so_far : List WrittenInterface) (number : ℕ) → listed n all so_far ≡ Err number → Stops n all so_far number
+stops : (n : ℕ) (all : List (List ℕ)) (so_far : List WrittenInterface) (number : ℕ) → listed n all so_far ≡ Err number
+    → Stops n all so_far number
 stops n [] so_far number is = cc is
-stops n (line ∷ more) so_far number is = stops_on n line more so_far number (line_added n line so_far) refl (λ all e. stops (n + 1) more all number e) is
+stops n (line ∷ more) so_far number is = stops_on n line more so_far number (line_added n line so_far) refl
+    (λ all e. stops (n + 1) more all number e) is
 
 stop_is_bad : (text : List ℕ) (number : ℕ) → listed 1 (lines text) [] ≡ Err number → IsFirstBadLine text number
 stop_is_bad text number is =
@@ -266,7 +328,8 @@ bad_stops text number bad =
     let at : 1 + length bad.before ≡ number = omega (arith, place) in
     ap (λ (ls : List (List ℕ)). listed 1 ls []) bad.whole
     ∙ read_before bad.before (bad.line ∷ bad.after) 1 [] bad.written (said_first bad.good refl refl)
-    ∙ listed_on (1 + length bad.before) bad.line bad.after bad.written None (may_not_stand (1 + length bad.before) bad.line bad.written bad.bad)
+    ∙ listed_on (1 + length bad.before) bad.line bad.after bad.written None
+    (may_not_stand (1 + length bad.before) bad.line bad.written bad.bad)
     ∙ ap Err at
 
 pub first_bad : (text : List ℕ) (number : ℕ) → (listed 1 (lines text) [] ≡ Err number) ↔ IsFirstBadLine text number

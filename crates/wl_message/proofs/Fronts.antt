@@ -1,5 +1,7 @@
 -- What stands in front of bytes.
-use Rattle.std.proofs.Common.{◌≡◌, ℕ, ◌+◌, ◌-◌, ◌<◌, ◌≤◌, min, Bool, true, false, cond, List, ◌++◌, length, take, drop, length-take-le, refl, sym, ap, subst, ◌∙◌, arith, ltb}
+use Rattle.std.proofs.Common.{◌≡◌, ℕ, ◌+◌, ◌-◌, ◌<◌, ◌≤◌, min, Bool, true, false, cond, List, ◌++◌}
+use Rattle.std.proofs.Common.{length, take, drop, length-take-le, refl, sym, ap, subst, ◌∙◌, arith}
+use Rattle.std.proofs.Common.{ltb}
 use Rattle.std.proofs.lemmas.Bool.Decides.{nat_tests}
 use Rattle.std.proofs.lemmas.List.{length-take, take-append-le}
 use Rattle.std.proofs.Math.Seq.{take-add, take-append-add}
@@ -10,7 +12,11 @@ use Rattle.wl_message.specs.Cut.{front, Front, More, Bad, Whole, told_size, is_s
 
 -- the test tells the fact
 pub size_is : (limit n : ℕ) → is_size limit n ≡ true → IsSize limit n
-size_is limit n h = record { header = grind (arith, nat_tests); words = grind (arith, nat_tests); within = grind (arith, nat_tests) }
+size_is limit n h = record {
+  header = grind (arith, nat_tests);
+  words = grind (arith, nat_tests);
+  within = grind (arith, nat_tests);
+}
 
 pub is_size-true : (limit n : ℕ) → IsSize limit n → is_size limit n ≡ true
 is_size-true limit n h = grind (arith, nat_tests, h.header, h.words, h.within)
@@ -22,10 +28,12 @@ pub data Seen (limit : ℕ) (bytes : List ℕ) : Front → Type 0 where
   whole : IsSize limit (told_size bytes) → told_size bytes ≤ length bytes → Seen limit bytes (Whole (told_size bytes))
   bad : 8 ≤ length bytes → is_size limit (told_size bytes) ≡ false → Seen limit bytes (Bad (told_size bytes))
 
-seen_at : (limit : ℕ) (bytes : List ℕ) (a b c : Bool) → ltb (length bytes) 8 ≡ a → is_size limit (told_size bytes) ≡ b → ltb (length bytes) (told_size bytes) ≡ c
+seen_at : (limit : ℕ) (bytes : List ℕ) (a b c : Bool) → ltb (length bytes) 8 ≡ a → is_size limit (told_size bytes) ≡ b
+    → ltb (length bytes) (told_size bytes) ≡ c
     → Seen limit bytes (cond a More (cond b (cond c More (Whole (told_size bytes))) (Bad (told_size bytes))))
 seen_at limit bytes true b c p q r = short (grind (arith, nat_tests))
-seen_at limit bytes false true true p q r = long (grind (arith, nat_tests)) (size_is limit _ q) (grind (arith, nat_tests))
+seen_at limit bytes false true true p q r = long (grind (arith, nat_tests)) (size_is limit _ q)
+    (grind (arith, nat_tests))
 seen_at limit bytes false true false p q r = whole (size_is limit _ q) (grind (arith, nat_tests))
 seen_at limit bytes false false c p q r = bad (grind (arith, nat_tests)) q
 
@@ -56,35 +64,46 @@ has_at More h = absurd h
 has_at (Bad n) h = absurd h
 has_at (Whole n) h = refl
 
-pub has_message : (limit : ℕ) (bytes : List ℕ) → HasMessage (front limit bytes) → Stands limit bytes (message_size (front limit bytes))
+pub has_message : (limit : ℕ) (bytes : List ℕ) → HasMessage (front limit bytes)
+    → Stands limit bytes (message_size (front limit bytes))
 has_message limit bytes h = front_stands limit bytes _ (has_at (front limit bytes) h)
 
 -- the front of bytes is its header and what stands behind that
-pub parts_of : (bytes : List ℕ) (h : Header) → 8 ≤ h.size → h.size ≤ length bytes → take 8 bytes ≡ header_bytes h → HasParts bytes h
+pub parts_of : (bytes : List ℕ) (h : Header) → 8 ≤ h.size → h.size ≤ length bytes → take 8 bytes ≡ header_bytes h
+    → HasParts bytes h
 parts_of bytes h low there e =
     let n : 8 + (h.size - 8) ≡ h.size = omega arith in
-    record { header = low; there = there; parts = ap (λ (k : ℕ). take k bytes) (sym n) ∙ take-add 8 (h.size - 8) bytes ∙ ap (λ (l : List ℕ). l ++ take (h.size - 8) (drop 8 bytes)) e }
+    record {
+      header = low;
+      there = there;
+      parts = ap (λ (k : ℕ). take k bytes) (sym n) ∙ take-add 8 (h.size - 8) bytes
+          ∙ ap (λ (l : List ℕ). l ++ take (h.size - 8) (drop 8 bytes)) e;
+    }
 
 -- ---- a copy of the message in front
 
-pub copy_is : (bytes copy : List ℕ) (n : ℕ) → n ≡ told_size bytes → n ≤ length bytes → copy ≡ take n bytes → IsCopy bytes copy
+pub copy_is : (bytes copy : List ℕ) (n : ℕ) → n ≡ told_size bytes → n ≤ length bytes → copy ≡ take n bytes
+    → IsCopy bytes copy
 copy_is bytes copy n s there e =
     let l : length copy ≡ n = ap length e ∙ length-take-le n bytes there in
     record { told = l ∙ s; same = e ∙ ap (λ (k : ℕ). take k bytes) (sym l) }
 
 -- where a whole message stands in front, the copy is of that
-pub copied_size : (limit : ℕ) (bytes copy : List ℕ) → HasMessage (front limit bytes) → IsCopy bytes copy → message_size (front limit bytes) ≡ length copy
+pub copied_size : (limit : ℕ) (bytes copy : List ℕ) → HasMessage (front limit bytes) → IsCopy bytes copy
+    → message_size (front limit bytes) ≡ length copy
 copied_size limit bytes copy h c = (has_message limit bytes h).told ∙ sym c.told
 
 pub copy_there : (bytes copy : List ℕ) → IsCopy bytes copy → length copy ≤ length bytes
-copy_there bytes copy c = let e : length copy ≡ min (length copy) (length bytes) = ap length c.same ∙ length-take (length copy) bytes in grind (arith, nat_tests, e)
+copy_there bytes copy c = let e : length copy ≡ min (length copy) (length bytes) =
+    ap length c.same ∙ length-take (length copy) bytes in grind (arith, nat_tests, e)
 
 -- the front of two lists, one after the other, ends in the first
 pub front_in_first : {X : Type 0} (a b c : List X) (n : ℕ) → a ++ b ≡ c → n ≤ length a → take n a ≡ take n c
 front_in_first a b c n e h = sym (take-append-le n a b h) ∙ ap (take n) e
 
 -- or goes past it
-pub front_past_first : {X : Type 0} (a b c : List X) (n : ℕ) → a ++ b ≡ c → length a ≤ n → a ++ take (n - length a) b ≡ take n c
+pub front_past_first : {X : Type 0} (a b c : List X) (n : ℕ) → a ++ b ≡ c → length a ≤ n
+    → a ++ take (n - length a) b ≡ take n c
 front_past_first a b c n e h =
     let k : length a + (n - length a) ≡ n = omega (arith, h) in
     sym (take-append-add a b (n - length a)) ∙ ap (λ (m : ℕ). take m (a ++ b)) k ∙ ap (take n) e

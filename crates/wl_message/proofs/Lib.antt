@@ -1,8 +1,10 @@
 pub mod Fronts
-pub mod Goings
-pub mod Keeps
+pub mod WhatGoes
+pub mod PartedQueue
 pub mod Cuts
-pub mod Passing
+pub mod TakenInStep
 pub mod Steps
-pub mod Flushing
+pub mod FlushedParts
 pub mod Limits
+pub mod Waiting
+pub mod Rounds

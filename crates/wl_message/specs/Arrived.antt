@@ -66,6 +66,10 @@ without_first a bytes tokens = record a {
   last_tokens = take tokens a.tokens;
 }
 
+-- without the first of the tokens, so many of them; no message goes with these
+abbrev pub without_tokens : Arrived → ℕ → Arrived
+without_tokens a tokens = record a { tokens = drop tokens a.tokens }
+
 -- a copy of the bytes in front, as many as the header there tells
 pub record IsCopy (bytes copy : List ℕ) : Type 0 where
   pub told : length copy ≡ told_size bytes
@@ -103,3 +107,15 @@ pub record AreSizes (sizes : Sizes) : Type 0 where
   pub in_bytes : sizes.in_bytes ≤ 16777216
   pub in_tokens_low : 20 ≤ sizes.in_tokens
   pub in_tokens : sizes.in_tokens ≤ 65536
+
+-- The tokens that an inbox was fed since it was new, and those that it gave, with a message or
+-- without one.
+pub data Gives : List ℕ → List ℕ → Arrived → Type 0 where
+  starts : {bytes tokens : ℕ} {limit : Limit} → Gives [] [] (nothing_arrived bytes tokens limit)
+  feeds : {fed given : List ℕ} {a : Arrived} (bytes tokens : List ℕ) → Gives fed given a
+      → Gives (fed ++ tokens) given (with_more a bytes tokens)
+  passes : {fed given : List ℕ} {a : Arrived} (bytes tokens : ℕ) → Gives fed given a
+      → Gives fed (given ++ (without_first a bytes tokens).last_tokens)
+      (without_first a bytes tokens)
+  takes : {fed given : List ℕ} {a : Arrived} (tokens : ℕ) → Gives fed given a
+      → Gives fed (given ++ take tokens a.tokens) (without_tokens a tokens)

@@ -5,3 +5,4 @@ pub mod Marks
 pub mod Arrived
 pub mod InStep
 pub mod Streams
+pub mod Around

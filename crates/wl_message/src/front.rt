@@ -82,20 +82,6 @@ pub(crate) fn copy_front<T: Copy + Drop, A: Allocator>(
     store(to, &second[..n - first.len()]);
 }
 
-/// Some of the first items, at most `most`; none only where there are none.
-pub(crate) fn first_part<T: Copy + Drop, A: Allocator>(
-    ring: &HeapCircularBuffer<T, A>,
-    most: usize,
-) -> &[T]
-    ensures front { result.now ≡ take (length result.now) ring.now.items }
-    ensures most { length result.now ≤ most }
-    ensures some { 0 < most → 0 < length ring.now.items → 0 < length result.now }
-{
-    let (first, second) = ring.as_slices();
-    let part = if first.is_empty() { second } else { first };
-    &part[..part.len().min(most)]
-}
-
 /// Appends items to a store that has room for them.
 fn store<T: Copy, A: Allocator>(to: &mut Vec<T, A>, items: &[T])
     requires { vec_len to.old + length items.now ≤ vec_capacity to.old }

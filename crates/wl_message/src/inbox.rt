@@ -1,17 +1,17 @@
 //! Bytes and tokens that came in.
-ghost use Rattle.std.specs.Prelude.{◌≡◌, ◌≤◌, ◌<◌, ◌↔◌, [], length, take, IfOk, OnErr, IsTrue};
-ghost use Rattle.std.specs.Prelude.{slice_get};
+ghost use Rattle.std.specs.Prelude.{◌≡◌, ◌≤◌, ◌<◌, ◌↔◌, ◌++◌, [], length, take, drop, min};
+ghost use Rattle.std.specs.Prelude.{slice_get, IfOk, OnErr, IsTrue};
 ghost use Rattle.std.specs.Borrow.{sem};
 ghost use Rattle.std.specs.Io.BufRead.{Rests};
 ghost use Rattle.std.specs.Io.KnownBytes.{Keeps};
 ghost use Rattle.wl_message.specs.Cut.{HasMessage, message_size};
 ghost use Rattle.wl_message.specs.Arrived.{nothing_arrived, free_bytes, free_tokens, fed};
-ghost use Rattle.wl_message.specs.Arrived.{with_more, without_first, in_front, Tells};
+ghost use Rattle.wl_message.specs.Arrived.{with_more, without_first, without_tokens, in_front, Tells};
 ghost use Rattle.wl_message.specs.Streams.{TakesIn};
 ghost use Rattle.wl_message.specs.contracts.inbox.Inbox.{the_row};
 
 use crate::amounts::Fed;
-use crate::front::{append, copy_front, move_to_store, remove_first};
+use crate::front::{append, copy_front, move_first, move_to_store, remove_first};
 use crate::header::{copy_message, header_in_front};
 use crate::limit::Limit;
 use circular_buffer::HeapCircularBuffer;
@@ -236,6 +236,17 @@ impl<A: Allocator> Inbox<A> {
         move_to_store(&mut self.tokens, &mut self.last_tokens, tokens);
         remove_first(&mut self.bytes, self.message.len());
         mem::swap(&mut self.message, &mut self.last);
+    }
+
+    /// Takes tokens out, the first ones that wait, as many as the slice holds. Their messages stay.
+    pub fn take_tokens(&mut self, tokens: &mut [u32]) -> usize
+        ensures count { result ≡ min (length tokens.old) (length self.old.tokens) }
+        ensures tokens { tokens.new ≡ take result self.old.tokens ++ drop result tokens.old }
+        ensures rest { self.new ≡ without_tokens self.old result }
+    {
+        let count = tokens.len().min(self.tokens.len());
+        move_first(&mut self.tokens, tokens, count);
+        count
     }
 
     /// The body of the message that was taken out last; no bytes before the first one.

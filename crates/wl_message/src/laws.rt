@@ -8,6 +8,7 @@ ghost use Rattle.wl_wire.specs.Word.{header_bytes};
 ghost use Rattle.wl_message.specs.declared.amounts.Taken.{Taken};
 ghost use Rattle.wl_message.specs.Cut.{front, Bad, Whole, IsSize, IsMessage, IsCut, messages_of};
 ghost use Rattle.wl_message.specs.Cut.{rest_of};
+ghost use Rattle.wl_message.specs.Arrived.{Arrived, Gives};
 ghost use Rattle.wl_message.specs.Outgoing.{Message, Outgoing, Goes, goes, newly_begun};
 ghost use Rattle.wl_message.specs.Outgoing.{after_taking};
 ghost use Rattle.wl_message.specs.InStep.{Part, Need, need, part_tokens, InStep, Passes, Carried};
@@ -100,6 +101,11 @@ pub fn pieces_in_step()
         → InStep (map need (sent ++ o.messages)) parts }
     ensures carried { (sent : List Message) (parts : List Part) (o : Outgoing) → Gave sent parts o
         → Carried sent o.left parts }
+{}
+
+/// Each token that an inbox was fed it gave once, in order, or it still waits.
+pub fn no_token_is_lost()
+    ensures { (fed given : List ℕ) (a : Arrived) → Gives fed given a → fed ≡ given ++ a.tokens }
 {}
 
 /// A reader may go through pieces in step as it likes: once the first message was read with its

@@ -14,14 +14,15 @@ mod laws;
 mod limit;
 mod marks;
 mod outbox;
+mod ring;
 mod script;
 mod streams;
 
 pub use amounts::{Fed, Full, MAX_BOX_BYTES, MAX_BOX_TOKENS, Piece, Sizes, Taken};
 pub use inbox::{BadSize, Frame, Inbox};
 pub use laws::{
-    any_cut, front_stays, headed_message, joined_messages, next_message, one_amount, one_cut,
-    pieces_in_step, reading_in_step, take_keeps_step,
+    any_cut, front_stays, headed_message, joined_messages, next_message, no_token_is_lost,
+    one_amount, one_cut, pieces_in_step, reading_in_step, take_keeps_step,
 };
 pub use limit::Limit;
 pub use outbox::Outbox;

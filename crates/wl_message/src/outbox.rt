@@ -1,6 +1,6 @@
 //! Messages that wait to go out.
 ghost use Rattle.std.specs.Prelude.{◌≡◌, ◌≤◌, ◌<◌, ◌+◌, ◌↔◌, ◌⊎◌, ◌++◌, false, [], length, take};
-ghost use Rattle.std.specs.Prelude.{drop, IfOk, OnOk, OnErr, IsErr, IsTrue};
+ghost use Rattle.std.specs.Prelude.{drop, vec_capacity, IfOk, OnOk, OnErr, IsErr, IsTrue};
 ghost use Rattle.wl_message.specs.Cut.{IsMessage};
 ghost use Rattle.wl_message.specs.Outgoing.{no_messages, waiting_bytes, waiting_tokens};
 ghost use Rattle.wl_message.specs.Outgoing.{ordinary_len, room_of, token_room_of, with_message};
@@ -9,13 +9,15 @@ ghost use Rattle.wl_message.specs.Marks.{Reaches};
 ghost use Rattle.wl_message.specs.Streams.{NextHasTokens};
 
 use crate::amounts::{Full, Taken};
-use crate::front::{append, first_part, move_first, remove_first};
+use crate::front::{append, move_first, remove_first};
 use crate::header::HEADER_LEN;
 use crate::limit::Limit;
 use crate::marks::{Mark, Reach, push_mark, reach_into};
+use crate::ring::Ring;
 use circular_buffer::HeapCircularBuffer;
 use std::alloc::{AllocError, Allocator, Global};
 use std::marker::Model;
+use wl_wire::Encode;
 
 /// How many bytes are kept for the error event.
 const ERROR_LEN: usize = 64;
@@ -26,7 +28,7 @@ const ERROR_LEN: usize = 64;
 #[derive(Drop)]
 pub struct Outbox<A: Allocator = Global> {
     // With room for the error event beyond the ordinary messages.
-    bytes: HeapCircularBuffer<u8, A>,
+    bytes: Ring<A>,
     tokens: HeapCircularBuffer<u32, A>,
     // The messages that are not begun.
     marks: HeapCircularBuffer<Mark, A>,
@@ -91,7 +93,7 @@ impl<A: Allocator + Clone + Drop> Outbox<A> {
     {
         let len = bytes + ERROR_LEN;
         Ok(Outbox {
-            bytes: HeapCircularBuffer::with_capacity(alloc.clone()?, len)?,
+            bytes: Ring::with_capacity(alloc.clone()?, len)?,
             marks: HeapCircularBuffer::with_capacity(alloc.clone()?, len / HEADER_LEN)?,
             tokens: HeapCircularBuffer::with_capacity(alloc, tokens)?,
             left: 0,
@@ -158,7 +160,7 @@ impl<A: Allocator> Outbox<A> {
     }
 
     /// Adds a whole message and its tokens at the end, for which there is room.
-    pub fn push_fitting(&mut self, message: &[u8], tokens: &[u32])
+    fn push_fitting(&mut self, message: &[u8], tokens: &[u32])
         requires whole { IsMessage self.old.limit.bytes message.now }
         requires bytes { length message.now ≤ room_of self.old }
         requires tokens { length tokens.now ≤ token_room_of self.old }
@@ -169,7 +171,32 @@ impl<A: Allocator> Outbox<A> {
             tokens: tokens.len(),
         };
         push_mark(&mut self.marks, mark);
-        append(&mut self.bytes, message);
+        self.bytes.append(message);
+        append(&mut self.tokens, tokens);
+    }
+
+    /// As `push_fitting`, of a message that is written where it is to lie; by way of the store,
+    /// which has room for it, where it would lie in two parts.
+    pub fn push_encoded<E: Encode, B: Allocator>(
+        &mut self,
+        message: &E,
+        tokens: &[u32],
+        store: &mut Vec<u8, B>,
+    )
+        requires fits { E.fits message.now }
+        requires whole { IsMessage self.old.limit.bytes (E.message message.now) }
+        requires bytes { length (E.message message.now) ≤ room_of self.old }
+        requires tokens { length tokens.now ≤ token_room_of self.old }
+        requires store { length (E.message message.now) ≤ vec_capacity store.old }
+        ensures outbox { self.new ≡ with_message self.old (E.message message.now) tokens.now }
+        ensures store { vec_capacity store.old ≤ vec_capacity store.new }
+    {
+        let mark = Mark {
+            len: message.encoded_len(),
+            tokens: tokens.len(),
+        };
+        push_mark(&mut self.marks, mark);
+        self.bytes.push(message, store);
         append(&mut self.tokens, tokens);
     }
 
@@ -189,7 +216,29 @@ impl<A: Allocator> Outbox<A> {
             tokens: 0,
         };
         push_mark(&mut self.marks, mark);
-        append(&mut self.bytes, message);
+        self.bytes.append(message);
+    }
+
+    /// As `push_error`, of an event that is written where it is to lie, as by `push_encoded`.
+    pub fn push_encoded_error<E: Encode, B: Allocator>(
+        &mut self,
+        message: &E,
+        store: &mut Vec<u8, B>,
+    )
+        requires fits { E.fits message.now }
+        requires short { length (E.message message.now) ≤ 64 }
+        requires whole { IsMessage self.old.limit.bytes (E.message message.now) }
+        requires first { self.old.has_error ≡ false }
+        requires store { length (E.message message.now) ≤ vec_capacity store.old }
+        ensures outbox { self.new ≡ with_error self.old (E.message message.now) }
+        ensures store { vec_capacity store.old ≤ vec_capacity store.new }
+    {
+        let len = message.encoded_len();
+        self.has_error = true;
+        self.error_from = self.bytes.len();
+        self.error_to = self.error_from + len;
+        push_mark(&mut self.marks, Mark { len, tokens: 0 });
+        self.bytes.push(message, store);
     }
 
     /// How far the messages go into a room.
@@ -243,13 +292,41 @@ impl<A: Allocator> Outbox<A> {
             bytes: bytes.len() - reach.bytes,
             tokens: tokens.len() - reach.tokens,
         };
-        move_first(&mut self.bytes, bytes, taken.bytes);
+        self.bytes.move_first(bytes, taken.bytes);
         move_first(&mut self.tokens, tokens, taken.tokens);
         remove_first(&mut self.marks, reach.begun);
         self.left = reach.left;
         self.error_from = self.error_from.saturating_sub(taken.bytes);
         self.error_to = self.error_to.saturating_sub(taken.bytes);
         taken
+    }
+
+    /// Takes tokens out as `take` does where the byte slice holds all that waits, and drops the
+    /// bytes.
+    pub fn take_tokens(&mut self, tokens: &mut [u32]) -> Taken
+        ensures longest { Goes self.old (length (waiting_bytes self.old)) (length tokens.old)
+            result }
+        ensures computed { result
+            ≡ goes self.old (length (waiting_bytes self.old)) (length tokens.old) }
+        ensures tokens { tokens.new ≡ take result.tokens (waiting_tokens self.old)
+            ++ drop result.tokens tokens.old }
+        ensures rest { self.new ≡ after_taking self.old result.bytes }
+        ensures all { length (waiting_tokens self.old) ≤ length tokens.old
+            → (waiting_bytes self.new ≡ []) × (waiting_tokens self.new ≡ []) }
+    {
+        let waiting = self.bytes.len();
+        let reach = self.reach(waiting, tokens.len());
+        let gone = Taken {
+            bytes: waiting - reach.bytes,
+            tokens: tokens.len() - reach.tokens,
+        };
+        self.bytes.remove_first(gone.bytes);
+        move_first(&mut self.tokens, tokens, gone.tokens);
+        remove_first(&mut self.marks, reach.begun);
+        self.left = reach.left;
+        self.error_from = self.error_from.saturating_sub(gone.bytes);
+        self.error_to = self.error_to.saturating_sub(gone.bytes);
+        gone
     }
 
     /// How many of the first bytes can go without a token.
@@ -267,7 +344,7 @@ impl<A: Allocator> Outbox<A> {
         ensures most { length result.now ≤ most }
         ensures some { 0 < most → 0 < length (waiting_bytes self.now) → 0 < length result.now }
     {
-        first_part(&self.bytes, most)
+        self.bytes.first_part(most)
     }
 
     /// Takes out the first n bytes, with which no token goes.
@@ -276,7 +353,7 @@ impl<A: Allocator> Outbox<A> {
         ensures { self.new ≡ after_taking self.old n }
     {
         let reach = self.reach(n, 0);
-        remove_first(&mut self.bytes, n);
+        self.bytes.remove_first(n);
         remove_first(&mut self.marks, reach.begun);
         self.left = reach.left;
         self.error_from = self.error_from.saturating_sub(n);

@@ -1,5 +1,6 @@
 -- The chain of freed ids: what taking an id out, putting one first, and writes elsewhere make of it.
-use Rattle.std.proofs.Common.{◌≡◌, ◌≢◌, ℕ, zero, suc, ◌+◌, ◌<◌, ◌≤◌, List, [], ◌∷◌, ◌++◌, refl, sym, ◌∙◌, ap, cond, Bool, true, false, length, arith, eqb, ⊎_elim}
+use Rattle.std.proofs.Common.{◌≡◌, ◌≢◌, ℕ, zero, suc, ◌+◌, ◌<◌, ◌≤◌, List, [], ◌∷◌, ◌++◌, refl, sym}
+use Rattle.std.proofs.Common.{◌∙◌, ap, cond, Bool, true, false, length, arith, eqb, ⊎_elim}
 use Rattle.std.proofs.lemmas.Bool.{cases_eq}
 use Rattle.std.proofs.lemmas.Grind.{common_steps}
 use Rattle.std.proofs.lemmas.Bool.Decides.{nat_tests}
@@ -10,7 +11,8 @@ use Rattle.wl_object_map.specs.declared.slot_table.Slot.TheVariants.{Free}
 use Rattle.wl_object_map.specs.View.{times, without, first_or}
 use Rattle.wl_object_map.specs.Views.{times-without, without-absent}
 use Rattle.wl_object_map.proofs.Freed.{times-append}
-use Rattle.wl_object_map.specs.Slots.{slot_at, older_of, newer_of, last_or, with_older, with_newer, next_in, followed, IsChain, IsPut, IsOlderSet, IsNewerSet}
+use Rattle.wl_object_map.specs.Slots.{slot_at, older_of, newer_of, last_or, with_older, with_newer}
+use Rattle.wl_object_map.specs.Slots.{next_in, followed, IsChain, IsPut, IsOlderSet, IsNewerSet}
 
 -- Neighbours in a list.
 
@@ -32,7 +34,8 @@ older_apart id x (y ∷ ys) t n = ⊎_elim
     (cases_eq y id)
 
 -- another head changes only what stands before the first
-newer_head : (head other id : ℕ) (ids : List ℕ) → 0 < times id ids → newer_of head id ids ≡ cond (eqb id (first_or 0 ids)) head (newer_of other id ids)
+newer_head : (head other id : ℕ) (ids : List ℕ) → 0 < times id ids
+    → newer_of head id ids ≡ cond (eqb id (first_or 0 ids)) head (newer_of other id ids)
 newer_head head other id [] h = absurd (omega arith)
 newer_head head other id (x ∷ xs) h = grind (arith, common_steps, nat_tests, h)
 
@@ -46,7 +49,8 @@ first_without head id (x ∷ xs) out one =
     let s = newer_stands x id xs in
     grind (arith, common_steps, nat_tests, w, s, out, one)
 
-older_without : (head id q : ℕ) (ids : List ℕ) → ((x : ℕ) → times x ids ≤ 1) → times head ids ≡ 0 → times id ids ≡ 1 → times q ids ≡ 1 → q ≢ id
+older_without : (head id q : ℕ) (ids : List ℕ) → ((x : ℕ) → times x ids ≤ 1) → times head ids ≡ 0 → times id ids ≡ 1
+    → times q ids ≡ 1 → q ≢ id
     → older_of q (without id ids) ≡ cond (eqb q (newer_of head id ids)) (older_of id ids) (older_of q ids)
 older_without head id q [] once out one in_q other = absurd (omega arith)
 older_without head id q (x ∷ xs) once out one in_q other =
@@ -57,7 +61,8 @@ older_without head id q (x ∷ xs) once out one in_q other =
     let h = older_without x id q xs tail in
     grind (arith, common_steps, nat_tests, here, w, f, h, out, one, in_q, other)
 
-newer_without : (head id q : ℕ) (ids : List ℕ) → ((x : ℕ) → times x ids ≤ 1) → times 0 ids ≡ 0 → times id ids ≡ 1 → times q ids ≡ 1 → q ≢ id
+newer_without : (head id q : ℕ) (ids : List ℕ) → ((x : ℕ) → times x ids ≤ 1) → times 0 ids ≡ 0 → times id ids ≡ 1
+    → times q ids ≡ 1 → q ≢ id
     → newer_of head q (without id ids) ≡ cond (eqb q (older_of id ids)) (newer_of head id ids) (newer_of head q ids)
 newer_without head id q [] once null one in_q other = absurd (omega arith)
 newer_without head id q (x ∷ xs) once null one in_q other =
@@ -75,11 +80,13 @@ older_in : (id : ℕ) (front rest : List ℕ) → times id front ≡ 0 → older
 older_in id [] rest out = grind (arith, common_steps, nat_tests)
 older_in id (x ∷ xs) rest out = let h = older_in id xs rest in grind (arith, common_steps, nat_tests, h, out)
 
-newer_in : (head id : ℕ) (front rest : List ℕ) → times id front ≡ 0 → newer_of head id (front ++ id ∷ rest) ≡ last_or head front
+newer_in : (head id : ℕ) (front rest : List ℕ) → times id front ≡ 0
+    → newer_of head id (front ++ id ∷ rest) ≡ last_or head front
 newer_in head id [] rest out = grind (arith, common_steps, nat_tests)
 newer_in head id (x ∷ xs) rest out = let h = newer_in x id xs rest in grind (arith, common_steps, nat_tests, h, out)
 
--- the slot of an id in the chain holds the last of those before it and the first of those after it, 0 where there is none
+-- the slot of an id in the chain holds the last of those before it and the first of those after it,
+-- 0 where there is none
 pub neighbours : (slots : List Slot) (first id : ℕ) (front rest : List ℕ) → IsChain slots first (front ++ id ∷ rest)
     → slot_at slots id ≡ Some (Free (last_or 0 front) (first_or 0 rest))
 neighbours slots first id front rest c =
@@ -97,18 +104,22 @@ pub length-followed : (n : ℕ) (slots : List Slot) (id : ℕ) → length (follo
 length-followed zero slots id = refl
 length-followed (suc n) slots id = ap suc (length-followed n slots (next_in (slot_at slots id)))
 
-spelled : (slots : List Slot) (ids : List ℕ) → ((x : ℕ) → times x ids ≤ 1) → ((q : ℕ) → 0 < times q ids → next_in (slot_at slots q) ≡ older_of q ids)
+spelled : (slots : List Slot) (ids : List ℕ) → ((x : ℕ) → times x ids ≤ 1)
+    → ((q : ℕ) → 0 < times q ids → next_in (slot_at slots q) ≡ older_of q ids)
     → followed (length ids) slots (first_or 0 ids) ≡ ids
 spelled slots [] once next = refl
 spelled slots (x ∷ xs) once next =
     let tail = λ (y : ℕ). let h = once y in let t : times y xs ≤ 1 = omega arith in t in
     let here = once x in
-    let on : (q : ℕ) → 0 < times q xs → next_in (slot_at slots q) ≡ older_of q xs = λ q p. let e = next q in grind (arith, common_steps, nat_tests, e, p, here) in
-    let first : next_in (slot_at slots x) ≡ first_or 0 xs = let e = next x in grind (arith, common_steps, nat_tests, e) in
+    let on : (q : ℕ) → 0 < times q xs → next_in (slot_at slots q) ≡ older_of q xs = λ q p. let e = next q
+    in grind (arith, common_steps, nat_tests, e, p, here) in
+    let first : next_in (slot_at slots x) ≡ first_or 0 xs = let e = next x
+    in grind (arith, common_steps, nat_tests, e) in
     ap (λ ys. x ∷ ys) (ap (followed (length xs) slots) first ∙ spelled slots xs tail on)
 
 -- the chain, followed from its first id for as many ids as it has, spells them
-pub follows : (slots : List Slot) (first : ℕ) (ids : List ℕ) → IsChain slots first ids → (n : ℕ) → n ≡ length ids → followed n slots first ≡ ids
+pub follows : (slots : List Slot) (first : ℕ) (ids : List ℕ) → IsChain slots first ids → (n : ℕ) → n ≡ length ids
+    → followed n slots first ≡ ids
 follows slots first ids c n e =
     ap (λ k. followed k slots first) e
     ∙ ap (followed (length ids) slots) c.begins
@@ -124,18 +135,21 @@ null_apart slots first ids c = ⊎_elim
 -- Changes of the slots.
 
 -- slots that are the same at each id of the chain hold it too
-pub kept : (old new : List Slot) (first : ℕ) (ids : List ℕ) → IsChain old first ids → ((q : ℕ) → 0 < times q ids → slot_at new q ≡ slot_at old q) → IsChain new first ids
+pub kept : (old new : List Slot) (first : ℕ) (ids : List ℕ) → IsChain old first ids
+    → ((q : ℕ) → 0 < times q ids → slot_at new q ≡ slot_at old q) → IsChain new first ids
 kept old new first ids c same = record {
   begins = c.begins;
   once = c.once;
   linked = λ q p. same q p ∙ c.linked q p;
 }
 
-pick_older : (b : Bool) (y n o : ℕ) → cond b (with_older y (Some (Free n o))) (Some (Free n o)) ≡ Some (Free n (cond b y o))
+pick_older : (b : Bool) (y n o : ℕ) → cond b (with_older y (Some (Free n o))) (Some (Free n o))
+    ≡ Some (Free n (cond b y o))
 pick_older true y n o = refl
 pick_older false y n o = refl
 
-pick_newer : (b : Bool) (x n o : ℕ) → cond b (with_newer x (Some (Free n o))) (Some (Free n o)) ≡ Some (Free (cond b x n) o)
+pick_newer : (b : Bool) (x n o : ℕ) → cond b (with_newer x (Some (Free n o))) (Some (Free n o))
+    ≡ Some (Free (cond b x n) o)
 pick_newer true x n o = refl
 pick_newer false x n o = refl
 
@@ -154,7 +168,8 @@ taken_out old mid new first after id n o ids c stands at_id to_mid to_new to_aft
     let en : n ≡ newer_of 0 id ids = cc in
     let eo : o ≡ older_of id ids = cc in
     record {
-      begins = let f = first_without 0 id ids null one in let b = c.begins in to_after ∙ grind (arith, common_steps, nat_tests, f, b, en, eo);
+      begins = let f = first_without 0 id ids null one in let b = c.begins
+          in to_after ∙ grind (arith, common_steps, nat_tests, f, b, en, eo);
       once = λ q. let t = times-without id q ids in let h = c.once q in grind (arith, common_steps, nat_tests, t, h);
       linked = λ q p.
           let t = times-without id q ids in
@@ -163,17 +178,24 @@ taken_out old mid new first after id n o ids c stands at_id to_mid to_new to_aft
           let other : q ≢ id = λ e. let no : false ≡ true = grind (arith, common_steps, nat_tests, t, p, e) in cc in
           let on = older_without 0 id q ids c.once null one in_q other in
           let nn = newer_without 0 id q ids c.once null one in_q other in
-          let e1 : cond (eqb q o) n (newer_of 0 q ids) ≡ newer_of 0 q (without id ids) = ap (λ x. cond (eqb q x) n (newer_of 0 q ids)) eo ∙ ap (λ x. cond (eqb q (older_of id ids)) x (newer_of 0 q ids)) en ∙ sym nn in
-          let e2 : cond (eqb q n) o (older_of q ids) ≡ older_of q (without id ids) = ap (λ x. cond (eqb q x) o (older_of q ids)) en ∙ ap (λ x. cond (eqb q (newer_of 0 id ids)) x (older_of q ids)) eo ∙ sym on in
-          let in_mid = to_mid q ∙ ap (λ (s : Option Slot). cond (eqb q n) (with_older o s) s) (c.linked q (omega arith)) ∙ pick_older (eqb q n) o (newer_of 0 q ids) (older_of q ids) in
+          let e1 : cond (eqb q o) n (newer_of 0 q ids) ≡ newer_of 0 q (without id ids) =
+          ap (λ x. cond (eqb q x) n (newer_of 0 q ids)) eo
+          ∙ ap (λ x. cond (eqb q (older_of id ids)) x (newer_of 0 q ids)) en ∙ sym nn in
+          let e2 : cond (eqb q n) o (older_of q ids) ≡ older_of q (without id ids) =
+          ap (λ x. cond (eqb q x) o (older_of q ids)) en
+          ∙ ap (λ x. cond (eqb q (newer_of 0 id ids)) x (older_of q ids)) eo ∙ sym on in
+          let in_mid = to_mid q ∙ ap (λ (s : Option Slot). cond (eqb q n) (with_older o s) s) (c.linked q (omega arith))
+          ∙ pick_older (eqb q n) o (newer_of 0 q ids) (older_of q ids) in
           to_new q ∙ ap (λ (s : Option Slot). cond (eqb q o) (with_newer n s) s) in_mid
           ∙ pick_newer (eqb q o) n (newer_of 0 q ids) (cond (eqb q n) o (older_of q ids))
           ∙ (λ i. Some (Free (e1 i) (e2 i)));
     }
 
-first_slot : (b d : Bool) (first head n o : ℕ) (s : Option Slot) → b ≡ true → d ≡ true → first ≡ head → cond b (Some (Free 0 first)) s ≡ Some (Free (cond d 0 n) (cond d head o))
+first_slot : (b d : Bool) (first head n o : ℕ) (s : Option Slot) → b ≡ true → d ≡ true → first ≡ head
+    → cond b (Some (Free 0 first)) s ≡ Some (Free (cond d 0 n) (cond d head o))
 first_slot b d first head n o s eb ed e =
-    ap (λ x. cond x (Some (Free 0 first)) s) eb ∙ ap (λ x. Some (Free 0 x)) e ∙ sym (ap (λ x. Some (Free (cond x 0 n) (cond x head o))) ed)
+    ap (λ x. cond x (Some (Free 0 first)) s) eb ∙ ap (λ x. Some (Free 0 x)) e
+    ∙ sym (ap (λ x. Some (Free (cond x 0 n) (cond x head o))) ed)
 
 -- an id is put first
 pub with_first : (old mid new : List Slot) (first id : ℕ) (ids : List ℕ)
@@ -185,14 +207,18 @@ with_first old mid new first id ids c none to_mid to_new = record {
   begins = refl;
   once = λ q. let h = c.once q in grind (arith, common_steps, nat_tests, h, none);
   linked = λ q p. ⊎_elim
-      (λ same. to_new q ∙ first_slot (eqb q id) (eqb id q) first (first_or 0 ids) _ _ _ (grind (arith, nat_tests, same)) (grind (arith, nat_tests, same)) c.begins)
+      (λ same. to_new q ∙ first_slot (eqb q id) (eqb id q) first (first_or 0 ids) _ _ _ (grind (arith, nat_tests, same))
+      (grind (arith, nat_tests, same)) c.begins)
       (λ other.
       let in_q : 0 < times q ids = grind (arith, common_steps, nat_tests, p, other) in
       let h = newer_head id 0 q ids in_q in
-      let e1 : cond (eqb q first) id (newer_of 0 q ids) ≡ newer_of 0 q (id ∷ ids) = let b = c.begins in grind (arith, common_steps, nat_tests, h, b, other) in
+      let e1 : cond (eqb q first) id (newer_of 0 q ids) ≡ newer_of 0 q (id ∷ ids) = let b = c.begins
+      in grind (arith, common_steps, nat_tests, h, b, other) in
       let e2 : older_of q ids ≡ older_of q (id ∷ ids) = grind (arith, common_steps, nat_tests, other) in
-      let in_mid = to_mid q ∙ ap (λ (s : Option Slot). cond (eqb q first) (with_newer id s) s) (c.linked q in_q) ∙ pick_newer (eqb q first) id (newer_of 0 q ids) (older_of q ids) in
+      let in_mid = to_mid q ∙ ap (λ (s : Option Slot). cond (eqb q first) (with_newer id s) s) (c.linked q in_q)
+      ∙ pick_newer (eqb q first) id (newer_of 0 q ids) (older_of q ids) in
       let apart : eqb q id ≡ false = grind (arith, nat_tests, other) in
-      to_new q ∙ ap (λ b. cond b (Some (Free 0 first)) (slot_at mid q)) apart ∙ in_mid ∙ (λ i. Some (Free (e1 i) (e2 i))))
+      to_new q ∙ ap (λ b. cond b (Some (Free 0 first)) (slot_at mid q)) apart ∙ in_mid
+      ∙ (λ i. Some (Free (e1 i) (e2 i))))
       (cases_eq q id);
 }

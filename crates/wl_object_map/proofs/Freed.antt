@@ -1,5 +1,6 @@
 -- The freed ids as a vector keeps them, the latest last.
-use Rattle.std.proofs.Common.{◌≡◌, ℕ, ◌+◌, ◌<◌, ◌≤◌, List, [], ◌∷◌, ◌++◌, refl, sym, ◌∙◌, ap, cond, Bool, true, false, reverse, arith}
+use Rattle.std.proofs.Common.{◌≡◌, ℕ, ◌+◌, ◌<◌, ◌≤◌, List, [], ◌∷◌, ◌++◌, refl, sym, ◌∙◌, ap, cond}
+use Rattle.std.proofs.Common.{Bool, true, false, reverse, arith}
 use Rattle.std.proofs.lemmas.List.{reverse-append}
 use Rattle.std.proofs.lemmas.List.Elements.{filter-append}
 use Rattle.std.specs.List.{filter}
@@ -25,7 +26,8 @@ times-last id (y ∷ ys) = let h = times-last id ys in omega arith
 -- a list without the last, which stands there once
 pub without-last : (id : ℕ) (ys : List ℕ) → times id (ys ++ id ∷ []) ≤ 1 → without id (ys ++ id ∷ []) ≡ ys
 without-last id [] h = grind (arith, common_steps, nat_tests)
-without-last id (y ∷ ys) h = let w = without-last id ys in let t = times-last id ys in grind (arith, common_steps, nat_tests, w, t, h)
+without-last id (y ∷ ys) h = let w = without-last id ys in let t = times-last id ys
+    in grind (arith, common_steps, nat_tests, w, t, h)
 
 one : (p : ℕ → Bool) (x : ℕ) → reverse (filter p (x ∷ [])) ≡ filter p (x ∷ [])
 one p x = elim (p x) as (λ b. reverse (cond b (x ∷ []) []) ≡ cond b (x ∷ []) []) [ true ↦ refl | false ↦ refl ]

@@ -4,7 +4,8 @@ use Rattle.std.specs.Ordering.{nat_cmp}
 use Rattle.std.specs.Cmp.{nat_cmp_total, eq_by_cmp_equiv}
 use Rattle.std.specs.BTreeMap.{is_at}
 use Rattle.std.specs.Map.{lookup}
-use Rattle.std.specs.FinMap.{FinMap, find, get, insert, remove, from_entries, get-from_entries, get-insert, get-remove, same_map, nat_cmp-IsAntisymmetric}
+use Rattle.std.specs.FinMap.{FinMap, find, get, insert, remove, from_entries, get-from_entries}
+use Rattle.std.specs.FinMap.{get-insert, get-remove, same_map, nat_cmp-IsAntisymmetric}
 use Rattle.std.specs.declared.option.Option.TheVariants.{None, Some}
 use Rattle.wl_object_map.specs.View.{View}
 use Rattle.wl_object_map.specs.declared.object.Entry.{Entry}
@@ -23,18 +24,22 @@ module _ {X : Type 0} where
       → ((q : ℕ) → lookup (is_at (nat_cmp q)) fs ≡ cond (is_at (nat_cmp k) q) (Some v) (lookup (is_at (nat_cmp q)) es))
       → from_entries {R = nat_cmp} fs ≡ insert (from_entries es) k v
   rows_insert es fs k v h = same_map nat_cmp_total nat_cmp-IsAntisymmetric _ _ (λ q.
-      get_rows fs q ∙ h q ∙ ap (λ b. cond b (Some v) (lookup (is_at (nat_cmp q)) es)) ((eq_by_cmp_equiv nat_cmp_total).symm k q)
-      ∙ sym (get-insert nat_cmp_total (from_entries es) k v q ∙ ap (cond (is_at (nat_cmp q) k) (Some v)) (get_rows es q)))
+      get_rows fs q ∙ h q ∙ ap (λ b. cond b (Some v) (lookup (is_at (nat_cmp q)) es))
+      ((eq_by_cmp_equiv nat_cmp_total).symm k q)
+      ∙ sym (get-insert nat_cmp_total (from_entries es) k v q
+      ∙ ap (cond (is_at (nat_cmp q) k) (Some v)) (get_rows es q)))
 
   -- entries that have nothing at k, and else what es have
   pub rows_remove : (es fs : List (ℕ × X)) (k : ℕ)
       → ((q : ℕ) → lookup (is_at (nat_cmp q)) fs ≡ cond (is_at (nat_cmp k) q) None (lookup (is_at (nat_cmp q)) es))
       → from_entries {R = nat_cmp} fs ≡ remove (from_entries es) k
   rows_remove es fs k h = same_map nat_cmp_total nat_cmp-IsAntisymmetric _ _ (λ q.
-      get_rows fs q ∙ h q ∙ ap (λ b. cond b None (lookup (is_at (nat_cmp q)) es)) ((eq_by_cmp_equiv nat_cmp_total).symm k q)
+      get_rows fs q ∙ h q ∙ ap (λ b. cond b None (lookup (is_at (nat_cmp q)) es))
+      ((eq_by_cmp_equiv nat_cmp_total).symm k q)
       ∙ sym (get-remove nat_cmp_total (from_entries es) k q ∙ ap (cond (is_at (nat_cmp q) k) None) (get_rows es q)))
 
 -- views that are alike in each part
 pub same_view : {m n : FinMap nat_cmp Entry} {xs ys : List ℕ} {t u : ℕ} (births : ℕ) → m ≡ n → xs ≡ ys → t ≡ u
-    → ◌≡◌ {A = View} (record { rows = m; freed = xs; used = t; births = births }) (record { rows = n; freed = ys; used = u; births = births })
+    → ◌≡◌ {A = View} (record { rows = m; freed = xs; used = t; births = births })
+    (record { rows = n; freed = ys; used = u; births = births })
 same_view births e f g = λ i. record { rows = e i; freed = f i; used = g i; births = births }

@@ -1,5 +1,7 @@
 -- The rows of slots as a finite map, and slots after a write or a push.
-use Rattle.std.proofs.Common.{◌≡◌, ◌≢◌, ℕ, zero, suc, ◌+◌, ◌-◌, ◌<◌, ◌≤◌, List, [], ◌∷◌, ◌++◌, refl, sym, ◌∙◌, ap, cond, Bool, true, false, length, arith, eqb, leb, ⊎_elim}
+use Rattle.std.proofs.Common.{◌≡◌, ◌≢◌, ℕ, zero, suc, ◌+◌, ◌-◌, ◌<◌, ◌≤◌, List, [], ◌∷◌, ◌++◌, refl}
+use Rattle.std.proofs.Common.{sym, ◌∙◌, ap, cond, Bool, true, false, length, arith, eqb, leb}
+use Rattle.std.proofs.Common.{⊎_elim}
 use Rattle.std.proofs.lemmas.Bool.{cases_eq, cases_lt}
 use Rattle.std.proofs.lemmas.Bool.Decides.{nat_tests}
 use Rattle.std.specs.Ordering.{nat_cmp}
@@ -50,7 +52,8 @@ at_first id s slots q e =
     ∙ ap (λ n. row_in (slice_get (s ∷ slots) n)) none
 
 -- the others are those of the slots behind it
-at_other : (id : ℕ) (s : Slot) (slots : List Slot) (q : ℕ) → q ≢ id → row_past id (s ∷ slots) q ≡ row_past (id + 1) slots q
+at_other : (id : ℕ) (s : Slot) (slots : List Slot) (q : ℕ) → q ≢ id
+    → row_past id (s ∷ slots) q ≡ row_past (id + 1) slots q
 at_other id s slots q n = ⊎_elim
     (λ below.
     ap (λ b. cond b (row_in (slice_get (s ∷ slots) (q - id))) None) (le_not id q below)
@@ -62,16 +65,21 @@ at_other id s slots q n = ⊎_elim
     ∙ sym (ap (λ b. cond b (row_in (slice_get slots (q - (id + 1)))) None) (le_is (id + 1) q (omega arith))))
     (cases_lt q id)
 
-row_past-cons : (id : ℕ) (s : Slot) (slots : List Slot) (q : ℕ) → row_past id (s ∷ slots) q ≡ cond (eqb q id) (row_in (Some s)) (row_past (id + 1) slots q)
+row_past-cons : (id : ℕ) (s : Slot) (slots : List Slot) (q : ℕ)
+    → row_past id (s ∷ slots) q ≡ cond (eqb q id) (row_in (Some s)) (row_past (id + 1) slots q)
 row_past-cons id s slots q = ⊎_elim
-    (λ same. at_first id s slots q same ∙ sym (ap (λ b. cond b (row_in (Some s)) (row_past (id + 1) slots q)) (eq_is q id same)))
-    (λ other. at_other id s slots q other ∙ sym (ap (λ b. cond b (row_in (Some s)) (row_past (id + 1) slots q)) (eq_not q id other)))
+    (λ same. at_first id s slots q same ∙ sym (ap (λ b. cond b (row_in (Some s)) (row_past (id + 1) slots q))
+    (eq_is q id same)))
+    (λ other. at_other id s slots q other ∙ sym (ap (λ b. cond b (row_in (Some s)) (row_past (id + 1) slots q))
+    (eq_not q id other)))
     (cases_eq q id)
 
 none_before : (id : ℕ) (slots : List Slot) (q : ℕ) → q ≡ id → row_past (id + 1) slots q ≡ None
-none_before id slots q e = ap (λ b. cond b (row_in (slice_get slots (q - (id + 1)))) None) (le_not (id + 1) q (omega arith))
+none_before id slots q e = ap (λ b. cond b (row_in (slice_get slots (q - (id + 1)))) None)
+    (le_not (id + 1) q (omega arith))
 
-free_first : (id : ℕ) (newer older : ℕ) (slots : List Slot) (q : ℕ) → row_past id (Free newer older ∷ slots) q ≡ row_past (id + 1) slots q
+free_first : (id : ℕ) (newer older : ℕ) (slots : List Slot) (q : ℕ)
+    → row_past id (Free newer older ∷ slots) q ≡ row_past (id + 1) slots q
 free_first id newer older slots q = ⊎_elim
     (λ same. at_first id (Free newer older) slots q same ∙ sym (none_before id slots q same))
     (λ other. at_other id (Free newer older) slots q other)
@@ -81,7 +89,8 @@ get_rows_from : (id : ℕ) (slots : List Slot) (q : ℕ) → get (rows_from id s
 get_rows_from id [] q = get-empty nat_cmp q ∙ no_row (leb id q)
 get_rows_from id (Row birth version iface state ∷ slots) q =
     let e : Entry = record { birth = birth; iface = iface; version = version; state = state } in
-    get_put (rows_from (id + 1) slots) id e q ∙ ap (cond (eqb q id) (Some e)) (get_rows_from (id + 1) slots q) ∙ sym (row_past-cons id (Row birth version iface state) slots q)
+    get_put (rows_from (id + 1) slots) id e q ∙ ap (cond (eqb q id) (Some e)) (get_rows_from (id + 1) slots q)
+    ∙ sym (row_past-cons id (Row birth version iface state) slots q)
 get_rows_from id (Free newer older ∷ slots) q = get_rows_from (id + 1) slots q ∙ sym (free_first id newer older slots q)
 
 -- the row of an id
@@ -94,12 +103,15 @@ get_row slots (suc q) =
     ∙ ap (λ n. row_in (slice_get slots n)) back
 
 -- slots whose rows are others' with one more
-pub rows_with : (old new : List Slot) (id : ℕ) (e : Entry) → ((q : ℕ) → row_at new q ≡ cond (eqb q id) (Some e) (row_at old q)) → rows_from 1 new ≡ insert (rows_from 1 old) id e
+pub rows_with : (old new : List Slot) (id : ℕ) (e : Entry)
+    → ((q : ℕ) → row_at new q ≡ cond (eqb q id) (Some e) (row_at old q))
+    → rows_from 1 new ≡ insert (rows_from 1 old) id e
 rows_with old new id e h = same_map nat_cmp_total nat_cmp-IsAntisymmetric _ _ (λ q.
     get_row new q ∙ h q ∙ ap (cond (eqb q id) (Some e)) (sym (get_row old q)) ∙ sym (get_put (rows_from 1 old) id e q))
 
 -- slots whose rows are others' but for one
-pub rows_without : (old new : List Slot) (id : ℕ) → ((q : ℕ) → row_at new q ≡ cond (eqb q id) None (row_at old q)) → rows_from 1 new ≡ remove (rows_from 1 old) id
+pub rows_without : (old new : List Slot) (id : ℕ) → ((q : ℕ) → row_at new q ≡ cond (eqb q id) None (row_at old q))
+    → rows_from 1 new ≡ remove (rows_from 1 old) id
 rows_without old new id h = same_map nat_cmp_total nat_cmp-IsAntisymmetric _ _ (λ q.
     get_row new q ∙ h q ∙ ap (cond (eqb q id) None) (sym (get_row old q)) ∙ sym (get_gone (rows_from 1 old) id q))
 
@@ -111,7 +123,13 @@ some_used slots n s h = slice_get_within slots n s h
 -- where an id has a row, its slot holds it
 pub row_slot : (o : Option Slot) (e : Entry) → row_in o ≡ Some e → o ≡ Some (row e)
 row_slot None e h = cc
-row_slot (Some (Row birth version iface state)) e h = ap (λ (x : Entry). Some (row x)) (some_is (record { birth = birth; iface = iface; version = version; state = state }) e h)
+row_slot (Some (Row birth version iface state)) e h =
+    ap (λ (x : Entry). Some (row x)) (some_is (record {
+      birth = birth;
+      iface = iface;
+      version = version;
+      state = state;
+    }) e h)
 row_slot (Some (Free newer older)) e h = cc
 
 -- an id with a slot was used
@@ -124,25 +142,33 @@ pub slot_past : (slots : List Slot) (id : ℕ) → length slots < id → slot_at
 slot_past slots zero h = refl
 slot_past slots (suc n) h = slice_get_past slots n (omega arith)
 
-get-set : (slots : List Slot) (n : ℕ) (s : Slot) (k : ℕ) → n < length slots → slice_get (slice_set slots n s) k ≡ cond (eqb k n) (Some s) (slice_get slots k)
+get-set : (slots : List Slot) (n : ℕ) (s : Slot) (k : ℕ) → n < length slots
+    → slice_get (slice_set slots n s) k ≡ cond (eqb k n) (Some s) (slice_get slots k)
 get-set [] n s k h = absurd (omega arith)
 get-set (x ∷ xs) zero s zero h = refl
 get-set (x ∷ xs) zero s (suc k) h = sym (ap (λ b. cond b (Some s) (slice_get xs k)) (eq_not (suc k) 0 (omega arith)))
 get-set (x ∷ xs) (suc n) s zero h = sym (ap (λ b. cond b (Some s) (Some x)) (eq_not 0 (suc n) (omega arith)))
-get-set (x ∷ xs) (suc n) s (suc k) h = get-set xs n s k (omega arith) ∙ ap (λ b. cond b (Some s) (slice_get xs k)) (eq-suc k n (suc k) (suc n) refl refl)
+get-set (x ∷ xs) (suc n) s (suc k) h = get-set xs n s k (omega arith)
+    ∙ ap (λ b. cond b (Some s) (slice_get xs k)) (eq-suc k n (suc k) (suc n) refl refl)
 
 -- a write
-pub slot_set : (slots : List Slot) (n id : ℕ) (s : Slot) → id ≡ n + 1 → n < length slots → (q : ℕ) → slot_at (slice_set slots n s) q ≡ cond (eqb q id) (Some s) (slot_at slots q)
+pub slot_set : (slots : List Slot) (n id : ℕ) (s : Slot) → id ≡ n + 1 → n < length slots → (q : ℕ)
+    → slot_at (slice_set slots n s) q ≡ cond (eqb q id) (Some s) (slot_at slots q)
 slot_set slots n id s e h zero = sym (ap (λ b. cond b (Some s) None) (eq_not 0 id (omega arith)))
-slot_set slots n id s e h (suc q) = get-set slots n s q h ∙ ap (λ b. cond b (Some s) (slice_get slots q)) (eq-suc q n (suc q) id refl (omega arith))
+slot_set slots n id s e h (suc q) = get-set slots n s q h
+    ∙ ap (λ b. cond b (Some s) (slice_get slots q)) (eq-suc q n (suc q) id refl (omega arith))
 
-get-push : (slots : List Slot) (s : Slot) (k : ℕ) → slice_get (slots ++ s ∷ []) k ≡ cond (eqb k (length slots)) (Some s) (slice_get slots k)
+get-push : (slots : List Slot) (s : Slot) (k : ℕ)
+    → slice_get (slots ++ s ∷ []) k ≡ cond (eqb k (length slots)) (Some s) (slice_get slots k)
 get-push [] s zero = refl
 get-push [] s (suc k) = sym (ap (λ b. cond b (Some s) None) (eq_not (suc k) 0 (omega arith)))
 get-push (x ∷ xs) s zero = sym (ap (λ b. cond b (Some s) (Some x)) (eq_not 0 (suc (length xs)) (omega arith)))
-get-push (x ∷ xs) s (suc k) = get-push xs s k ∙ ap (λ b. cond b (Some s) (slice_get xs k)) (eq-suc k (length xs) (suc k) (suc (length xs)) refl refl)
+get-push (x ∷ xs) s (suc k) = get-push xs s k ∙ ap (λ b. cond b (Some s) (slice_get xs k))
+    (eq-suc k (length xs) (suc k) (suc (length xs)) refl refl)
 
 -- a push
-pub slot_push : (slots : List Slot) (s : Slot) (q : ℕ) → slot_at (slots ++ s ∷ []) q ≡ cond (eqb q (length slots + 1)) (Some s) (slot_at slots q)
+pub slot_push : (slots : List Slot) (s : Slot) (q : ℕ)
+    → slot_at (slots ++ s ∷ []) q ≡ cond (eqb q (length slots + 1)) (Some s) (slot_at slots q)
 slot_push slots s zero = sym (ap (λ b. cond b (Some s) None) (eq_not 0 (length slots + 1) (omega arith)))
-slot_push slots s (suc q) = get-push slots s q ∙ ap (λ b. cond b (Some s) (slice_get slots q)) (eq-suc q (length slots) (suc q) (length slots + 1) refl (omega arith))
+slot_push slots s (suc q) = get-push slots s q ∙ ap (λ b. cond b (Some s) (slice_get slots q))
+    (eq-suc q (length slots) (suc q) (length slots + 1) refl (omega arith))

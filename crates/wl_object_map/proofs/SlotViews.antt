@@ -1,5 +1,7 @@
 -- What each call of a table of slots makes of the view that its slots stand for.
-use Rattle.std.proofs.Common.{◌≡◌, ℕ, ◌+◌, ◌-◌, ◌<◌, ◌≤◌, max, List, [], ◌∷◌, ◌++◌, refl, sym, ◌∙◌, ap, subst, cond, Bool, true, false, length, arith, eqb, is_some, ⊎_elim, length-append}
+use Rattle.std.proofs.Common.{◌≡◌, ℕ, ◌+◌, ◌-◌, ◌<◌, ◌≤◌, max, List, [], ◌∷◌, ◌++◌, refl, sym, ◌∙◌}
+use Rattle.std.proofs.Common.{ap, subst, cond, Bool, true, false, length, arith, eqb, is_some}
+use Rattle.std.proofs.Common.{⊎_elim, length-append}
 use Rattle.std.proofs.lemmas.Bool.{cases_eq}
 use Rattle.std.proofs.lemmas.Grind.{common_steps}
 use Rattle.std.proofs.lemmas.Bool.Decides.{nat_tests}
@@ -11,10 +13,14 @@ use Rattle.wl_wire.specs.declared.kind.Iface.{Iface}
 use Rattle.wl_object_map.specs.declared.object.Entry.{Entry}
 use Rattle.wl_object_map.specs.declared.slot_table.Slot.{Slot}
 use Rattle.wl_object_map.specs.declared.slot_table.Slot.TheVariants.{Free}
-use Rattle.wl_object_map.specs.View.{View, Sound, is_held, times, without, free_or_next, opening, opened_at, closed, zombie, with_zombie, zombied}
-use Rattle.wl_object_map.specs.Views.{in_row, in_list, at_null, unused, place_of, times-without, length-without, without-absent, free_or_next-rows, is_free}
+use Rattle.wl_object_map.specs.View.{View, Sound, is_held, times, without, free_or_next, opening}
+use Rattle.wl_object_map.specs.View.{opened_at, closed, zombie, with_zombie, zombied}
+use Rattle.wl_object_map.specs.Views.{in_row, in_list, at_null, unused, place_of, times-without}
+use Rattle.wl_object_map.specs.Views.{length-without, without-absent, free_or_next-rows, is_free}
 use Rattle.wl_object_map.specs.Sounds.{used_of_freed}
-use Rattle.wl_object_map.specs.Slots.{slot_at, row, row_in, rows_from, followed, view_of, new_row, IsChain, IsPut, IsTakenOut, IsPutFirst, HasSameRows, HasNoRowAt, Holds}
+use Rattle.wl_object_map.specs.Slots.{slot_at, row, row_in, rows_from, followed, view_of, new_row}
+use Rattle.wl_object_map.specs.Slots.{IsChain, IsPut, IsTakenOut, IsPutFirst, HasSameRows}
+use Rattle.wl_object_map.specs.Slots.{HasNoRowAt, Holds}
 use Rattle.wl_object_map.proofs.Rows.{same_view}
 use Rattle.wl_object_map.proofs.Chain.{length-followed, follows, kept}
 use Rattle.wl_object_map.proofs.SlotRows.{get_row, rows_with, rows_without, slot_used, slot_push}
@@ -24,7 +30,8 @@ pub record Becomes (slots : List Slot) (first free births : ℕ) (view : View) :
   pub stands_for : view_of slots first free births ≡ view
   pub chain : IsChain slots first view.freed
 
-pub holds_of : (slots : List Slot) (first free births : ℕ) (view : View) → Becomes slots first free births view → Sound view → Holds slots first free births
+pub holds_of : (slots : List Slot) (first free births : ℕ) (view : View) → Becomes slots first free births view
+    → Sound view → Holds slots first free births
 holds_of slots first free births view b s = record {
   sound = subst Sound (sym b.stands_for) s;
   chain = subst (IsChain slots first) (sym (ap (λ (v : View). v.freed) b.stands_for)) b.chain;
@@ -34,7 +41,8 @@ row_put : (b : Bool) (e : Entry) (s : Option Slot) → row_in (cond b (Some (row
 row_put true e s = refl
 row_put false e s = refl
 
-held_place : (view : View) (id : ℕ) → Sound view → is_held view id ≡ true → (times id view.freed ≡ 0) × ((0 < id) × (id ≤ view.used))
+held_place : (view : View) (id : ℕ) → Sound view → is_held view id ≡ true
+    → (times id view.freed ≡ 0) × ((0 < id) × (id ≤ view.used))
 held_place view id s held = elim (place_of view s id) [
   | in_row e l t a b ↦ (t, (a, b))
   | in_list l t a b ↦ let no : false ≡ true = sym (ap is_some l) ∙ held in cc
@@ -43,16 +51,19 @@ held_place view id s held = elim (place_of view s id) [
 ]
 
 -- an id with a row has a place, and is not in the chain
-pub row_place : (slots : List Slot) (first free births id : ℕ) → Holds slots first free births → is_held (view_of slots first free births) id ≡ true
+pub row_place : (slots : List Slot) (first free births id : ℕ) → Holds slots first free births
+    → is_held (view_of slots first free births) id ≡ true
     → (times id (followed free slots first) ≡ 0) × ((0 < id) × (id ≤ length slots))
 row_place slots first free births id h held = held_place (view_of slots first free births) id h.sound held
 
 -- as many ids are used as have rows or are free
-pub counted : (slots : List Slot) (first free births : ℕ) → Holds slots first free births → Rattle.std.specs.FinMap.len (rows_from 1 slots) + free ≡ length slots
+pub counted : (slots : List Slot) (first free births : ℕ) → Holds slots first free births
+    → Rattle.std.specs.FinMap.len (rows_from 1 slots) + free ≡ length slots
 counted slots first free births h = let c = h.sound.count in let l = length-followed free slots first in omega arith
 
 -- an id with a row is not free
-pub row_not_free : (slots : List Slot) (first free births id : ℕ) (e : Entry) → Holds slots first free births → slot_at slots id ≡ Some (row e)
+pub row_not_free : (slots : List Slot) (first free births id : ℕ) (e : Entry) → Holds slots first free births
+    → slot_at slots id ≡ Some (row e)
     → false ≡ free_or_next (view_of slots first free births) id
 row_not_free slots first free births id e h at =
     let held : is_held (view_of slots first free births) id ≡ true = ap is_some (get_row slots id ∙ ap row_in at) in
@@ -60,7 +71,8 @@ row_not_free slots first free births id e h at =
     grind (common_steps, arith, law, held)
 
 -- an id whose slot is free is free
-pub free_is_free : (slots : List Slot) (first free births id n o : ℕ) → Holds slots first free births → slot_at slots id ≡ Some (Free n o)
+pub free_is_free : (slots : List Slot) (first free births id n o : ℕ) → Holds slots first free births
+    → slot_at slots id ≡ Some (Free n o)
     → true ≡ free_or_next (view_of slots first free births) id
 free_is_free slots first free births id n o h at =
     let u = slot_used slots id _ at in
@@ -91,15 +103,19 @@ becomes_reopened old mid new first after free births id iface version h stands t
     let ids = followed free old first in
     let e : Entry = new_row births iface version in
     let one = h.chain.once id in
-    let chain : IsChain new after (without id ids) = kept mid new after (without id ids) (taken ids h.chain stands) (λ q p.
+    let chain : IsChain new after (without id ids) =
+    kept mid new after (without id ids) (taken ids h.chain stands) (λ q p.
     let t = times-without id q ids in
     let other : eqb q id ≡ false = grind (arith, common_steps, nat_tests, t, p) in
     put q ∙ ap (λ b. cond b (Some (row e)) (slot_at mid q)) other) in
-    let fewer : free - 1 ≡ length (without id ids) = let l = length-without id ids in let f = length-followed free old first in omega arith in
-    let used : length new ≡ max (length old) id = let u = used_of_freed (view_of old first free births) id h.sound stands in omega arith in
+    let fewer : free - 1 ≡ length (without id ids) = let l = length-without id ids in let f =
+    length-followed free old first in omega arith in
+    let used : length new ≡ max (length old) id = let u =
+    used_of_freed (view_of old first free births) id h.sound stands in omega arith in
     record {
       stands_for = same_view (births + 1)
-          (rows_with old new id e (λ q. ap row_in (put q) ∙ row_put (eqb q id) e (slot_at mid q) ∙ ap (cond (eqb q id) (Some e)) (rows q)))
+          (rows_with old new id e (λ q. ap row_in (put q) ∙ row_put (eqb q id) e (slot_at mid q)
+          ∙ ap (cond (eqb q id) (Some e)) (rows q)))
           (follows new after (without id ids) chain (free - 1) fewer)
           used;
       chain = chain;
@@ -117,17 +133,20 @@ becomes_opened old new first free births iface version h pushed =
     let put = λ (q : ℕ). ap (λ (s : List Slot). slot_at s q) pushed ∙ slot_push old (row e) q in
     let none : times (length old + 1) ids ≡ 0 = ⊎_elim
     (λ z. z)
-    (λ some. let u = used_of_freed (view_of old first free births) (length old + 1) h.sound (omega arith) in absurd (omega arith))
+    (λ some. let u = used_of_freed (view_of old first free births) (length old + 1) h.sound (omega arith)
+    in absurd (omega arith))
     (cases_eq (times (length old + 1) ids) 0) in
     let same = without-absent (length old + 1) ids none in
     let chain : IsChain new first ids = kept old new first ids h.chain (λ q p.
     let u = used_of_freed (view_of old first free births) q h.sound p in
     let other : eqb q (length old + 1) ≡ false = grind (arith, nat_tests, u) in
     put q ∙ ap (λ b. cond b (Some (row e)) (slot_at old q)) other) in
-    let used : length new ≡ max (length old) (length old + 1) = let l = ap (length {A = Slot}) pushed ∙ length-append old (row e ∷ []) in omega arith in
+    let used : length new ≡ max (length old) (length old + 1) = let l =
+    ap (length {A = Slot}) pushed ∙ length-append old (row e ∷ []) in omega arith in
     record {
       stands_for = same_view (births + 1)
-          (rows_with old new (length old + 1) e (λ q. ap row_in (put q) ∙ row_put (eqb q (length old + 1)) e (slot_at old q)))
+          (rows_with old new (length old + 1) e (λ q. ap row_in (put q)
+          ∙ row_put (eqb q (length old + 1)) e (slot_at old q)))
           (follows new first ids chain free (sym (length-followed free old first)) ∙ sym same)
           used;
       chain = subst (IsChain new first) (sym same) chain;
@@ -146,7 +165,8 @@ becomes_closed old new first after free births id h held put rows long =
     let chain : IsChain new after (id ∷ ids) = put ids h.chain (row_place old first free births id h held).0 in
     let more : free + 1 ≡ length (id ∷ ids) = let f = length-followed free old first in omega arith in
     record {
-      stands_for = same_view births (rows_without old new id rows) (follows new after (id ∷ ids) chain (free + 1) more) long;
+      stands_for = same_view births (rows_without old new id rows)
+          (follows new after (id ∷ ids) chain (free + 1) more) long;
       chain = chain;
     }
 
@@ -161,7 +181,8 @@ becomes_zombied old new first free births id e h at put long =
     let ids = followed free old first in
     let chain : IsChain new first ids = kept old new first ids h.chain (λ q p. ⊎_elim
     (λ same. let link = h.chain.linked q p in let at_q = ap (slot_at old) same ∙ at in cc)
-    (λ other. let apart : eqb q id ≡ false = grind (arith, nat_tests, other) in put q ∙ ap (λ b. cond b (Some (row (zombie e))) (slot_at old q)) apart)
+    (λ other. let apart : eqb q id ≡ false = grind (arith, nat_tests, other)
+    in put q ∙ ap (λ b. cond b (Some (row (zombie e))) (slot_at old q)) apart)
     (cases_eq q id)) in
     let got : get (rows_from 1 old) id ≡ Some e = get_row old id ∙ ap row_in at in
     record {

@@ -1,5 +1,7 @@
 -- One argument after another, parsed.
-use Rattle.std.proofs.Common.{◌≡◌, ℕ, zero, suc, ◌+◌, ◌-◌, ◌<◌, ◌≤◌, Bool, true, false, List, [], ◌∷◌, ◌++◌, length, take, drop, get_or, map, Some, None, refl, sym, ap, ◌∙◌, arith, add-one, drop-cons, append_assoc, drop-drop}
+use Rattle.std.proofs.Common.{◌≡◌, ℕ, zero, suc, ◌+◌, ◌-◌, ◌<◌, ◌≤◌, Bool, true, false, List, []}
+use Rattle.std.proofs.Common.{◌∷◌, ◌++◌, length, take, drop, get_or, map, Some, None, refl, sym, ap}
+use Rattle.std.proofs.Common.{◌∙◌, arith, add-one, drop-cons, append_assoc, drop-drop}
 use Rattle.std.specs.Prelude.{set, Option, if◌then◌else◌}
 use Rattle.std.specs.declared.result.Result.{Result}
 use Rattle.std.specs.declared.result.Result.TheVariants.{Ok, Err}
@@ -10,16 +12,22 @@ use Rattle.wl_wire.specs.Reading.{reading}
 use Rattle.wl_objects.specs.declared.error.Fault.{Fault}
 use Rattle.wl_objects.specs.declared.parsed.ParsedArg.{ParsedArg}
 use Rattle.wl_objects.specs.declared.parsed.ParsedArg.TheVariants as parsed_as
-use Rattle.wl_objects.specs.Reading.{Reader, Reported, kind_at, unless, judged, before, arguments_at, is_descriptor, first_or, report_of, reports_of}
+use Rattle.wl_objects.specs.Reading.{Reader, Reported, kind_at, unless, judged, before}
+use Rattle.wl_objects.specs.Reading.{arguments_at, is_descriptor, first_or, report_of, reports_of}
 use Rattle.wl_objects.specs.declared.argument.Got.{Got}
 use Rattle.wl_objects.specs.Seen.{got, got_values}
-use Rattle.wl_objects.specs.Parsed.{AreParsed, Both, all_of, all_parsed, argument_of, behind_those, both, both_of, is_fd, made_of, made_of_one, made_unless, place_after, place_behind, reported_in, reported_of, spelled_in, token_at, with_token}
+use Rattle.wl_objects.specs.Parsed.{AreParsed, Both, all_of, all_parsed, argument_of, behind_those}
+use Rattle.wl_objects.specs.Parsed.{both, both_of, is_fd, made_of, made_of_one, made_unless}
+use Rattle.wl_objects.specs.Parsed.{place_after, place_behind, reported_in, reported_of, spelled_in}
+use Rattle.wl_objects.specs.Parsed.{token_at, with_token}
 
-pub one-ok : (r : Reader) (place n : ℕ) (v : Argument) (f : Option Fault) (x : Both) → Ok x ≡ made_unless r place v f → Ok (x, n) ≡ made_of_one r place (unless f (v, n))
+pub one-ok : (r : Reader) (place n : ℕ) (v : Argument) (f : Option Fault) (x : Both) → Ok x ≡ made_unless r place v f
+    → Ok (x, n) ≡ made_of_one r place (unless f (v, n))
 one-ok r place n v None x e = let same : x ≡ both r place v = cc in λ i. Ok (same i, n)
 one-ok r place n v (Some fault) x e = absurd (cc)
 
-pub one-err : (r : Reader) (place n : ℕ) (v : Argument) (f : Option Fault) (fault : Fault) → Err fault ≡ made_unless r place v f → Err fault ≡ made_of_one r place (unless f (v, n))
+pub one-err : (r : Reader) (place n : ℕ) (v : Argument) (f : Option Fault) (fault : Fault)
+    → Err fault ≡ made_unless r place v f → Err fault ≡ made_of_one r place (unless f (v, n))
 one-err r place n v None fault e = absurd (cc)
 one-err r place n v (Some other) fault e = let same : fault ≡ other = cc in λ i. Err (same i)
 
@@ -38,8 +46,10 @@ fd-is body (parsed_as.Bound len start version id) = refl
 fd-is body (parsed_as.Array len start) = refl
 fd-is body (parsed_as.Fd place) = refl
 
-same-place : (body : List ℕ) (p : ParsedArg) (v : Argument) (place : ℕ) → argument_of body p ≡ v → place_behind p place ≡ place_after v place
-same-place body p v place e = ap (λ (b : Bool). if b then place + 1 else place) (fd-is body p ∙ ap (λ (x : Argument). is_descriptor x) e)
+same-place : (body : List ℕ) (p : ParsedArg) (v : Argument) (place : ℕ) → argument_of body p ≡ v
+    → place_behind p place ≡ place_after v place
+same-place body p v place e = ap (λ (b : Bool). if b then place + 1 else place)
+    (fd-is body p ∙ ap (λ (x : Argument). is_descriptor x) e)
 
 -- ---- one step
 
@@ -55,7 +65,8 @@ abbrev len_in : Result (Both × ℕ) Fault → ℕ
 len_in (Err fault) = 0
 len_in (Ok found) = found.1
 
-judged-ok : (r : Reader) (place : ℕ) (x : Both) (n : ℕ) (y : Result (Argument × ℕ) Fault) → Ok (x, n) ≡ made_of_one r place y → Judged r place x n y
+judged-ok : (r : Reader) (place : ℕ) (x : Both) (n : ℕ) (y : Result (Argument × ℕ) Fault)
+    → Ok (x, n) ≡ made_of_one r place y → Judged r place x n y
 judged-ok r place x n (Err fault) e = absurd (cc)
 judged-ok r place x n (Ok found) e =
     let len : n ≡ found.1 = ap len_in e in
@@ -63,7 +74,8 @@ judged-ok r place x n (Ok found) e =
     let same : x ≡ both r place found.0 = ap (both_in x) e in
     (found.0, (λ i. Ok (found.0, back i)), same)
 
-judged-err : (r : Reader) (place : ℕ) (fault : Fault) (y : Result (Argument × ℕ) Fault) → Err fault ≡ made_of_one r place y → y ≡ Err fault
+judged-err : (r : Reader) (place : ℕ) (fault : Fault) (y : Result (Argument × ℕ) Fault)
+    → Err fault ≡ made_of_one r place y → y ≡ Err fault
 judged-err r place fault (Err other) e = let same : other ≡ fault = cc in λ i. Err (same i)
 judged-err r place fault (Ok found) e = absurd (cc)
 
@@ -72,51 +84,61 @@ made-before : (r : Reader) (place : ℕ) (v : Argument) (y : Result (List Argume
 made-before r place v (Err fault) = refl
 made-before r place v (Ok found) = refl
 
-behind-both : (xs ys : List Both) (y : Result (List Both × List ℕ) Fault) → behind_those xs (behind_those ys y) ≡ behind_those (xs ++ ys) y
+behind-both : (xs ys : List Both) (y : Result (List Both × List ℕ) Fault)
+    → behind_those xs (behind_those ys y) ≡ behind_those (xs ++ ys) y
 behind-both xs ys (Err fault) = refl
 behind-both xs ys (Ok found) = rw append_assoc refl
 
 -- one argument more
-more : (r q : Reader) (i end n place birth : ℕ) (ks : List Kind) (k : Kind) (body : List ℕ) (items : List ParsedArg) (p : ParsedArg) (v : Argument)
+more : (r q : Reader) (i end n place birth : ℕ) (ks : List Kind) (k : Kind) (body : List ℕ) (items : List ParsedArg)
+    (p : ParsedArg) (v : Argument)
     → i < length ks → i < length items
-    → judged q i (get_or ks i k) (reading (kind_at q.forgives (get_or ks i k)) (drop end body)) ≡ Ok (v, n) → both_of body birth p ≡ both r place v
-    → behind_those (all_parsed body birth (take (i + 1) (set items i p))) (made_of r (place_behind p place) (arguments_at q (i + 1) (drop (i + 1) ks) (drop (end + n) body)))
-    ≡ behind_those (all_parsed body birth (take i items)) (made_of r place (arguments_at q i (drop i ks) (drop end body)))
+    → judged q i (get_or ks i k) (reading (kind_at q.forgives (get_or ks i k)) (drop end body)) ≡ Ok (v, n)
+    → both_of body birth p ≡ both r place v
+    → behind_those (all_parsed body birth (take (i + 1) (set items i p)))
+    (made_of r (place_behind p place) (arguments_at q (i + 1) (drop (i + 1) ks) (drop (end + n) body)))
+    ≡ behind_those (all_parsed body birth (take i items))
+    (made_of r place (arguments_at q i (drop i ks) (drop end body)))
 more r q i end n place birth ks k body items p v b s e f =
     let same : place_behind p place ≡ place_after v place = same-place body p v place (ap (λ (x : Both). x.0) f) in
-    let read : arguments_at q i (drop i ks) (drop end body) ≡ before v (arguments_at q (suc i) (drop (suc i) ks) (drop (end + n) body)) = rw (drop-cons ks i k b, e, drop-drop) refl in
+    let read : arguments_at q i (drop i ks) (drop end body)
+    ≡ before v (arguments_at q (suc i) (drop (suc i) ks) (drop (end + n) body)) =
+    rw (drop-cons ks i k b, e, drop-drop) refl in
     let next : i + 1 ≡ suc i = add-one i in
     rw (read, made-before, behind-both, take_more_set items i p s, map-append, same, f, next) refl
 
-pub parsed-next : (r q : Reader) (i end n place birth : ℕ) (ks : List Kind) (k : Kind) (body : List ℕ) (items : List ParsedArg) (p : ParsedArg)
+pub parsed-next : (r q : Reader) (i end n place birth : ℕ) (ks : List Kind) (k : Kind) (body : List ℕ)
+    (items : List ParsedArg) (p : ParsedArg)
     → i < length ks → i < length items
-    → Ok (both_of body birth p, n) ≡ made_of_one r place (judged q i (get_or ks i k) (reading (kind_at q.forgives (get_or ks i k)) (drop end body)))
-    → behind_those (all_parsed body birth (take (i + 1) (set items i p))) (made_of r (place_behind p place) (arguments_at q (i + 1) (drop (i + 1) ks) (drop (end + n) body)))
-    ≡ behind_those (all_parsed body birth (take i items)) (made_of r place (arguments_at q i (drop i ks) (drop end body)))
+    → Ok (both_of body birth p, n) ≡ made_of_one r place
+    (judged q i (get_or ks i k) (reading (kind_at q.forgives (get_or ks i k)) (drop end body)))
+    → behind_those (all_parsed body birth (take (i + 1) (set items i p)))
+    (made_of r (place_behind p place) (arguments_at q (i + 1) (drop (i + 1) ks) (drop (end + n) body)))
+    ≡ behind_those (all_parsed body birth (take i items))
+    (made_of r place (arguments_at q i (drop i ks) (drop end body)))
 parsed-next r q i end n place birth ks k body items p b s e =
-    let j = judged-ok r place (both_of body birth p) n (judged q i (get_or ks i k) (reading (kind_at q.forgives (get_or ks i k)) (drop end body))) e in
+    let j = judged-ok r place (both_of body birth p) n
+    (judged q i (get_or ks i k) (reading (kind_at q.forgives (get_or ks i k)) (drop end body))) e in
     more r q i end n place birth ks k body items p j.0 b s j.1 j.2
 
-pub parsed-fault : (r q : Reader) (i end place birth : ℕ) (ks : List Kind) (k : Kind) (body : List ℕ) (items : List ParsedArg) (fault : Fault)
+pub parsed-fault : (r q : Reader) (i end place birth : ℕ) (ks : List Kind) (k : Kind) (body : List ℕ)
+    (items : List ParsedArg) (fault : Fault)
     → i < length ks
-    → Err fault ≡ made_of_one r place (judged q i (get_or ks i k) (reading (kind_at q.forgives (get_or ks i k)) (drop end body)))
-    → Err fault ≡ behind_those (all_parsed body birth (take i items)) (made_of r place (arguments_at q i (drop i ks) (drop end body)))
+    → Err fault ≡ made_of_one r place (judged q i (get_or ks i k)
+    (reading (kind_at q.forgives (get_or ks i k)) (drop end body)))
+    → Err fault ≡ behind_those (all_parsed body birth (take i items))
+    (made_of r place (arguments_at q i (drop i ks) (drop end body)))
 parsed-fault r q i end place birth ks k body items fault b e =
-    let j = judged-err r place fault (judged q i (get_or ks i k) (reading (kind_at q.forgives (get_or ks i k)) (drop end body))) e in
+    let j = judged-err r place fault (judged q i (get_or ks i k)
+    (reading (kind_at q.forgives (get_or ks i k)) (drop end body))) e in
     rw (drop-cons ks i k b, j) refl
 
-pub parsed-end : (r q : Reader) (i end place birth : ℕ) (ks : List Kind) (body : List ℕ) (items : List ParsedArg) → length ks ≤ i
-    → Ok (all_parsed body birth (take i items), drop end body) ≡ behind_those (all_parsed body birth (take i items)) (made_of r place (arguments_at q i (drop i ks) (drop end body)))
+pub parsed-end : (r q : Reader) (i end place birth : ℕ) (ks : List Kind) (body : List ℕ) (items : List ParsedArg)
+    → length ks ≤ i
+    → Ok (all_parsed body birth (take i items), drop end body)
+    ≡ behind_those (all_parsed body birth (take i items))
+    (made_of r place (arguments_at q i (drop i ks) (drop end body)))
 parsed-end r q i end place birth ks body items b = rw (drop_all i ks b, append-nil) refl
-
--- ---- what is left to go through
-
-pub left-next : {X Y : Type 0} (f : X → Y) (items : List X) (from left : ℕ) (x : X) → from < length items → x ≡ get_or items from x → (left ≡ 0 → ⊥)
-    → map f (take left (drop from items)) ≡ f x ∷ map f (take (left - 1) (drop (from + 1) items))
-left-next f items from zero x p e z = absurd (z refl)
-left-next f items from (suc left) x p e z =
-    let n : suc left - 1 ≡ left = omega arith in
-    rw (n, add-one, drop-cons items from x p) (ap (λ y. f y ∷ map f (take left (drop (suc from) items))) (sym e))
 
 pub behind-least : (p : ParsedArg) (place i : ℕ) → place ≤ i → place_behind p place ≤ i + 1
 behind-least p place i h = by (is_fd p)
@@ -133,13 +155,17 @@ values_in list = map (λ x. x.0) list
 abbrev reports_in : List ℕ → List Both → List Reported
 reports_in tokens list = map (λ x. with_token tokens x.1) list
 
-values-parsed : (body : List ℕ) (birth : ℕ) (parsed : List ParsedArg) → values_in (all_parsed body birth parsed) ≡ spelled_in body parsed
+values-parsed : (body : List ℕ) (birth : ℕ) (parsed : List ParsedArg)
+    → values_in (all_parsed body birth parsed) ≡ spelled_in body parsed
 values-parsed body birth [] = refl
-values-parsed body birth (p ∷ parsed) = ap (λ (l : List Argument). argument_of body p ∷ l) (values-parsed body birth parsed)
+values-parsed body birth (p ∷ parsed) = ap (λ (l : List Argument). argument_of body p ∷ l)
+    (values-parsed body birth parsed)
 
-reports-parsed : (body : List ℕ) (birth : ℕ) (tokens : List ℕ) (parsed : List ParsedArg) → reports_in tokens (all_parsed body birth parsed) ≡ reported_in body birth tokens parsed
+reports-parsed : (body : List ℕ) (birth : ℕ) (tokens : List ℕ) (parsed : List ParsedArg)
+    → reports_in tokens (all_parsed body birth parsed) ≡ reported_in body birth tokens parsed
 reports-parsed body birth tokens [] = refl
-reports-parsed body birth tokens (p ∷ parsed) = ap (λ (l : List Reported). reported_of body birth tokens p ∷ l) (reports-parsed body birth tokens parsed)
+reports-parsed body birth tokens (p ∷ parsed) = ap (λ (l : List Reported). reported_of body birth tokens p ∷ l)
+    (reports-parsed body birth tokens parsed)
 
 values-of : (r : Reader) (place : ℕ) (values : List Argument) → values_in (all_of r place values) ≡ values
 values-of r place [] = refl
@@ -151,28 +177,41 @@ first-at [] (suc place) = refl
 first-at (t ∷ tokens) zero = refl
 first-at (t ∷ tokens) (suc place) = first-at tokens place
 
-reports-of : (r : Reader) (place : ℕ) (tokens : List ℕ) (values : List Argument) → reports_in tokens (all_of r place values) ≡ reports_of r (drop place tokens) values
+reports-of : (r : Reader) (place : ℕ) (tokens : List ℕ) (values : List Argument)
+    → reports_in tokens (all_of r place values) ≡ reports_of r (drop place tokens) values
 reports-of r place tokens [] = refl
-reports-of r place tokens (Int x ∷ values) = ap (λ (l : List Reported). report_of r 0 (Int x) ∷ l) (reports-of r place tokens values)
-reports-of r place tokens (Uint x ∷ values) = ap (λ (l : List Reported). report_of r 0 (Uint x) ∷ l) (reports-of r place tokens values)
-reports-of r place tokens (Fixed x ∷ values) = ap (λ (l : List Reported). report_of r 0 (Fixed x) ∷ l) (reports-of r place tokens values)
-reports-of r place tokens (Str x ∷ values) = ap (λ (l : List Reported). report_of r 0 (Str x) ∷ l) (reports-of r place tokens values)
-reports-of r place tokens (Obj x ∷ values) = ap (λ (l : List Reported). report_of r 0 (Obj x) ∷ l) (reports-of r place tokens values)
-reports-of r place tokens (New x ∷ values) = ap (λ (l : List Reported). report_of r 0 (New x) ∷ l) (reports-of r place tokens values)
-reports-of r place tokens (NewNamed a b x ∷ values) = ap (λ (l : List Reported). report_of r 0 (NewNamed a b x) ∷ l) (reports-of r place tokens values)
-reports-of r place tokens (Array x ∷ values) = ap (λ (l : List Reported). report_of r 0 (Array x) ∷ l) (reports-of r place tokens values)
+reports-of r place tokens (Int x ∷ values) = ap (λ (l : List Reported). report_of r 0 (Int x) ∷ l)
+    (reports-of r place tokens values)
+reports-of r place tokens (Uint x ∷ values) = ap (λ (l : List Reported). report_of r 0 (Uint x) ∷ l)
+    (reports-of r place tokens values)
+reports-of r place tokens (Fixed x ∷ values) = ap (λ (l : List Reported). report_of r 0 (Fixed x) ∷ l)
+    (reports-of r place tokens values)
+reports-of r place tokens (Str x ∷ values) = ap (λ (l : List Reported). report_of r 0 (Str x) ∷ l)
+    (reports-of r place tokens values)
+reports-of r place tokens (Obj x ∷ values) = ap (λ (l : List Reported). report_of r 0 (Obj x) ∷ l)
+    (reports-of r place tokens values)
+reports-of r place tokens (New x ∷ values) = ap (λ (l : List Reported). report_of r 0 (New x) ∷ l)
+    (reports-of r place tokens values)
+reports-of r place tokens (NewNamed a b x ∷ values) =
+    ap (λ (l : List Reported). report_of r 0 (NewNamed a b x) ∷ l) (reports-of r place tokens values)
+reports-of r place tokens (Array x ∷ values) = ap (λ (l : List Reported). report_of r 0 (Array x) ∷ l)
+    (reports-of r place tokens values)
 reports-of r place tokens (Fd x ∷ values) =
     let behind : drop 1 (drop place tokens) ≡ drop (place + 1) tokens = drop-drop 1 place tokens in
-    rw (first-at tokens place, behind) (ap (λ (l : List Reported). Fd (first_or (drop place tokens) 0) ∷ l) (reports-of r (place + 1) tokens values))
+    rw (first-at tokens place, behind) (ap (λ (l : List Reported). Fd (first_or (drop place tokens) 0) ∷ l)
+    (reports-of r (place + 1) tokens values))
 
-are_parsed : (r : Reader) (body : List ℕ) (parsed : List ParsedArg) (values : List Argument) → all_parsed body r.birth parsed ≡ all_of r 0 values → AreParsed r body parsed values
+are_parsed : (r : Reader) (body : List ℕ) (parsed : List ParsedArg) (values : List Argument)
+    → all_parsed body r.birth parsed ≡ all_of r 0 values → AreParsed r body parsed values
 are_parsed r body parsed values e = record {
   spelled = sym (values-parsed body r.birth parsed) ∙ (ap values_in e ∙ values-of r 0 values);
-  reported = λ tokens. sym (reports-parsed body r.birth tokens parsed) ∙ (ap (reports_in tokens) e ∙ reports-of r 0 tokens values);
+  reported = λ tokens. sym (reports-parsed body r.birth tokens parsed)
+      ∙ (ap (reports_in tokens) e ∙ reports-of r 0 tokens values);
 }
 
 -- what was parsed, where it was parsed whole
-record AreMade (r : Reader) (list : List Both) (rest : List ℕ) (x : Result (List Argument × List ℕ) Fault) : Type 0 where
+record AreMade (r : Reader) (list : List Both) (rest : List ℕ)
+    (x : Result (List Argument × List ℕ) Fault) : Type 0 where
   values : List Argument
   found : x ≡ Ok (values, rest)
   made : list ≡ all_of r 0 values
@@ -185,7 +224,8 @@ abbrev rest_in : List ℕ → Result (List Both × List ℕ) Fault → List ℕ
 rest_in rest (Err fault) = rest
 rest_in rest (Ok found) = found.1
 
-are-made : (r : Reader) (list : List Both) (rest : List ℕ) (x : Result (List Argument × List ℕ) Fault) → Ok (list, rest) ≡ made_of r 0 x → AreMade r list rest x
+are-made : (r : Reader) (list : List Both) (rest : List ℕ) (x : Result (List Argument × List ℕ) Fault)
+    → Ok (list, rest) ≡ made_of r 0 x → AreMade r list rest x
 are-made r list rest (Err fault) e = absurd (cc)
 are-made r list rest (Ok found) e =
     let behind : rest ≡ found.1 = ap (rest_in rest) e in
@@ -197,16 +237,20 @@ pub parsed_whole : (r q : Reader) (ks : List Kind) (body rest : List ℕ) (parse
     → (Ok (spelled_in body parsed, rest) ≡ arguments_at q 0 ks body) × AreParsed r body parsed (spelled_in body parsed)
 parsed_whole r q ks body rest parsed e =
     let m = are-made r (all_parsed body r.birth parsed) rest (arguments_at q 0 ks body) e in
-    let p = are_parsed r body parsed m.values m.made in
-    ((λ i. Ok (p.spelled i, rest)) ∙ sym m.found, record { spelled = refl; reported = λ tokens. p.reported tokens ∙ ap (reports_of r tokens) (sym p.spelled) })
+    let p = are_parsed r body parsed m.values m.made in (
+      (λ i. Ok (p.spelled i, rest)) ∙ sym m.found,
+      record { spelled = refl; reported = λ tokens. p.reported tokens ∙ ap (reports_of r tokens) (sym p.spelled) },
+    )
 
-pub parsed_err : (r : Reader) (fault : Fault) (x : Result (List Argument × List ℕ) Fault) → Err fault ≡ made_of r 0 x → Err fault ≡ x
+pub parsed_err : (r : Reader) (fault : Fault) (x : Result (List Argument × List ℕ) Fault) → Err fault ≡ made_of r 0 x
+    → Err fault ≡ x
 parsed_err r fault (Err other) e = let same : fault ≡ other = cc in λ i. Err (same i)
 parsed_err r fault (Ok found) e = absurd (cc)
 
 -- ---- copies
 
-pub owned-next : {A : Type 0} (items : List (Got A)) (x : Got A) (old new : List Reported) (r : Reported) → old ≡ r ∷ new → got x ≡ r → got_values (items ++ x ∷ []) ++ new ≡ got_values items ++ old
+pub owned-next : {A : Type 0} (items : List (Got A)) (x : Got A) (old new : List Reported) (r : Reported)
+    → old ≡ r ∷ new → got x ≡ r → got_values (items ++ x ∷ []) ++ new ≡ got_values items ++ old
 owned-next items x old new r e f = rw (e, map-append, append_assoc, f) refl
 
 pub owned-end : (list rest : List Reported) → rest ≡ [] → list ≡ list ++ rest

@@ -1,5 +1,8 @@
--- Whole messages: their lengths, what spells them, what stands against a call, and how one end's message is read by the other.
-use Rattle.std.proofs.Common.{◌≡◌, ◌≢◌, ℕ, suc, ◌+◌, ◌%◌, ◌<◌, ◌≤◌, ◌^◌, Bool, true, false, List, [], ◌∷◌, ◌++◌, length, map, Some, None, refl, sym, ap, subst, ◌∙◌, arith, length-append}
+-- Whole messages: their lengths, what spells them, what stands against a call, and how one end's
+-- message is read by the other.
+use Rattle.std.proofs.Common.{◌≡◌, ◌≢◌, ℕ, suc, ◌+◌, ◌%◌, ◌<◌, ◌≤◌, ◌^◌, Bool, true, false, List}
+use Rattle.std.proofs.Common.{[], ◌∷◌, ◌++◌, length, map, Some, None, refl, sym, ap, subst, ◌∙◌}
+use Rattle.std.proofs.Common.{arith, length-append}
 use Rattle.std.specs.Prelude.{Option, if◌then◌else◌, nat_eq, nat_lt, ◌&&◌, ◌||◌}
 use Rattle.std.specs.List.{All}
 use Rattle.std.specs.declared.result.Result.TheVariants.{Ok, Err}
@@ -23,10 +26,13 @@ use Rattle.wl_object_map.specs.View.{View, look}
 use Rattle.wl_objects.specs.Reading.{Reader, kind_at, forgiving, arguments_at, descriptors}
 use Rattle.wl_objects.specs.Spelling.{SpellsAll, Meets}
 use Rattle.wl_objects.specs.Spelling as spelling
-use Rattle.wl_objects.specs.Writing.{Given, wired, spelled, suits, wrong_place, lost_place, is_live, is_live_as, message_len, message_bytes, tokens_of}
-use Rattle.wl_objects.specs.Messages.{received, is_error, is_hidden, same_iface, checked, checked_as, checked_by, live_row, unless_hidden, unless_wrong, of_length}
+use Rattle.wl_objects.specs.Writing.{Given, wired, spelled, suits, wrong_place, lost_place, is_live}
+use Rattle.wl_objects.specs.Writing.{is_live_as, message_len, message_bytes, tokens_of}
+use Rattle.wl_objects.specs.Messages.{received, is_error, is_hidden, same_iface, checked}
+use Rattle.wl_objects.specs.Messages.{checked_as, checked_by, live_row, unless_hidden, unless_wrong}
+use Rattle.wl_objects.specs.Messages.{of_length}
 use Rattle.wl_objects.specs.Carried.{InRange, IsExpected, IsTarget, Passes, received_by}
-use Rattle.wl_objects.proofs.Carrying.{if-none, suits-wired, All-first, arrive-read, arrive-taken}
+use Rattle.wl_objects.proofs.WrittenArrives.{if-none, suits-wired, All-first, arrive-read, arrive-taken}
 
 -- ---- lengths
 
@@ -37,10 +43,17 @@ length-spelled (value ∷ values) =
     let one : length (canonical value) ≡ spelled_len value = canonical-len value in
     omega (arith, length-append (canonical value) (spelled values))
 
-pub length-message : (object opcode : ℕ) (values : List Argument) → length (message_bytes object opcode values) ≡ message_len values
+pub length-message : (object opcode : ℕ) (values : List Argument)
+    → length (message_bytes object opcode values) ≡ message_len values
 length-message object opcode values =
     let h : length (header_bytes (record { object = object; size = message_len values; opcode = opcode })) ≡ 8 = refl in
-    omega (arith, h, length-spelled values, length-append (header_bytes (record { object = object; size = message_len values; opcode = opcode })) (spelled values))
+    omega (
+      arith,
+      h,
+      length-spelled values,
+      length-append
+          (header_bytes (record { object = object; size = message_len values; opcode = opcode })) (spelled values),
+    )
 
 padded-words : (n : ℕ) → padded n % 4 ≡ 0
 padded-words n = omega arith
@@ -73,60 +86,80 @@ meets-spelled {r} spelling.none e = spelling.none e
 meets-spelled {r} (spelling.more s f m b) e = spelling.more s (meets-spelled m e) b
 
 -- what is written spells its values
-pub written-spelled : (n place : ℕ) (ks : List Kind) (list : List Given) → n < 2 ^ 32 → wrong_place place ks list ≡ None → All InRange list
-    → ((object : Object) → All (λ x. x ≡ Obj (Some object) → object.id ≢ 0) list) → SpellsAll ks (map (wired n) list) (spelled (map (wired n) list))
+pub written-spelled : (n place : ℕ) (ks : List Kind) (list : List Given) → n < 2 ^ 32 → wrong_place place ks list ≡ None
+    → All InRange list
+    → ((object : Object) → All (λ x. x ≡ Obj (Some object) → object.id ≢ 0) list)
+    → SpellsAll ks (map (wired n) list) (spelled (map (wired n) list))
 written-spelled n place [] [] b w i o = spelling.none refl
 written-spelled n place [] (x ∷ list) b w i o = absurd (cc)
 written-spelled n place (kind ∷ ks) [] b w i o = absurd (cc)
 written-spelled n place (kind ∷ ks) (x ∷ list) b w i o =
     let suit = if-none (suits kind x) (wrong_place (suc place) ks list) place w in
-    let value : Suits kind (wired n x) = suits-wired n kind x suit.0 (All-first InRange x list i) b (λ (object : Object). All-first (λ (y : Given). y ≡ Obj (Some object) → object.id ≢ 0) x list (o object)) in
+    let value : Suits kind (wired n x) = suits-wired n kind x suit.0 (All-first InRange x list i) b
+    (λ (object : Object). All-first (λ (y : Given). y ≡ Obj (Some object) → object.id ≢ 0) x list (o object)) in
     spelling.more (canonical-spells kind (wired n x) value)
-    (written-spelled n (suc place) ks list b suit.1 (All-tail InRange x list i) (λ (object : Object). All-tail (λ (y : Given). y ≡ Obj (Some object) → object.id ≢ 0) x list (o object))) refl
+    (written-spelled n (suc place) ks list b suit.1 (All-tail InRange x list i)
+    (λ (object : Object). All-tail (λ (y : Given). y ≡ Obj (Some object) → object.id ≢ 0) x list (o object))) refl
 
 -- ---- calls
 
-checked-of : (limit : ℕ) (list : List Given) (len : ℕ) (signature found : Message) → of_length limit len signature ≡ Ok found → (found ≡ signature) × (len ≤ limit)
+checked-of : (limit : ℕ) (list : List Given) (len : ℕ) (signature found : Message)
+    → of_length limit len signature ≡ Ok found → (found ≡ signature) × (len ≤ limit)
 checked-of limit list len signature found e = by_length (nat_lt limit len) refl e
   where
-    by_length : (b : Bool) → nat_lt limit len ≡ b → (if b then Err refusals.TooLong else Ok signature) ≡ Ok found → (found ≡ signature) × (len ≤ limit)
+    by_length : (b : Bool) → nat_lt limit len ≡ b → (if b then Err refusals.TooLong else Ok signature) ≡ Ok found
+        → (found ≡ signature) × (len ≤ limit)
     by_length true t e = absurd (cc)
     by_length false t e = (cc, ltb-false limit len t)
 
-checked-places : (limit : ℕ) (wrong lost : Option ℕ) (len : ℕ) (signature found : Message) → unless_wrong limit wrong lost len signature ≡ Ok found
+checked-places : (limit : ℕ) (wrong lost : Option ℕ) (len : ℕ) (signature found : Message)
+    → unless_wrong limit wrong lost len signature ≡ Ok found
     → (wrong ≡ None) × (lost ≡ None) × (found ≡ signature) × (len ≤ limit)
 checked-places limit (Some place) lost len signature found e = absurd (cc)
 checked-places limit None (Some place) len signature found e = absurd (cc)
-checked-places limit None None len signature found e = let o = checked-of limit [] len signature found e in (refl, refl, o.0, o.1)
+checked-places limit None None len signature found e = let o = checked-of limit [] len signature found e
+    in (refl, refl, o.0, o.1)
 
 -- what a signature and a row give
-checked-signature : (limit : ℕ) (view : View) (list : List Given) (entry : Entry) (at : Option Message) (found : Message) → checked_as limit view list entry at ≡ Ok found
-    → (at ≡ Some found) × (found.since ≤ entry.version) × (wrong_place 0 found.kinds list ≡ None) × (lost_place (look view) 0 found.kinds list ≡ None) × (message_len (map (wired 0) list) ≤ limit)
+checked-signature : (limit : ℕ) (view : View) (list : List Given) (entry : Entry) (at : Option Message)
+    (found : Message) → checked_as limit view list entry at ≡ Ok found
+    → (at ≡ Some found) × (found.since ≤ entry.version) × (wrong_place 0 found.kinds list ≡ None)
+    × (lost_place (look view) 0 found.kinds list ≡ None) × (message_len (map (wired 0) list) ≤ limit)
 checked-signature limit view list entry None found e = absurd (cc)
-checked-signature limit view list entry (Some signature) found e = by_version (nat_lt entry.version signature.since) refl e
+checked-signature limit view list entry (Some signature) found e =
+    by_version (nat_lt entry.version signature.since) refl e
   where
     by_version : (b : Bool) → nat_lt entry.version signature.since ≡ b
-        → (if b then Err refusals.TooOld else unless_wrong limit (wrong_place 0 signature.kinds list) (lost_place (look view) 0 signature.kinds list) (message_len (map (wired 0) list)) signature) ≡ Ok found
-        → (Some signature ≡ Some found) × (found.since ≤ entry.version) × (wrong_place 0 found.kinds list ≡ None) × (lost_place (look view) 0 found.kinds list ≡ None) × (message_len (map (wired 0) list) ≤ limit)
+        → (if b then Err refusals.TooOld else unless_wrong limit (wrong_place 0 signature.kinds list)
+        (lost_place (look view) 0 signature.kinds list) (message_len (map (wired 0) list)) signature) ≡ Ok found
+        → (Some signature ≡ Some found) × (found.since ≤ entry.version) × (wrong_place 0 found.kinds list ≡ None)
+        × (lost_place (look view) 0 found.kinds list ≡ None) × (message_len (map (wired 0) list) ≤ limit)
     by_version true t e = absurd (cc)
     by_version false t e =
-        let p = checked-places limit (wrong_place 0 signature.kinds list) (lost_place (look view) 0 signature.kinds list) (message_len (map (wired 0) list)) signature found e in
-        let Want : Message → Type 0 = λ m. (Some signature ≡ Some m) × (m.since ≤ entry.version) × (wrong_place 0 m.kinds list ≡ None) × (lost_place (look view) 0 m.kinds list ≡ None) × (message_len (map (wired 0) list) ≤ limit) in
+        let p = checked-places limit (wrong_place 0 signature.kinds list)
+        (lost_place (look view) 0 signature.kinds list) (message_len (map (wired 0) list)) signature found e in
+        let Want : Message → Type 0 = λ m. (Some signature ≡ Some m) × (m.since ≤ entry.version)
+        × (wrong_place 0 m.kinds list ≡ None) × (lost_place (look view) 0 m.kinds list ≡ None)
+        × (message_len (map (wired 0) list) ≤ limit) in
         subst Want (sym p.2) (refl, ltb-false entry.version signature.since t, p.0, p.1, p.3)
 
-pub shown-signature : (b : Bool) (at : Option Message) (found : Message) → unless_hidden b at ≡ Some found → (b ≡ false) × (at ≡ Some found)
+pub shown-signature : (b : Bool) (at : Option Message) (found : Message) → unless_hidden b at ≡ Some found
+    → (b ≡ false) × (at ≡ Some found)
 shown-signature true at found e = absurd (cc)
 shown-signature false at found e = (refl, e)
 
-pub live-target : (view : View) (target : Object) (entry : Entry) → live_row view target ≡ Some entry → (look view target.id ≡ Some entry) × (entry.birth ≡ target.birth) × (is_live entry.state ≡ true)
+pub live-target : (view : View) (target : Object) (entry : Entry) → live_row view target ≡ Some entry
+    → (look view target.id ≡ Some entry) × (entry.birth ≡ target.birth) × (is_live entry.state ≡ true)
 live-target view target entry e = by_row (look view target.id) refl e
   where
-    by_row : (row : Option Entry) → look view target.id ≡ row → (if is_live_as target.birth row then row else None) ≡ Some entry
+    by_row : (row : Option Entry) → look view target.id ≡ row
+        → (if is_live_as target.birth row then row else None) ≡ Some entry
         → (look view target.id ≡ Some entry) × (entry.birth ≡ target.birth) × (is_live entry.state ≡ true)
     by_row None l e = absurd (cc)
     by_row (Some row) l e = by_test (nat_eq row.birth target.birth && is_live row.state) refl e
       where
-        by_test : (b : Bool) → (nat_eq row.birth target.birth && is_live row.state) ≡ b → (if b then Some row else None) ≡ Some entry
+        by_test : (b : Bool) → (nat_eq row.birth target.birth && is_live row.state) ≡ b
+            → (if b then Some row else None) ≡ Some entry
             → (look view target.id ≡ Some entry) × (entry.birth ≡ target.birth) × (is_live entry.state ≡ true)
         by_test false t e = absurd (cc)
         by_test true t e =
@@ -136,54 +169,91 @@ live-target view target entry e = by_row (look view target.id) refl e
             let want = subst Want same (eqb-true row.birth target.birth parts.0, parts.1) in
             (l ∙ ap (λ (r : Entry). Some r) same, want.0, want.1)
 
-checked-found : (limit : ℕ) (tables : List Interface) (side : Side) (view : View) (target : Object) (opcode : ℕ) (list : List Given) (found : Message) (at : Option Entry) → live_row view target ≡ at
-    → checked_by limit tables side view opcode list at ≡ Ok found → Passes limit tables side view target opcode list found
+checked-found : (limit : ℕ) (tables : List Interface) (side : Side) (view : View) (target : Object) (opcode : ℕ)
+    (list : List Given) (found : Message) (at : Option Entry) → live_row view target ≡ at
+    → checked_by limit tables side view opcode list at ≡ Ok found
+    → Passes limit tables side view target opcode list found
 checked-found limit tables side view target opcode list found None l e = absurd (cc)
 checked-found limit tables side view target opcode list found (Some entry) l e =
-    let s = checked-signature limit view list entry (unless_hidden (is_hidden side entry.iface opcode) (signature_at tables entry.iface.0 side opcode)) found e in
-    let shown = shown-signature (is_hidden side entry.iface opcode) (signature_at tables entry.iface.0 side opcode) found s.0 in
+    let s = checked-signature limit view list entry
+    (unless_hidden (is_hidden side entry.iface opcode) (signature_at tables entry.iface.0 side opcode)) found e
+    in
+    let shown = shown-signature (is_hidden side entry.iface opcode)
+    (signature_at tables entry.iface.0 side opcode) found s.0 in
     let live = live-target view target entry l in
-    record { entry = entry; row = live.0; birth = live.1; live = live.2; shown = shown.0; exists = shown.1; since = s.1; suit = s.2; can_name = s.3; len = s.4 }
+    record {
+      entry = entry;
+      row = live.0;
+      birth = live.1;
+      live = live.2;
+      shown = shown.0;
+      exists = shown.1;
+      since = s.1;
+      suit = s.2;
+      can_name = s.3;
+      len = s.4;
+    }
 
-pub passes : (limit : ℕ) (tables : List Interface) (side : Side) (view : View) (target : Object) (opcode : ℕ) (list : List Given) (found : Message)
-    → checked limit tables side view target opcode list ≡ Ok found → Passes limit tables side view target opcode list found
-passes limit tables side view target opcode list found e = checked-found limit tables side view target opcode list found (live_row view target) refl e
+pub passes : (limit : ℕ) (tables : List Interface) (side : Side) (view : View) (target : Object) (opcode : ℕ)
+    (list : List Given) (found : Message)
+    → checked limit tables side view target opcode list ≡ Ok found
+    → Passes limit tables side view target opcode list found
+passes limit tables side view target opcode list found e =
+    checked-found limit tables side view target opcode list found (live_row view target) refl e
 
-pub live-row : (view : View) (target : Object) (entry : Entry) → look view target.id ≡ Some entry → entry.birth ≡ target.birth → is_live entry.state ≡ true → live_row view target ≡ Some entry
-live-row view target entry row birth live = let same : nat_eq entry.birth target.birth ≡ true = eq-eqb entry.birth target.birth birth in rw (row, same, live) refl
+pub live-row : (view : View) (target : Object) (entry : Entry) → look view target.id ≡ Some entry
+    → entry.birth ≡ target.birth → is_live entry.state ≡ true → live_row view target ≡ Some entry
+live-row view target entry row birth live = let same : nat_eq entry.birth target.birth ≡ true =
+    eq-eqb entry.birth target.birth birth in rw (row, same, live) refl
 
-pub passed : (limit : ℕ) (tables : List Interface) (side : Side) (view : View) (target : Object) (opcode : ℕ) (list : List Given) (found : Message)
-    → Passes limit tables side view target opcode list found → checked limit tables side view target opcode list ≡ Ok found
+pub passed : (limit : ℕ) (tables : List Interface) (side : Side) (view : View) (target : Object) (opcode : ℕ)
+    (list : List Given) (found : Message)
+    → Passes limit tables side view target opcode list found
+    → checked limit tables side view target opcode list ≡ Ok found
 passed limit tables side view target opcode list found p =
     let row = live-row view target p.entry p.row p.birth p.live in
     let since : nat_lt p.entry.version found.since ≡ false = le-ltb p.entry.version found.since p.since in
-    let len : nat_lt limit (message_len (map (wired 0) list)) ≡ false = le-ltb limit (message_len (map (wired 0) list)) p.len in
+    let len : nat_lt limit (message_len (map (wired 0) list)) ≡ false =
+    le-ltb limit (message_len (map (wired 0) list)) p.len in
     rw (row, p.shown, p.exists, since, p.suit, p.can_name, len) refl
 
 -- ---- a whole message
 
-shown-error : (side : Side) (iface : Iface) (opcode : ℕ) → is_hidden side iface opcode ≡ false → is_error side iface opcode ≡ false
+shown-error : (side : Side) (iface : Iface) (opcode : ℕ) → is_hidden side iface opcode ≡ false
+    → is_error side iface opcode ≡ false
 shown-error Request iface opcode e = refl
 shown-error Event iface opcode e = by_display (same_iface iface display) refl e
   where
-    by_display : (b : Bool) → same_iface iface display ≡ b → (b || same_iface iface registry) ≡ false → (same_iface iface display && nat_eq opcode 0) ≡ false
+    by_display : (b : Bool) → same_iface iface display ≡ b → (b || same_iface iface registry) ≡ false
+        → (same_iface iface display && nat_eq opcode 0) ≡ false
     by_display true t e = absurd (cc)
     by_display false t e = rw t refl
 
 forgiving-not : (r : Reader) → r.forgives ≡ false → forgiving false r ≡ r
 forgiving-not r f = let g : false ≡ r.forgives = sym f in λ i. record r { forgives = g i }
 
-pub message-arrives : (limit : ℕ) (tables : List Interface) (side : Side) (view : View) (r : Reader) (target : Object) (opcode size n waiting : ℕ) (list : List Given) (signature : Message)
-    (p : Passes limit tables side view target opcode list signature) (t : IsTarget p.entry r target) → r.forgives ≡ false → n < 2 ^ 32 → All InRange list → All (IsExpected (look view) r n) list
+pub message-arrives : (limit : ℕ) (tables : List Interface) (side : Side) (view : View) (r : Reader) (target : Object)
+    (opcode size n waiting : ℕ) (list : List Given) (signature : Message)
+    (p : Passes limit tables side view target opcode list signature) (t : IsTarget p.entry r target)
+    → r.forgives ≡ false → n < 2 ^ 32 → All InRange list → All (IsExpected (look view) r n) list
     → length (tokens_of list) ≤ waiting
-    → received tables side r (record { object = target.id; size = size; opcode = opcode }) (spelled (map (wired n) list)) waiting ≡ Ok (received_by target t.row signature (map (wired n) list))
+    → received tables side r (record { object = target.id; size = size; opcode = opcode })
+    (spelled (map (wired n) list)) waiting ≡ Ok (received_by target t.row signature (map (wired n) list))
 message-arrives limit tables side view r target opcode size n waiting list signature p t f b i h w =
-    let exists : signature_at tables t.row.iface.0 side opcode ≡ Some signature = subst (λ (iface : Iface). signature_at tables iface.0 side opcode ≡ Some signature) (sym t.iface) p.exists in
-    let since : nat_lt t.row.version signature.since ≡ false = le-ltb t.row.version signature.since (omega (arith, t.version, p.since)) in
-    let plain : is_error side t.row.iface opcode ≡ false = shown-error side t.row.iface opcode (subst (λ (iface : Iface). is_hidden side iface opcode ≡ false) (sym t.iface) p.shown) in
+    let exists : signature_at tables t.row.iface.0 side opcode ≡ Some signature =
+    subst (λ (iface : Iface). signature_at tables iface.0 side opcode ≡ Some signature)
+    (sym t.iface) p.exists in
+    let since : nat_lt t.row.version signature.since ≡ false =
+    le-ltb t.row.version signature.since (omega (arith, t.version, p.since)) in
+    let plain : is_error side t.row.iface opcode ≡ false =
+    shown-error side t.row.iface opcode (subst (λ (iface : Iface). is_hidden side iface opcode ≡ false)
+    (sym t.iface) p.shown) in
     let same : forgiving false r ≡ r = forgiving-not r f in
-    let whole : spelled (map (wired n) list) ++ [] ≡ spelled (map (wired n) list) = append-nil (spelled (map (wired n) list)) in
+    let whole : spelled (map (wired n) list) ++ [] ≡ spelled (map (wired n) list) =
+    append-nil (spelled (map (wired n) list)) in
     let read : arguments_at r 0 signature.kinds (spelled (map (wired n) list)) ≡ Ok (map (wired n) list, []) =
-    subst (λ (bytes : List ℕ). arguments_at r 0 signature.kinds bytes ≡ Ok (map (wired n) list, [])) whole (arrive-read (look view) r n 0 signature.kinds list [] b f p.suit p.can_name i h) in
-    let enough : nat_lt waiting (descriptors signature.kinds) ≡ false = le-ltb waiting (descriptors signature.kinds) (omega (arith, arrive-taken 0 signature.kinds list p.suit)) in
+    subst (λ (bytes : List ℕ). arguments_at r 0 signature.kinds bytes ≡ Ok (map (wired n) list, [])) whole
+    (arrive-read (look view) r n 0 signature.kinds list [] b f p.suit p.can_name i h) in
+    let enough : nat_lt waiting (descriptors signature.kinds) ≡ false =
+    le-ltb waiting (descriptors signature.kinds) (omega (arith, arrive-taken 0 signature.kinds list p.suit)) in
     rw (t.held, exists, since, plain, same, read, enough, t.birth) refl

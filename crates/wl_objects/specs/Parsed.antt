@@ -9,6 +9,7 @@ use Rattle.std.specs.declared.result.Result.TheVariants.{Ok, Err}
 use Rattle.wl_wire.specs.Argument.{Argument, units, reshaped, Int, Uint, Fixed, Str, Obj, New}
 use Rattle.wl_wire.specs.Argument.{NewNamed, Array, Fd}
 use Rattle.wl_objects.specs.declared.error.Fault.{Fault}
+use Rattle.wl_objects.specs.declared.argument.Named.{Named}
 use Rattle.wl_objects.specs.declared.argument.Named.TheVariants as named_as
 use Rattle.wl_objects.specs.declared.argument.GotRef.{GotRef}
 use Rattle.wl_objects.specs.declared.argument.GotRef.TheVariants as refs
@@ -52,6 +53,12 @@ placed_of body birth (parsed_as.Bound len start version id) =
     NewNamed (part body start len) version (record { id = id; birth = birth })
 placed_of body birth (parsed_as.Array len start) = Array (part body start len)
 placed_of body birth (parsed_as.Fd place) = Fd place
+
+-- the object that an argument names; null where it names none
+abbrev pub object_in : Option ParsedArg → Named
+object_in (Some (parsed_as.Object id birth state)) =
+    in_state state (record { id = id; birth = birth })
+object_in _ = named_as.Null
 
 -- the token at a place; 0 where there is none
 abbrev pub token_at : List ℕ → ℕ → ℕ
@@ -179,4 +186,4 @@ lent_got (refs.Fd token) = Fd token
 
 -- the arguments that are left to go through
 abbrev pub seen_args : Args → List Reported
-seen_args a = reported_in a.body.now a.birth a.tokens.now (take a.left (drop a.from a.items))
+seen_args a = reported_in a.body.now a.birth a.tokens.now a.left.now

@@ -7,6 +7,7 @@ use Rattle.wl_sigs.specs.Tables.{Message}
 use Rattle.wl_objects.specs.declared.argument.Got.{Got}
 use Rattle.wl_objects.specs.declared.argument.Got.TheVariants as values
 use Rattle.wl_objects.specs.declared.calling.CheckedCall.{CheckedCall}
+use Rattle.wl_objects.specs.declared.calling.Measured.{Measured}
 use Rattle.wl_objects.specs.declared.error.Fault.{Fault}
 use Rattle.wl_objects.specs.declared.error.SendError.{SendError}
 use Rattle.wl_objects.specs.declared.reading.Received.{Received as Read}
@@ -35,7 +36,7 @@ message_of read = record {
   target = read.target;
   entry = read.entry;
   signature = read.signature.now;
-  values = spelled_in read.body.now read.args;
+  values = spelled_in read.body.now read.args.now;
 }
 
 abbrev pub received_in : Result Read Fault → Result Received Fault
@@ -46,3 +47,8 @@ received_in (Ok read) = Ok (message_of read)
 abbrev pub signature_in : Result CheckedCall SendError → Result Message SendError
 signature_in (Err refusal) = Err refusal
 signature_in (Ok call) = Ok call.signature.now
+
+-- the same signature, where the arguments were measured
+abbrev pub signature_of : Message → Result Measured SendError → Result Message SendError
+signature_of signature (Err refusal) = Err refusal
+signature_of signature (Ok measured) = Ok signature

@@ -1,6 +1,6 @@
 -- What a call's arguments must be, and the message that they become.
 use Rattle.std.specs.Prelude.{ℕ, suc, ◌+◌, Bool, true, false, ◌&&◌, not, List, [], ◌∷◌, ◌++◌, map}
-use Rattle.std.specs.Prelude.{nat_eq, nat_lt, if◌then◌else◌, Option, Some, None}
+use Rattle.std.specs.Prelude.{◌≡◌, ◌≤◌, length, nat_eq, nat_lt, if◌then◌else◌, Option, Some, None}
 use Rattle.wl_wire.specs.declared.kind.Kind.{Kind}
 use Rattle.wl_wire.specs.declared.kind.Kind.TheVariants as kinds
 use Rattle.wl_wire.specs.declared.kind.Iface.{Iface}
@@ -9,6 +9,9 @@ use Rattle.wl_wire.specs.Argument.{New, NewNamed, Array, Fd}
 use Rattle.wl_wire.specs.Word.{header_bytes}
 use Rattle.wl_wire.specs.Spelling.{canonical, spelled_len, Fits, has_nul}
 use Rattle.wl_objects.specs.declared.argument.Arg.{Arg}
+use Rattle.wl_objects.specs.declared.calling.Measured.{Measured}
+use Rattle.wl_objects.specs.declared.writing.CallMessage.{CallMessage}
+use Rattle.wl_objects.specs.declared.writing.BindMessage.{BindMessage}
 use Rattle.wl_objects.specs.declared.argument.Arg.TheVariants as args
 use Rattle.wl_object_map.specs.declared.object.Object.{Object}
 use Rattle.wl_object_map.specs.declared.object.Entry.{Entry}
@@ -150,13 +153,36 @@ given list = map given_of list
 abbrev pub on_wire : ℕ → List Arg → List Argument
 on_wire id list = map (wired id) (given list)
 
--- how many bytes a message with these arguments has, or none where it is longer than the limit
-abbrev pub len_in_limit : ℕ → List Argument → Option ℕ
-len_in_limit limit values =
-    if nat_lt limit (message_len values) then None else Some (message_len values)
+-- the message that a call becomes
+abbrev pub call_message : CallMessage → List ℕ
+call_message call = message_bytes call.object call.opcode (on_wire call.new_id call.args.now)
+
+-- that message has a spelling, and its length is the one that it names
+pub record CallFits (call : CallMessage) : Type 0 where
+  pub fits : EachFits (on_wire call.new_id call.args.now)
+  pub len : call.len ≡ message_len (on_wire call.new_id call.args.now)
+  pub short : call.len ≤ 65535
+
+-- the same of a bind
+abbrev pub bind_message : BindMessage → List ℕ
+bind_message bind =
+    message_bytes bind.registry 0 (bind_values bind.name bind.iface.now bind.version bind.id)
+
+pub record BindFits (bind : BindMessage) : Type 0 where
+  pub fits : EachFits (bind_values bind.name bind.iface.now bind.version bind.id)
+  pub short : message_len (bind_values bind.name bind.iface.now bind.version bind.id) ≤ 65535
 
 -- the interface of the object that a call makes: that of the signature's new object
 abbrev pub call_makes : List Kind → Option Iface
 call_makes [] = None
 call_makes (kinds.New (Some iface) ∷ ks) = Some iface
 call_makes (_ ∷ ks) = call_makes ks
+
+-- What the arguments of a call come to that is not refused for them: how many bytes its message
+-- has, how many tokens go with it, and the interface of the object that it makes.
+pub record IsMeasured (ks : List Kind) (list : List Arg) (limit : ℕ) (m : Measured) : Type 0 where
+  pub right : wrong_place 0 ks (given list) ≡ None
+  pub len : m.len ≡ message_len (on_wire 0 list)
+  pub short : m.len ≤ limit
+  pub tokens : m.tokens ≡ length (tokens_of (given list))
+  pub makes : m.makes ≡ call_makes ks

@@ -6,14 +6,14 @@ ghost use Rattle.wl_objects.specs.Seen.{got, got_values};
 ghost use Rattle.wl_objects.specs.Parsed.{lent_got, reported_in, reported_of, seen_args, token_at};
 
 use crate::argument::{Got, GotRef, Named};
-use crate::parsed::{MAX_ARGS, ParsedArg, ParsedArgs, part};
+use crate::parsed::{ParsedArg, ParsedArgs, part};
 use crate::reporting::OwnedArgs;
 use std::alloc::{AllocError, Allocator};
 use wl_object_map::{Object, State};
 use wl_wire::Bytes;
 
-/// The arguments of a message that are left to go through, in order. Strings and arrays are lent
-/// from the end that read the message, until it reads the next one.
+/// The arguments of a message that are left to go through, in order. They, their strings and their
+/// arrays are lent from the end that read the message, until it reads the next one.
 #[derive(Clone, Copy)]
 pub struct Args<'a> {
     /// The message's body.
@@ -22,25 +22,20 @@ pub struct Args<'a> {
     tokens: &'a [u32],
     /// The birth of an object that the message made.
     birth: u64,
-    items: [ParsedArg; MAX_ARGS],
-    /// Where those that are left begin among the items, and how many they are.
-    from: usize,
-    left: usize,
+    left: &'a [ParsedArg],
 }
 
 impl<'a> Args<'a> {
     /// The arguments of a message with this body and these tokens, where an object that it makes
     /// has this birth.
-    pub fn new(args: &ParsedArgs, body: &'a [u8], tokens: &'a [u32], birth: u64) -> Args<'a>
+    pub fn new(args: &'a ParsedArgs, body: &'a [u8], tokens: &'a [u32], birth: u64) -> Args<'a>
         ensures { seen_args result ≡ reported_in body.now birth tokens.now args.now }
     {
         Args {
             body,
             tokens,
             birth,
-            items: args.items,
-            from: 0,
-            left: args.count,
+            left: args.as_slice(),
         }
     }
 
@@ -48,15 +43,14 @@ impl<'a> Args<'a> {
     pub fn len(&self) -> usize
         ensures { result ≡ length (seen_args self.now) }
     {
-        self.left.min(MAX_ARGS.saturating_sub(self.from))
+        self.left.len()
     }
 
     /// Whether no argument is left.
     pub fn is_empty(&self) -> bool
         ensures { IsTrue result ↔ (seen_args self.now ≡ []) }
     {
-        let mut left = *self;
-        left.next().is_none()
+        self.left.is_empty()
     }
 
     /// Takes out the first argument that is left.
@@ -64,13 +58,9 @@ impl<'a> Args<'a> {
         ensures { MatchOption result ((seen_args self.old ≡ []) × (seen_args self.new ≡ []))
             (λ got. seen_args self.old ≡ lent_got got ∷ seen_args self.new) }
     {
-        if self.left == 0 {
-            return None;
-        }
-        let parsed = *self.items.get(self.from)?;
-        self.from += 1;
-        self.left -= 1;
-        Some(got_of(self.body, self.birth, self.tokens, parsed))
+        let (parsed, left) = self.left.split_first()?;
+        self.left = left;
+        Some(got_of(self.body, self.birth, self.tokens, *parsed))
     }
 }
 
@@ -153,7 +143,8 @@ fn got_of<'a>(body: &'a [u8], birth: u64, tokens: &[u32], parsed: ParsedArg) -> 
     }
 }
 
-fn in_state(state: State, object: Object) -> Named
+/// An object, live or dead as its entry is.
+pub(crate) fn in_state(state: State, object: Object) -> Named
     ensures { result ≡ in_state state object }
 {
     match state {

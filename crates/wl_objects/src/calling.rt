@@ -1,19 +1,21 @@
 //! The arguments of a call, checked before a message is made of them.
-ghost use Rattle.std.specs.Prelude.{◌≡◌, ◌≤◌, ℕ, IfOk, IfSome, length, Some};
+ghost use Rattle.std.specs.Prelude.{◌≡◌, [], ◌∷◌, ◌≤◌, ◌+◌, ℕ, IfOk, IfSome, length, Some};
 ghost use Rattle.std.specs.List.{All};
+ghost use Rattle.wl_wire.specs.Spelling.{padded, spelled_len};
+ghost use Rattle.wl_sigs.specs.Tables.{Message};
 ghost use Rattle.wl_sigs.specs.Valid.{Valid};
 ghost use Rattle.wl_object_map.specs.View.{look, Sound};
 ghost use Rattle.wl_objects.specs.Reading.{is_of, iface_of};
-ghost use Rattle.wl_objects.specs.Messages.{checked, live_row};
+ghost use Rattle.wl_objects.specs.Messages.{checked, live_row, unless_wrong};
 ghost use Rattle.wl_objects.specs.Carried.{InRange};
-ghost use Rattle.wl_objects.specs.Seen.{signature_in};
-ghost use Rattle.wl_objects.specs.Writing.{EachFits, can_name, given, given_of, lost_place};
-ghost use Rattle.wl_objects.specs.Writing.{message_len, names_one, on_wire, suits, wrong_place};
+ghost use Rattle.wl_objects.specs.Seen.{signature_in, signature_of};
+ghost use Rattle.wl_objects.specs.Writing.{EachFits, IsMeasured, call_makes, can_name, given};
+ghost use Rattle.wl_objects.specs.Writing.{given_of, lost_place, message_len, names_one, on_wire};
+ghost use Rattle.wl_objects.specs.Writing.{suits, tokens_of, wired, wrong_place};
 
 use crate::argument::Arg;
 use crate::error::SendError;
 use crate::messages::is_hidden;
-use crate::writing::message_len;
 use wl_object_map::{Entry, Object, State, Table};
 use wl_sigs::{Side, Signature, Tables};
 use wl_wire::{Iface, Kind, has_nul};
@@ -27,11 +29,23 @@ pub struct CheckedCall<'t> {
     pub signature: &'t Signature,
     /// How many bytes the message has.
     pub len: usize,
+    /// How many tokens go with it.
+    pub tokens: usize,
+    /// The interface of the object that it makes, if it makes one.
+    pub makes: Option<Iface>,
+}
+
+/// What the arguments of a call come to.
+#[derive(Clone, Copy, Debug)]
+struct Measured {
+    len: usize,
+    tokens: usize,
+    makes: Option<Iface>,
 }
 
 /// Checks a call before its room is looked at: the first of S2, S3, S4, S5, S6 and S8, by this
-/// limit of a message's bytes, else the target's entry, the message's signature and its length.
-/// Takes no memory.
+/// limit of a message's bytes, else the target's entry, the message's signature and what its
+/// arguments come to. Takes no memory.
 pub fn check_call<'t, T: Table>(
     tables: &'t Tables,
     side: Side,
@@ -47,6 +61,8 @@ pub fn check_call<'t, T: Table>(
     ensures entry { IfOk result (λ call. look (T.view table.now) target.id ≡ Some call.entry) }
     ensures len { IfOk result
         (λ call. (id : ℕ) → call.len ≡ message_len (on_wire id args.now)) }
+    ensures tokens { IfOk result (λ call. call.tokens ≡ length (tokens_of (given args.now))) }
+    ensures makes { IfOk result (λ call. call.makes ≡ call_makes call.signature.now.kinds) }
     // So the message can be written, whatever the id of its new object.
     ensures fits { IfOk result
         (λ _. (id : ℕ) → EachFits (on_wire id args.now)
@@ -71,21 +87,101 @@ pub fn check_call<'t, T: Table>(
     if entry.version < signature.since() {
         return Err(SendError::TooOld);
     }
-    if let Some(place) = wrong_place(signature.kinds(), args) {
-        return Err(SendError::WrongArgs(place));
-    }
-    if let Some(place) = lost_place(table, signature.kinds(), args) {
-        return Err(SendError::BadObject(place));
-    }
-    let len = match message_len(args, limit) {
-        Some(len) => len,
-        None => return Err(SendError::TooLong),
-    };
+    let Measured { len, tokens, makes } = measure(table, signature.kinds(), args, limit)?;
     Ok(CheckedCall {
         entry,
         signature,
         len,
+        tokens,
+        makes,
     })
+}
+
+/// Goes through the arguments of a call once: the first of S5, S6 and S8, else what they come to.
+/// An argument of the wrong kind stands before a lost object, wherever the two stand.
+fn measure<T: Table>(
+    table: &T,
+    kinds: &[Kind],
+    args: &[Arg<'_>],
+    limit: u16,
+) -> Result<Measured, SendError>
+    requires few { length kinds.now ≤ 20 }
+    ensures answer { (signature : Message) → signature_of signature result
+        ≡ unless_wrong limit (wrong_place 0 kinds.now (given args.now))
+        (lost_place (look (T.view table.now)) 0 kinds.now (given args.now))
+        (message_len (on_wire 0 args.now)) signature }
+    ensures measured { IfOk result (IsMeasured kinds.now args.now limit) }
+    ensures in_range { IfOk result (λ _. All InRange (given args.now)) }
+{
+    let (mut lost, mut len, mut tokens, mut makes) = (None, 8, 0, None);
+    'kinds: for (place, kind) in kinds.iter().enumerate() {
+        let arg = match args.get(place) {
+            Some(arg) if suits(*kind, arg) => arg,
+            _ => return Err(SendError::WrongArgs(place)),
+        };
+        lost = lost.or(lost_at(table, place, *kind, arg));
+        len += len_of(*arg);
+        tokens += token_count(arg);
+        makes = makes.or(new_iface(*kind));
+    }
+    if kinds.len() < args.len() {
+        return Err(SendError::WrongArgs(kinds.len()));
+    }
+    if let Some(place) = lost {
+        return Err(SendError::BadObject(place));
+    }
+    if len > limit as usize {
+        return Err(SendError::TooLong);
+    }
+    Ok(Measured { len, tokens, makes })
+}
+
+/// How many bytes spell the argument; beyond any limit, only that these are more.
+fn len_of(arg: Arg<'_>) -> usize
+    ensures most { result ≤ spelled_len (wired 0 (given_of arg.entry)) }
+    ensures exact { result ≤ 65535 → result ≡ spelled_len (wired 0 (given_of arg.entry)) }
+    ensures in_range { result ≤ 65535 → InRange (given_of arg.entry) }
+    ensures bounded { result ≤ 65544 }
+{
+    match arg {
+        Arg::Str(Some(text)) => counted_len(text.len(), 1),
+        Arg::Array(bytes) => counted_len(bytes.len(), 0),
+        Arg::Fd(_) => 0,
+        Arg::Int(_) | Arg::Uint(_) | Arg::Fixed(_) => 4,
+        Arg::Str(None) | Arg::Obj(None | Some(_)) | Arg::New => 4,
+    }
+}
+
+/// How many bytes a length, `len` bytes with `more` behind them, and their padding have; beyond any
+/// limit, only that these are more.
+fn counted_len(len: usize, more: usize) -> usize
+    requires { more ≤ 1 }
+    ensures most { result ≤ 4 + padded (len + more) }
+    ensures exact { result ≤ 65535 → (result ≡ 4 + padded (len + more)) × (len ≤ 65535) }
+    ensures bounded { result ≤ 65544 }
+{
+    4 + (len.min(65536) + more + 3) / 4 * 4
+}
+
+/// How many tokens an argument is.
+fn token_count(arg: &Arg<'_>) -> usize
+    ensures count { result ≡ length (tokens_of (given_of arg.now ∷ [])) }
+    ensures one { result ≤ 1 }
+{
+    match arg {
+        Arg::Fd(_) => 1,
+        _ => 0,
+    }
+}
+
+/// The interface of the object that an argument of this kind makes, if it makes one.
+fn new_iface(kind: Kind) -> Option<Iface>
+    ensures { result ≡ call_makes (kind ∷ []) }
+{
+    match kind {
+        Kind::New(iface) => iface,
+        _ => None,
+    }
 }
 
 /// The entry of an object that is live with this birth.
@@ -118,24 +214,6 @@ fn suits(kind: Kind, arg: &Arg<'_>) -> bool
     }
 }
 
-/// The place of the first argument of the wrong kind; where the numbers differ and all before
-/// suit, the smaller number.
-fn wrong_place(kinds: &[Kind], args: &[Arg<'_>]) -> Option<usize>
-    ensures { result ≡ wrong_place 0 kinds.now (given args.now) }
-{
-    'kinds: for (place, kind) in kinds.iter().enumerate() {
-        match args.get(place) {
-            Some(arg) if suits(*kind, arg) => {}
-            _ => return Some(place),
-        }
-    }
-    if kinds.len() < args.len() {
-        Some(kinds.len())
-    } else {
-        None
-    }
-}
-
 /// Whether an object is live with this birth, and of the interface, if one is asked for.
 fn names_one<T: Table>(table: &T, iface: Option<Iface>, object: Object) -> bool
     ensures { result ≡ names_one iface object (look (T.view table.now) object.id) }
@@ -157,16 +235,15 @@ fn can_name<T: Table>(table: &T, kind: Kind, arg: &Arg<'_>) -> bool
     }
 }
 
-/// The place of the first object that is not live or of another interface.
-fn lost_place<T: Table>(table: &T, kinds: &[Kind], args: &[Arg<'_>]) -> Option<usize>
-    ensures { result ≡ lost_place (look (T.view table.now)) 0 kinds.now (given args.now) }
+/// The place of an argument of this kind, if the object that it names is not live or of another
+/// interface.
+fn lost_at<T: Table>(table: &T, place: usize, kind: Kind, arg: &Arg<'_>) -> Option<usize>
+    ensures { result ≡ lost_place (look (T.view table.now)) place (kind ∷ [])
+        (given_of arg.now ∷ []) }
 {
-    'kinds: for (place, kind) in kinds.iter().enumerate() {
-        match args.get(place) {
-            Some(arg) if can_name(table, *kind, arg) => {}
-            Some(_) => return Some(place),
-            None => return None,
-        }
+    if can_name(table, kind, arg) {
+        None
+    } else {
+        Some(place)
     }
-    None
 }

@@ -26,12 +26,10 @@ pub use calling::{CheckedCall, check_call};
 pub use error::{Fault, NextError, SendError};
 pub use lookup::{Lookup, NewId, TableLookup};
 pub use messages::{DISPLAY, REGISTRY, is_bind, is_delete_id, is_error, is_hidden};
-pub use new_object::{NewObject, call_makes, made_by_message};
+pub use new_object::{NewObject, made_by_message};
 pub use parsed::{MAX_ARGS, ParsedArg, ParsedArgs};
 pub use reading::{Received, descriptors, receive};
 pub use reporting::{OwnedArgs, named};
 pub use values::Values;
 pub use wl_object_map::{Entry, MapTable, Object, SlotTable, State, Table, TableError};
-pub use writing::{
-    encode_bind, encode_call, encode_error, encode_global, encode_number, message_len, tokens_of,
-};
+pub use writing::{BindMessage, CallMessage, take_tokens};

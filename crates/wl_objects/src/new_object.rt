@@ -2,7 +2,6 @@
 ghost use Rattle.std.specs.Prelude.{◌≡◌};
 ghost use Rattle.wl_wire.specs.Argument.{lent};
 ghost use Rattle.wl_objects.specs.Messages.{made, made_by};
-ghost use Rattle.wl_objects.specs.Writing.{call_makes};
 
 use crate::values::Values;
 use wl_sigs::Tables;
@@ -50,16 +49,4 @@ fn made_by(tables: &Tables, version: u32, kind: Kind, value: ValueRef<'_>) -> Op
         }
         _ => None,
     }
-}
-
-/// The interface of the object that a call with this signature makes, if it makes one.
-pub fn call_makes(kinds: &[Kind]) -> Option<Iface>
-    ensures { result ≡ call_makes kinds.now }
-{
-    'kinds: for kind in kinds {
-        if let Kind::New(Some(iface)) = kind {
-            return Some(*iface);
-        }
-    }
-    None
 }

@@ -1,21 +1,24 @@
 //! The arguments of a message, parsed once.
-ghost use Rattle.std.specs.Prelude.{◌≡◌, ◌≤◌, ◌+◌, ℕ, List, IfOk, drop, length, option_map};
+ghost use Rattle.std.specs.Prelude.{◌≡◌, ◌≤◌, ◌+◌, ℕ, List, [], IfOk, drop, length, option_map};
 ghost use Rattle.std.specs.Prelude.{slice_get, take};
 ghost use Rattle.wl_wire.specs.Argument.{Obj, lent};
 ghost use Rattle.wl_wire.specs.Reading.{reading};
 ghost use Rattle.wl_objects.specs.Reading.{arguments_at, forgiving, judged, kind_at, named};
 ghost use Rattle.wl_objects.specs.Reading.{object_fault, value_fault};
 ghost use Rattle.wl_objects.specs.Parsed.{AreParsed, Lies, argument_of, made_of, made_of_one};
-ghost use Rattle.wl_objects.specs.Parsed.{made_unless, one_in, parsed_in, parsed_one, part};
+ghost use Rattle.wl_objects.specs.Parsed.{made_unless, object_in, one_in, parsed_in, parsed_one};
+ghost use Rattle.wl_objects.specs.Parsed.{part};
 ghost use Rattle.wl_objects.specs.Parsed.{place_behind, placed_of, spelled_in, whole_in};
 
+use crate::args::in_state;
+use crate::argument::Named;
 use crate::error::Fault;
 use crate::lookup::Lookup;
 use crate::reading::{iface_of, new_fault, object_fault};
 use std::fmt::{self, Debug, Formatter};
 use std::marker::Model;
 use std::mem::size_of;
-use wl_object_map::{Entry, State};
+use wl_object_map::{Entry, Object, State};
 use wl_wire::{Fixed, Kind, ValueRef, read_ref};
 
 /// The most arguments that a message has.
@@ -66,11 +69,12 @@ pub enum ParsedArg {
 
 const _: () = prove!(size_of::<ParsedArg>() == 24);
 
-/// The arguments of one message, at most `MAX_ARGS`. They hold no allocation and borrow nothing.
+/// The arguments of one message, at most `MAX_ARGS`. They hold no allocation and borrow nothing. An
+/// end keeps one of these, into which each message is parsed in place of the one before.
 #[derive(Drop)]
 pub struct ParsedArgs {
-    pub(crate) items: [ParsedArg; MAX_ARGS],
-    pub(crate) count: usize,
+    items: [ParsedArg; MAX_ARGS],
+    count: usize,
 }
 
 impl Model for ParsedArgs {
@@ -85,6 +89,16 @@ impl Model for ParsedArgs {
 }
 
 impl ParsedArgs {
+    /// No arguments.
+    pub fn new() -> Self
+        ensures { result ≡ [] }
+    {
+        Self {
+            items: [ParsedArg::Null; MAX_ARGS],
+            count: 0,
+        }
+    }
+
     /// How many arguments there are.
     pub fn len(&self) -> usize
         ensures { result ≡ length self.now }
@@ -105,6 +119,23 @@ impl ParsedArgs {
     {
         let parsed = self.as_slice().get(place)?;
         Some(value_of(body, *parsed))
+    }
+
+    /// The object that the argument at a place names, counted from 0, as it was when the message
+    /// was read; null where it names none.
+    pub fn object(&self, place: usize) -> Named
+        ensures { result ≡ object_in (slice_get self.now place) }
+    {
+        match self.as_slice().get(place) {
+            Some(ParsedArg::Object { id, birth, state }) => in_state(
+                *state,
+                Object {
+                    id: *id,
+                    birth: *birth,
+                },
+            ),
+            _ => Named::Null,
+        }
     }
 }
 
@@ -149,24 +180,27 @@ pub(crate) fn part(bytes: &[u8], start: usize, len: usize) -> &[u8]
     &rest[..len.min(rest.len())]
 }
 
-/// Parses the arguments at the front of a message's body, one of each kind, into the front of an
-/// array, and returns the bytes behind them; or the first fault. Each object is looked up once.
+/// Parses the arguments at the front of a message's body, one of each kind, in place of those that
+/// were parsed before, and returns the bytes behind them; or the first fault. Each object is looked
+/// up once.
 pub(crate) fn parse_body<'a, L: Lookup>(
     lookup: &L,
     forgives: bool,
     kinds: &[Kind],
     body: &'a [u8],
-    items: &mut [ParsedArg; MAX_ARGS],
+    args: &mut ParsedArgs,
 ) -> Result<&'a [u8], Fault>
     requires few { length kinds.now ≤ 20 }
-    ensures answer { whole_in body.now (take (length kinds.now) items.new) result
+    ensures answer { whole_in body.now args.new result
         ≡ arguments_at (forgiving forgives (L.reader lookup.now)) 0 kinds.now body.now }
-    ensures args { IfOk result (λ _. AreParsed (L.reader lookup.now) body.now
-        (take (length kinds.now) items.new)
-        (spelled_in body.now (take (length kinds.now) items.new))) }
+    ensures args { IfOk result (λ _. AreParsed (L.reader lookup.now) body.now args.new
+        (spelled_in body.now args.new)) }
 {
-    match parse(lookup, forgives, kinds, body, items) {
-        Ok(end) => Ok(bytes_from(body, end)),
+    match parse(lookup, forgives, kinds, body, &mut args.items) {
+        Ok(end) => {
+            args.count = kinds.len();
+            Ok(bytes_from(body, end))
+        }
         Err(fault) => Err(fault),
     }
 }

@@ -1,16 +1,19 @@
 //! One message read against an end's table.
 ghost use Rattle.std.specs.Prelude.{◌≡◌, IfOk};
+ghost use Rattle.std.specs.Borrow.{sem};
+ghost use Rattle.std.specs.Io.BufRead.{Rests};
 ghost use Rattle.wl_wire.specs.Word.{IsHeader};
 ghost use Rattle.wl_sigs.specs.Valid.{Valid};
 ghost use Rattle.wl_objects.specs.Reading.{descriptors, object_fault, new_fault, iface_of};
 ghost use Rattle.wl_objects.specs.Messages.{is_error, received};
 ghost use Rattle.wl_objects.specs.Seen.{message_of, received_in};
 ghost use Rattle.wl_objects.specs.Parsed.{AreParsed};
+ghost use Rattle.wl_objects.specs.contracts.parsed.ParsedArgs.{the_row};
 
 use crate::error::Fault;
 use crate::lookup::{Lookup, NewId};
 use crate::messages::is_error;
-use crate::parsed::{MAX_ARGS, ParsedArg, ParsedArgs, parse_body};
+use crate::parsed::{ParsedArgs, parse_body};
 use crate::values::Values;
 use wl_object_map::{Entry, Object};
 use wl_sigs::{Side, Signature, Tables};
@@ -28,7 +31,7 @@ pub struct Received<'t, 'a> {
     /// The message's body.
     pub body: &'a [u8],
     /// The arguments, parsed over the body, their objects as they are now.
-    pub args: ParsedArgs,
+    pub args: &'a ParsedArgs,
     /// How many tokens the message takes.
     pub tokens: usize,
     /// Whether it is wl_display.error.
@@ -45,12 +48,14 @@ impl<'t, 'a> Received<'t, 'a> {
 }
 
 /// Reads one whole message, where this number of tokens waits, for whatever knows the objects and
-/// ids. Allocates nothing.
+/// ids. Its arguments are parsed in place of those of the message before, and lent from there.
+/// Allocates nothing.
 ///
 /// Returns the first fault: F2; F3; for each argument from the left F4, F5, F6, F10; then F7 and
 /// F8. An object may be a zombie. In wl_display.error the object may be null or unknown.
 #[inline(always)]
 pub fn receive<'t: 'a, 'a, L: Lookup>(
+    args: &'a mut ParsedArgs,
     tables: &'t Tables,
     side: Side,
     lookup: &L,
@@ -58,10 +63,12 @@ pub fn receive<'t: 'a, 'a, L: Lookup>(
     body: &'a [u8],
     waiting: usize,
 ) -> Result<Received<'t, 'a>, Fault>
+    ensures* kept { sem 𝓛 (Rests the_row args.entry
+        (λ after. IfOk result (λ m. after ≡ m.args.now))) }
     ensures answer { received_in result
         ≡ received tables.now side (L.reader lookup.now) header body.now waiting }
     ensures args { IfOk result
-        (λ m. AreParsed (L.reader lookup.now) body.now m.args (message_of m).values) }
+        (λ m. AreParsed (L.reader lookup.now) body.now m.args.now (message_of m).values) }
     ensures body { IfOk result (λ m. m.body.now ≡ body.now) }
     ensures tokens { IfOk result (λ m. m.tokens ≡ descriptors m.signature.now.kinds) }
     ensures error { IfOk result (λ m. m.is_error ≡ is_error side m.entry.iface header.opcode) }
@@ -82,8 +89,7 @@ pub fn receive<'t: 'a, 'a, L: Lookup>(
     }
     let is_error = is_error(side, entry.iface, header.opcode);
     let kinds = signature.kinds();
-    let mut items = [ParsedArg::Null; MAX_ARGS];
-    let rest = parse_body(lookup, is_error, kinds, body, &mut items)?;
+    let rest = parse_body(lookup, is_error, kinds, body, args)?;
     if !rest.is_empty() {
         return Err(Fault::TrailingBytes);
     }
@@ -99,10 +105,7 @@ pub fn receive<'t: 'a, 'a, L: Lookup>(
         entry,
         signature,
         body,
-        args: ParsedArgs {
-            items,
-            count: kinds.len(),
-        },
+        args,
         tokens,
         is_error,
     })

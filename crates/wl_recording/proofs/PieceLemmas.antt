@@ -1,5 +1,6 @@
 -- A line tells one piece at most.
-use Rattle.std.proofs.Common.{◌≡◌, ◌≢◌, ℕ, ◌<◌, true, List, [], ◌∷◌, ◌++◌, length, slice_index, refl, sym, ap, subst, ◌∙◌, arith}
+use Rattle.std.proofs.Common.{◌≡◌, ◌≢◌, ℕ, ◌<◌, true, List, [], ◌∷◌, ◌++◌, length, slice_index}
+use Rattle.std.proofs.Common.{refl, sym, ap, subst, ◌∙◌, arith}
 use Rattle.std.specs.Prelude.{codes, Ok, Option, Some, None, MatchOption}
 use Rattle.std.specs.List.{All}
 use Rattle.std.proofs.lemmas.List.Elements.{All-head, All-tail, All-cons, All-nil, All-weaker}
@@ -11,7 +12,8 @@ use Rattle.wl_recording.specs.declared.piece.Direction.{Direction}
 use Rattle.wl_recording.specs.declared.piece.Direction.TheVariants.{ToServer, ToClient}
 use Rattle.wl_recording.specs.Piece.{Piece}
 use Rattle.wl_line_text.specs.Lines.{IsSkipped, is_empty, is_comment}
-use Rattle.wl_recording.specs.Line.{sign, SpellsBytes, no_bytes, some_bytes, SpellsTokens, no_tokens, some_tokens, IsPiece}
+use Rattle.wl_recording.specs.Line.{sign, SpellsBytes, no_bytes, some_bytes, SpellsTokens}
+use Rattle.wl_recording.specs.Line.{no_tokens, some_tokens, IsPiece}
 
 -- no byte is a space
 abbrev pub NoSpace : List ℕ → Type 0
@@ -22,7 +24,8 @@ abbrev pub AtSpace : List ℕ → Type 0
 AtSpace text = 0 < length text → slice_index text 0 ≡ 32
 
 -- a text is cut before its first space in one way only
-pub cut_once : (a b a' b' : List ℕ) → NoSpace a → AtSpace b → NoSpace a' → AtSpace b' → a ++ b ≡ a' ++ b' → (a ≡ a') × (b ≡ b')
+pub cut_once : (a b a' b' : List ℕ) → NoSpace a → AtSpace b → NoSpace a' → AtSpace b' → a ++ b ≡ a' ++ b'
+    → (a ≡ a') × (b ≡ b')
 cut_once [] b [] b' clean at clean' at' same = (refl, same)
 cut_once [] b (y ∷ a') b' clean at clean' at' same =
     let is_space : slice_index b 0 ≡ 32 = at (rw same (omega arith)) in
@@ -35,7 +38,8 @@ cut_once (x ∷ a) b [] b' clean at clean' at' same =
 cut_once (x ∷ a) b (y ∷ a') b' clean at clean' at' same =
     let heads : x ≡ y = cc in
     let tails : a ++ b ≡ a' ++ b' = cc in
-    let r = cut_once a b a' b' (All-tail (λ byte. byte ≢ 32) x a clean) at (All-tail (λ byte. byte ≢ 32) y a' clean') at' tails in
+    let r = cut_once a b a' b' (All-tail (λ byte. byte ≢ 32) x a clean) at
+    (All-tail (λ byte. byte ≢ 32) y a' clean') at' tails in
     (rw (heads, r.0) refl, r.1)
 
 -- what stands for bytes has no space
@@ -44,7 +48,8 @@ bytes_no_space digits bytes spelled = elim spelled [
   | no_bytes is none ↦ rw is (All-cons (λ byte. byte ≢ 32) 45 [] (λ e. cc e) (All-nil (λ byte. byte ≢ 32)))
   | some_bytes some is ↦
       All-weaker (λ byte. is_hex_digit byte ≡ true) (λ byte. byte ≢ 32)
-      (λ byte digit space. let P : ℕ → Type 0 = λ b. is_hex_digit b ≡ true in let no : is_hex_digit 32 ≡ true = subst P space digit in cc no) digits (decode_of-ok digits bytes is).1
+      (λ byte digit space. let P : ℕ → Type 0 = λ b. is_hex_digit b ≡ true
+      in let no : is_hex_digit 32 ≡ true = subst P space digit in cc no) digits (decode_of-ok digits bytes is).1
 ]
 
 -- what stands for tokens begins with a space, if it is not empty
@@ -55,11 +60,13 @@ tokens_at_space count tokens spelled = elim spelled [
 ]
 
 -- the parts of a line that tells a piece are those at its first space
-pub parts_of : (line rest front back : List ℕ) (direction : Direction) (piece : Piece) → (told : IsPiece line piece) → line ≡ sign direction ∷ 32 ∷ rest
+pub parts_of : (line rest front back : List ℕ) (direction : Direction) (piece : Piece) → (told : IsPiece line piece)
+    → line ≡ sign direction ∷ 32 ∷ rest
     → rest ≡ front ++ back → NoSpace front → AtSpace back → (told.digits ≡ front) × (told.count ≡ back)
 parts_of line rest front back direction piece told whole cut clean at =
     let same : told.digits ++ told.count ≡ front ++ back = let w = told.whole in cc in
-    cut_once told.digits told.count front back (bytes_no_space _ _ told.bytes) (tokens_at_space _ _ told.tokens) clean at same
+    cut_once told.digits told.count front back (bytes_no_space _ _ told.bytes)
+    (tokens_at_space _ _ told.tokens) clean at same
 
 -- two directions with one sign are the same
 pub one_direction : (d e : Direction) → sign d ≡ sign e → d ≡ e
@@ -84,7 +91,8 @@ pub one_count : (count : List ℕ) (a b : ℕ) → SpellsTokens count a → Spel
 one_count count a b x y = elim x [
   | no_tokens is none ↦ elim y [
     | no_tokens is' none' ↦ none ∙ sym none'
-    | some_tokens digits' is' least' most' all' value' low' high' ↦ absurd (let no : [] ≡ codes " +" ++ digits' = sym is ∙ is' in cc no)
+    | some_tokens digits' is' least' most' all' value' low' high' ↦ absurd
+        (let no : [] ≡ codes " +" ++ digits' = sym is ∙ is' in cc no)
   ]
   | some_tokens digits is least most all value low high ↦ elim y [
     | no_tokens is' none' ↦ absurd (let no : [] ≡ codes " +" ++ digits = sym is' ∙ is in cc no)
@@ -95,7 +103,8 @@ one_count count a b x y = elim x [
 ]
 
 -- a count is the number behind its plus sign
-pub number_of-count : (count digits : List ℕ) (tokens : ℕ) → count ≡ codes " +" ++ digits → SpellsTokens count tokens → number_of digits ≡ Some tokens
+pub number_of-count : (count digits : List ℕ) (tokens : ℕ) → count ≡ codes " +" ++ digits → SpellsTokens count tokens
+    → number_of digits ≡ Some tokens
 number_of-count count digits tokens whole spelled = elim spelled [
   | no_tokens is none ↦ absurd (let no : [] ≡ codes " +" ++ digits = sym is ∙ whole in cc no)
   | some_tokens digits' is least most all value low high ↦
@@ -114,7 +123,8 @@ same_pieces p q d b t =
 -- a line tells one piece at most
 pub one_piece : (line : List ℕ) (p q : Piece) → IsPiece line p → IsPiece line q → p ≡ q
 one_piece line p q x y =
-    let cut = parts_of line (y.digits ++ y.count) y.digits y.count q.direction p x y.whole refl (bytes_no_space _ _ y.bytes) (tokens_at_space _ _ y.tokens) in
+    let cut = parts_of line (y.digits ++ y.count) y.digits y.count q.direction p x y.whole refl
+    (bytes_no_space _ _ y.bytes) (tokens_at_space _ _ y.tokens) in
     let signs : sign p.direction ≡ sign q.direction = let w = x.whole in let v = y.whole in cc in
     same_pieces p q (one_direction _ _ signs) (one_bytes y.digits p.bytes q.bytes (rw cut.0 at x.bytes) y.bytes)
     (one_count y.count p.tokens q.tokens (rw cut.1 at x.tokens) y.tokens)

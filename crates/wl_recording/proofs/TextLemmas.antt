@@ -1,5 +1,6 @@
 -- A text tells one list of pieces, or has one first bad line.
-use Rattle.std.proofs.Common.{◌≡◌, ℕ, ◌<◌, ◌≤◌, List, [], ◌∷◌, ◌++◌, length, get_or, refl, sym, ap, ◌∙◌, inl, inr, ◌⊎◌, arith, subst}
+use Rattle.std.proofs.Common.{◌≡◌, ℕ, ◌<◌, ◌≤◌, List, [], ◌∷◌, ◌++◌, length, get_or, refl, sym, ap}
+use Rattle.std.proofs.Common.{◌∙◌, inl, inr, ◌⊎◌, arith, subst}
 use Rattle.std.specs.Prelude.{Result, Ok, Err, IfOk, IfErr, IsErrAnd}
 use Rattle.std.specs.List.{All}
 use Rattle.std.specs.Str.Lines.{lines}
@@ -15,7 +16,8 @@ use Rattle.wl_recording.specs.Text.{Tell, ends, skips, tells, Recorded, IsGood, 
 use Rattle.wl_recording.proofs.PieceLemmas.{one_piece, skipped_tells_none}
 
 -- the pieces of lines, one after another
-pub tell_append : {front back : List (List ℕ)} {first rest : List Piece} → Tell front first → Tell back rest → Tell (front ++ back) (first ++ rest)
+pub tell_append : {front back : List (List ℕ)} {first rest : List Piece} → Tell front first → Tell back rest
+    → Tell (front ++ back) (first ++ rest)
 tell_append ends later = later
 tell_append (skips skipped more) later = skips skipped (tell_append more later)
 tell_append (tells told more) later = tells told (tell_append more later)
@@ -52,21 +54,26 @@ pub tell_tellable : {all : List (List ℕ)} {pieces : List Piece} → Tell all p
 tell_tellable ends = All-nil IsTellable
 tell_tellable (skips skipped more) = tell_tellable more
 tell_tellable (tells told more) =
-    All-cons IsTellable _ _ (record { bytes = bytes_small _ _ told.bytes; tokens = tokens_small _ _ told.tokens }) (tell_tellable more)
+    All-cons IsTellable _ _ (record { bytes = bytes_small _ _ told.bytes; tokens = tokens_small _ _ told.tokens })
+    (tell_tellable more)
 
 -- a text that tells pieces has no bad line
 pub told_not_bad : (text : List ℕ) (pieces : List Piece) (n : ℕ) → Recorded text pieces → IsFirstBad text n → ⊥
 told_not_bad text pieces n told bad =
     let good : All IsGood (bad.before ++ bad.line ∷ bad.after) = rw bad.whole at (tell_good told) in
-    let here = All-get_or IsGood (bad.before ++ bad.line ∷ bad.after) (length bad.before) [] (omega (arith, length-append bad.before (bad.line ∷ bad.after))) good in
+    let here = All-get_or IsGood (bad.before ++ bad.line ∷ bad.after) (length bad.before) []
+    (omega (arith, length-append bad.before (bad.line ∷ bad.after))) good in
     bad.bad (rw (get_or_at bad.before bad.line bad.after [] (length bad.before) refl) at here)
 
 -- a place before the first bad line has a good one
-earlier : (text : List ℕ) (n m : ℕ) (x : IsFirstBad text n) (y : IsFirstBad text m) → length x.before < length y.before → ⊥
+earlier : (text : List ℕ) (n m : ℕ) (x : IsFirstBad text n) (y : IsFirstBad text m) → length x.before < length y.before
+    → ⊥
 earlier text n m x y lt =
     let good = All-get_or IsGood y.before (length x.before) [] lt y.good in
-    let at_x : get_or (lines text) (length x.before) [] ≡ x.line = rw x.whole (get_or_at x.before x.line x.after [] (length x.before) refl) in
-    let at_y : get_or (lines text) (length x.before) [] ≡ get_or y.before (length x.before) [] = rw y.whole (get_or_append_left y.before (y.line ∷ y.after) [] (length x.before) lt) in
+    let at_x : get_or (lines text) (length x.before) [] ≡ x.line =
+    rw x.whole (get_or_at x.before x.line x.after [] (length x.before) refl) in
+    let at_y : get_or (lines text) (length x.before) [] ≡ get_or y.before (length x.before) [] =
+    rw y.whole (get_or_append_left y.before (y.line ∷ y.after) [] (length x.before) lt) in
     x.bad (rw (sym at_y ∙ at_x) at good)
 
 -- a text has one first bad line at most
@@ -84,7 +91,8 @@ one_first_bad text n m x y =
 abbrev pub IsRefused : List ℕ → RecordingError → Type 0
 IsRefused text e = (e ≡ Memory) ⊎ ((n : ℕ) × (e ≡ BadLine n) × IsFirstBad text n)
 
-pub only_told : (text : List ℕ) (r : Result (List Piece) RecordingError) → IfOk r (Recorded text) → IfErr r (IsRefused text)
+pub only_told : (text : List ℕ) (r : Result (List Piece) RecordingError) → IfOk r (Recorded text)
+    → IfErr r (IsRefused text)
     → (pieces : List Piece) → Recorded text pieces → (r ≡ Ok pieces) ⊎ (r ≡ Err Memory)
 only_told text (Ok found) ok err pieces told = inl (ap Ok (tell_once ok told))
 only_told text (Err e) ok err pieces told = elim err [
@@ -92,7 +100,8 @@ only_told text (Err e) ok err pieces told = elim err [
   | inr bad ↦ absurd (told_not_bad text pieces bad.0 told bad.2)
 ]
 
-pub first_refused : (text : List ℕ) (r : Result (List Piece) RecordingError) → IfOk r (Recorded text) → IfErr r (IsRefused text)
+pub first_refused : (text : List ℕ) (r : Result (List Piece) RecordingError) → IfOk r (Recorded text)
+    → IfErr r (IsRefused text)
     → (n : ℕ) → IsFirstBad text n → (r ≡ Err (BadLine n)) ⊎ (r ≡ Err Memory)
 first_refused text (Ok found) ok err n bad = absurd (told_not_bad text found n ok bad)
 first_refused text (Err e) ok err n bad = elim err [
@@ -101,6 +110,7 @@ first_refused text (Err e) ok err n bad = elim err [
 ]
 
 -- an error that is passed on
-pub refused_on : {X E : Type 0} (r : Result X E) (x : E) (R Q : E → Type 0) → IsErrAnd r R → ((e : E) → R e → e ≡ x) → Q x → IfErr r Q
+pub refused_on : {X E : Type 0} (r : Result X E) (x : E) (R Q : E → Type 0) → IsErrAnd r R → ((e : E) → R e → e ≡ x)
+    → Q x → IfErr r Q
 refused_on (Ok found) x R Q is same h = tt
 refused_on (Err e) x R Q is same h = subst Q (sym (same e is)) h

@@ -1,6 +1,7 @@
 -- What stands in front of a server's waiting bytes, and that it can be taken.
-use Rattle.std.proofs.Common.{◌≡◌, ◌≢◌, ℕ, zero, suc, ◌≤◌, Bool, true, false, List, [], ◌∷◌, length, take, drop, Some, refl, sym, ap, subst, ◌∙◌, arith}
-use Rattle.std.specs.Prelude.{Option, not, ◌&&◌, nat_lt, nat_eq, slice_get, IsTrue, is_some}
+use Rattle.std.proofs.Common.{◌≡◌, ◌≢◌, ℕ, zero, suc, ◌≤◌, Bool, true, false, List, [], ◌∷◌, length}
+use Rattle.std.proofs.Common.{take, drop, Some, refl, sym, ap, subst, ◌∙◌, inl, inr, arith}
+use Rattle.std.specs.Prelude.{Option, ◌&&◌, nat_lt, nat_eq, slice_get, IsTrue, is_some}
 use Rattle.std.specs.Option.{option_and_then}
 use Rattle.std.specs.declared.result.Result.{Result}
 use Rattle.std.specs.declared.result.Result.TheVariants.{Ok, Err}
@@ -15,7 +16,11 @@ use Rattle.wl_sigs.specs.declared.signature.Destroys.TheVariants.{Nothing, Targe
 use Rattle.wl_sigs.specs.Tables.{Interface, Message, signature_at, message_of, destroys_one}
 use Rattle.wl_sigs.specs.Fixed.{wl_display, display}
 use Rattle.wl_sigs.specs.Valid.{Valid}
+use Rattle.wl_wire.specs.Word.{IsHeader}
+use Rattle.wl_message.specs.declared.inbox.Frame.{Frame}
+use Rattle.wl_message.specs.Arrived.{Tells}
 use Rattle.wl_message.specs.Outgoing.{room_of}
+use Rattle.wl_server.specs.declared.pending.PendingRequest.{PendingRequest}
 use Rattle.wl_objects.specs.declared.error.Fault.{Fault}
 use Rattle.wl_objects.specs.declared.error.Fault.TheVariants as faults
 use Rattle.wl_objects.specs.declared.error.NextError.{NextError}
@@ -29,68 +34,85 @@ use Rattle.wl_object_map.specs.View.{View, look}
 use Rattle.wl_objects.specs.declared.parsed.ParsedArg.{ParsedArg}
 use Rattle.wl_objects.specs.Parsed.{AreParsed, reported_in}
 use Rattle.wl_objects.specs.Reading.{Reader, in_state, reports_of, Reported}
-use Rattle.wl_objects.specs.Messages.{Received, received, reader_of, is_bind}
+use Rattle.wl_objects.specs.Messages.{Received, received, reader_of}
 use Rattle.wl_connection.specs.Core.{Core, HasDisplay}
 use Rattle.wl_connection.specs.Receiving.{Found, found, reported, found_in, takes}
 use Rattle.wl_connection.specs.Sending.{delete_id_len, fits}
-use Rattle.wl_connection.proofs.Receivings.{is_received}
-use Rattle.wl_connection.proofs.Coming.{is_found}
-use Rattle.wl_connection.proofs.Frames.{IsFrame, descriptors-le, found_frame}
+use Rattle.wl_connection.proofs.ReceivedMessage.{is_received}
+use Rattle.wl_connection.proofs.FoundStays.{is_found}
+use Rattle.wl_connection.proofs.Frames.{IsFrame, descriptors-le, found_frame, framed}
 use Rattle.wl_connection.proofs.Ends.{argument_received}
 use Rattle.wl_connection.proofs.Descriptors.{fds, reports_stay}
 use Rattle.wl_server.specs.State.{Global}
-use Rattle.wl_server.specs.Requests.{Report, report, request, judged, is_good_bind_of, object_in}
-use Rattle.wl_server.specs.Steps.{Step, step_of, step_found, front_step, state_of, pending_in, pending_of, ended_by, report_with, HasRow, CanTake}
+use Rattle.wl_server.specs.Requests.{Report, report, request, judged, object_in}
+use Rattle.wl_server.specs.Steps.{Step, step_of, step_found, front_step, state_of, pending_in}
+use Rattle.wl_server.specs.Steps.{pending_of, ended_by, report_with, HasRow, CanTake, IsEndedBy}
+use Rattle.wl_server.specs.Steps.{IsPendingOf, is_bad}
 
 abbrev pub read_by : Core → Header → List ℕ → ℕ → Result Received Fault
 read_by core h body waiting = received core.tables request_side (reader_of core.view) h body waiting
 
-pub found_is : (core : Core) (h : Header) (body : List ℕ) (waiting : ℕ) → IsFrame core h body waiting → (r : Result Received Fault) → r ≡ read_by core h body waiting
+pub found_is : (core : Core) (h : Header) (body : List ℕ) (waiting : ℕ) → IsFrame core h body waiting
+    → (r : Result Received Fault) → r ≡ read_by core h body waiting
     → found core request_side ≡ found_in h.size h.opcode r
-found_is core h body waiting s r e = found_frame core request_side h body waiting s ∙ ap (found_in h.size h.opcode) (sym e)
+found_is core h body waiting s r e = found_frame core request_side h body waiting s
+    ∙ ap (found_in h.size h.opcode) (sym e)
 
 abbrev the_found : Header → Received → Found
 the_found h m = record { size = h.size; opcode = h.opcode; message = m }
 
-abbrev pub is_bad : List Interface → List Global → ℕ → Received → Bool
-is_bad tables globals opcode m = is_bind request_side m.entry.iface opcode && not (is_good_bind_of tables globals m.values)
-
 -- ---- what is answered
 
-request_is : (core : Core) (globals : List Global) (h : Header) (body : List ℕ) (waiting : ℕ) → IsFrame core h body waiting → (r : Result Received Fault) → r ≡ read_by core h body waiting
+request_is : (core : Core) (globals : List Global) (h : Header) (body : List ℕ) (waiting : ℕ)
+    → IsFrame core h body waiting → (r : Result Received Fault) → r ≡ read_by core h body waiting
     → request (state_of core globals) ≡ judged (state_of core globals) (found_in h.size h.opcode r)
 request_is core globals h body waiting s r e = ap (judged (state_of core globals)) (found_is core h body waiting s r e)
 
 abbrev pub Answers : Core → List Global → Result (Option Step) NextError → Type 0
 Answers core globals result = result ≡ front_step (state_of core globals)
 
-answers_as : (core : Core) (globals : List Global) (x : Result (Option Found) Fault) (result : Result (Option Step) NextError) → request (state_of core globals) ≡ x → result ≡ step_found core x → Answers core globals result
+answers_as : (core : Core) (globals : List Global) (x : Result (Option Found) Fault)
+    (result : Result (Option Step) NextError) → request (state_of core globals) ≡ x → result ≡ step_found core x
+    → Answers core globals result
 answers_as core globals x result e h = h ∙ sym (ap (step_found core) e)
 
-pub answers_fault : (core : Core) (globals : List Global) (h : Header) (body : List ℕ) (waiting : ℕ) (fault : Fault) → IsFrame core h body waiting → Err fault ≡ read_by core h body waiting
+pub answers_fault : (core : Core) (globals : List Global) (h : Header) (body : List ℕ) (waiting : ℕ) (fault : Fault)
+    → IsFrame core h body waiting → Err fault ≡ read_by core h body waiting
     → Answers core globals (Err (errors.Fault fault core.read))
-answers_fault core globals h body waiting fault s e = answers_as core globals (Err fault) _ (request_is core globals h body waiting s (Err fault) e) refl
+answers_fault core globals h body waiting fault s e =
+    answers_as core globals (Err fault) _ (request_is core globals h body waiting s (Err fault) e) refl
 
-pub answers_bad : (core : Core) (globals : List Global) (h : Header) (body : List ℕ) (waiting : ℕ) (m : Received) → IsFrame core h body waiting → Ok m ≡ read_by core h body waiting
+pub answers_bad : (core : Core) (globals : List Global) (h : Header) (body : List ℕ) (waiting : ℕ) (m : Received)
+    → IsFrame core h body waiting → Ok m ≡ read_by core h body waiting
     → is_bad core.tables globals h.opcode m ≡ true → Answers core globals (Err (errors.Fault faults.BadBind core.read))
-answers_bad core globals h body waiting m s e b = answers_as core globals (Err faults.BadBind) _ (request_is core globals h body waiting s (Ok m) e ∙ rw b refl) refl
+answers_bad core globals h body waiting m s e b =
+    answers_as core globals (Err faults.BadBind) _ (request_is core globals h body waiting s (Ok m) e ∙ rw b refl) refl
 
-request_some : (core : Core) (globals : List Global) (h : Header) (body : List ℕ) (waiting : ℕ) (m : Received) → IsFrame core h body waiting → Ok m ≡ read_by core h body waiting
+request_some : (core : Core) (globals : List Global) (h : Header) (body : List ℕ) (waiting : ℕ) (m : Received)
+    → IsFrame core h body waiting → Ok m ≡ read_by core h body waiting
     → is_bad core.tables globals h.opcode m ≡ false → request (state_of core globals) ≡ Ok (Some (the_found h m))
 request_some core globals h body waiting m s e b = request_is core globals h body waiting s (Ok m) e ∙ rw b refl
 
-pub answers_full : (core : Core) (globals : List Global) (h : Header) (body : List ℕ) (waiting : ℕ) (m : Received) → IsFrame core h body waiting → Ok m ≡ read_by core h body waiting
-    → is_bad core.tables globals h.opcode m ≡ false → (destroys_one m.signature.destroys && nat_lt (room_of core.outbox) delete_id_len) ≡ true → Answers core globals (Err errors.OutFull)
-answers_full core globals h body waiting m s e b f = answers_as core globals (Ok (Some (the_found h m))) _ (request_some core globals h body waiting m s e b) (rw f refl)
+pub answers_full : (core : Core) (globals : List Global) (h : Header) (body : List ℕ) (waiting : ℕ) (m : Received)
+    → IsFrame core h body waiting → Ok m ≡ read_by core h body waiting
+    → is_bad core.tables globals h.opcode m ≡ false
+    → (destroys_one m.signature.destroys && nat_lt (room_of core.outbox) delete_id_len) ≡ true
+    → Answers core globals (Err errors.OutFull)
+answers_full core globals h body waiting m s e b f =
+    answers_as core globals (Ok (Some (the_found h m))) _ (request_some core globals h body waiting m s e b) (rw f refl)
 
-front_ok : (core : Core) (globals : List Global) (h : Header) (body : List ℕ) (waiting : ℕ) (m : Received) → IsFrame core h body waiting → Ok m ≡ read_by core h body waiting
-    → is_bad core.tables globals h.opcode m ≡ false → (destroys_one m.signature.destroys && nat_lt (room_of core.outbox) delete_id_len) ≡ false
+front_ok : (core : Core) (globals : List Global) (h : Header) (body : List ℕ) (waiting : ℕ) (m : Received)
+    → IsFrame core h body waiting → Ok m ≡ read_by core h body waiting
+    → is_bad core.tables globals h.opcode m ≡ false
+    → (destroys_one m.signature.destroys && nat_lt (room_of core.outbox) delete_id_len) ≡ false
     → front_step (state_of core globals) ≡ Ok (Some (step_of core (the_found h m)))
-front_ok core globals h body waiting m s e b f = ap (step_found core) (request_some core globals h body waiting m s e b) ∙ rw f refl
+front_ok core globals h body waiting m s e b f = ap (step_found core) (request_some core globals h body waiting m s e b)
+    ∙ rw f refl
 
 -- ---- what is known of a request that was read
 
-pub few_kinds : (tables : List Interface) → Valid tables → (place opcode : ℕ) (m : Message) → signature_at tables place request_side opcode ≡ Some m → length m.kinds ≤ 20
+pub few_kinds : (tables : List Interface) → Valid tables → (place opcode : ℕ) (m : Message)
+    → signature_at tables place request_side opcode ≡ Some m → length m.kinds ≤ 20
 few_kinds tables v place opcode m s = v.small.arguments request_side place opcode m s
 
 -- no request destroys wl_display
@@ -99,15 +121,19 @@ nothing_of zero m h t = cc (h, t)
 nothing_of (suc zero) m h t = cc (h, t)
 nothing_of (suc (suc n)) m h t = cc h
 
-display_lasts : (tables : List Interface) → Valid tables → (view : View) → HasDisplay view → (id opcode : ℕ) (entry : Entry) (m : Message) → look view id ≡ Some entry
+display_lasts : (tables : List Interface) → Valid tables → (view : View) → HasDisplay view
+    → (id opcode : ℕ) (entry : Entry) (m : Message) → look view id ≡ Some entry
     → signature_at tables entry.iface.0 request_side opcode ≡ Some m → m.destroys ≡ Target → id ≢ 1
 display_lasts tables v view d id opcode entry m r s t e =
     let row : Some entry ≡ look view 1 = sym r ∙ ap (look view) e in
     let iface : entry.iface ≡ display = let both = row ∙ d in cc both in
-    let first : signature_at tables 0 request_side opcode ≡ slice_get wl_display.requests opcode = ap (option_and_then (message_of request_side opcode)) v.fixed_four.display in
-    nothing_of opcode m (sym first ∙ (ap (λ (i : Iface). signature_at tables i.0 request_side opcode) (sym iface) ∙ s)) t
+    let first : signature_at tables 0 request_side opcode ≡ slice_get wl_display.requests opcode =
+    ap (option_and_then (message_of request_side opcode)) v.fixed_four.display in
+    nothing_of opcode m (sym first ∙ (ap (λ (i : Iface). signature_at tables i.0 request_side opcode) (sym iface) ∙ s))
+    t
 
-room_for : (core : Core) (d : Destroys) → (destroys_one d && nat_lt (room_of core.outbox) delete_id_len) ≡ false → destroys_one d ≡ true → IsTrue (fits core.outbox delete_id_len 0)
+room_for : (core : Core) (d : Destroys) → (destroys_one d && nat_lt (room_of core.outbox) delete_id_len) ≡ false
+    → destroys_one d ≡ true → IsTrue (fits core.outbox delete_id_len 0)
 room_for core Nothing f t = absurd (cc t)
 room_for core Target f t = grind (arith, common_steps, nat_tests, f)
 room_for core (Arg place) f t = grind (arith, common_steps, nat_tests, f)
@@ -118,7 +144,8 @@ in_either Live object = refl
 in_either Zombie object = refl
 
 -- the object that a request's argument names, as it is reported
-pub named_object : (r : Reader) (tokens : List ℕ) (id : ℕ) (entry : Entry) → nat_eq id 0 ≡ false → r.object id ≡ Some entry
+pub named_object : (r : Reader) (tokens : List ℕ) (id : ℕ) (entry : Entry) → nat_eq id 0 ≡ false
+    → r.object id ≡ Some entry
     → object_in (slice_get (reports_of r tokens (Obj id ∷ [])) 0) ≡ record { id = id; birth = entry.birth }
 named_object r tokens id entry z e = rw (z, e) (in_either entry.state (record { id = id; birth = entry.birth }))
 
@@ -127,7 +154,8 @@ record IsEnded (core : Core) (object : Object) : Type 0 where
   row : HasRow core.view object
   other : object.id ≢ 1
 
-ended_target : (core : Core) (h : Header) (body : List ℕ) (waiting : ℕ) (m : Received) → Valid core.tables → HasDisplay core.view → Ok m ≡ read_by core h body waiting → m.signature.destroys ≡ Target → IsEnded core m.target
+ended_target : (core : Core) (h : Header) (body : List ℕ) (waiting : ℕ) (m : Received) → Valid core.tables
+    → HasDisplay core.view → Ok m ≡ read_by core h body waiting → m.signature.destroys ≡ Target → IsEnded core m.target
 ended_target core h body waiting m v d e t =
     let r = is_received core.tables request_side (reader_of core.view) h body waiting m (sym e) in
     let row : look core.view m.target.id ≡ Some m.entry = ap (look core.view) r.id ∙ r.row in
@@ -137,14 +165,16 @@ ended_target core h body waiting m v d e t =
     }
 
 -- a registry is not wl_display
-registry_lasts : (view : View) (id : ℕ) (entry : Entry) → HasDisplay view → look view id ≡ Some entry → entry.iface.0 ≡ 1 → id ≢ 1
+registry_lasts : (view : View) (id : ℕ) (entry : Entry) → HasDisplay view → look view id ≡ Some entry
+    → entry.iface.0 ≡ 1 → id ≢ 1
 registry_lasts view id entry d row is e =
     let one = sym row ∙ (ap (look view) e ∙ d) in
     let iface : entry.iface ≡ display = cc one in
     let no : 1 ≡ 0 = sym is ∙ ap (λ (i : Iface). i.0) iface in
     cc no
 
-ended_argument : (core : Core) (h : Header) (body : List ℕ) (waiting : ℕ) (m : Received) (k : ℕ) → Valid core.tables → HasDisplay core.view → Ok m ≡ read_by core h body waiting → m.signature.destroys ≡ Arg k
+ended_argument : (core : Core) (h : Header) (body : List ℕ) (waiting : ℕ) (m : Received) (k : ℕ) → Valid core.tables
+    → HasDisplay core.view → Ok m ≡ read_by core h body waiting → m.signature.destroys ≡ Arg k
     → IsEnded core (object_in (slice_get (reports_of (reader_of core.view) core.inbox.tokens m.values) k))
 ended_argument core h body waiting m k v d e t =
     let a = argument_received core.tables (reader_of core.view) h body waiting m k v (sym e) t in
@@ -153,16 +183,22 @@ ended_argument core h body waiting m k v d e t =
     let same : object_in (slice_get (reports_of (reader_of core.view) core.inbox.tokens m.values) k) ≡ object =
     (λ i. object_in (slice_get (reports_of (reader_of core.view) core.inbox.tokens (n.are i)) (a.0 i)))
     ∙ named_object (reader_of core.view) core.inbox.tokens n.id n.entry n.some n.there in
-    subst (IsEnded core) (sym same) (record { row = record { entry = n.entry; row = n.there; birth = refl }; other = registry_lasts core.view n.id n.entry d n.there n.registers })
+    subst (IsEnded core) (sym same) (record {
+      row = record { entry = n.entry; row = n.there; birth = refl };
+      other = registry_lasts core.view n.id n.entry d n.there n.registers;
+    })
 
 inside : {x y : Object} → Some x ≡ Some y → x ≡ y
 inside e = cc e
 
-ended_there : (core : Core) (h : Header) (body : List ℕ) (waiting : ℕ) (m : Received) → Valid core.tables → HasDisplay core.view → Ok m ≡ read_by core h body waiting
-    → (object : Object) → ended_by m.signature.destroys (report core (the_found h m)) ≡ Some object → IsEnded core object
+ended_there : (core : Core) (h : Header) (body : List ℕ) (waiting : ℕ) (m : Received) → Valid core.tables
+    → HasDisplay core.view → Ok m ≡ read_by core h body waiting
+    → (object : Object) → ended_by m.signature.destroys (report core (the_found h m)) ≡ Some object
+    → IsEnded core object
 ended_there core h body waiting m v d e object is = by_what m.signature.destroys refl is
   where
-    by_what : (what : Destroys) → m.signature.destroys ≡ what → ended_by what (report core (the_found h m)) ≡ Some object → IsEnded core object
+    by_what : (what : Destroys) → m.signature.destroys ≡ what
+        → ended_by what (report core (the_found h m)) ≡ Some object → IsEnded core object
     by_what Nothing t k = absurd (cc k)
     by_what Target t k = subst (IsEnded core) (inside k) (ended_target core h body waiting m v d e t)
     by_what (Arg place) t k = subst (IsEnded core) (inside k) (ended_argument core h body waiting m place v d e t)
@@ -173,58 +209,72 @@ is_some_ended Nothing report = refl
 is_some_ended Target report = refl
 is_some_ended (Arg place) report = refl
 
-destroys_some : (what : Destroys) (report : Report) (object : Object) → ended_by what report ≡ Some object → destroys_one what ≡ true
+destroys_some : (what : Destroys) (report : Report) (object : Object) → ended_by what report ≡ Some object
+    → destroys_one what ≡ true
 destroys_some what report object is = sym (is_some_ended what report) ∙ ap is_some is
 
--- what is destroyed, by the arguments that were parsed
-abbrev pub IsEndedBy : Received → List ParsedArg → Option Object → Type 0
-IsEndedBy m args ended = (opcode birth : ℕ) (body tokens : List ℕ) → ended ≡ ended_by m.signature.destroys (report_with m.target opcode (reported_in body birth tokens args))
-
-pub ended_told : (m : Received) (args : List ParsedArg) (ended : Option Object) (what : Destroys) → what ≡ m.signature.destroys
-    → ((opcode birth : ℕ) (body tokens : List ℕ) → ended ≡ ended_by what (report_with m.target opcode (reported_in body birth tokens args))) → IsEndedBy m args ended
-ended_told m args ended what e k = λ opcode birth body tokens. k opcode birth body tokens ∙ ap (λ (d : Destroys). ended_by d (report_with m.target opcode (reported_in body birth tokens args))) e
-
-ended_is : (core : Core) (h : Header) (body : List ℕ) (m : Received) (args : List ParsedArg) (ended : Option Object) → AreParsed (reader_of core.view) body args m.values → IsEndedBy m args ended
+ended_is : (core : Core) (h : Header) (body : List ℕ) (m : Received) (args : List ParsedArg) (ended : Option Object)
+    → AreParsed (reader_of core.view) body args m.values → IsEndedBy m args ended
     → ended ≡ ended_by m.signature.destroys (report core (the_found h m))
 ended_is core h body m args ended a k =
     k h.opcode core.view.births body core.inbox.tokens
-    ∙ ap (λ (l : List Reported). ended_by m.signature.destroys (report_with m.target h.opcode l)) (a.reported core.inbox.tokens)
+    ∙ ap (λ (l : List Reported). ended_by m.signature.destroys (report_with m.target h.opcode l))
+    (a.reported core.inbox.tokens)
 
 -- whether there is room for its delete_id
-pub full_by : (core : Core) (m : Received) (args : List ParsedArg) (ended : Option Object) (b : Bool) → IsEndedBy m args ended → (is_some ended && nat_lt (room_of core.outbox) delete_id_len) ≡ b
+pub full_by : (core : Core) (m : Received) (args : List ParsedArg) (ended : Option Object) (b : Bool)
+    → IsEndedBy m args ended → (is_some ended && nat_lt (room_of core.outbox) delete_id_len) ≡ b
     → (destroys_one m.signature.destroys && nat_lt (room_of core.outbox) delete_id_len) ≡ b
 full_by core m args ended b k e =
     ap (λ (x : Bool). x && nat_lt (room_of core.outbox) delete_id_len)
-    (sym (ap is_some (k 0 0 [] []) ∙ is_some_ended m.signature.destroys (report_with m.target 0 (reported_in [] 0 [] args)))) ∙ e
+    (sym (ap is_some (k 0 0 [] []) ∙ is_some_ended m.signature.destroys
+    (report_with m.target 0 (reported_in [] 0 [] args)))) ∙ e
 
-can_take_found : (core : Core) (h : Header) (body : List ℕ) (waiting : ℕ) (m : Received) → Valid core.tables → HasDisplay core.view → IsFrame core h body waiting → Ok m ≡ read_by core h body waiting
-    → (destroys_one m.signature.destroys && nat_lt (room_of core.outbox) delete_id_len) ≡ false → CanTake core (step_of core (the_found h m))
+can_take_found : (core : Core) (h : Header) (body : List ℕ) (waiting : ℕ) (m : Received) → Valid core.tables
+    → HasDisplay core.view → IsFrame core h body waiting → Ok m ≡ read_by core h body waiting
+    → (destroys_one m.signature.destroys && nat_lt (room_of core.outbox) delete_id_len) ≡ false
+    → CanTake core (step_of core (the_found h m))
 can_take_found core h body waiting m v d s e f =
     let r = is_received core.tables request_side (reader_of core.view) h body waiting m (sym e) in
     record {
       whole = s.whole;
       tokens = omega (arith, r.tokens, s.tokens);
-      few = omega (arith, descriptors-le m.signature.kinds, few_kinds core.tables v m.entry.iface.0 h.opcode m.signature r.signature);
+      few = omega (
+        arith,
+        descriptors-le m.signature.kinds,
+        few_kinds core.tables v m.entry.iface.0 h.opcode m.signature
+            r.signature,
+      );
       birth = refl;
       ended = λ object is.
           let there = ended_there core h body waiting m v d e object is in
-          record { row = there.row; not_display = there.other; room = room_for core m.signature.destroys f (destroys_some m.signature.destroys (report core (the_found h m)) object is) };
+          record {
+            row = there.row;
+            not_display = there.other;
+            room = room_for core m.signature.destroys f
+                (destroys_some m.signature.destroys (report core (the_found h m)) object is);
+          };
     }
 
 -- ---- the request that was read is what stands in front
 
 -- its own tokens are enough for its report
-tokens_enough : (core : Core) (f : Found) → found core request_side ≡ Ok (Some f) → reports_of (reader_of core.view) (take (takes f.message) core.inbox.tokens) f.message.values ≡ reports_of (reader_of core.view) core.inbox.tokens f.message.values
+tokens_enough : (core : Core) (f : Found) → found core request_side ≡ Ok (Some f)
+    → reports_of (reader_of core.view) (take (takes f.message) core.inbox.tokens) f.message.values
+    ≡ reports_of (reader_of core.view) core.inbox.tokens f.message.values
 tokens_enough core f e =
     let n = takes f.message in
     let tokens = core.inbox.tokens in
     let is = is_found core request_side f e in
-    let enough : fds f.message.values ≤ length (take n tokens) = let l = length-take-le n tokens is.enough in omega (arith, l, is.count) in
+    let enough : fds f.message.values ≤ length (take n tokens) = let l = length-take-le n tokens is.enough
+    in omega (arith, l, is.count) in
     sym (reports_stay (reader_of core.view) (take n tokens) (drop n tokens) f.message.values enough)
     ∙ ap (λ (l : List ℕ). reports_of (reader_of core.view) l f.message.values) (take-append-drop n tokens)
 
-same_step : (core : Core) (h : Header) (body : List ℕ) (waiting : ℕ) (m : Received) (args : List ParsedArg) (ended : Option Object) → IsFrame core h body waiting → Ok m ≡ read_by core h body waiting
-    → AreParsed (reader_of core.view) body args m.values → IsEndedBy m args ended → pending_in core (pending_of core.tables core.view.births ended h m args) ≡ step_of core (the_found h m)
+same_step : (core : Core) (h : Header) (body : List ℕ) (waiting : ℕ) (m : Received) (args : List ParsedArg)
+    (ended : Option Object) → IsFrame core h body waiting → Ok m ≡ read_by core h body waiting
+    → AreParsed (reader_of core.view) body args m.values → IsEndedBy m args ended
+    → pending_in core args (pending_of core.tables core.view.births ended h m) ≡ step_of core (the_found h m)
 same_step core h body waiting m args ended s e a k =
     let rest : drop 8 (take h.size core.inbox.bytes) ≡ body = ap (drop 8) s.parts in
     let tokens = take (takes m) core.inbox.tokens in
@@ -233,17 +283,80 @@ same_step core h body waiting m args ended s e a k =
     ap (λ (b : List ℕ). reported_in b core.view.births tokens args) rest
     ∙ (a.reported tokens ∙ tokens_enough core f (found_is core h body waiting s (Ok m) e)) in
     let ends = ended_is core h body m args ended a k in
-    (λ i. let step = step_of core f in let it : Step = record step { report = record step.report { args = same i }; ended = ends i } in it)
+    (λ i. let step = step_of core f in let it : Step =
+    record step { report = record step.report { args = same i }; ended = ends i } in it)
 
-pub can_take : (core : Core) (h : Header) (body : List ℕ) (waiting : ℕ) (m : Received) (args : List ParsedArg) (ended : Option Object) → Valid core.tables → HasDisplay core.view → IsFrame core h body waiting → Ok m ≡ read_by core h body waiting
-    → AreParsed (reader_of core.view) body args m.values → IsEndedBy m args ended → (is_some ended && nat_lt (room_of core.outbox) delete_id_len) ≡ false
-    → CanTake core (pending_in core (pending_of core.tables core.view.births ended h m args))
+pub can_take : (core : Core) (h : Header) (body : List ℕ) (waiting : ℕ) (m : Received) (args : List ParsedArg)
+    (ended : Option Object) → Valid core.tables → HasDisplay core.view → IsFrame core h body waiting
+    → Ok m ≡ read_by core h body waiting
+    → AreParsed (reader_of core.view) body args m.values → IsEndedBy m args ended
+    → (is_some ended && nat_lt (room_of core.outbox) delete_id_len) ≡ false
+    → CanTake core (pending_in core args (pending_of core.tables core.view.births ended h m))
 can_take core h body waiting m args ended v d s e a k f =
-    subst (CanTake core) (sym (same_step core h body waiting m args ended s e a k)) (can_take_found core h body waiting m v d s e (full_by core m args ended false k f))
+    subst (CanTake core) (sym (same_step core h body waiting m args ended s e a k))
+    (can_take_found core h body waiting m v d s e (full_by core m args ended false k f))
 
-pub answers_ok : (core : Core) (globals : List Global) (h : Header) (body : List ℕ) (waiting : ℕ) (m : Received) (args : List ParsedArg) (ended : Option Object) → IsFrame core h body waiting → Ok m ≡ read_by core h body waiting
-    → is_bad core.tables globals h.opcode m ≡ false → (is_some ended && nat_lt (room_of core.outbox) delete_id_len) ≡ false → AreParsed (reader_of core.view) body args m.values → IsEndedBy m args ended
-    → Answers core globals (Ok (Some (pending_in core (pending_of core.tables core.view.births ended h m args))))
+pub answers_ok : (core : Core) (globals : List Global) (h : Header) (body : List ℕ) (waiting : ℕ) (m : Received)
+    (args : List ParsedArg) (ended : Option Object) → IsFrame core h body waiting → Ok m ≡ read_by core h body waiting
+    → is_bad core.tables globals h.opcode m ≡ false
+    → (is_some ended && nat_lt (room_of core.outbox) delete_id_len) ≡ false
+    → AreParsed (reader_of core.view) body args m.values → IsEndedBy m args ended
+    → Answers core globals (Ok (Some (pending_in core args (pending_of core.tables core.view.births ended h m))))
 answers_ok core globals h body waiting m args ended s e b f a k =
-    ap (λ (x : Step). let it : Result (Option Step) NextError = Ok (Some x) in it) (same_step core h body waiting m args ended s e a k)
+    ap (λ (x : Step). let it : Result (Option Step) NextError = Ok (Some x) in it)
+    (same_step core h body waiting m args ended s e a k)
     ∙ sym (front_ok core globals h body waiting m s e b (full_by core m args ended false k f))
+
+-- ---- as the code has it
+
+-- a fault of the message in front
+pub fault_told : (core before : Core) (globals : List Global) (args : List ParsedArg) (o : Option Frame) (f : Frame)
+    (fault : Fault) → core ≡ before → o ≡ Some f → Tells core.inbox (Ok o) → IsHeader f.header
+    → IsPendingOf core.tables core.view globals f.header f.body.now args (read_by core f.header f.body.now f.tokens)
+    (Err fault)
+    → Answers before globals (Err (errors.Fault fault core.read))
+fault_told core before globals args o f fault same e t h (inl r) =
+    subst (λ (k : Core). Answers k globals (Err (errors.Fault fault core.read))) same
+    (answers_fault core globals f.header f.body.now f.tokens fault (framed core o f e t h) (sym r))
+fault_told core before globals args o f fault same e t h (inr r) =
+    subst (λ (k : Core). Answers k globals (Err (errors.Fault fault core.read))) same
+    (subst (λ (x : Fault). Answers core globals (Err (errors.Fault x core.read))) (sym r.0)
+    (answers_bad core globals f.header f.body.now f.tokens r.1 (framed core o f e t h) (sym r.2) r.3))
+
+-- a request that destroys an object, where there is no room for its delete_id
+pub full_told : (core before : Core) (globals : List Global) (args : List ParsedArg) (o : Option Frame) (f : Frame)
+    (p : PendingRequest) → core ≡ before → o ≡ Some f → Tells core.inbox (Ok o) → IsHeader f.header
+    → IsPendingOf core.tables core.view globals f.header f.body.now args (read_by core f.header f.body.now f.tokens)
+    (Ok p)
+    → (is_some p.change.ended && nat_lt (room_of core.outbox) delete_id_len) ≡ true
+    → Answers before globals (Err errors.OutFull)
+full_told core before globals args o f p same e t h s full =
+    subst (λ (k : Core). Answers k globals (Err errors.OutFull)) same
+    (answers_full core globals f.header f.body.now f.tokens s.0 (framed core o f e t h) (sym s.1) s.2
+    (full_by core s.0 args p.change.ended true s.3.ended full))
+
+-- a request that can be taken
+pub request_told : (core before : Core) (globals : List Global) (args : List ParsedArg) (o : Option Frame) (f : Frame)
+    (p : PendingRequest) → core ≡ before → o ≡ Some f → Tells core.inbox (Ok o) → IsHeader f.header
+    → IsPendingOf core.tables core.view globals f.header f.body.now args (read_by core f.header f.body.now f.tokens)
+    (Ok p)
+    → (is_some p.change.ended && nat_lt (room_of core.outbox) delete_id_len) ≡ false
+    → Answers before globals (Ok (Some (pending_in before args p)))
+request_told core before globals args o f p same e t h s fits =
+    subst (λ (k : Core). Answers k globals (Ok (Some (pending_in k args p)))) same
+    (subst (λ (q : PendingRequest). Answers core globals (Ok (Some (pending_in core args q)))) (sym s.3.same)
+    (answers_ok core globals f.header f.body.now f.tokens s.0 args p.change.ended (framed core o f e t h)
+    (sym s.1) s.2 fits s.3.parsed s.3.ended))
+
+pub can_take_told : (core before : Core) (globals : List Global) (args : List ParsedArg) (o : Option Frame) (f : Frame)
+    (p : PendingRequest) → core ≡ before → o ≡ Some f → Tells core.inbox (Ok o) → IsHeader f.header → Valid core.tables
+    → HasDisplay core.view
+    → IsPendingOf core.tables core.view globals f.header f.body.now args (read_by core f.header f.body.now f.tokens)
+    (Ok p)
+    → (is_some p.change.ended && nat_lt (room_of core.outbox) delete_id_len) ≡ false
+    → CanTake before (pending_in before args p)
+can_take_told core before globals args o f p same e t h v d s fits =
+    subst (λ (k : Core). CanTake k (pending_in k args p)) same
+    (subst (λ (q : PendingRequest). CanTake core (pending_in core args q)) (sym s.3.same)
+    (can_take core f.header f.body.now f.tokens s.0 args p.change.ended v d (framed core o f e t h)
+    (sym s.1) s.3.parsed s.3.ended fits))

@@ -1,5 +1,6 @@
 -- Each open registry goes on standing in its server's list.
-use Rattle.std.proofs.Common.{◌≡◌, ◌≢◌, ◌⊎◌, ℕ, Bool, true, false, cond, eqb, List, [], ◌∷◌, ◌++◌, Some, None, refl, sym, ap, subst, ◌∙◌, inl, inr, arith, ⊎_elim}
+use Rattle.std.proofs.Common.{◌≡◌, ◌≢◌, ◌⊎◌, ℕ, Bool, true, false, cond, eqb, List, [], ◌∷◌, ◌++◌}
+use Rattle.std.proofs.Common.{Some, None, refl, sym, ap, subst, ◌∙◌, inl, inr, arith, ⊎_elim}
 use Rattle.std.specs.Prelude.{Option, nat_eq, not, if◌then◌else◌}
 use Rattle.std.proofs.lemmas.Bool.{eqb-true, eqb-false, eq-eqb, ne_eqb}
 use Rattle.std.specs.declared.result.Result.{Result}
@@ -18,7 +19,8 @@ use Rattle.wl_object_map.specs.declared.object.Object.{Object}
 use Rattle.wl_object_map.specs.declared.object.Entry.{Entry}
 use Rattle.wl_object_map.specs.declared.object.State.TheVariants.{Live}
 use Rattle.wl_object_map.specs.View.{View, Sound, look, opening, closed}
-use Rattle.wl_object_map.specs.Views.{row-opened_at, row-closed, look-opening, look-opened_at, look-closed, eqb_is, cases_row, some_is}
+use Rattle.wl_object_map.specs.Views.{row-opened_at, row-closed, look-opening, look-opened_at}
+use Rattle.wl_object_map.specs.Views.{look-closed, eqb_is, cases_row, some_is}
 use Rattle.wl_objects.specs.declared.error.SendError.{SendError}
 use Rattle.wl_objects.specs.declared.error.SendError.TheVariants as refusals
 use Rattle.wl_objects.specs.Writing.{Given}
@@ -28,7 +30,8 @@ use Rattle.wl_objects.proofs.Wholes.{passes}
 use Rattle.wl_connection.specs.Core.{Core, past, with_view}
 use Rattle.wl_connection.specs.Sending.{after_send, after_checked, made_at, version_at, fits, delete_id_len}
 use Rattle.wl_server.specs.State.{Registry, untold}
-use Rattle.wl_server.specs.Registries.{without_registry, registry_birth, IsAmong, IsRegistry, IsFresh, HasRegistries, BirthsAreOnce}
+use Rattle.wl_server.specs.Registries.{IsSound, without_registry, registry_birth, IsAmong}
+use Rattle.wl_server.specs.Registries.{IsRegistry, IsFresh, HasRegistries, BirthsAreOnce}
 use Rattle.wl_server.specs.Requests.{registries_after}
 use Rattle.wl_sigs.specs.Rules.{is_ended_by_event}
 use Rattle.wl_server.specs.Calls.{drop_at, drop_refusal, after_drop}
@@ -37,10 +40,10 @@ use Rattle.wl_connection.proofs.Ends.{no_event}
 use Rattle.wl_server.specs.Steps.{Step, CanEnd, core_without, core_by, registries_by, registries_without, CanTake}
 use Rattle.wl_server.specs.Tellings.{IsTold}
 use Rattle.wl_server.specs.declared.announce.Announced.{Announced}
-use Rattle.wl_server.proofs.Risings.{rise-without}
-use Rattle.wl_server.proofs.Taking.{rise-opened}
-use Rattle.wl_server.proofs.Dues.{either-object, rising-marked, view-dues}
-use Rattle.wl_server.proofs.Progresses.{rising-told}
+use Rattle.wl_server.proofs.RisingBirths.{rise-without}
+use Rattle.wl_server.proofs.AfterRequest.{rise-opened}
+use Rattle.wl_server.proofs.OwedEvents.{either-object, rising-marked, view-dues}
+use Rattle.wl_server.proofs.TellingGoesOn.{rising-told}
 
 -- ---- the list
 
@@ -52,7 +55,8 @@ among_last : (rs : List Registry) (r : Registry) → IsAmong r.object (rs ++ r �
 among_last [] r = inl refl
 among_last (x ∷ rs) r = inr (among_last rs r)
 
-among_if : (o : Object) (birth : ℕ) (r : Registry) (rs : List Registry) (b : Bool) → nat_eq r.object.birth birth ≡ b → o.birth ≢ birth → (r.object ≡ o) ⊎ IsAmong o rs → IsAmong o (cond b rs (r ∷ rs))
+among_if : (o : Object) (birth : ℕ) (r : Registry) (rs : List Registry) (b : Bool) → nat_eq r.object.birth birth ≡ b
+    → o.birth ≢ birth → (r.object ≡ o) ⊎ IsAmong o rs → IsAmong o (cond b rs (r ∷ rs))
 among_if o birth r rs true e ne h = elim h [
   | inl p ↦ absurd (ne (ap (λ (x : Object). x.birth) (sym p) ∙ eqb-true r.object.birth birth e))
   | inr p ↦ p
@@ -60,7 +64,8 @@ among_if o birth r rs true e ne h = elim h [
 among_if o birth r rs false e ne h = h
 
 -- taking one of another birth out
-among_other : (o : Object) (birth : ℕ) (rs : List Registry) → o.birth ≢ birth → IsAmong o rs → IsAmong o (without_registry registry_birth true birth rs)
+among_other : (o : Object) (birth : ℕ) (rs : List Registry) → o.birth ≢ birth → IsAmong o rs
+    → IsAmong o (without_registry registry_birth true birth rs)
 among_other o birth [] ne h = absurd h
 among_other o birth (r ∷ rs) ne h =
     among_if o birth r (without_registry registry_birth true birth rs) (nat_eq r.object.birth birth) refl ne
@@ -79,14 +84,17 @@ among_all_marked o (d ∷ ds) rs h = among_all_marked o ds (marked_in d rs) (amo
 
 -- ---- what stands in the list
 
-among_before : (o : Object) (rs : List Registry) (r : Registry) → IsAmong o (rs ++ r ∷ []) → (r.object ≡ o) ⊎ IsAmong o rs
+among_before : (o : Object) (rs : List Registry) (r : Registry) → IsAmong o (rs ++ r ∷ [])
+    → (r.object ≡ o) ⊎ IsAmong o rs
 among_before o [] r h = h
 among_before o (x ∷ rs) r h = elim h as (λ _. (r.object ≡ o) ⊎ ((x.object ≡ o) ⊎ IsAmong o rs)) [
   | inl p ↦ inr (inl p)
-  | inr p ↦ elim (among_before o rs r p) as (λ _. (r.object ≡ o) ⊎ ((x.object ≡ o) ⊎ IsAmong o rs)) [ inl q ↦ inl q | inr q ↦ inr (inr q) ]
+  | inr p ↦ elim (among_before o rs r p) as (λ _. (r.object ≡ o) ⊎ ((x.object ≡ o) ⊎ IsAmong o rs))
+      [ inl q ↦ inl q | inr q ↦ inr (inr q) ]
 ]
 
-left_if : (o : Object) (birth : ℕ) (r : Registry) (rs ls : List Registry) (b : Bool) → nat_eq r.object.birth birth ≡ b → (IsAmong o ls → (o.birth ≢ birth) × IsAmong o rs) → IsAmong o (cond b ls (r ∷ ls))
+left_if : (o : Object) (birth : ℕ) (r : Registry) (rs ls : List Registry) (b : Bool) → nat_eq r.object.birth birth ≡ b
+    → (IsAmong o ls → (o.birth ≢ birth) × IsAmong o rs) → IsAmong o (cond b ls (r ∷ ls))
     → (o.birth ≢ birth) × ((r.object ≡ o) ⊎ IsAmong o rs)
 left_if o birth r rs ls true e f h = let k = f h in (k.0, inr k.1)
 left_if o birth r rs ls false e f h = elim h as (λ _. (o.birth ≢ birth) × ((r.object ≡ o) ⊎ IsAmong o rs)) [
@@ -95,9 +103,11 @@ left_if o birth r rs ls false e f h = elim h as (λ _. (o.birth ≢ birth) × ((
 ]
 
 -- what is left is of another birth
-among_left : (o : Object) (birth : ℕ) (rs : List Registry) → IsAmong o (without_registry registry_birth true birth rs) → (o.birth ≢ birth) × IsAmong o rs
+among_left : (o : Object) (birth : ℕ) (rs : List Registry) → IsAmong o (without_registry registry_birth true birth rs)
+    → (o.birth ≢ birth) × IsAmong o rs
 among_left o birth [] h = absurd h
-among_left o birth (r ∷ rs) h = left_if o birth r rs (without_registry registry_birth true birth rs) (nat_eq r.object.birth birth) refl (among_left o birth rs) h
+among_left o birth (r ∷ rs) h = left_if o birth r rs (without_registry registry_birth true birth rs)
+    (nat_eq r.object.birth birth) refl (among_left o birth rs) h
 
 among_unmarked : (o : Object) (d : Due) (rs : List Registry) → IsAmong o (marked_in d rs) → IsAmong o rs
 among_unmarked o d [] h = absurd h
@@ -115,28 +125,37 @@ among_all_unmarked o (d ∷ ds) rs h = among_unmarked o d rs (among_all_unmarked
 is_same : (i : Iface) → i ≡ registry → same_iface i registry ≡ true
 is_same i e = ap (λ (x : Iface). same_iface x registry) e
 
-new_there : (rs : List Registry) (r : Registry) (i : Iface) (b : Bool) (o : Object) → same_iface i registry ≡ b → i ≡ registry → r.object ≡ o → IsAmong o (cond b (rs ++ r ∷ []) rs)
+new_there : (rs : List Registry) (r : Registry) (i : Iface) (b : Bool) (o : Object) → same_iface i registry ≡ b
+    → i ≡ registry → r.object ≡ o → IsAmong o (cond b (rs ++ r ∷ []) rs)
 new_there rs r i true o e is s = subst (λ (x : Object). IsAmong x (rs ++ r ∷ [])) s (among_last rs r)
 new_there rs r i false o e is s = absurd (let k = is_same i is in cc (e, k))
 
-old_there : (rs : List Registry) (r : Registry) (b : Bool) (o : Object) → IsAmong o rs → IsAmong o (cond b (rs ++ r ∷ []) rs)
+old_there : (rs : List Registry) (r : Registry) (b : Bool) (o : Object) → IsAmong o rs
+    → IsAmong o (cond b (rs ++ r ∷ []) rs)
 old_there rs r true o h = among_more o rs r h
 old_there rs r false o h = h
 
 -- the rows that were there stay
-pub row_kept : (v : View) (m : Option NewObject) (id : ℕ) (d : Entry) → IsFresh v m → look v id ≡ Some d → look (opens v m) id ≡ Some d
+pub row_kept : (v : View) (m : Option NewObject) (id : ℕ) (d : Entry) → IsFresh v m → look v id ≡ Some d
+    → look (opens v m) id ≡ Some d
 row_kept v None id d f row = row
 row_kept v (Some m) id d f row =
     let other : eqb id m.id ≡ false = ne_eqb id m.id (λ e. (let no = sym row ∙ (ap (look v) e ∙ f) in cc no)) in
     look-opened_at v m.id m.iface m.version id ∙ rw other row
 
 registry_kept : (v : View) (m : Option NewObject) (o : Object) → IsFresh v m → IsRegistry v o → IsRegistry (opens v m) o
-registry_kept v m o f r = record { entry = r.entry; row = row_kept v m o.id r.entry f r.row; birth = r.birth; iface = r.iface }
+registry_kept v m o f r = record {
+  entry = r.entry;
+  row = row_kept v m o.id r.entry f r.row;
+  birth = r.birth;
+  iface = r.iface;
+}
 
 same_is : (a b : Iface) → same_iface a b ≡ true → a ≡ b
 same_is a b h = let e : a.0 ≡ b.0 = eqb-true a.0 b.0 h in λ i. record { 0 = e i }
 
-registry_new : (v : View) (m : NewObject) → same_iface m.iface registry ≡ true → IsRegistry (opens v (Some m)) (record { id = m.id; birth = v.births })
+registry_new : (v : View) (m : NewObject) → same_iface m.iface registry ≡ true
+    → IsRegistry (opens v (Some m)) (record { id = m.id; birth = v.births })
 registry_new v m is = record {
   entry = record { birth = v.births; iface = m.iface; version = m.version; state = Live };
   row = look-opened_at v m.id m.iface m.version m.id ∙ rw (eq-eqb m.id m.id refl) refl;
@@ -144,15 +163,18 @@ registry_new v m is = record {
   iface = same_is m.iface registry is;
 }
 
-each_opened : (v : View) (rs : List Registry) (m : NewObject) (r : Registry) (b : Bool) (o : Object) → same_iface m.iface registry ≡ b → r.object ≡ record { id = m.id; birth = v.births } → IsFresh v (Some m)
-    → ((x : Object) → IsAmong x rs → IsRegistry v x) → IsAmong o (cond b (rs ++ r ∷ []) rs) → IsRegistry (opens v (Some m)) o
+each_opened : (v : View) (rs : List Registry) (m : NewObject) (r : Registry) (b : Bool) (o : Object)
+    → same_iface m.iface registry ≡ b → r.object ≡ record { id = m.id; birth = v.births } → IsFresh v (Some m)
+    → ((x : Object) → IsAmong x rs → IsRegistry v x) → IsAmong o (cond b (rs ++ r ∷ []) rs)
+    → IsRegistry (opens v (Some m)) o
 each_opened v rs m r true o is s f h a = elim (among_before o rs r a) as (λ _. IsRegistry (opens v (Some m)) o) [
   | inl p ↦ subst (IsRegistry (opens v (Some m))) (sym s ∙ p) (registry_new v m is)
   | inr p ↦ registry_kept v (Some m) o f (h o p)
 ]
 each_opened v rs m r false o is s f h a = registry_kept v (Some m) o f (h o a)
 
-pub has_opened : (core : Core) (rs : List Registry) (m : Option NewObject) → IsFresh core.view m → HasRegistries core.view rs → HasRegistries (opens core.view m) (registries_after core rs m)
+pub has_opened : (core : Core) (rs : List Registry) (m : Option NewObject) → IsFresh core.view m
+    → HasRegistries core.view rs → HasRegistries (opens core.view m) (registries_after core rs m)
 has_opened core rs None f h = h
 has_opened core rs (Some m) f h =
     let v = core.view in
@@ -161,7 +183,8 @@ has_opened core rs (Some m) f h =
       rising = rise-opened core rs (Some m) h.rising;
       all = λ id e there is. ⊎_elim
           (λ p. (let birth : e.birth ≡ v.births = ap (λ (x : Entry). x.birth) p.1 in
-          new_there rs r m.iface (same_iface m.iface registry) (record { id = id; birth = e.birth }) refl (sym (ap (λ (x : Entry). x.iface) p.1) ∙ is) (λ i. record { id = sym p.0 i; birth = sym birth i })))
+          new_there rs r m.iface (same_iface m.iface registry) (record { id = id; birth = e.birth }) refl
+          (sym (ap (λ (x : Entry). x.iface) p.1) ∙ is) (λ i. record { id = sym p.0 i; birth = sym birth i })))
           (λ p. old_there rs r (same_iface m.iface registry) (record { id = id; birth = e.birth }) (h.all id e p.1 is))
           (row-opened_at v m.id m.iface m.version id e there);
       only = λ o a. each_opened v rs m r (same_iface m.iface registry) o refl refl f h.only a;
@@ -177,10 +200,12 @@ births_opened v (Some m) h = record {
   one = λ id other e d there also same. ⊎_elim
       (λ p. ⊎_elim
       (λ q. p.0 ∙ sym q.0)
-      (λ q. (let birth = ap (λ (x : Entry). x.birth) p.1 in let less = h.counted other d q.1 in absurd (omega (arith, birth, less, same))))
+      (λ q. (let birth = ap (λ (x : Entry). x.birth) p.1 in let less = h.counted other d q.1
+      in absurd (omega (arith, birth, less, same))))
       (row-opened_at v m.id m.iface m.version other d also))
       (λ p. ⊎_elim
-      (λ q. (let birth = ap (λ (x : Entry). x.birth) q.1 in let less = h.counted id e p.1 in absurd (omega (arith, birth, less, same))))
+      (λ q. (let birth = ap (λ (x : Entry). x.birth) q.1 in let less = h.counted id e p.1
+      in absurd (omega (arith, birth, less, same))))
       (λ q. h.one id other e d p.1 q.1 same)
       (row-opened_at v m.id m.iface m.version other d also))
       (row-opened_at v m.id m.iface m.version id e there);
@@ -188,28 +213,35 @@ births_opened v (Some m) h = record {
 
 -- ---- an object is closed
 
-registry_apart : (v : View) (id : ℕ) (d : Entry) (o : Object) → look v id ≡ Some d → o.birth ≢ d.birth → IsRegistry v o → IsRegistry (closed v id) o
+registry_apart : (v : View) (id : ℕ) (d : Entry) (o : Object) → look v id ≡ Some d → o.birth ≢ d.birth → IsRegistry v o
+    → IsRegistry (closed v id) o
 registry_apart v id d o row ne r =
-    let other : eqb o.id id ≡ false = ne_eqb o.id id (λ e. (let same = sym r.row ∙ (ap (look v) e ∙ row) in let is : r.entry ≡ d = cc same in ne (sym r.birth ∙ ap (λ (x : Entry). x.birth) is))) in
+    let other : eqb o.id id ≡ false = ne_eqb o.id id
+    (λ e. (let same = sym r.row ∙ (ap (look v) e ∙ row) in let is : r.entry ≡ d = cc same
+    in ne (sym r.birth ∙ ap (λ (x : Entry). x.birth) is))) in
     record { entry = r.entry; row = look-closed v id o.id ∙ rw other r.row; birth = r.birth; iface = r.iface }
 
 -- the object of this row and birth
-pub has_closed : (v : View) (rs : List Registry) (id birth : ℕ) (d : Entry) → BirthsAreOnce v → look v id ≡ Some d → d.birth ≡ birth → HasRegistries v rs
+pub has_closed : (v : View) (rs : List Registry) (id birth : ℕ) (d : Entry) → BirthsAreOnce v → look v id ≡ Some d
+    → d.birth ≡ birth → HasRegistries v rs
     → HasRegistries (closed v id) (without_registry registry_birth true birth rs)
 has_closed v rs id birth d b row is h = record {
   rising = rise-without 0 v.births birth rs h.rising;
   all = λ q e there reg. (let r = row-closed v id q e there in
-      among_other (record { id = q; birth = e.birth }) birth rs (λ k. r.0 (b.one q id e d r.1 row (k ∙ sym is))) (h.all q e r.1 reg));
+      among_other (record { id = q; birth = e.birth }) birth rs (λ k. r.0 (b.one q id e d r.1 row (k ∙ sym is)))
+      (h.all q e r.1 reg));
   only = λ o a. (let k = among_left o birth rs a in registry_apart v id d o row (λ e. k.0 (e ∙ is)) (h.only o k.1));
 }
 
-registry_other : (v : View) (id : ℕ) (o : Object) → ((d : Entry) → look v id ≡ Some d → d.iface ≢ registry) → IsRegistry v o → IsRegistry (closed v id) o
+registry_other : (v : View) (id : ℕ) (o : Object) → ((d : Entry) → look v id ≡ Some d → d.iface ≢ registry)
+    → IsRegistry v o → IsRegistry (closed v id) o
 registry_other v id o f r =
     let other : eqb o.id id ≡ false = ne_eqb o.id id (λ e. f r.entry (ap (look v) (sym e) ∙ r.row) r.iface) in
     record { entry = r.entry; row = look-closed v id o.id ∙ rw other r.row; birth = r.birth; iface = r.iface }
 
 -- one that is no registry
-pub has_fewer : (v : View) (rs : List Registry) (id : ℕ) → ((d : Entry) → look v id ≡ Some d → d.iface ≢ registry) → HasRegistries v rs → HasRegistries (closed v id) rs
+pub has_fewer : (v : View) (rs : List Registry) (id : ℕ) → ((d : Entry) → look v id ≡ Some d → d.iface ≢ registry)
+    → HasRegistries v rs → HasRegistries (closed v id) rs
 has_fewer v rs id f h = record {
   rising = h.rising;
   all = λ q e there is. h.all q e (row-closed v id q e there).1 is;
@@ -219,42 +251,60 @@ has_fewer v rs id f h = record {
 pub births_closed : (v : View) (id : ℕ) → BirthsAreOnce v → BirthsAreOnce (closed v id)
 births_closed v id h = record {
   counted = λ q e there. h.counted q e (row-closed v id q e there).1;
-  one = λ q other e d there also same. h.one q other e d (row-closed v id q e there).1 (row-closed v id other d also).1 same;
+  one = λ q other e d there also same. h.one q other e d (row-closed v id q e there).1
+      (row-closed v id other d also).1 same;
 }
 
 -- ---- a request is read
 
-has_step : (core : Core) (rs : List Registry) (step : Step) → CanTake core step → IsFresh core.view step.made → BirthsAreOnce core.view → HasRegistries core.view rs
+has_step : (core : Core) (rs : List Registry) (step : Step) → CanTake core step → IsFresh core.view step.made
+    → BirthsAreOnce core.view → HasRegistries core.view rs
     → HasRegistries (core_by core step).view (registries_by core rs step)
 has_step core rs step can f b h = by_ended step.ended can.ended
   where
     by_ended : (ended : Option Object) → ((object : Object) → ended ≡ Some object → CanEnd core object)
-        → HasRegistries (core_without ended (past (with_view core (opens core.view step.made)) step.size step.tokens)).view (registries_without ended (registries_after core rs step.made))
+        → HasRegistries (core_without ended (past
+        (with_view core (opens core.view step.made)) step.size step.tokens)).view
+        (registries_without ended (registries_after core rs step.made))
     by_ended None r = has_opened core rs step.made f h
     by_ended (Some object) r =
         let is = (r object refl).row in
         has_closed (opens core.view step.made) (registries_after core rs step.made) object.id object.birth is.entry
-        (births_opened core.view step.made b) (row_kept core.view step.made object.id is.entry f is.row) is.birth (has_opened core rs step.made f h)
+        (births_opened core.view step.made b) (row_kept core.view step.made object.id is.entry f is.row) is.birth
+        (has_opened core rs step.made f h)
 
 births_step : (core : Core) (step : Step) → BirthsAreOnce core.view → BirthsAreOnce (core_by core step).view
 births_step core step h = by_ended step.ended
   where
-    by_ended : (ended : Option Object) → BirthsAreOnce (core_without ended (past (with_view core (opens core.view step.made)) step.size step.tokens)).view
+    by_ended : (ended : Option Object) → BirthsAreOnce
+        (core_without ended (past (with_view core (opens core.view step.made)) step.size step.tokens)).view
     by_ended None = births_opened core.view step.made h
     by_ended (Some object) = births_closed (opens core.view step.made) object.id (births_opened core.view step.made h)
 
 -- the same of an end and a list that are these
-pub has_now : (core now : Core) (rs ms : List Registry) (step : Step) → CanTake core step → now ≡ core_by core step → ms ≡ registries_by core rs step
+pub has_now : (core now : Core) (rs ms : List Registry) (step : Step) → CanTake core step → now ≡ core_by core step
+    → ms ≡ registries_by core rs step
     → IsFresh core.view step.made → BirthsAreOnce core.view → HasRegistries core.view rs → HasRegistries now.view ms
 has_now core now rs ms step can c m f b h =
-    subst (λ (k : Core). HasRegistries k.view ms) (sym c) (subst (HasRegistries (core_by core step).view) (sym m) (has_step core rs step can f b h))
+    subst (λ (k : Core). HasRegistries k.view ms) (sym c)
+    (subst (HasRegistries (core_by core step).view) (sym m) (has_step core rs step can f b h))
 
-pub births_now : (core now : Core) (step : Step) → now ≡ core_by core step → BirthsAreOnce core.view → BirthsAreOnce now.view
+pub births_now : (core now : Core) (step : Step) → now ≡ core_by core step → BirthsAreOnce core.view
+    → BirthsAreOnce now.view
 births_now core now step c b = subst (λ (k : Core). BirthsAreOnce k.view) (sym c) (births_step core step b)
+
+pub sound_now : (core now : Core) (rs ms : List Registry) (step : Step) → CanTake core step → now ≡ core_by core step
+    → ms ≡ registries_by core rs step
+    → IsFresh core.view step.made → IsSound core.view rs → IsSound now.view ms
+sound_now core now rs ms step can c m f h = record {
+  has = has_now core now rs ms step can c m f h.once h.has;
+  once = births_now core now step c h.once;
+}
 
 -- ---- an event is written
 
-makes_none : (tables : List Interface) (version : ℕ) (ks : List Kind) (values : List Argument) → new_objects ks ≡ [] → made tables version ks values ≡ None
+makes_none : (tables : List Interface) (version : ℕ) (ks : List Kind) (values : List Argument) → new_objects ks ≡ []
+    → made tables version ks values ≡ None
 makes_none tables version [] values h = refl
 makes_none tables version (k ∷ ks) [] h = no_values k
   where
@@ -269,16 +319,21 @@ makes_none tables version (kinds.New iface ∷ ks) (v ∷ values) h = absurd (cc
 makes_none tables version (kinds.Array ∷ ks) (v ∷ values) h = makes_none tables version ks values h
 makes_none tables version (kinds.Fd ∷ ks) (v ∷ values) h = makes_none tables version ks values h
 
-none_made : (core : Core) (target : Object) (opcode : ℕ) (list : List Given) (m : Message) → Valid core.tables → checked core.outbox.limit.bytes core.tables Event core.view target opcode list ≡ Ok m → made_at core target m list ≡ None
+none_made : (core : Core) (target : Object) (opcode : ℕ) (list : List Given) (m : Message) → Valid core.tables
+    → checked core.outbox.limit.bytes core.tables Event core.view target opcode list ≡ Ok m
+    → made_at core target m list ≡ None
 none_made core target opcode list m v e =
     let p = passes core.outbox.limit.bytes core.tables Event core.view target opcode list m e in
-    makes_none core.tables (version_at (look core.view target.id)) m.kinds _ (v.few_objects_made.events p.entry.iface.0 opcode m p.exists)
+    makes_none core.tables (version_at (look core.view target.id)) m.kinds _
+    (v.few_objects_made.events p.entry.iface.0 opcode m p.exists)
 
 -- what is sent to is no registry
 not_sent_to : (iface : Iface) (opcode : ℕ) → is_hidden Event iface opcode ≡ false → iface ≢ registry
-not_sent_to iface opcode h is = let no : is_hidden Event registry opcode ≡ false = subst (λ (i : Iface). is_hidden Event i opcode ≡ false) is h in cc no
+not_sent_to iface opcode h is = let no : is_hidden Event registry opcode ≡ false =
+    subst (λ (i : Iface). is_hidden Event i opcode ≡ false) is h in cc no
 
-not_target : (core : Core) (target : Object) (opcode : ℕ) (list : List Given) (m : Message) → checked core.outbox.limit.bytes core.tables Event core.view target opcode list ≡ Ok m
+not_target : (core : Core) (target : Object) (opcode : ℕ) (list : List Given) (m : Message)
+    → checked core.outbox.limit.bytes core.tables Event core.view target opcode list ≡ Ok m
     → (d : Entry) → look core.view target.id ≡ Some d → d.iface ≢ registry
 not_target core target opcode list m e d row is =
     let p = passes core.outbox.limit.bytes core.tables Event core.view target opcode list m e in
@@ -288,29 +343,40 @@ not_target core target opcode list m e d row is =
 
 -- what the objects are after an event, which makes none and ends no registry
 abbrev After : Core → Object → Core → Type 0
-After core target now = (now.view ≡ core.view) ⊎ ((now.view ≡ closed core.view target.id) × ((d : Entry) → look core.view target.id ≡ Some d → d.iface ≢ registry))
+After core target now = (now.view ≡ core.view) ⊎ ((now.view ≡ closed core.view target.id)
+    × ((d : Entry) → look core.view target.id ≡ Some d → d.iface ≢ registry))
 
-after_event : (core : Core) (target : Object) (opcode : ℕ) (list : List Given) → Valid core.tables → After core target (after_send core Event target opcode list)
-after_event core target opcode list v = by_result (checked core.outbox.limit.bytes core.tables Event core.view target opcode list) refl
+after_event : (core : Core) (target : Object) (opcode : ℕ) (list : List Given) → Valid core.tables
+    → After core target (after_send core Event target opcode list)
+after_event core target opcode list v = by_result
+    (checked core.outbox.limit.bytes core.tables Event core.view target opcode list) refl
   where
-    by_what : (m : Message) (what : Destroys) → ((k : ℕ) → what ≡ Arg k → ⊥) → made_at core target m list ≡ None → ((d : Entry) → look core.view target.id ≡ Some d → d.iface ≢ registry)
+    by_what : (m : Message) (what : Destroys) → ((k : ℕ) → what ≡ Arg k → ⊥) → made_at core target m list ≡ None
+        → ((d : Entry) → look core.view target.id ≡ Some d → d.iface ≢ registry)
         → After core target (after_checked core Event target opcode list (Ok (record m { destroys = what })))
     by_what m Nothing n e f = inl (ap (λ (o : Option NewObject). after Server core.view o Nothing target.id) e)
     by_what m Target n e f = inr (ap (λ (o : Option NewObject). after Server core.view o Target target.id) e, f)
     by_what m (Arg k) n e f = absurd (n k refl)
 
-    by_result : (x : Result Message SendError) → checked core.outbox.limit.bytes core.tables Event core.view target opcode list ≡ x → After core target (after_checked core Event target opcode list x)
+    by_result : (x : Result Message SendError) → checked core.outbox.limit.bytes core.tables Event core.view target
+        opcode list ≡ x → After core target (after_checked core Event target opcode list x)
     by_result (Err why) e = inl refl
-    by_result (Ok m) e = by_what m m.destroys (λ k d. (let p = passes core.outbox.limit.bytes core.tables Event core.view target opcode list m e in no_event core.tables p.entry.iface.0 opcode m k v p.exists d)) (none_made core target opcode list m v e) (not_target core target opcode list m e)
+    by_result (Ok m) e = by_what m m.destroys (λ k d.
+        (let p = passes core.outbox.limit.bytes core.tables Event core.view target opcode list m e
+        in no_event core.tables p.entry.iface.0 opcode m k v p.exists d)) (none_made core target opcode list m v e)
+        (not_target core target opcode list m e)
 
-pub has_sent : (core now : Core) (rs : List Registry) (target : Object) (opcode : ℕ) (list : List Given) → Valid core.tables → now ≡ after_send core Event target opcode list → HasRegistries core.view rs → HasRegistries now.view rs
+pub has_sent : (core now : Core) (rs : List Registry) (target : Object) (opcode : ℕ) (list : List Given)
+    → Valid core.tables → now ≡ after_send core Event target opcode list → HasRegistries core.view rs
+    → HasRegistries now.view rs
 has_sent core now rs target opcode list v e h =
     subst (λ (k : Core). HasRegistries k.view rs) (sym e) (elim (after_event core target opcode list v) [
       | inl p ↦ subst (λ (w : View). HasRegistries w rs) (sym p) h
       | inr p ↦ subst (λ (w : View). HasRegistries w rs) (sym p.0) (has_fewer core.view rs target.id p.1 h)
     ])
 
-pub births_sent : (core now : Core) (target : Object) (opcode : ℕ) (list : List Given) → Valid core.tables → now ≡ after_send core Event target opcode list → BirthsAreOnce core.view → BirthsAreOnce now.view
+pub births_sent : (core now : Core) (target : Object) (opcode : ℕ) (list : List Given) → Valid core.tables
+    → now ≡ after_send core Event target opcode list → BirthsAreOnce core.view → BirthsAreOnce now.view
 births_sent core now target opcode list v e h =
     subst (λ (k : Core). BirthsAreOnce k.view) (sym e) (elim (after_event core target opcode list v) [
       | inl p ↦ subst BirthsAreOnce (sym p) h
@@ -323,22 +389,27 @@ no_registry : (tables : List Interface) → Valid tables → is_ended_by_event (
 no_registry tables v = rw v.fixed_four.registry refl
 
 -- what can be dropped is no registry
-not_dropped : (core : Core) (object : Object) → Valid core.tables → drop_refusal core object ≡ None → (d : Entry) → look core.view object.id ≡ Some d → d.iface ≢ registry
+not_dropped : (core : Core) (object : Object) → Valid core.tables → drop_refusal core object ≡ None → (d : Entry)
+    → look core.view object.id ≡ Some d → d.iface ≢ registry
 not_dropped core object v e d row is = by_failed core.failed e
   where
-    by_ends : (b : Bool) → is_ended_by_event (interface_at core.tables d.iface.0) ≡ b → (x : Option SendError) → (if not b then Some refusals.NotDroppable else x) ≡ None → ⊥
-    by_ends true t x h = let no = sym t ∙ (ap (λ (i : Iface). is_ended_by_event (interface_at core.tables i.0)) is ∙ no_registry core.tables v) in cc no
+    by_ends : (b : Bool) → is_ended_by_event (interface_at core.tables d.iface.0) ≡ b → (x : Option SendError)
+        → (if not b then Some refusals.NotDroppable else x) ≡ None → ⊥
+    by_ends true t x h = let no = sym t ∙ (ap (λ (i : Iface). is_ended_by_event (interface_at core.tables i.0)) is
+        ∙ no_registry core.tables v) in cc no
     by_ends false t x h = cc h
 
     by_birth : (b : Bool) → drop_at core (if b then look core.view object.id else None) ≡ None → ⊥
-    by_birth true h = by_ends (is_ended_by_event (interface_at core.tables d.iface.0)) refl (if fits core.outbox delete_id_len 0 then None else Some refusals.Full) (ap (drop_at core) (sym row) ∙ h)
+    by_birth true h = by_ends (is_ended_by_event (interface_at core.tables d.iface.0)) refl
+        (if fits core.outbox delete_id_len 0 then None else Some refusals.Full) (ap (drop_at core) (sym row) ∙ h)
     by_birth false h = cc h
 
     by_failed : (b : Bool) → (if b then Some refusals.Failed else drop_at core (live_row core.view object)) ≡ None → ⊥
     by_failed true h = cc h
     by_failed false h = by_birth (is_live_as object.birth (look core.view object.id)) h
 
-pub has_dropped : (core : Core) (rs : List Registry) (object : Object) → Valid core.tables → None ≡ drop_refusal core object → HasRegistries core.view rs → HasRegistries (after_drop core object).view rs
+pub has_dropped : (core : Core) (rs : List Registry) (object : Object) → Valid core.tables
+    → None ≡ drop_refusal core object → HasRegistries core.view rs → HasRegistries (after_drop core object).view rs
 has_dropped core rs object v e h = has_fewer core.view rs object.id (not_dropped core object v (sym e)) h
 
 -- ---- registries are told
@@ -350,32 +421,40 @@ has_marked v d rs h = record {
   only = λ o a. h.only o (among_unmarked o d rs a);
 }
 
-view_told : (core : Core) (rs : List Registry) (all : List Due) (told : Announced) (now : Core) (ms : List Registry) → IsTold core rs all told now ms → now.view ≡ core.view
+view_told : (core : Core) (rs : List Registry) (all : List Due) (told : Announced) (now : Core) (ms : List Registry)
+    → IsTold core rs all told now ms → now.view ≡ core.view
 view_told core rs all told now ms t = ap (λ (c : Core). c.view) t.progress.written ∙ view-dues core t.progress.done
 
-pub has_told : (core : Core) (rs : List Registry) (all : List Due) (told : Announced) (now : Core) (ms : List Registry) → IsTold core rs all told now ms → HasRegistries core.view rs → HasRegistries now.view ms
+pub has_told : (core : Core) (rs : List Registry) (all : List Due) (told : Announced) (now : Core) (ms : List Registry)
+    → IsTold core rs all told now ms → HasRegistries core.view rs → HasRegistries now.view ms
 has_told core rs all told now ms t h = record {
   rising = rising-told core rs all told now ms t h.rising;
   all = λ id e there is. subst (IsAmong (record { id = id; birth = e.birth })) (sym t.progress.marks)
-      (among_all_marked (record { id = id; birth = e.birth }) t.progress.done rs (h.all id e (ap (λ (w : View). look w id) (sym (view_told core rs all told now ms t)) ∙ there) is));
-  only = λ o a. subst (λ (w : View). IsRegistry w o) (sym (view_told core rs all told now ms t)) (h.only o (among_all_unmarked o t.progress.done rs (subst (IsAmong o) t.progress.marks a)));
+      (among_all_marked (record { id = id; birth = e.birth }) t.progress.done rs
+      (h.all id e (ap (λ (w : View). look w id) (sym (view_told core rs all told now ms t)) ∙ there) is));
+  only = λ o a. subst (λ (w : View). IsRegistry w o) (sym (view_told core rs all told now ms t))
+      (h.only o (among_all_unmarked o t.progress.done rs (subst (IsAmong o) t.progress.marks a)));
 }
 
-pub births_told : (core : Core) (rs : List Registry) (all : List Due) (told : Announced) (now : Core) (ms : List Registry) → IsTold core rs all told now ms → BirthsAreOnce core.view → BirthsAreOnce now.view
+pub births_told : (core : Core) (rs : List Registry) (all : List Due) (told : Announced) (now : Core)
+    (ms : List Registry) → IsTold core rs all told now ms → BirthsAreOnce core.view → BirthsAreOnce now.view
 births_told core rs all told now ms t h = subst BirthsAreOnce (sym (view_told core rs all told now ms t)) h
 
 -- ---- a new server, and any sound table
 
-first_row : (q : ℕ) (e : Entry) → look (opening display) q ≡ Some e → (q ≡ 1) × (e ≡ record { birth = 0; iface = display; version = 1; state = Live })
+first_row : (q : ℕ) (e : Entry) → look (opening display) q ≡ Some e
+    → (q ≡ 1) × (e ≡ record { birth = 0; iface = display; version = 1; state = Live })
 first_row q e h = ⊎_elim
     (λ p. (eqb_is q 1 p.0, sym (some_is _ e p.1)))
     (λ p. (let no = p.1 in absurd (cc no)))
-    (cases_row (eqb q 1) (Some (record { birth = 0; iface = display; version = 1; state = Live })) None e (sym (look-opening display q) ∙ h))
+    (cases_row (eqb q 1) (Some (record { birth = 0; iface = display; version = 1; state = Live })) None e
+    (sym (look-opening display q) ∙ h))
 
 pub has_none : HasRegistries (opening display) []
 has_none = record {
   rising = omega arith;
-  all = λ id e there is. (let i = ap (λ (x : Entry). x.iface.0) (first_row id e there).1 in let k = ap (λ (x : Iface). x.0) is in absurd (omega (arith, i, k)));
+  all = λ id e there is. (let i = ap (λ (x : Entry). x.iface.0) (first_row id e there).1
+      in let k = ap (λ (x : Iface). x.0) is in absurd (omega (arith, i, k)));
   only = λ o a. absurd a;
 }
 

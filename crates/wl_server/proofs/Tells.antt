@@ -1,40 +1,21 @@
 -- Telling one registry, name by name.
-use Rattle.std.proofs.Common.{◌≡◌, ℕ, ◌+◌, ◌<◌, ◌≤◌, Bool, true, false, List, [], ◌∷◌, ◌++◌, length, drop, get_or, refl, sym, subst, ◌∙◌, ap, arith, inl, inr}
-use Rattle.std.specs.Prelude.{Result, ◌↔◌, ◌⊎◌, IsErr, OnErr, OnOk, is_ok}
-use Rattle.std.specs.declared.result.Result.TheVariants.{Ok, Err}
-use Rattle.std.proofs.lemmas.Bool.{cases_lt}
-use Rattle.wl_message.specs.Outgoing.{Outgoing, room_of, token_room_of, with_message}
+use Rattle.std.proofs.Common.{◌≡◌, ℕ, ◌+◌, ◌<◌, ◌≤◌, Bool, true, false, List, [], ◌∷◌, ◌++◌, length}
+use Rattle.std.proofs.Common.{drop, get_or, refl, sym, subst, ◌∙◌, ap, arith, inl, inr}
+use Rattle.wl_message.specs.Outgoing.{room_of}
 use Rattle.wl_object_map.specs.declared.object.Object.{Object}
-use Rattle.wl_objects.specs.Writing.{message_len, message_bytes}
-use Rattle.wl_objects.proofs.Wholes.{length-message}
+use Rattle.wl_objects.specs.Writing.{message_len}
 use Rattle.wl_connection.specs.Core.{Core, IsOrdinary}
 use Rattle.wl_server.specs.State.{Global, Registry}
-use Rattle.wl_server.specs.Announcing.{Due, Owing, Removal, Telling, opcode_of, owings, owes_removal, owes_telling, marked, values_of}
+use Rattle.wl_server.specs.Announcing.{Due, Owing, Removal, Telling, opcode_of, owings}
+use Rattle.wl_server.specs.Announcing.{owes_removal, owes_telling, marked, values_of}
 use Rattle.wl_server.specs.Tellings.{Progress, IsTold, IsWritten, dues_for}
-use Rattle.wl_server.proofs.Owings.{owings-skip, owings-take, removals-behind, tellings-behind}
-use Rattle.wl_server.proofs.Progresses.{told-one}
+use Rattle.wl_server.proofs.OwedByRegistry.{owings-skip, owings-take, removals-behind, tellings-behind}
+use Rattle.wl_server.proofs.TellingGoesOn.{told-one}
 
--- what the outbox answers
-pub push-written : {X E : Type 0} (core : Core) (registry : ℕ) (owing : Owing) (bytes : List ℕ) (after : Outgoing) (r : Result X E) (b : Bool)
-    → bytes ≡ message_bytes registry (opcode_of owing) (values_of core.tables owing) → b ≡ is_ok r → OnOk r (after ≡ with_message core.outbox bytes []) → OnErr r (after ≡ core.outbox)
-    → (IsErr r ↔ ((room_of core.outbox < length bytes) ⊎ (token_room_of core.outbox < 0))) → IsWritten core registry owing b (record core { outbox = after })
-push-written core registry owing bytes after (Ok x) b m e ok err full =
-    let len : length bytes ≡ message_len (values_of core.tables owing) = ap length m ∙ length-message registry (opcode_of owing) (values_of core.tables owing) in
-    subst (λ (t : Bool). IsWritten core registry owing t (record core { outbox = after })) (sym e)
-    (elim (cases_lt (room_of core.outbox) (length bytes)) [
-      | inl over ↦ absurd (let no : false ≡ true = full.1 (inl over) in cc)
-      | inr within ↦ (subst (λ (n : ℕ). n ≤ room_of core.outbox) len within, λ i. record core { outbox = (ok ∙ ap (λ (l : List ℕ). with_message core.outbox l []) m) i })
-    ])
-push-written core registry owing bytes after (Err x) b m e ok err full =
-    let len : length bytes ≡ message_len (values_of core.tables owing) = ap length m ∙ length-message registry (opcode_of owing) (values_of core.tables owing) in
-    subst (λ (t : Bool). IsWritten core registry owing t (record core { outbox = after })) (sym e)
-    (elim (full.0 refl) [
-      | inl over ↦ (subst (λ (n : ℕ). room_of core.outbox < n) len over, λ i. record core { outbox = err i })
-      | inr tokens ↦ absurd (omega (arith, tokens))
-    ])
-
-pub told-blocked : (core : Core) (rs : List Registry) (all : List Due) (count : ℕ) (now new : Core) (ms : List Registry) (d : Due) (rest : List Due) → Progress core rs all count now ms (d ∷ rest)
-    → (room_of now.outbox < message_len (values_of now.tables d.owing)) × (new ≡ now) → IsTold core rs all (record { count = count; all = false }) new ms
+pub told-blocked : (core : Core) (rs : List Registry) (all : List Due) (count : ℕ) (now new : Core) (ms : List Registry)
+    (d : Due) (rest : List Due) → Progress core rs all count now ms (d ∷ rest)
+    → (room_of now.outbox < message_len (values_of now.tables d.owing)) × (new ≡ now)
+    → IsTold core rs all (record { count = count; all = false }) new ms
 told-blocked core rs all count now new ms d rest p h = record {
   rest = d ∷ rest;
   progress = subst (λ (c : Core). Progress core rs all count c ms (d ∷ rest)) (sym h.1) p;
@@ -44,68 +25,92 @@ told-blocked core rs all count now new ms d rest p h = record {
 -- the removals from this place on are left, and all that is new
 abbrev pub Removing : Core → List Registry → List Due → Object → List Global → ℕ → ℕ → Core → Registry → Type 0
 Removing core rs all o globals i count now r =
-    Progress core rs all count now (r ∷ []) (dues_for o (owings (owes_removal r) (λ name _. Removal name) (i + 1) (drop i globals) ++ owings (owes_telling r) Telling 1 globals))
+    Progress core rs all count now (r ∷ []) (dues_for o
+    (owings (owes_removal r) (λ name _. Removal name) (i + 1) (drop i globals)
+    ++ owings (owes_telling r) Telling 1 globals))
 
 -- what is new from this place on is left
 abbrev pub Adding : Core → List Registry → List Due → Object → List Global → ℕ → ℕ → Core → Registry → Type 0
-Adding core rs all o globals i count now r = Progress core rs all count now (r ∷ []) (dues_for o (owings (owes_telling r) Telling (i + 1) (drop i globals)))
+Adding core rs all o globals i count now r = Progress core rs all count now (r ∷ [])
+    (dues_for o (owings (owes_telling r) Telling (i + 1) (drop i globals)))
 
-pub along : {A B C : Type 0} (P : A → B → C → Type 0) (a a' : A) (b b' : B) (c c' : C) → a' ≡ a → b' ≡ b → c' ≡ c → P a b c → P a' b' c'
-along P a a' b b' c c' p q r h = subst (λ x. P x b' c') (sym p) (subst (λ y. P a y c') (sym q) (subst (λ z. P a b z) (sym r) h))
+pub along : {A B C : Type 0} (P : A → B → C → Type 0) (a a' : A) (b b' : B) (c c' : C) → a' ≡ a → b' ≡ b → c' ≡ c
+    → P a b c → P a' b' c'
+along P a a' b b' c c' p q r h = subst (λ x. P x b' c') (sym p)
+    (subst (λ y. P a y c') (sym q) (subst (λ z. P a b z) (sym r) h))
 
 -- a global of which the registry is owed no removal
-pub removal-skipped : (core : Core) (rs : List Registry) (all : List Due) (count : ℕ) (now : Core) (r : Registry) (o : Object) (globals : List Global) (i : ℕ) (x : Global) → i < length globals → x ≡ get_or globals i x
+pub removal-skipped : (core : Core) (rs : List Registry) (all : List Due) (count : ℕ) (now : Core) (r : Registry)
+    (o : Object) (globals : List Global) (i : ℕ) (x : Global) → i < length globals → x ≡ get_or globals i x
     → owes_removal r (i + 1) x ≡ false
     → Removing core rs all o globals i count now r
     → Removing core rs all o globals (i + 1) count now r
 removal-skipped core rs all count now r o globals i x l e t p =
-    subst (λ (list : List Owing). Progress core rs all count now (r ∷ []) (dues_for o (list ++ owings (owes_telling r) Telling 1 globals))) (owings-skip (owes_removal r) (λ name _. Removal name) i globals x l e t) p
+    subst (λ (list : List Owing). Progress core rs all count now (r ∷ [])
+    (dues_for o (list ++ owings (owes_telling r) Telling 1 globals)))
+    (owings-skip (owes_removal r) (λ name _. Removal name) i globals x l e t) p
 
 -- a global of which it is owed the removal
-pub removal-next : (core : Core) (rs : List Registry) (all : List Due) (count : ℕ) (now : Core) (r : Registry) (o : Object) (globals : List Global) (i : ℕ) (x : Global) → i < length globals → x ≡ get_or globals i x
+pub removal-next : (core : Core) (rs : List Registry) (all : List Due) (count : ℕ) (now : Core) (r : Registry)
+    (o : Object) (globals : List Global) (i : ℕ) (x : Global) → i < length globals → x ≡ get_or globals i x
     → owes_removal r (i + 1) x ≡ true
     → Removing core rs all o globals i count now r
-    → Progress core rs all count now (r ∷ []) (record { object = o; owing = Removal (i + 1) } ∷ dues_for o (owings (owes_removal r) (λ name _. Removal name) (i + 1 + 1) (drop (i + 1) globals) ++ owings (owes_telling r) Telling 1 globals))
+    → Progress core rs all count now (r ∷ []) (record { object = o; owing = Removal (i + 1) }
+    ∷ dues_for o (owings (owes_removal r) (λ name _. Removal name) (i + 1 + 1) (drop (i + 1) globals)
+    ++ owings (owes_telling r) Telling 1 globals))
 removal-next core rs all count now r o globals i x l e t p =
-    subst (λ (list : List Owing). Progress core rs all count now (r ∷ []) (dues_for o (list ++ owings (owes_telling r) Telling 1 globals))) (owings-take (owes_removal r) (λ name _. Removal name) i globals x l e t) p
+    subst (λ (list : List Owing). Progress core rs all count now (r ∷ [])
+    (dues_for o (list ++ owings (owes_telling r) Telling 1 globals)))
+    (owings-take (owes_removal r) (λ name _. Removal name) i globals x l e t) p
 
 -- and it is written and marked
-pub removal-told : (core : Core) (rs : List Registry) (all : List Due) (count : ℕ) (now new : Core) (r : Registry) (o : Object) (globals : List Global) (i : ℕ) (x : Global) → IsOrdinary core.outbox → r.object ≡ o
+pub removal-told : (core : Core) (rs : List Registry) (all : List Due) (count : ℕ) (now new : Core) (r : Registry)
+    (o : Object) (globals : List Global) (i : ℕ) (x : Global) → IsOrdinary core.outbox → r.object ≡ o
     → i < length globals → x ≡ get_or globals i x → owes_removal r (i + 1) x ≡ true
     → Removing core rs all o globals i count now r
     → IsWritten now o.id (Removal (i + 1)) true new
     → Removing core rs all o globals (i + 1) (count + 1) new (marked (Removal (i + 1)) r)
 removal-told core rs all count now new r o globals i x ord own l e t p w =
-    subst (λ (list : List Owing). Progress core rs all (count + 1) new (marked (Removal (i + 1)) r ∷ []) (dues_for o (list ++ owings (owes_telling r) Telling 1 globals)))
+    subst (λ (list : List Owing). Progress core rs all (count + 1) new (marked (Removal (i + 1)) r ∷ [])
+    (dues_for o (list ++ owings (owes_telling r) Telling 1 globals)))
     (removals-behind r (λ name _. Removal name) (i + 1) (i + 1 + 1) (drop (i + 1) globals) (omega arith) (omega arith))
     (told-one core rs all count now new r (record { object = o; owing = Removal (i + 1) })
-    (dues_for o (owings (owes_removal r) (λ name _. Removal name) (i + 1 + 1) (drop (i + 1) globals) ++ owings (owes_telling r) Telling 1 globals)) ord
+    (dues_for o (owings (owes_removal r) (λ name _. Removal name) (i + 1 + 1) (drop (i + 1) globals)
+    ++ owings (owes_telling r) Telling 1 globals)) ord
     (removal-next core rs all count now r o globals i x l e t p) (sym own) w.0 w.1)
 
 -- a global that is not new to the registry
-pub telling-skipped : (core : Core) (rs : List Registry) (all : List Due) (count : ℕ) (now : Core) (r : Registry) (o : Object) (globals : List Global) (i : ℕ) (x : Global) → i < length globals → x ≡ get_or globals i x
+pub telling-skipped : (core : Core) (rs : List Registry) (all : List Due) (count : ℕ) (now : Core) (r : Registry)
+    (o : Object) (globals : List Global) (i : ℕ) (x : Global) → i < length globals → x ≡ get_or globals i x
     → owes_telling r (i + 1) x ≡ false
     → Adding core rs all o globals i count now r
     → Adding core rs all o globals (i + 1) count now r
 telling-skipped core rs all count now r o globals i x l e t p =
-    subst (λ (list : List Owing). Progress core rs all count now (r ∷ []) (dues_for o list)) (owings-skip (owes_telling r) Telling i globals x l e t) p
+    subst (λ (list : List Owing). Progress core rs all count now (r ∷ []) (dues_for o list))
+    (owings-skip (owes_telling r) Telling i globals x l e t) p
 
 -- a global that is new to it
-pub telling-next : (core : Core) (rs : List Registry) (all : List Due) (count : ℕ) (now : Core) (r : Registry) (o : Object) (globals : List Global) (i : ℕ) (x : Global) → i < length globals → x ≡ get_or globals i x
+pub telling-next : (core : Core) (rs : List Registry) (all : List Due) (count : ℕ) (now : Core) (r : Registry)
+    (o : Object) (globals : List Global) (i : ℕ) (x : Global) → i < length globals → x ≡ get_or globals i x
     → owes_telling r (i + 1) x ≡ true
     → Adding core rs all o globals i count now r
-    → Progress core rs all count now (r ∷ []) (record { object = o; owing = Telling (i + 1) x } ∷ dues_for o (owings (owes_telling r) Telling (i + 1 + 1) (drop (i + 1) globals)))
+    → Progress core rs all count now (r ∷ []) (record { object = o; owing = Telling (i + 1) x }
+    ∷ dues_for o (owings (owes_telling r) Telling (i + 1 + 1) (drop (i + 1) globals)))
 telling-next core rs all count now r o globals i x l e t p =
-    subst (λ (list : List Owing). Progress core rs all count now (r ∷ []) (dues_for o list)) (owings-take (owes_telling r) Telling i globals x l e t) p
+    subst (λ (list : List Owing). Progress core rs all count now (r ∷ []) (dues_for o list))
+    (owings-take (owes_telling r) Telling i globals x l e t) p
 
 -- and it is written and marked
-pub telling-told : (core : Core) (rs : List Registry) (all : List Due) (count : ℕ) (now new : Core) (r : Registry) (o : Object) (globals : List Global) (i : ℕ) (x : Global) → IsOrdinary core.outbox → r.object ≡ o
+pub telling-told : (core : Core) (rs : List Registry) (all : List Due) (count : ℕ) (now new : Core) (r : Registry)
+    (o : Object) (globals : List Global) (i : ℕ) (x : Global) → IsOrdinary core.outbox → r.object ≡ o
     → i < length globals → x ≡ get_or globals i x → owes_telling r (i + 1) x ≡ true
     → Adding core rs all o globals i count now r
     → IsWritten now o.id (Telling (i + 1) x) true new
     → Adding core rs all o globals (i + 1) (count + 1) new (marked (Telling (i + 1) x) r)
 telling-told core rs all count now new r o globals i x ord own l e t p w =
-    subst (λ (list : List Owing). Progress core rs all (count + 1) new (marked (Telling (i + 1) x) r ∷ []) (dues_for o list))
+    subst (λ (list : List Owing). Progress core rs all (count + 1) new (marked (Telling (i + 1) x) r ∷ [])
+    (dues_for o list))
     (tellings-behind r x Telling (i + 1) (i + 1 + 1) (drop (i + 1) globals) (omega arith) (omega arith))
-    (told-one core rs all count now new r (record { object = o; owing = Telling (i + 1) x }) (dues_for o (owings (owes_telling r) Telling (i + 1 + 1) (drop (i + 1) globals))) ord
+    (told-one core rs all count now new r (record { object = o; owing = Telling (i + 1) x })
+    (dues_for o (owings (owes_telling r) Telling (i + 1 + 1) (drop (i + 1) globals))) ord
     (telling-next core rs all count now r o globals i x l e t p) (sym own) w.0 w.1)

@@ -1,4 +1,5 @@
 pub mod State
+pub mod Bits
 pub mod Registries
 pub mod Requests
 pub mod Calls

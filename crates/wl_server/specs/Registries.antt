@@ -57,3 +57,8 @@ pub record BirthsAreOnce (view : View) : Type 0 where
   pub counted : (id : ℕ) (e : Entry) → look view id ≡ Some e → e.birth < view.births
   pub one : (id other : ℕ) (e d : Entry) → look view id ≡ Some e → look view other ≡ Some d
       → e.birth ≡ d.birth → id ≡ other
+
+-- What a server relies on between its calls: it keeps the open registries, and births are once.
+pub record IsSound (view : View) (registries : List Registry) : Type 0 where
+  pub has : HasRegistries view registries
+  pub once : BirthsAreOnce view

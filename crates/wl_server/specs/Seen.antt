@@ -6,11 +6,20 @@ use Rattle.wl_objects.specs.declared.error.NextError.{NextError}
 use Rattle.wl_objects.specs.Parsed.{seen_args}
 use Rattle.wl_server.specs.declared.report.Request.{Request}
 use Rattle.wl_server.specs.declared.report.OwnedRequest.{OwnedRequest}
+use Rattle.wl_server.specs.declared.report.RequestWithEntry.{RequestWithEntry}
+use Rattle.wl_server.specs.declared.report.OwnedRequestWithEntry.{OwnedRequestWithEntry}
 use Rattle.wl_server.specs.Requests.{Report}
 
 -- what an owned report is
 abbrev pub report_of : {A : Type 0} → OwnedRequest A → Report
 report_of read = record { target = read.target; opcode = read.opcode; args = read.args }
+
+-- what `next_owned_with_entry` answered, but for the entry
+abbrev pub request_in : {A : Type 0} → Result (Option (OwnedRequestWithEntry A)) NextError
+    → Result (Option Report) NextError
+request_in (Err why) = Err why
+request_in (Ok None) = Ok None
+request_in (Ok (Some read)) = Ok (Some (report_of read.request))
 
 -- what `next_owned` answered
 abbrev pub report_in : {A : Type 0} → Result (Option (OwnedRequest A)) NextError
@@ -22,6 +31,13 @@ report_in (Ok (Some read)) = Ok (Some (report_of read))
 -- what a lent report is
 abbrev pub lent_report : Request → Report
 lent_report read = record { target = read.target; opcode = read.opcode; args = seen_args read.args }
+
+-- what `next_with_entry` answered, but for the entry
+abbrev pub lent_request_in : Result (Option RequestWithEntry) NextError
+    → Result (Option Report) NextError
+lent_request_in (Err why) = Err why
+lent_request_in (Ok None) = Ok None
+lent_request_in (Ok (Some read)) = Ok (Some (lent_report read.request))
 
 -- what `next` answered
 abbrev pub lent_in : Result (Option Request) NextError → Result (Option Report) NextError

@@ -1,16 +1,18 @@
 -- How a server reads a request: what it makes of the message in front, and then what the reading
 -- leaves.
-use Rattle.std.specs.Prelude.{◌≡◌, ◌≢◌, ℕ, ◌≤◌, true, if◌then◌else◌, List, [], length}
-use Rattle.std.specs.Prelude.{take, drop, Option, Some, None, IsTrue}
+use Rattle.std.specs.Prelude.{◌≡◌, ◌≢◌, ◌⊎◌, ◌&&◌, not, ℕ, ◌≤◌, Bool, true, false, List, []}
+use Rattle.std.specs.Prelude.{if◌then◌else◌, length, take, drop, Option, Some, None, IsTrue}
 use Rattle.std.specs.declared.result.Result.{Result}
 use Rattle.std.specs.declared.result.Result.TheVariants.{Ok, Err}
 use Rattle.wl_sigs.specs.declared.signature.Destroys.{Destroys}
 use Rattle.wl_sigs.specs.declared.signature.Destroys.TheVariants.{Nothing, Target, Arg}
+use Rattle.wl_sigs.specs.declared.signature.Side.TheVariants.{Request as request_side}
 use Rattle.wl_sigs.specs.Tables.{Interface}
 use Rattle.wl_message.specs.Arrived.{in_front}
 use Rattle.wl_message.specs.Cut.{Whole}
 use Rattle.wl_object_map.specs.declared.object.Entry.{Entry}
 use Rattle.wl_objects.specs.declared.error.Fault.{Fault}
+use Rattle.wl_objects.specs.declared.error.Fault.TheVariants as faults
 use Rattle.wl_objects.specs.declared.error.NextError.{NextError}
 use Rattle.wl_objects.specs.declared.error.NextError.TheVariants as errors
 use Rattle.wl_object_map.specs.declared.object.Object.{Object}
@@ -18,15 +20,17 @@ use Rattle.wl_object_map.specs.View.{View, look, closed}
 use Rattle.wl_wire.specs.declared.header.Header.{Header}
 use Rattle.wl_objects.specs.Reading.{Reported, descriptors}
 use Rattle.wl_objects.specs.declared.parsed.ParsedArg.{ParsedArg}
-use Rattle.wl_objects.specs.Parsed.{reported_in}
-use Rattle.wl_objects.specs.Messages.{NewObject, Received, made, opens}
+use Rattle.wl_objects.specs.Parsed.{AreParsed, reported_in}
+use Rattle.wl_objects.specs.Messages.{NewObject, Received, is_bind, made, opens, reader_of}
 use Rattle.wl_connection.specs.Core.{Core, past, with_view}
 use Rattle.wl_connection.specs.Receiving.{Found, takes}
 use Rattle.wl_connection.specs.Sending.{with_delete_id, with_error_event, fits, delete_id_len}
+use Rattle.wl_server.specs.declared.outline.Outline.{Outline}
 use Rattle.wl_server.specs.declared.pending.PendingRequest.{PendingRequest}
 use Rattle.wl_server.specs.State.{State, Global, Registry, with_core}
 use Rattle.wl_server.specs.Requests.{Report, request, report, made_in, is_out_full}
 use Rattle.wl_server.specs.Requests.{registries_after, ended_object, fault_code, fault_message}
+use Rattle.wl_server.specs.Requests.{is_good_bind_of}
 use Rattle.wl_server.specs.Registries.{without_registry, registry_birth}
 
 -- what a request is and does: its report, its numbers of bytes and tokens, the object that it
@@ -60,51 +64,92 @@ step_of core f = record {
 
 -- ---- a request that was read and not yet taken
 
--- its report, over a message's body and tokens
-abbrev pub report_over : List ℕ → List ℕ → PendingRequest → Report
-report_over body tokens p = report_with p.target p.opcode (reported_in body p.birth tokens p.args)
+-- what an outline is with a message's body, its arguments as they were parsed, and its tokens
+abbrev pub outlined : List ℕ → List ParsedArg → List ℕ → Outline → Report
+outlined body args tokens outline =
+    report_with outline.target outline.opcode (reported_in body outline.birth tokens args)
 
--- what it is and does, over the message in front of an end
-abbrev pub pending_in : Core → PendingRequest → Step
-pending_in core p = record {
-  report = report_over (drop 8 (take p.size core.inbox.bytes)) (take p.tokens core.inbox.tokens) p;
+-- what it is and does, over the message in front of an end, by its arguments as they were parsed
+abbrev pub pending_in : Core → List ParsedArg → PendingRequest → Step
+pending_in core args p = record {
+  report =
+      outlined (drop 8 (take p.size core.inbox.bytes)) args (take p.tokens core.inbox.tokens)
+      p.outline;
   size = p.size;
   tokens = p.tokens;
-  birth = p.birth;
-  made = p.made;
-  ended = p.ended;
+  birth = p.outline.birth;
+  made = p.change.made;
+  ended = p.change.ended;
 }
 
--- what a message is and does, where these are its arguments, it destroys this object and a new one
--- gets this birth
-abbrev pub pending_of : List Interface → ℕ → Option Object → Header → Received → List ParsedArg
-    → PendingRequest
-pending_of tables birth ended header message args = record {
-  target = message.target;
-  opcode = header.opcode;
-  args = args;
-  birth = birth;
+-- What is destroyed, by the arguments as they were parsed: the place of their bytes and tokens does
+-- not matter.
+abbrev pub IsEndedBy : Received → List ParsedArg → Option Object → Type 0
+IsEndedBy m args ended =
+    (opcode birth : ℕ) (body tokens : List ℕ)
+    → ended ≡ ended_by m.signature.destroys
+    (report_with m.target opcode (reported_in body birth tokens args))
+
+-- what a message is and does, where it destroys this object and a new one gets this birth
+abbrev pub pending_of : List Interface → ℕ → Option Object → Header → Received → PendingRequest
+pending_of tables birth ended header message = record {
+  outline = record { target = message.target; opcode = header.opcode; birth = birth };
+  change = record {
+    made = made tables message.entry.version message.signature.kinds message.values;
+    ended = ended;
+  };
+  entry = message.entry;
   size = header.size;
   tokens = descriptors message.signature.kinds;
-  made = made tables message.entry.version message.signature.kinds message.values;
-  ended = ended;
 }
 
-abbrev pub pendings_in : Core → Result (Option PendingRequest) NextError
+-- A pending request is what this message, of this body and these parsed arguments, is and does
+-- where these tables and objects are there.
+pub record IsPending (tables : List Interface) (view : View) (header : Header) (body : List ℕ)
+    (args : List ParsedArg) (message : Received) (p : PendingRequest) : Type 0 where
+  pub parsed : AreParsed (reader_of view) body args message.values
+  pub ended : IsEndedBy message args p.change.ended
+  pub same : p ≡ pending_of tables view.births p.change.ended header message
+
+-- whether a message is a bind that names no global that was ever advertised so
+abbrev pub is_bad : List Interface → List Global → ℕ → Received → Bool
+is_bad tables globals opcode message =
+    is_bind request_side message.entry.iface opcode
+    && not (is_good_bind_of tables globals message.values)
+
+-- What comes of a message in front, which its reader reads as this: a request, or its fault.
+abbrev pub IsPendingOf : List Interface → View → List Global → Header → List ℕ → List ParsedArg
+    → Result Received Fault → Result PendingRequest Fault → Type 0
+IsPendingOf tables view globals header body args r (Err fault) =
+    (r ≡ Err fault)
+    ⊎ ((fault ≡ faults.BadBind)
+    × (message : Received) × (r ≡ Ok message)
+    × (is_bad tables globals header.opcode message ≡ true))
+IsPendingOf tables view globals header body args r (Ok p) =
+    (message : Received) × (r ≡ Ok message)
+    × (is_bad tables globals header.opcode message ≡ false)
+    × IsPending tables view header body args message p
+
+abbrev pub pendings_in : Core → List ParsedArg → Result (Option PendingRequest) NextError
     → Result (Option Step) NextError
-pendings_in core (Err why) = Err why
-pendings_in core (Ok None) = Ok None
-pendings_in core (Ok (Some p)) = Ok (Some (pending_in core p))
+pendings_in core args (Err why) = Err why
+pendings_in core args (Ok None) = Ok None
+pendings_in core args (Ok (Some p)) = Ok (Some (pending_in core args p))
 
 -- its report, over the message that an end took last
-abbrev pub taken_report : Core → PendingRequest → Report
-taken_report core p = report_over core.inbox.last core.inbox.last_tokens p
+abbrev pub taken_report : Core → List ParsedArg → PendingRequest → Report
+taken_report core args p = outlined core.inbox.last args core.inbox.last_tokens p.outline
 
 -- ---- what stands in front
 
 -- the state of a server, as far as it tells what stands in front
 abbrev pub state_of : Core → List Global → State
 state_of core globals = record { core = core; globals = globals; registries = [] }
+
+-- a server
+abbrev pub whole_state : Core → List Global → List Registry → State
+whole_state core globals registries =
+    record { core = core; globals = globals; registries = registries }
 
 abbrev pub step_found : Core → Result (Option Found) Fault → Result (Option Step) NextError
 step_found core (Err fault) = Err (errors.Fault fault core.read)
@@ -197,8 +242,8 @@ report_by (Ok (Some step)) = Ok (Some step.report)
 report_by (Err why) = Err why
 
 -- what a read returns, by the request that was taken
-abbrev pub taken_in : Core → Result (Option PendingRequest) NextError
+abbrev pub taken_in : Core → List ParsedArg → Result (Option PendingRequest) NextError
     → Result (Option Report) NextError
-taken_in core (Err why) = Err why
-taken_in core (Ok None) = Ok None
-taken_in core (Ok (Some p)) = Ok (Some (taken_report core p))
+taken_in core args (Err why) = Err why
+taken_in core args (Ok None) = Ok None
+taken_in core args (Ok (Some p)) = Ok (Some (taken_report core args p))

@@ -13,10 +13,13 @@ use crate::globals::Advertised;
 use crate::registry::OpenRegistry;
 use crate::server::Server;
 use wl_connection::Core;
-use wl_objects::{SendError, Table, encode_global, encode_number};
+use wl_objects::{Arg, SendError, Table};
 use wl_sigs::Tables;
-use wl_sigs::event::wl_registry::GLOBAL_REMOVE;
-use wl_wire::Iface;
+use wl_sigs::event::wl_registry::{GLOBAL, GLOBAL_REMOVE};
+use wl_wire::{Iface, ValueRef};
+
+/// The number of bytes of wl_registry.global_remove.
+const GLOBAL_REMOVE_LEN: usize = 12;
 
 /// How many events were written, and whether these were all that were owed. Where they were not,
 /// the next does not fit.
@@ -42,8 +45,12 @@ fn name_at(tables: &Tables, iface: Iface) -> &[u8]
 fn write_global_remove<T: Table>(core: &mut Core<'_, T>, registry: u32, name: u32) -> bool
     ensures { IsWritten core.old registry (Removal name) result core.new }
 {
-    encode_number(&mut core.store, registry, GLOBAL_REMOVE, name);
-    core.outbox.push(&core.store, &[]).is_ok()
+    if !core.fits(GLOBAL_REMOVE_LEN, 0) {
+        return false;
+    }
+    let args = [Arg::Uint(name)];
+    core.write_call(registry, GLOBAL_REMOVE, &args, None, GLOBAL_REMOVE_LEN, 0);
+    true
 }
 
 /// Writes global of a name to a registry; nothing where it does not fit.
@@ -56,15 +63,24 @@ fn write_global<T: Table>(
     ensures { IsWritten core.old registry (Telling name global) result core.new }
 {
     let iface = name_at(core.tables, global.iface);
-    encode_global(&mut core.store, registry, name, iface, global.version);
-    core.outbox.push(&core.store, &[]).is_ok()
+    let len = 16 + ValueRef::Str(Some(iface)).spelled_len();
+    if !core.fits(len, 0) {
+        return false;
+    }
+    let args = [
+        Arg::Uint(name),
+        Arg::Str(Some(iface)),
+        Arg::Uint(global.version),
+    ];
+    core.write_call(registry, GLOBAL, &args, None, len, 0);
+    true
 }
 
 /// Writes to one registry what it is owed, as far as it fits.
 fn announce_to<T: Table>(
     core: &mut Core<'_, T>,
     globals: &[Advertised],
-    registry: &mut OpenRegistry<T::Alloc>,
+    registry: &mut OpenRegistry,
 ) -> Announced
     requires few { length globals.now ≤ 1024 }
     requires ordinary { IsOrdinary core.old.outbox }
@@ -99,7 +115,7 @@ fn announce_to<T: Table>(
 fn announce_to_all<T: Table>(
     core: &mut Core<'_, T>,
     globals: &[Advertised],
-    registries: &mut [OpenRegistry<T::Alloc>],
+    registries: &mut [OpenRegistry],
 ) -> Announced
     requires few { length globals.now ≤ 1024 }
     requires ordinary { IsOrdinary core.old.outbox }
@@ -133,10 +149,10 @@ impl<'t, T: Table> Server<'t, T> {
             (λ why. (why ≡ refusals.Failed) × (self.old.core.failed ≡ true)
             × (self.new ≡ self.old)) }
     {
-        if self.core.failed {
+        if self.end.core.failed {
             return Err(SendError::Failed);
         }
-        let told = announce_to_all(&mut self.core, &self.globals, &mut self.registries);
+        let told = announce_to_all(&mut self.end.core, &self.globals, &mut self.registries);
         Ok(told.count)
     }
 }

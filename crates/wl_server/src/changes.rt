@@ -1,23 +1,33 @@
 //! The changes that a request makes at a server: among its objects, and its open registries.
-ghost use Rattle.std.specs.Prelude.{◌≡◌, ◌≢◌, Some, None, IsTrue, OnOk, true, OnErr};
-ghost use Rattle.wl_objects.specs.Messages.{opens};
-ghost use Rattle.wl_object_map.specs.View.{is_held};
+ghost use Rattle.std.specs.Prelude.{◌≡◌, ◌≢◌, Some, None, IsTrue, OnOk, true, false, OnErr};
+ghost use Rattle.std.specs.Option.{option_map_or};
+ghost use Rattle.wl_sigs.specs.Fixed.{registry};
+ghost use Rattle.wl_object_map.specs.View.{look};
+ghost use Rattle.wl_objects.specs.Messages.{opens, same_iface};
 ghost use Rattle.wl_connection.specs.Core.{with_view};
 ghost use Rattle.wl_connection.specs.Sending.{delete_id_len, fits};
 ghost use Rattle.wl_server.specs.Requests.{registries_after};
-ghost use Rattle.wl_server.specs.Registries.{IsFresh, without_registry, registry_birth};
-ghost use Rattle.wl_server.specs.Steps.{core_without, registries_without};
+ghost use Rattle.wl_server.specs.Registries.{IsFresh, IsSound, without_registry, registry_birth};
+ghost use Rattle.wl_server.specs.Steps.{HasRow, core_without, registries_without};
 
 use crate::registry::OpenRegistry;
 use std::alloc::{AllocError, Allocator};
 use wl_connection::Core;
 use wl_objects::{NewObject, Object, REGISTRY, Table};
 
+/// What a request changes at a server.
+#[derive(Clone, Copy, Debug)]
+pub(crate) struct Change {
+    /// The object that it opens.
+    pub(crate) made: Option<NewObject>,
+    /// The object that it destroys.
+    pub(crate) ended: Option<Object>,
+}
+
 /// Opens the object that a request makes, if it makes one, with this birth.
 pub(crate) fn open_new_object<T: Table>(
     core: &mut Core<'_, T>,
-    registries: &mut Vec<OpenRegistry<T::Alloc>, T::Alloc>,
-    alloc: &T::Alloc,
+    registries: &mut Vec<OpenRegistry, T::Alloc>,
     made: Option<NewObject>,
     birth: u64,
 ) -> Result<(), AllocError>
@@ -31,17 +41,16 @@ pub(crate) fn open_new_object<T: Table>(
     ensures fresh { OnOk result (IsFresh core.old.view made) }
 {
     match made {
-        Some(made) => open_object(core, registries, alloc, made, birth),
+        Some(made) => open_object(core, registries, made, birth),
         None => Ok(()),
     }
 }
 
-/// Opens an object, and where it is a registry makes room for its marks. Where there is no memory
-/// nothing changes.
+/// Opens an object, and where it is a registry makes room for it. Where there is no memory nothing
+/// changes.
 fn open_object<T: Table>(
     core: &mut Core<'_, T>,
-    registries: &mut Vec<OpenRegistry<T::Alloc>, T::Alloc>,
-    alloc: &T::Alloc,
+    registries: &mut Vec<OpenRegistry, T::Alloc>,
     made: NewObject,
     birth: u64,
 ) -> Result<(), AllocError>
@@ -55,10 +64,9 @@ fn open_object<T: Table>(
 {
     if made.iface == REGISTRY {
         let object = Object { id: made.id, birth };
-        let registry = OpenRegistry::new(alloc, object)?;
         registries.reserve(1)?;
         match core.open_at(made) {
-            Ok(_) => registries.push_reserved(registry),
+            Ok(_) => registries.push_reserved(OpenRegistry::new(object)),
             Err(_) => return Err(AllocError),
         }
     } else if core.open_at(made).is_err() {
@@ -70,22 +78,37 @@ fn open_object<T: Table>(
 /// Closes an object that a request destroys, and writes its delete_id.
 pub(crate) fn close_object<T: Table>(
     core: &mut Core<'_, T>,
-    registries: &mut Vec<OpenRegistry<T::Alloc>, T::Alloc>,
+    registries: &mut Vec<OpenRegistry, T::Alloc>,
     object: Object,
 )
-    requires held { IsTrue (is_held core.old.view object.id) }
+    requires row { HasRow core.old.view object }
     requires not_display { object.id ≢ 1 }
     requires room { IsTrue (fits core.old.outbox delete_id_len 0) }
+    requires sound { IsSound core.old.view registries.old.items }
     ensures core { core.new ≡ core_without (Some object) core.old }
     ensures registries { registries.new.items
         ≡ registries_without (Some object) registries.old.items }
 {
+    let is_registry = is_registry(core, object.id);
     core.delete_object(object.id);
-    remove_registry(registries, object.birth);
+    if is_registry {
+        remove_registry(registries, object.birth);
+    }
 }
 
-/// Takes out the registry of this birth, if it is one.
-fn remove_registry<A: Allocator + Drop>(registries: &mut Vec<OpenRegistry<A>, A>, birth: u64)
+/// Whether the object of an id is a registry.
+fn is_registry<T: Table>(core: &Core<'_, T>, id: u32) -> bool
+    ensures { result
+        ≡ option_map_or (λ entry. same_iface entry.iface registry) (look core.now.view id) false }
+{
+    match core.table.look(id) {
+        Some(entry) => entry.iface == REGISTRY,
+        None => false,
+    }
+}
+
+/// Takes out the registry of this birth.
+fn remove_registry<A: Allocator + Drop>(registries: &mut Vec<OpenRegistry, A>, birth: u64)
     ensures { registries.new.items
         ≡ without_registry registry_birth true birth registries.old.items }
 {

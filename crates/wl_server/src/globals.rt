@@ -77,10 +77,10 @@ impl<'t, T: Table> Server<'t, T> {
         ensures ok { OnOk result (self.new ≡ with_global self.old iface version) }
         ensures err { OnErr result (self.new ≡ self.old) }
     {
-        if self.core.failed {
+        if self.end.core.failed {
             return Err(GlobalError::Failed);
         }
-        if !can_be_global(self.core.tables, iface, version) {
+        if !can_be_global(self.end.core.tables, iface, version) {
             return Err(GlobalError::BadGlobal);
         }
         let count = self.globals.len();
@@ -105,7 +105,7 @@ impl<'t, T: Table> Server<'t, T> {
         ensures ok { OnOk result (self.new ≡ after_withdraw self.old name) }
         ensures err { OnErr result (self.new ≡ self.old) }
     {
-        if self.core.failed {
+        if self.end.core.failed {
             return Err(GlobalError::Failed);
         }
         match global_of(&self.globals, name) {

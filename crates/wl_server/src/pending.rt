@@ -1,39 +1,40 @@
 //! What stands in front of a server's inbox: a request that was read and not yet taken.
-ghost use Rattle.std.specs.Prelude.{◌≡◌, ◌&&◌, ℕ, List, IfOk, IfSome, is_some, nat_lt};
+ghost use Rattle.std.specs.Prelude.{◌≡◌, ◌&&◌, ℕ, List, Some, IfOk, IfSome, is_some, nat_lt};
+ghost use Rattle.wl_wire.specs.Word.{IsHeader};
+ghost use Rattle.wl_sigs.specs.declared.signature.Side.TheVariants.{Request as request_side};
+ghost use Rattle.wl_sigs.specs.Valid.{Valid};
+ghost use Rattle.wl_object_map.specs.View.{look};
+ghost use Rattle.wl_objects.specs.Messages.{made, reader_of, received};
 ghost use Rattle.wl_objects.specs.Parsed.{reported_in};
-ghost use Rattle.wl_objects.specs.Reading.{descriptors};
 ghost use Rattle.wl_objects.specs.Seen.{message_of};
 ghost use Rattle.wl_connection.specs.Sending.{delete_id_len};
-ghost use Rattle.wl_server.specs.Steps.{CanTake, ended_by, front_step, pending_in, pending_of};
-ghost use Rattle.wl_server.specs.Steps.{pendings_in, report_with, state_of};
+ghost use Rattle.wl_server.specs.Steps.{CanTake, IsEndedBy, IsPendingOf, ended_by, front_step};
+ghost use Rattle.wl_server.specs.Steps.{pending_in, pendings_in, report_with, state_of};
 
 use crate::bind::is_bad_bind;
+use crate::changes::Change;
 use crate::globals::Advertised;
-use wl_connection::{Core, DELETE_ID_LEN};
+use crate::outline::Outline;
+use wl_connection::{DELETE_ID_LEN, Endpoint};
+use wl_message::Frame;
 use wl_objects::{
-    Fault, NewObject, NextError, Object, ParsedArg, ParsedArgs, Received, Table, TableLookup,
+    Entry, Fault, NextError, Object, ParsedArg, ParsedArgs, Received, Table, TableLookup,
     made_by_message, receive,
 };
 use wl_sigs::{Destroys, Side, Tables};
-use wl_wire::Header;
 
-/// A request that was read and not yet taken. It lends nothing, so that the server can change while
-/// it is there.
-#[derive(Drop)]
+/// A request that was read and not yet taken: what is reported of it, and what it changes. It lends
+/// nothing; its arguments lie at the end that read it.
+#[derive(Clone, Copy, Debug)]
 pub(crate) struct PendingRequest {
-    pub(crate) target: Object,
-    pub(crate) opcode: u16,
-    pub(crate) args: ParsedArgs,
-    /// The birth of the object that the request opens.
-    pub(crate) birth: u64,
-    /// How many bytes it has.
+    pub(crate) outline: Outline,
+    pub(crate) change: Change,
+    /// The entry of its target.
+    pub(crate) entry: Entry,
+    /// How many bytes the message has.
     pub(crate) size: u16,
-    /// How many descriptors it has.
+    /// How many tokens it takes.
     pub(crate) tokens: usize,
-    /// The object that it opens.
-    pub(crate) made: Option<NewObject>,
-    /// The object that it destroys.
-    pub(crate) ended: Option<Object>,
 }
 
 /// The object that a request destroys, if it destroys one: its target, or the object that an
@@ -56,18 +57,22 @@ fn ended_by(destroys: Destroys, target: Object, args: &ParsedArgs) -> Option<Obj
     }
 }
 
-/// The request in front, once it is whole and if it can be taken. Nothing changes.
-pub(crate) fn find_request<T: Table>(
-    core: &mut Core<'_, T>,
+/// The request in front, once it is whole and if it can be taken. Nothing changes but the arguments
+/// that were parsed last.
+pub(crate) fn find<T: Table>(
+    end: &mut Endpoint<'_, T>,
     globals: &[Advertised],
 ) -> Result<Option<PendingRequest>, NextError>
-    ensures answer { pendings_in core.old result ≡ front_step (state_of core.old globals.now) }
-    ensures can { IfOk result
-        (λ found. IfSome found (λ request. CanTake core.old (pending_in core.old request))) }
-    ensures same { core.new ≡ core.old }
+    ensures answer { pendings_in end.old.core end.new.args result
+        ≡ front_step (state_of end.old.core globals.now) }
+    ensures can { IfOk result (λ found. IfSome found
+        (λ request. CanTake end.old.core (pending_in end.old.core end.new.args request))) }
+    ensures same { end.new.core ≡ end.old.core }
+    ensures entry { IfOk result (λ found. IfSome found (λ request.
+        look end.old.core.view request.outline.target.id ≡ Some request.entry)) }
 {
+    let Endpoint { core, args } = end;
     let offset = core.read;
-    let birth = core.table.births();
     let room = core.outbox.room();
     let frame = match core.inbox.frame() {
         Ok(Some(frame)) => frame,
@@ -77,34 +82,80 @@ pub(crate) fn find_request<T: Table>(
             offset,
         }),
     };
+    let request = match pending_of(args, core.tables, &core.table, globals, frame) {
+        Ok(request) => request,
+        Err(fault) => return Err(NextError::Fault { fault, offset }),
+    };
+    if lacks_room(room, request.change.ended) {
+        return Err(NextError::OutFull);
+    }
+    Ok(Some(request))
+}
+
+/// What a message is and changes, with its arguments parsed.
+fn pending_of<T: Table>(
+    args: &mut ParsedArgs,
+    tables: &Tables,
+    table: &T,
+    globals: &[Advertised],
+    frame: Frame<'_>,
+) -> Result<PendingRequest, Fault>
+    ensures header { IsHeader frame.entry.header }
+    ensures valid { IfOk result (λ _. Valid tables.now) }
+    ensures comes { IsPendingOf tables.now (T.view table.now) globals.now
+        frame.entry.header frame.entry.body.now args.new
+        (received tables.now request_side (reader_of (T.view table.now))
+        frame.entry.header frame.entry.body.now frame.entry.tokens) result }
+    ensures entry { IfOk result (λ request.
+        look (T.view table.now) request.outline.target.id ≡ Some request.entry) }
+{
     let header = frame.header;
-    let lookup = TableLookup { table: &core.table };
-    let received = match receive(
-        core.tables,
+    let lookup = TableLookup { table };
+    let received = receive(
+        args,
+        tables,
         Side::Request,
         &lookup,
         header,
         frame.body,
         frame.tokens,
-    ) {
-        Ok(received) => received,
-        Err(fault) => return Err(NextError::Fault { fault, offset }),
-    };
-    if is_bad_bind(core.tables, globals, header.opcode, &received) {
-        return Err(NextError::Fault {
-            fault: Fault::BadBind,
-            offset,
-        });
-    }
-    let ended = ended_by(
-        received.signature.destroys(),
-        received.target,
-        &received.args,
     );
-    if lacks_room(room, ended) {
-        return Err(NextError::OutFull);
+    let message = match received {
+        Ok(message) => message,
+        Err(fault) => return Err(fault),
+    };
+    if is_bad_bind(tables, globals, header.opcode, &message) {
+        return Err(Fault::BadBind);
     }
-    Ok(Some(pending_of(core.tables, birth, ended, header, received)))
+    Ok(PendingRequest {
+        outline: Outline {
+            target: message.target,
+            opcode: header.opcode,
+            birth: table.births(),
+        },
+        change: change_of(tables, &message),
+        entry: message.entry,
+        size: header.size,
+        tokens: message.tokens,
+    })
+}
+
+/// What a message changes among the objects.
+fn change_of(tables: &Tables, message: &Received<'_, '_>) -> Change
+    ensures made { result.made ≡ made tables.now message.now.entry.version
+        message.now.signature.now.kinds (message_of message.now).values }
+    ensures ended { IsEndedBy (message_of message.now) message.now.args.now result.ended }
+{
+    let signature = message.signature;
+    Change {
+        made: made_by_message(
+            tables,
+            message.entry.version,
+            signature.kinds(),
+            &message.values(),
+        ),
+        ended: ended_by(signature.destroys(), message.target, message.args),
+    }
 }
 
 /// Whether an object is destroyed whose delete_id needs more room than there is.
@@ -112,31 +163,4 @@ fn lacks_room(room: usize, ended: Option<Object>) -> bool
     ensures { result ≡ (is_some ended && nat_lt room delete_id_len) }
 {
     ended.is_some() && room < DELETE_ID_LEN
-}
-
-/// What a message is and does, where it destroys this object and the next one gets this birth.
-/// Compiled into its caller, it copies the arguments once less.
-#[inline(always)]
-fn pending_of(
-    tables: &Tables,
-    birth: u64,
-    ended: Option<Object>,
-    header: Header,
-    message: Received<'_, '_>,
-) -> PendingRequest
-    requires tokens { message.tokens ≡ descriptors message.signature.now.kinds }
-    ensures { result ≡ pending_of tables.now birth ended header (message_of message.entry)
-        message.entry.args }
-{
-    let kinds = message.signature.kinds();
-    PendingRequest {
-        target: message.target,
-        opcode: header.opcode,
-        birth,
-        size: header.size,
-        tokens: message.tokens,
-        made: made_by_message(tables, message.entry.version, kinds, &message.values()),
-        ended,
-        args: message.args,
-    }
 }

@@ -1,23 +1,28 @@
 //! How a server reads the requests that come in.
-ghost use Rattle.std.specs.Prelude.{◌≡◌, ◌≢◌, None, [], OnOk, IfOk, IfSome, OnErr};
+ghost use Rattle.std.specs.Prelude.{◌≡◌, ◌≢◌, None, Some, [], OnOk, IfOk, IfSome, OnErr};
 ghost use Rattle.std.specs.Borrow.{sem};
 ghost use Rattle.std.specs.Io.BufRead.{Rests};
+ghost use Rattle.wl_object_map.specs.View.{look};
 ghost use Rattle.wl_connection.specs.Outcomes.{left};
-ghost use Rattle.wl_server.specs.State.{with_core};
+ghost use Rattle.wl_server.specs.Registries.{IsSound};
 ghost use Rattle.wl_server.specs.Requests.{after_next, IsLentNext, IsNext};
-ghost use Rattle.wl_server.specs.Seen.{lent_in, lent_report, report_in, report_of};
-ghost use Rattle.wl_server.specs.Steps.{CanTake, after_step, checked_front, core_unless};
-ghost use Rattle.wl_server.specs.Steps.{pending_in, pendings_in, report_over, taken_in};
-ghost use Rattle.wl_server.specs.Steps.{taken_report};
+ghost use Rattle.wl_server.specs.Seen.{lent_in, lent_report, lent_request_in, report_in};
+ghost use Rattle.wl_server.specs.Seen.{report_of, request_in};
+ghost use Rattle.wl_server.specs.Steps.{CanTake, checked_front, core_by, core_unless};
+ghost use Rattle.wl_server.specs.Steps.{pending_in, pendings_in, registries_by, state_of};
+ghost use Rattle.wl_server.specs.Steps.{taken_in, taken_report, whole_state};
 ghost use Rattle.wl_server.specs.Lent.{server_row};
 
-use crate::changes::{close_object, open_new_object};
+use crate::changes::{Change, close_object, open_new_object};
 use crate::faults::report_fault;
-use crate::pending::{PendingRequest, find_request};
-use crate::report::{OwnedRequest, Request};
+use crate::globals::Advertised;
+use crate::pending::{PendingRequest, find};
+use crate::registry::OpenRegistry;
+use crate::report::{OwnedRequest, OwnedRequestWithEntry, Request, RequestWithEntry};
 use crate::server::Server;
-use std::alloc::{AllocError, Allocator};
-use wl_objects::{Args, NextError, Table};
+use std::alloc::AllocError;
+use wl_connection::Endpoint;
+use wl_objects::{NextError, Table};
 
 impl<'t, T: Table> Server<'t, T> {
     /// Reads the next request once it is whole, and lends its report: strings, arrays and tokens
@@ -34,8 +39,28 @@ impl<'t, T: Table> Server<'t, T> {
             (λ server. server ≡ left self.old (after_next self.old) (lent_in result))) }
         ensures answer { IsLentNext self.old (lent_in result) }
     {
-        match self.read_request()? {
-            Some(request) => Ok(Some(self.lend(request))),
+        match read(&mut self.end, &mut self.registries, &self.globals)? {
+            Some(request) => Ok(Some(lend(&self.end, request))),
+            None => Ok(None),
+        }
+    }
+
+    /// Reads the next request as `next` does, and returns beside its report the entry that its
+    /// target had before the request.
+    pub fn next_with_entry(&mut self) -> Result<Option<RequestWithEntry<'_>>, NextError>
+        ensures* after { sem 𝓛 (Rests
+            (server_row T.row T.Alloc.row T.Table T.Alloc.Allocator T.Alloc.Clone) self.entry
+            (λ server. server
+            ≡ left self.old (after_next self.old) (lent_request_in result))) }
+        ensures answer { IsLentNext self.old (lent_request_in result) }
+        ensures entry { IfOk result (λ read. IfSome read (λ told.
+            look self.old.core.view told.request.target.id ≡ Some told.entry)) }
+    {
+        match read(&mut self.end, &mut self.registries, &self.globals)? {
+            Some(request) => Ok(Some(RequestWithEntry {
+                request: lend(&self.end, request),
+                entry: request.entry,
+            })),
             None => Ok(None),
         }
     }
@@ -47,134 +72,188 @@ impl<'t, T: Table> Server<'t, T> {
         ensures answer { IsNext self.old (report_in result) }
         ensures state { self.new ≡ left self.old (after_next self.old) (report_in result) }
     {
-        let request = match self.request_unless_fault() {
-            Ok(Some(request)) => request,
-            Ok(None) => return Ok(None),
-            Err(why) => return Err(why),
-        };
-        let report = match self.copy_report(&request) {
-            Ok(report) => report,
-            Err(_) => return Err(NextError::Memory),
-        };
-        match self.take_request(&request) {
-            Ok(()) => Ok(Some(report)),
-            Err(_) => Err(NextError::Memory),
-        }
-    }
-
-    /// Reads the next request and takes it. Its report lies in the message that was taken last.
-    fn read_request(&mut self) -> Result<Option<PendingRequest>, NextError>
-        ensures answer { IsLentNext self.old (taken_in self.new.core result) }
-        ensures state { self.new
-            ≡ left self.old (after_next self.old) (taken_in self.new.core result) }
-    {
-        let request = match self.request_unless_fault() {
-            Ok(Some(request)) => request,
-            Ok(None) => return Ok(None),
-            Err(why) => return Err(why),
-        };
-        match self.take_request(&request) {
-            Ok(()) => Ok(Some(request)),
-            Err(_) => Err(NextError::Memory),
-        }
-    }
-
-    /// The request in front, once it is whole. The client is told of a fault; else nothing changes.
-    fn request_unless_fault(&mut self) -> Result<Option<PendingRequest>, NextError>
-        ensures answer { pendings_in self.old.core result ≡ checked_front self.old }
-        ensures state { self.new ≡ with_core self.old (core_unless self.old.core result) }
-        ensures can { IfOk result
-            (λ found. IfSome found
-            (λ request. CanTake self.old.core (pending_in self.old.core request))) }
-    {
-        if self.core.failed {
-            return Err(NextError::Failed);
-        }
-        match find_request(&mut self.core, &self.globals) {
-            Ok(request) => Ok(request),
-            Err(why) => {
-                report_fault(&mut self.core, why);
-                Err(why)
-            }
-        }
-    }
-
-    /// Takes the request in front out, opens the object that it makes and closes the one that it
-    /// destroys. If there is no memory for the object that it makes, nothing changes.
-    fn take_request(&mut self, request: &PendingRequest) -> Result<(), AllocError>
-        requires { CanTake self.old.core (pending_in self.old.core request.now) }
-        ensures ok { OnOk result
-            (self.new ≡ after_step self.old (pending_in self.old.core request.now)) }
-        ensures err { OnErr result (self.new ≡ self.old) }
-        ensures wants { OnErr result (request.now.made ≢ None) }
-    {
-        open_new_object(
-            &mut self.core,
+        match read_owned(
+            &mut self.end,
             &mut self.registries,
+            &self.globals,
             &self.alloc,
-            request.made,
-            request.birth,
-        )?;
-        // Nothing is allocated from here on.
-        self.core.pass(request.size, request.tokens);
-        if let Some(object) = request.ended {
-            close_object(&mut self.core, &mut self.registries, object);
+        )? {
+            Some(read) => Ok(Some(read.request)),
+            None => Ok(None),
         }
-        Ok(())
     }
 
-    /// Copies the report of a request that stands in front. Nothing changes.
-    fn copy_report(
+    /// Reads the next request as `next_owned` does, and returns beside its report the entry that
+    /// its target had before the request.
+    pub fn next_owned_with_entry(
         &mut self,
-        request: &PendingRequest,
-    ) -> Result<OwnedRequest<T::Alloc>, AllocError>
-        requires { CanTake self.old.core (pending_in self.old.core request.now) }
-        ensures same { self.new ≡ self.old }
-        ensures ok { IfOk result
-            (λ report. report_of report ≡ (pending_in self.old.core request.now).report) }
-        ensures err { OnErr result (request.now.args ≢ []) }
+    ) -> Result<Option<OwnedRequestWithEntry<T::Alloc>>, NextError>
+        ensures answer { IsNext self.old (request_in result) }
+        ensures state { self.new ≡ left self.old (after_next self.old) (request_in result) }
+        ensures entry { IfOk result (λ read. IfSome read (λ told.
+            look self.old.core.view told.request.target.id ≡ Some told.entry)) }
     {
-        let tokens = self.core.first_tokens();
-        match self.core.inbox.frame() {
-            Ok(Some(frame)) => copy_of(request, &self.alloc, frame.body, &tokens[..request.tokens]),
-            _ => Err(AllocError),
-        }
+        read_owned(
+            &mut self.end,
+            &mut self.registries,
+            &self.globals,
+            &self.alloc,
+        )
     }
+}
 
-    /// The report of the request that was taken last.
-    fn lend(&self, request: PendingRequest) -> Request<'_>
-        ensures { lent_report result ≡ taken_report self.now.core request }
-    {
-        Request {
-            target: request.target,
-            opcode: request.opcode,
-            args: Args::new(
-                &request.args,
-                self.core.inbox.last(),
-                self.core.inbox.last_tokens(),
-                request.birth,
-            ),
+/// Reads the next request at an end, and takes it. Its report lies in the message that was taken
+/// last.
+fn read<T: Table>(
+    end: &mut Endpoint<'_, T>,
+    registries: &mut Vec<OpenRegistry, T::Alloc>,
+    globals: &[Advertised],
+) -> Result<Option<PendingRequest>, NextError>
+    requires { IsSound end.old.core.view registries.old.items }
+    ensures answer { IsLentNext (whole_state end.old.core globals.now registries.old.items)
+        (taken_in end.new.core end.new.args result) }
+    ensures state { whole_state end.new.core globals.now registries.new.items
+        ≡ left (whole_state end.old.core globals.now registries.old.items)
+        (after_next (whole_state end.old.core globals.now registries.old.items))
+        (taken_in end.new.core end.new.args result) }
+    ensures sound { IsSound end.new.core.view registries.new.items }
+    ensures entry { IfOk result (λ read. IfSome read (λ request.
+        look end.old.core.view request.outline.target.id ≡ Some request.entry)) }
+{
+    let request = match find_or_fail(end, globals)? {
+        Some(request) => request,
+        None => return Ok(None),
+    };
+    match take(end, registries, &request) {
+        Ok(()) => Ok(Some(request)),
+        Err(_) => Err(NextError::Memory),
+    }
+}
+
+/// Reads the next request at an end, copies its report, and takes it.
+fn read_owned<T: Table>(
+    end: &mut Endpoint<'_, T>,
+    registries: &mut Vec<OpenRegistry, T::Alloc>,
+    globals: &[Advertised],
+    alloc: &T::Alloc,
+) -> Result<Option<OwnedRequestWithEntry<T::Alloc>>, NextError>
+    requires { IsSound end.old.core.view registries.old.items }
+    ensures answer { IsNext (whole_state end.old.core globals.now registries.old.items)
+        (request_in result) }
+    ensures state { whole_state end.new.core globals.now registries.new.items
+        ≡ left (whole_state end.old.core globals.now registries.old.items)
+        (after_next (whole_state end.old.core globals.now registries.old.items))
+        (request_in result) }
+    ensures sound { IsSound end.new.core.view registries.new.items }
+    ensures entry { IfOk result (λ read. IfSome read (λ told.
+        look end.old.core.view told.request.target.id ≡ Some told.entry)) }
+{
+    let request = match find_or_fail(end, globals)? {
+        Some(request) => request,
+        None => return Ok(None),
+    };
+    let report = match copy(end, alloc, &request) {
+        Ok(report) => report,
+        Err(_) => return Err(NextError::Memory),
+    };
+    match take(end, registries, &request) {
+        Ok(()) => Ok(Some(OwnedRequestWithEntry {
+            request: report,
+            entry: request.entry,
+        })),
+        Err(_) => Err(NextError::Memory),
+    }
+}
+
+/// The request in front, once it is whole. The client is told of a fault, after which the end has
+/// failed; else nothing changes.
+fn find_or_fail<T: Table>(
+    end: &mut Endpoint<'_, T>,
+    globals: &[Advertised],
+) -> Result<Option<PendingRequest>, NextError>
+    ensures answer { pendings_in end.old.core end.new.args result
+        ≡ checked_front (state_of end.old.core globals.now) }
+    ensures core { end.new.core ≡ core_unless end.old.core result }
+    ensures can { IfOk result (λ found. IfSome found
+        (λ request. CanTake end.old.core (pending_in end.old.core end.new.args request))) }
+    ensures view { end.new.core.view ≡ end.old.core.view }
+    ensures entry { IfOk result (λ found. IfSome found (λ request.
+        look end.old.core.view request.outline.target.id ≡ Some request.entry)) }
+{
+    if end.core.failed {
+        return Err(NextError::Failed);
+    }
+    match find(end, globals) {
+        Ok(request) => Ok(request),
+        Err(why) => {
+            report_fault(&mut end.core, why);
+            Err(why)
         }
     }
 }
 
-/// A copy of a request's report, where these are its body and its tokens.
-fn copy_of<A: Allocator + Clone + Drop>(
+/// Copies the report of a request that stands in front. Nothing changes.
+fn copy<T: Table>(
+    end: &mut Endpoint<'_, T>,
+    alloc: &T::Alloc,
     request: &PendingRequest,
-    alloc: &A,
-    body: &[u8],
-    tokens: &[u32],
-) -> Result<OwnedRequest<A>, AllocError>
-    ensures ok { IfOk result
-        (λ report. report_of report ≡ report_over body.now tokens.now request.now) }
-    ensures err { OnErr result (request.now.args ≢ []) }
+) -> Result<OwnedRequest<T::Alloc>, AllocError>
+    requires { CanTake end.old.core (pending_in end.old.core end.old.args request.now) }
+    ensures core { end.new.core ≡ end.old.core }
+    ensures args { end.new.args ≡ end.old.args }
+    ensures ok { IfOk result (λ report. report_of report
+        ≡ (pending_in end.old.core end.old.args request.now).report) }
+    ensures err { OnErr result (end.old.args ≢ []) }
+    ensures target { IfOk result (λ report. report.target ≡ request.now.outline.target) }
 {
-    match Args::new(&request.args, body, tokens, request.birth).to_owned(alloc) {
-        Ok(args) => Ok(OwnedRequest {
-            target: request.target,
-            opcode: request.opcode,
-            args,
-        }),
-        Err(error) => Err(error),
+    let tokens = end.core.first_tokens(request.tokens);
+    let frame = match end.core.inbox.frame() {
+        Ok(Some(frame)) => frame,
+        _ => return Err(AllocError),
+    };
+    let tokens = &tokens[..request.tokens];
+    request
+        .outline
+        .to_owned(alloc, &end.args, frame.body, tokens)
+}
+
+/// Takes the message in front with its tokens, opens the object that it makes and closes the one
+/// that it destroys. If there is no memory for the object that it makes, nothing changes.
+fn take<T: Table>(
+    end: &mut Endpoint<'_, T>,
+    registries: &mut Vec<OpenRegistry, T::Alloc>,
+    request: &PendingRequest,
+) -> Result<(), AllocError>
+    requires can { CanTake end.old.core (pending_in end.old.core end.old.args request.now) }
+    requires sound { IsSound end.old.core.view registries.old.items }
+    ensures args { end.new.args ≡ end.old.args }
+    ensures core { OnOk result (end.new.core
+        ≡ core_by end.old.core (pending_in end.old.core end.old.args request.now)) }
+    ensures registries { OnOk result (registries.new.items
+        ≡ registries_by end.old.core registries.old.items
+        (pending_in end.old.core end.old.args request.now)) }
+    ensures err { OnErr result
+        ((end.new.core ≡ end.old.core) × (registries.new.items ≡ registries.old.items)) }
+    ensures wants { OnErr result (request.now.change.made ≢ None) }
+    ensures sound { OnOk result (IsSound end.new.core.view registries.new.items) }
+{
+    let Change { made, ended } = request.change;
+    open_new_object(&mut end.core, registries, made, request.outline.birth)?;
+    // Nothing is allocated from here on.
+    end.core.pass(request.size, request.tokens);
+    if let Some(object) = ended {
+        close_object(&mut end.core, registries, object);
     }
+    Ok(())
+}
+
+/// The report of the request that was taken last.
+fn lend<'a, T: Table>(end: &'a Endpoint<'_, T>, request: PendingRequest) -> Request<'a>
+    ensures { lent_report result ≡ taken_report end.now.core end.now.args request }
+{
+    request.outline.lend(
+        &end.args,
+        end.core.inbox.last(),
+        end.core.inbox.last_tokens(),
+    )
 }

@@ -39,7 +39,7 @@ impl<'t, T: Table> Server<'t, T> {
             (after_send self.old.core event_side target opcode (given args.now))) }
         ensures err { OnErr result (self.new ≡ self.old) }
     {
-        self.core.send(Side::Event, target, opcode, args)
+        self.end.core.send(Side::Event, target, opcode, args)
     }
 
     /// Ends an object without its event, as a callback that nobody waits for, and writes its
@@ -49,7 +49,7 @@ impl<'t, T: Table> Server<'t, T> {
         ensures ok { OnOk result (self.new ≡ with_core self.old (after_drop self.old.core object)) }
         ensures err { OnErr result (self.new ≡ self.old) }
     {
-        close_dropped(&mut self.core, object)
+        close_dropped(&mut self.end.core, object)
     }
 
     /// Ends the connection with an error about an object, for which there is always room. The
@@ -61,16 +61,16 @@ impl<'t, T: Table> Server<'t, T> {
             (self.new ≡ with_core self.old (after_error self.old.core object code text.now)) }
         ensures err { OnErr result (self.new ≡ self.old) }
     {
-        if self.core.failed {
+        if self.end.core.failed {
             return Err(SendError::Failed);
         }
-        if self.core.live(object).is_none() {
+        if self.end.core.live(object).is_none() {
             return Err(SendError::Stale);
         }
         if !is_error_text(text) {
             return Err(SendError::WrongArgs(2));
         }
-        self.core.write_error(object.id, code, text);
+        self.end.core.write_error(object.id, code, text);
         Ok(())
     }
 }

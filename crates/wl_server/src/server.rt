@@ -1,33 +1,28 @@
 //! The server's end.
-ghost use Rattle.std.specs.Prelude.{◌≡◌, ◌≤◌, IfOk, length, take, drop, ◌++◌};
+ghost use Rattle.std.specs.Prelude.{◌≡◌, IfOk};
 ghost use Rattle.wl_message.specs.Arrived.{AreSizes};
-ghost use Rattle.wl_message.specs.Outgoing.{goes, waiting_bytes, waiting_tokens};
-ghost use Rattle.wl_connection.specs.Core.{display_object, live, in_room, feeds, with_arrived};
-ghost use Rattle.wl_connection.specs.Core.{with_gone};
-ghost use Rattle.wl_connection.specs.Core.{is_drained};
-ghost use Rattle.wl_server.specs.State.{new_state, with_core};
+ghost use Rattle.wl_server.specs.State.{new_state};
 
 use crate::globals::Advertised;
 use crate::registry::OpenRegistry;
 use std::alloc::AllocError;
 use std::marker::Model;
-use wl_connection::Core;
-use wl_message::{Fed, Sizes, Taken};
-use wl_objects::{Object, Table};
+use wl_connection::{Core, Endpoint};
+use wl_message::Sizes;
+use wl_objects::Table;
 use wl_sigs::Tables;
-use wl_wire::Iface;
 
 /// The server's end of one connection: its objects, its two boxes, the globals that it
 /// advertises, and what each open registry was told of them.
 #[derive(Drop)]
 pub struct Server<'t, T: Table> {
-    pub(crate) core: Core<'t, T>,
-    /// Allocates owned reports and the marks of registries.
+    pub(crate) end: Endpoint<'t, T>,
+    /// Allocates owned reports.
     pub(crate) alloc: T::Alloc,
     /// In the order of their names.
     pub(crate) globals: Vec<Advertised, T::Alloc>,
     /// In the order of their births.
-    pub(crate) registries: Vec<OpenRegistry<T::Alloc>, T::Alloc>,
+    pub(crate) registries: Vec<OpenRegistry, T::Alloc>,
 }
 
 impl<'t, T: Table> Model for Server<'t, T> {
@@ -42,15 +37,15 @@ impl<'t, T: Table> Model for Server<'t, T> {
     ghost coded = { Prim.hlevel (codes, view_code) };
 
     ghost view = { λ s. record {
-      core = s.core;
+      core = s.end.core;
       globals = s.globals.items;
       registries = s.registries.items;
     } };
 
     ghost invariant = { λ s. record {
       few : length s.globals.items ≤ 1024;
-      registries : HasRegistries s.core.view s.registries.items;
-      births : BirthsAreOnce s.core.view;
+      registries : HasRegistries s.end.core.view s.registries.items;
+      births : BirthsAreOnce s.end.core.view;
     } };
 }
 
@@ -64,78 +59,10 @@ impl<'t, T: Table> Server<'t, T> {
         let registries = Vec::new(alloc.clone()?);
         let core = Core::new(alloc.clone()?, tables, sizes)?;
         Ok(Server {
-            core,
+            end: Endpoint::new(core),
             alloc,
             globals,
             registries,
         })
-    }
-
-    /// wl_display, id 1 and birth 0.
-    pub fn display(&self) -> Object
-        ensures { result ≡ display_object }
-    {
-        self.core.display()
-    }
-
-    /// The interface and version of an object that is live, at a failed server too.
-    pub fn live(&self, object: Object) -> Option<(Iface, u32)>
-        ensures { result ≡ live self.now.core object }
-    {
-        self.core.live(object)
-    }
-
-    /// The free bytes and tokens of the inbox; zeros at a failed server.
-    pub fn in_room(&self) -> Fed
-        ensures { result ≡ in_room self.now.core }
-    {
-        self.core.in_room()
-    }
-
-    /// Whether nothing waits in either box.
-    pub fn is_drained(&self) -> bool
-        ensures { result ≡ is_drained self.now.core }
-    {
-        self.core.is_drained()
-    }
-
-    /// The objects.
-    pub fn table(&self) -> &T
-        ensures { T.view result.now ≡ self.now.core.view }
-    {
-        &self.core.table
-    }
-
-    /// Takes in what was received: as many tokens as fit, and if these are all, as many bytes as
-    /// fit. A failed server takes nothing. Whatever waits, the inbox can hold the longest message.
-    pub fn feed(&mut self, bytes: &[u8], tokens: &[u32]) -> Fed
-        ensures fed { result ≡ feeds self.old.core bytes.now tokens.now }
-        ensures state { self.new
-            ≡ with_core self.old
-            (with_arrived self.old.core (take result.bytes bytes.now)
-            (take result.tokens tokens.now)) }
-        ensures holds { self.old.core.inbox.limit.bytes ≤ self.old.core.inbox.capacity }
-    {
-        self.core.feed(bytes, tokens)
-    }
-
-    /// How much `take` into slices of these lengths would take.
-    pub fn goes(&self, bytes: usize, tokens: usize) -> Taken
-        ensures { result ≡ goes self.now.core.outbox bytes tokens }
-    {
-        self.core.outbox.goes(bytes, tokens)
-    }
-
-    /// Moves out what waits to be sent, as much as the slices hold. The tokens of a message go with
-    /// its first byte.
-    pub fn take(&mut self, bytes: &mut [u8], tokens: &mut [u32]) -> Taken
-        ensures taken { result ≡ goes self.old.core.outbox (length bytes.old) (length tokens.old) }
-        ensures bytes { bytes.new ≡ take result.bytes (waiting_bytes self.old.core.outbox)
-            ++ drop result.bytes bytes.old }
-        ensures tokens { tokens.new ≡ take result.tokens (waiting_tokens self.old.core.outbox)
-            ++ drop result.tokens tokens.old }
-        ensures state { self.new ≡ with_core self.old (with_gone self.old.core result.bytes) }
-    {
-        self.core.outbox.take(bytes, tokens)
     }
 }

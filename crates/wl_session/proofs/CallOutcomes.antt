@@ -1,5 +1,6 @@
 -- What a call of an end answers and leaves, as the pair does it: f puts the end into the pair.
-use Rattle.std.proofs.Common.{◌≡◌, ℕ, Bool, true, false, cond, inl, inr, refl, sym, ap, ◌∙◌, subst, List, length, OnOk, OnErr, IsOk, IfOk, IfErr, IsErrAnd, is_some}
+use Rattle.std.proofs.Common.{◌≡◌, ℕ, Bool, true, false, cond, inl, inr, refl, sym, ap, ◌∙◌, subst}
+use Rattle.std.proofs.Common.{List, length, OnOk, OnErr, IsOk, IfOk, IfErr, IsErrAnd, is_some}
 use Rattle.std.specs.declared.option.Option.{Option}
 use Rattle.std.specs.declared.option.Option.TheVariants.{None, Some}
 use Rattle.std.specs.declared.result.Result.{Result}
@@ -22,48 +23,67 @@ use Rattle.wl_server.specs.declared.globals.GlobalError.{GlobalError}
 use Rattle.wl_server.specs.declared.globals.GlobalError.TheVariants as global_errors
 use Rattle.wl_server.specs.Calls.{ok_unless, error_refusal, after_error}
 use Rattle.wl_server.specs.Announcing.{Fitting, after_announce}
-use Rattle.wl_connection.proofs.Receivings.{some_report}
-use Rattle.theory_connection.specs.Pair.{PairState, with_server, marked, after_post, Writes, Calls, Adds, Announces, Nexts, accepted, refused, no_memory, done, added, announced, answered}
+use Rattle.wl_connection.proofs.ReceivedMessage.{some_report}
+use Rattle.theory_connection.specs.Pair.{PairState, with_server, marked, after_post, Writes, Calls}
+use Rattle.theory_connection.specs.Pair.{Adds, Announces, Nexts, accepted, refused, no_memory, done}
+use Rattle.theory_connection.specs.Pair.{added, announced, answered}
 
 -- ---- a write
 
-accepts : {S : Type 0} (f : S → PairState) (answer : Result (Option Object) SendError) (opens : Bool) (before after now : S) (new : Option Object)
-    → AnswersOrMemory refusals.Memory opens answer (Ok new) → now ≡ after → Writes answer opens (f before) (f after) (Ok new) (f now)
-accepts {S = S} f answer opens before after now new (inl e) h = subst (λ (s : S). Writes answer opens (f before) (f after) (Ok new) (f s)) (sym h) (accepted (sym e))
+accepts : {S : Type 0} (f : S → PairState) (answer : Result (Option Object) SendError) (opens : Bool)
+    (before after now : S) (new : Option Object)
+    → AnswersOrMemory refusals.Memory opens answer (Ok new) → now ≡ after
+    → Writes answer opens (f before) (f after) (Ok new) (f now)
+accepts {S = S} f answer opens before after now new (inl e) h =
+    subst (λ (s : S). Writes answer opens (f before) (f after) (Ok new) (f s)) (sym h) (accepted (sym e))
 accepts f answer opens before after now new (inr k) h = absurd (cc k.0)
 
-wants : (answer : Result (Option Object) SendError) (opens : Bool) (p after : PairState) → opens ≡ true → IsOk answer → Writes answer opens p after (Err refusals.Memory) p
+wants : (answer : Result (Option Object) SendError) (opens : Bool) (p after : PairState) → opens ≡ true → IsOk answer
+    → Writes answer opens p after (Err refusals.Memory) p
 wants (Ok new) opens p after o k = no_memory refl o
 wants (Err why) opens p after o k = absurd (cc k)
 
-refuses : {S : Type 0} (f : S → PairState) (answer : Result (Option Object) SendError) (opens : Bool) (before after now : S) (why : SendError)
-    → AnswersOrMemory refusals.Memory opens answer (Err why) → now ≡ before → Writes answer opens (f before) (f after) (Err why) (f now)
-refuses {S = S} f answer opens before after now why (inl e) h = subst (λ (s : S). Writes answer opens (f before) (f after) (Err why) (f s)) (sym h) (refused (sym e))
+refuses : {S : Type 0} (f : S → PairState) (answer : Result (Option Object) SendError) (opens : Bool)
+    (before after now : S) (why : SendError)
+    → AnswersOrMemory refusals.Memory opens answer (Err why) → now ≡ before
+    → Writes answer opens (f before) (f after) (Err why) (f now)
+refuses {S = S} f answer opens before after now why (inl e) h =
+    subst (λ (s : S). Writes answer opens (f before) (f after) (Err why) (f s)) (sym h) (refused (sym e))
 refuses {S = S} f answer opens before after now why (inr k) h =
     let same : refusals.Memory ≡ why = cc k.0 in
     subst (λ (s : S). Writes answer opens (f before) (f after) (Err why) (f s)) (sym h)
-    (subst (λ (r : SendError). Writes answer opens (f before) (f after) (Err r) (f before)) same (wants answer opens (f before) (f after) k.1 k.2))
+    (subst (λ (r : SendError). Writes answer opens (f before) (f after) (Err r) (f before)) same
+    (wants answer opens (f before) (f after) k.1 k.2))
 
-pub writes : {S : Type 0} (f : S → PairState) (answer : Result (Option Object) SendError) (opens : Bool) (before after now : S) (result : Result (Option Object) SendError)
-    → AnswersOrMemory refusals.Memory opens answer result → OnOk result (now ≡ after) → OnErr result (now ≡ before) → Writes answer opens (f before) (f after) result (f now)
+pub writes : {S : Type 0} (f : S → PairState) (answer : Result (Option Object) SendError) (opens : Bool)
+    (before after now : S) (result : Result (Option Object) SendError)
+    → AnswersOrMemory refusals.Memory opens answer result → OnOk result (now ≡ after) → OnErr result (now ≡ before)
+    → Writes answer opens (f before) (f after) result (f now)
 writes f answer opens before after now (Ok new) g ok err = accepts f answer opens before after now new g ok
 writes f answer opens before after now (Err why) g ok err = refuses f answer opens before after now why g err
 
-pub binds : {S : Type 0} (f : S → PairState) (answer : Result (Option Object) SendError) (before after now : S) (result : Result Object SendError)
-    → AnswersOrMemory refusals.Memory true answer (new_in result) → OnOk result (now ≡ after) → OnErr result (now ≡ before) → Writes answer true (f before) (f after) (new_in result) (f now)
+pub binds : {S : Type 0} (f : S → PairState) (answer : Result (Option Object) SendError) (before after now : S)
+    (result : Result Object SendError)
+    → AnswersOrMemory refusals.Memory true answer (new_in result) → OnOk result (now ≡ after)
+    → OnErr result (now ≡ before) → Writes answer true (f before) (f after) (new_in result) (f now)
 binds f answer before after now (Ok new) g ok err = accepts f answer true before after now (Some new) g ok
 binds f answer before after now (Err why) g ok err = refuses f answer true before after now why g err
 
 -- ---- a call that answers no value
 
-pub calls : {S E : Type 0} (f : S → PairState) (refusal : Option E) (before after now : S) (result : Result (Unit {0}) E)
-    → refusal_in result ≡ refusal → OnOk result (now ≡ after) → OnErr result (now ≡ before) → Calls refusal (f before) (f after) result (f now)
-calls {S = S} {E = E} f refusal before after now (Ok x) a ok err = subst (λ (s : S). Calls {E = E} refusal (f before) (f after) (Ok x) (f s)) (sym ok) (done (sym a))
-calls {S = S} {E = E} f refusal before after now (Err why) a ok err = subst (λ (s : S). Calls {E = E} refusal (f before) (f after) (Err why) (f s)) (sym err) (refused (sym a))
+pub calls : {S E : Type 0} (f : S → PairState) (refusal : Option E) (before after now : S)
+    (result : Result (Unit {0}) E)
+    → refusal_in result ≡ refusal → OnOk result (now ≡ after) → OnErr result (now ≡ before)
+    → Calls refusal (f before) (f after) result (f now)
+calls {S = S} {E = E} f refusal before after now (Ok x) a ok err =
+    subst (λ (s : S). Calls {E = E} refusal (f before) (f after) (Ok x) (f s)) (sym ok) (done (sym a))
+calls {S = S} {E = E} f refusal before after now (Err why) a ok err =
+    subst (λ (s : S). Calls {E = E} refusal (f before) (f after) (Err why) (f s)) (sym err) (refused (sym a))
 
 -- ---- a global
 
-why_refused : (refusal : Option GlobalError) (name : ℕ) (why : GlobalError) → ok_unless refusal name ≡ Err why → refusal ≡ Some why
+why_refused : (refusal : Option GlobalError) (name : ℕ) (why : GlobalError) → ok_unless refusal name ≡ Err why
+    → refusal ≡ Some why
 why_refused None name why h = absurd (cc h)
 why_refused (Some other) name why h = let e : other ≡ why = cc h in cc e
 
@@ -71,45 +91,64 @@ not_refused : (refusal : Option GlobalError) (name : ℕ) → IsOk (ok_unless re
 not_refused None name h = refl
 not_refused (Some why) name h = absurd (cc h)
 
-name_given : (refusal : Option GlobalError) (name given : ℕ) → ok_unless refusal name ≡ Ok given → (refusal ≡ None) × (name ≡ given)
+name_given : (refusal : Option GlobalError) (name given : ℕ) → ok_unless refusal name ≡ Ok given
+    → (refusal ≡ None) × (name ≡ given)
 name_given None name given h = (refl, cc h)
 name_given (Some why) name given h = absurd (cc h)
 
-pub adds : {S : Type 0} (f : S → PairState) (refusal : Option GlobalError) (name : ℕ) (before after now : S) (result : Result ℕ GlobalError)
-    → AnswersOrMemory global_errors.Memory true (ok_unless refusal name) result → OnOk result (now ≡ after) → OnErr result (now ≡ before) → Adds refusal name (f before) (f after) result (f now)
+pub adds : {S : Type 0} (f : S → PairState) (refusal : Option GlobalError) (name : ℕ) (before after now : S)
+    (result : Result ℕ GlobalError)
+    → AnswersOrMemory global_errors.Memory true (ok_unless refusal name) result → OnOk result (now ≡ after)
+    → OnErr result (now ≡ before) → Adds refusal name (f before) (f after) result (f now)
 adds {S = S} f refusal name before after now (Ok given) (inl e) ok err =
     let k = name_given refusal name given (sym e) in
-    subst (λ (s : S). Adds refusal name (f before) (f after) (Ok given) (f s)) (sym ok) (subst (λ (n : ℕ). Adds refusal name (f before) (f after) (Ok n) (f after)) k.1 (added k.0))
+    subst (λ (s : S). Adds refusal name (f before) (f after) (Ok given) (f s)) (sym ok)
+    (subst (λ (n : ℕ). Adds refusal name (f before) (f after) (Ok n) (f after)) k.1 (added k.0))
 adds f refusal name before after now (Ok given) (inr k) ok err = absurd (cc k.0)
 adds {S = S} f refusal name before after now (Err why) (inl e) ok err =
-    subst (λ (s : S). Adds refusal name (f before) (f after) (Err why) (f s)) (sym err) (refused (why_refused refusal name why (sym e)))
+    subst (λ (s : S). Adds refusal name (f before) (f after) (Err why) (f s)) (sym err)
+    (refused (why_refused refusal name why (sym e)))
 adds {S = S} f refusal name before after now (Err why) (inr k) ok err =
     let same : global_errors.Memory ≡ why = cc k.0 in
     subst (λ (s : S). Adds refusal name (f before) (f after) (Err why) (f s)) (sym err)
-    (subst (λ (r : GlobalError). Adds refusal name (f before) (f after) (Err r) (f before)) same (no_memory (not_refused refusal name k.2)))
+    (subst (λ (r : GlobalError). Adds refusal name (f before) (f after) (Err r) (f before)) same
+    (no_memory (not_refused refusal name k.2)))
 
 -- ---- announcing
 
 pub announces : (p : PairState) (now : server.State) (result : Result ℕ SendError)
-    → IfOk result (λ count. (p.server.core.failed ≡ false) × Fitting p.server count × (now ≡ after_announce p.server count))
+    → IfOk result (λ count. (p.server.core.failed ≡ false) × Fitting p.server count
+    × (now ≡ after_announce p.server count))
     → IfErr result (λ why. (why ≡ refusals.Failed) × (p.server.core.failed ≡ true) × (now ≡ p.server))
     → Announces p result (with_server p now)
-announces p now (Ok count) ok err = subst (λ (s : server.State). Announces p (Ok count) (with_server p s)) (sym ok.2) (announced ok.0 ok.1)
+announces p now (Ok count) ok err = subst (λ (s : server.State). Announces p (Ok count) (with_server p s)) (sym ok.2)
+    (announced ok.0 ok.1)
 announces p now (Err why) ok err =
     subst (λ (s : server.State). Announces p (Err why) (with_server p s)) (sym err.2)
     (subst (λ (r : SendError). Announces p (Err r) p) (sym err.0) (refused err.1))
 
 -- ---- an error
 
-pub posts : (p : PairState) (object : Object) (code : ℕ) (text : List ℕ) (now : server.State) (mark : Option ℕ) → None ≡ error_refusal p.server.core object text
-    → now ≡ server.with_core p.server (after_error p.server.core object code text) → mark ≡ marked p.ended_at (length p.recording)
-    → Calls (error_refusal p.server.core object text) p (after_post p object code text) (Ok tt) (record { client = p.client; server = now; recording = p.recording; ended_at = mark })
+pub posts : (p : PairState) (object : Object) (code : ℕ) (text : List ℕ) (now : server.State) (mark : Option ℕ)
+    → None ≡ error_refusal p.server.core object text
+    → now ≡ server.with_core p.server (after_error p.server.core object code text)
+    → mark ≡ marked p.ended_at (length p.recording)
+    → Calls (error_refusal p.server.core object text) p (after_post p object code text) (Ok tt)
+    (record { client = p.client; server = now; recording = p.recording; ended_at = mark })
 posts p object code text now mark a e m =
-    subst (λ (s : server.State). Calls (error_refusal p.server.core object text) p (after_post p object code text) (Ok tt) (record { client = p.client; server = s; recording = p.recording; ended_at = mark })) (sym e)
-    (subst (λ (o : Option ℕ). Calls (error_refusal p.server.core object text) p (after_post p object code text) (Ok tt) (record { client = p.client; server = server.with_core p.server (after_error p.server.core object code text); recording = p.recording; ended_at = o })) (sym m)
+    subst (λ (s : server.State). Calls (error_refusal p.server.core object text) p (after_post p object code text)
+    (Ok tt) (record { client = p.client; server = s; recording = p.recording; ended_at = mark })) (sym e)
+    (subst (λ (o : Option ℕ). Calls (error_refusal p.server.core object text) p (after_post p object code text) (Ok tt)
+    (record {
+      client = p.client;
+      server = server.with_core p.server (after_error p.server.core object code text);
+      recording = p.recording;
+      ended_at = o;
+    })) (sym m)
     (done (sym a)))
 
-pub fails : {S E : Type 0} (f : S → PairState) (refusal : Option E) (before now : S) (after : PairState) (why : E) (result : Result (Unit {0}) E)
+pub fails : {S E : Type 0} (f : S → PairState) (refusal : Option E) (before now : S) (after : PairState) (why : E)
+    (result : Result (Unit {0}) E)
     → Some why ≡ refusal → now ≡ before → IsErrAnd result (λ e. e ≡ why) → Calls refusal (f before) after result (f now)
 fails f refusal before now after why (Ok x) a e r = absurd r
 fails {S = S} {E = E} f refusal before now after why (Err other) a e r =
@@ -126,15 +165,18 @@ marks_no_more (Some first) count h = refl
 
 -- ---- a read
 
-left_is : {S R : Type 0} (before after : S) (r : Result (Option R) NextError) → (r ≡ Err errors.Memory → ⊥) → left before after r ≡ after
+left_is : {S R : Type 0} (before after : S) (r : Result (Option R) NextError) → (r ≡ Err errors.Memory → ⊥)
+    → left before after r ≡ after
 left_is before after (Ok x) h = refl
 left_is before after (Err (errors.Fault what offset)) h = refl
 left_is before after (Err errors.Failed) h = refl
 left_is before after (Err errors.Memory) h = absurd (h refl)
 left_is before after (Err errors.OutFull) h = refl
 
-pub nexts : {S R : Type 0} (f : S → PairState) (needs : R → Bool) (answer : Result (Option R) NextError) (before after now : S) (result : Result (Option R) NextError)
-    → (answer ≡ Err errors.Memory → ⊥) → AnswersOrMemory errors.Memory (answers_with needs answer) answer result → now ≡ left before after result → Nexts needs answer (f before) (f after) result (f now)
+pub nexts : {S R : Type 0} (f : S → PairState) (needs : R → Bool) (answer : Result (Option R) NextError)
+    (before after now : S) (result : Result (Option R) NextError)
+    → (answer ≡ Err errors.Memory → ⊥) → AnswersOrMemory errors.Memory (answers_with needs answer) answer result
+    → now ≡ left before after result → Nexts needs answer (f before) (f after) result (f now)
 nexts {S = S} {R = R} f needs answer before after now result never (inl e) h =
     let l : now ≡ after = h ∙ ap (left before after) e ∙ left_is before after answer never in
     subst (λ (s : S). Nexts needs answer (f before) (f after) result (f s)) (sym l)
@@ -143,7 +185,8 @@ nexts {S = S} {R = R} f needs answer before after now result never (inr k) h =
     let l : now ≡ before = h ∙ ap (left before after) k.0 in
     let some = some_report needs answer k.1 in
     subst (λ (s : S). Nexts needs answer (f before) (f after) result (f s)) (sym l)
-    (subst (λ (r : Result (Option R) NextError). Nexts needs answer (f before) (f after) r (f before)) (sym k.0) (no_memory some.1 some.2))
+    (subst (λ (r : Result (Option R) NextError). Nexts needs answer (f before) (f after) r (f before)) (sym k.0)
+    (no_memory some.1 some.2))
 
 -- ---- what a client's and a server's read answers
 
@@ -152,14 +195,16 @@ client_found core (Err fault) h = cc h
 client_found core (Ok None) h = cc h
 client_found core (Ok (Some f)) h = cc h
 
-client_at : (core : Core) (r : Result (Option Found) Fault) (b : Bool) → cond b (Err errors.Failed) (events.answer_found core r) ≡ Err errors.Memory → ⊥
+client_at : (core : Core) (r : Result (Option Found) Fault) (b : Bool)
+    → cond b (Err errors.Failed) (events.answer_found core r) ≡ Err errors.Memory → ⊥
 client_at core r true h = cc h
 client_at core r false h = client_found core r h
 
 pub client_never : (state : client.State) → events.next_answer state ≡ Err errors.Memory → ⊥
 client_never state = client_at state.core (found state.core event_side) state.core.failed
 
-server_full : (core : Core) (f : Found) (b : Bool) → cond b (Err errors.OutFull) (Ok (Some (requests.report core f))) ≡ Err errors.Memory → ⊥
+server_full : (core : Core) (f : Found) (b : Bool)
+    → cond b (Err errors.OutFull) (Ok (Some (requests.report core f))) ≡ Err errors.Memory → ⊥
 server_full core f true h = cc h
 server_full core f false h = cc h
 
@@ -168,7 +213,8 @@ server_found core (Err fault) h = cc h
 server_found core (Ok None) h = cc h
 server_found core (Ok (Some f)) h = server_full core f (requests.is_out_full core f) h
 
-server_at : (core : Core) (r : Result (Option Found) Fault) (b : Bool) → cond b (Err errors.Failed) (requests.answer_found core r) ≡ Err errors.Memory → ⊥
+server_at : (core : Core) (r : Result (Option Found) Fault) (b : Bool)
+    → cond b (Err errors.Failed) (requests.answer_found core r) ≡ Err errors.Memory → ⊥
 server_at core r true h = cc h
 server_at core r false h = server_found core r h
 

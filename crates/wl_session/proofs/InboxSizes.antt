@@ -39,44 +39,54 @@ following_box : (b : Bool) (id : ℕ) (core : Core) → AsLarge (with_following 
 following_box true id core = record { bytes = refl; tokens = refl }
 following_box false id core = record { bytes = refl; tokens = refl }
 
-checked_box : (core : Core) (side : Side) (target : Object) (opcode : ℕ) (given : List Given) (r : Result Message SendError) → AsLarge (after_checked core side target opcode given r).inbox core.inbox
+checked_box : (core : Core) (side : Side) (target : Object) (opcode : ℕ) (given : List Given)
+    (r : Result Message SendError) → AsLarge (after_checked core side target opcode given r).inbox core.inbox
 checked_box core side target opcode given (Err why) = same_size core.inbox
 checked_box core side target opcode given (Ok signature) =
     let f = following_box (following side signature.destroys) _ _ in
     record { bytes = f.bytes; tokens = f.tokens }
 
-pub send_box : (core : Core) (side : Side) (target : Object) (opcode : ℕ) (given : List Given) → AsLarge (after_send core side target opcode given).inbox core.inbox
-send_box core side target opcode given = checked_box core side target opcode given (checked core.outbox.limit.bytes core.tables side core.view target opcode given)
+pub send_box : (core : Core) (side : Side) (target : Object) (opcode : ℕ) (given : List Given)
+    → AsLarge (after_send core side target opcode given).inbox core.inbox
+send_box core side target opcode given = checked_box core side target opcode given
+    (checked core.outbox.limit.bytes core.tables side core.view target opcode given)
 
 dues_box : (core : Core) (dues : List Due) → AsLarge (with_dues core dues).inbox core.inbox
 dues_box core [] = same_size core.inbox
-dues_box core (due ∷ dues) = let k = dues_box (with_sent core due.object.id (opcode_of due.owing) (values_of core.tables due.owing) []) dues in record { bytes = k.bytes; tokens = k.tokens }
+dues_box core (due ∷ dues) = let k = dues_box (with_sent core due.object.id (opcode_of due.owing)
+    (values_of core.tables due.owing) []) dues in record { bytes = k.bytes; tokens = k.tokens }
 
 pub announce_box : (state : server.State) (count : ℕ) → AsLarge (after_announce state count).core.inbox state.core.inbox
 announce_box state count = dues_box state.core (take count (owed state))
 
-found_box : (state : client.State) (r : Result (Option Found) Fault) → AsLarge (events.state_found state r).core.inbox state.core.inbox
+found_box : (state : client.State) (r : Result (Option Found) Fault)
+    → AsLarge (events.state_found state r).core.inbox state.core.inbox
 found_box state (Err fault) = record { bytes = refl; tokens = refl }
 found_box state (Ok None) = same_size state.core.inbox
 found_box state (Ok (Some f)) = record { bytes = refl; tokens = refl }
 
-next_client : (state : client.State) (b : Bool) → AsLarge (cond b state (events.state_found state (found state.core event_side))).core.inbox state.core.inbox
+next_client : (state : client.State) (b : Bool) → AsLarge
+    (cond b state (events.state_found state (found state.core event_side))).core.inbox state.core.inbox
 next_client state true = same_size state.core.inbox
 next_client state false = found_box state (found state.core event_side)
 
 pub client_next_box : (state : client.State) → AsLarge (events.after_next state).core.inbox state.core.inbox
 client_next_box state = next_client state state.core.failed
 
-request_box : (state : server.State) (b : Bool) (f : Found) → AsLarge (cond b state (requests.state_past state f)).core.inbox state.core.inbox
+request_box : (state : server.State) (b : Bool) (f : Found)
+    → AsLarge (cond b state (requests.state_past state f)).core.inbox state.core.inbox
 request_box state true f = same_size state.core.inbox
-request_box state false f = let k = following_box (requests.destroys_it f.message) (requests.ended state.core f).id _ in record { bytes = k.bytes; tokens = k.tokens }
+request_box state false f = let k = following_box (requests.destroys_it f.message) (requests.ended state.core f).id _
+    in record { bytes = k.bytes; tokens = k.tokens }
 
-read_box : (state : server.State) (r : Result (Option Found) Fault) → AsLarge (requests.state_found state r).core.inbox state.core.inbox
+read_box : (state : server.State) (r : Result (Option Found) Fault)
+    → AsLarge (requests.state_found state r).core.inbox state.core.inbox
 read_box state (Err fault) = record { bytes = refl; tokens = refl }
 read_box state (Ok None) = same_size state.core.inbox
 read_box state (Ok (Some f)) = request_box state (requests.is_out_full state.core f) f
 
-next_server : (state : server.State) (b : Bool) → AsLarge (cond b state (requests.state_found state (requests.request state))).core.inbox state.core.inbox
+next_server : (state : server.State) (b : Bool) → AsLarge
+    (cond b state (requests.state_found state (requests.request state))).core.inbox state.core.inbox
 next_server state true = same_size state.core.inbox
 next_server state false = read_box state (requests.request state)
 
@@ -89,17 +99,23 @@ holds bytes tokens a b l h = record { bytes_fit = rw l.bytes h.bytes_fit; tokens
 
 pub announced_box : (before now : server.State) (result : Result ℕ SendError)
     → IfOk result (λ count. (before.core.failed ≡ false) × Fitting before count × (now ≡ after_announce before count))
-    → IfErr result (λ why. (why ≡ refusals.Failed) × (before.core.failed ≡ true) × (now ≡ before)) → AsLarge now.core.inbox before.core.inbox
-announced_box before now (Ok count) ok err = subst (λ (s : server.State). AsLarge s.core.inbox before.core.inbox) (sym ok.2) (announce_box before count)
-announced_box before now (Err why) ok err = subst (λ (s : server.State). AsLarge s.core.inbox before.core.inbox) (sym err.2) (same_size before.core.inbox)
+    → IfErr result (λ why. (why ≡ refusals.Failed) × (before.core.failed ≡ true) × (now ≡ before))
+    → AsLarge now.core.inbox before.core.inbox
+announced_box before now (Ok count) ok err = subst (λ (s : server.State). AsLarge s.core.inbox before.core.inbox)
+    (sym ok.2) (announce_box before count)
+announced_box before now (Err why) ok err = subst (λ (s : server.State). AsLarge s.core.inbox before.core.inbox)
+    (sym err.2) (same_size before.core.inbox)
 
-left_box : {R : Type 0} (before after : server.State) (result : Result (Option R) NextError) → AsLarge after.core.inbox before.core.inbox → AsLarge (left before after result).core.inbox before.core.inbox
+left_box : {R : Type 0} (before after : server.State) (result : Result (Option R) NextError)
+    → AsLarge after.core.inbox before.core.inbox → AsLarge (left before after result).core.inbox before.core.inbox
 left_box before after (Ok x) k = k
 left_box before after (Err (errors.Fault what offset)) k = k
 left_box before after (Err errors.Failed) k = k
 left_box before after (Err errors.Memory) k = same_size before.core.inbox
 left_box before after (Err errors.OutFull) k = k
 
-pub read_leaves_box : {R : Type 0} (before now : server.State) (result : Result (Option R) NextError) → now ≡ left before (requests.after_next before) result → AsLarge now.core.inbox before.core.inbox
+pub read_leaves_box : {R : Type 0} (before now : server.State) (result : Result (Option R) NextError)
+    → now ≡ left before (requests.after_next before) result → AsLarge now.core.inbox before.core.inbox
 read_leaves_box before now result h =
-    subst (λ (s : server.State). AsLarge s.core.inbox before.core.inbox) (sym h) (left_box before (requests.after_next before) result (server_next_box before))
+    subst (λ (s : server.State). AsLarge s.core.inbox before.core.inbox) (sym h)
+    (left_box before (requests.after_next before) result (server_next_box before))

@@ -30,17 +30,22 @@ null_row view id s h = elim (Views.place_of view s id) [
 neither : (c s : Option Entry) → c ≡ None → s ≡ None → AreSame c s
 neither c s e f = record { same = e ∙ sym f; live = λ x h. absurd (cc (e, h)) }
 
-all_ids : (client server : View) (used : ℕ) → Sound client → Sound server → client.used ≤ used → server.used ≤ used → ((q : ℕ) → 0 < q → q < used + 1 → AreSame (look client q) (look server q))
+all_ids : (client server : View) (used : ℕ) → Sound client → Sound server → client.used ≤ used → server.used ≤ used
+    → ((q : ℕ) → 0 < q → q < used + 1 → AreSame (look client q) (look server q))
     → (id : ℕ) → AreSame (look client id) (look server id)
 all_ids client server used c s l m h id = elim (cases_lt 0 id) [
   | inl some ↦ (elim (cases_lt used id) [
-    | inl past ↦ neither (look client id) (look server id) (no_row client id c (omega arith)) (no_row server id s (omega arith))
+    | inl past ↦ neither (look client id) (look server id) (no_row client id c (omega arith))
+        (no_row server id s (omega arith))
     | inr within ↦ h id some (omega arith)
   ])
-  | inr none ↦ neither (look client id) (look server id) (null_row client id c (omega arith)) (null_row server id s (omega arith))
+  | inr none ↦ neither (look client id) (look server id) (null_row client id c (omega arith))
+      (null_row server id s (omega arith))
 ]
 
-pub agrees : (client server : View) (used end : ℕ) → Sound client → Sound server → client.used ≤ used → server.used ≤ used → used + 1 ≤ end → ((q : ℕ) → 0 < q → q < end → AreSame (look client q) (look server q)) → Agree client server
+pub agrees : (client server : View) (used end : ℕ) → Sound client → Sound server → client.used ≤ used
+    → server.used ≤ used → used + 1 ≤ end → ((q : ℕ) → 0 < q → q < end → AreSame (look client q) (look server q))
+    → Agree client server
 agrees client server used end c s l m e h =
     let all = all_ids client server used c s l m (λ q a b. h q a (omega arith)) in
     record { same = λ id. (all id).same; live = λ id x k. (all id).live x k }

@@ -9,6 +9,7 @@ ghost use Rattle.wl_session.specs.Room.{AreSame};
 
 use crate::pair::Pair;
 use wl_client::Client;
+use wl_connection::End;
 use wl_objects::{Entry, State, Table};
 use wl_server::Server;
 

@@ -14,6 +14,7 @@ ghost use Rattle.theory_recording.specs.Linked.{Linked, limit_of, up_to};
 use std::alloc::{AllocError, Allocator};
 use std::marker::Model;
 use wl_client::Client;
+use wl_connection::End;
 use wl_message::Sizes;
 use wl_objects::{DISPLAY, Table};
 use wl_recording::Recording;

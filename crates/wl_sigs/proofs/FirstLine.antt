@@ -1,5 +1,7 @@
 -- The broken line that is found is the first, and its rule the least that it breaks.
-use Rattle.std.proofs.Common.{◌≡◌, ℕ, zero, suc, ◌+◌, ◌≤◌, ◌⊎◌, inl, inr, true, false, cond, List, [], ◌∷◌, length, map, refl, sym, ap, ◌∙◌, subst, Some, None, Option, Bool, slice_get, not, nat_le, nat_lt, ◌&&◌, arith}
+use Rattle.std.proofs.Common.{◌≡◌, ℕ, zero, suc, ◌+◌, ◌≤◌, ◌⊎◌, inl, inr, true, false, cond, List}
+use Rattle.std.proofs.Common.{[], ◌∷◌, length, map, refl, sym, ap, ◌∙◌, subst, Some, None, Option}
+use Rattle.std.proofs.Common.{Bool, slice_get, not, nat_le, nat_lt, ◌&&◌, arith}
 use Rattle.std.proofs.lemmas.Bool.{ltb-true, ltb-false}
 use Rattle.wl_sigs.specs.declared.signature.Side.{Side}
 use Rattle.wl_sigs.specs.declared.signature.Side.TheVariants.{Request, Event}
@@ -8,7 +10,10 @@ use Rattle.wl_sigs.specs.Rules.{is_name}
 use Rattle.wl_sigs.specs.Tables.{Interface}
 use Rattle.wl_interface_text.specs.Text.{WrittenMessage, WrittenInterface}
 use Rattle.wl_sigs.specs.Joined.{all_names, first_place}
-use Rattle.wl_sigs.specs.Broken.{Broken, is_first, makes_object, makes_unnamed, names_missing, names_objects, is_race_free, most_new, earlier, broken_at, interface_rule, message_rule, messages_broken, interface_broken, interfaces_broken, ended_of, first_broken}
+use Rattle.wl_sigs.specs.Broken.{Broken, is_first, makes_object, makes_unnamed, names_missing}
+use Rattle.wl_sigs.specs.Broken.{names_objects, is_race_free, most_new, earlier, broken_at}
+use Rattle.wl_sigs.specs.Broken.{interface_rule, message_rule, messages_broken, interface_broken}
+use Rattle.wl_sigs.specs.Broken.{interfaces_broken, ended_of, first_broken}
 use Rattle.wl_sigs.specs.FirstBroken.{written_of}
 
 -- a rule, and whether it is kept
@@ -28,7 +33,8 @@ interface_tests place here i =
     ∷ []
 
 -- the tests of a message of the interface
-abbrev pub message_tests : (List ℕ → Option ℕ) → List Bool → WrittenInterface → Side → (List ℕ → Option ℕ) → ℕ → WrittenMessage → List Tested
+abbrev pub message_tests : (List ℕ → Option ℕ) → List Bool → WrittenInterface → Side → (List ℕ → Option ℕ) → ℕ
+    → WrittenMessage → List Tested
 message_tests place ended i side first opcode m =
     tested 1 (is_name m.name && is_first first m.name opcode)
     ∷ tested 3 (nat_lt opcode 256 && nat_le (length m.kinds) 20)
@@ -41,14 +47,16 @@ message_tests place ended i side first opcode m =
     ∷ []
 
 -- what a text declares at a line, with the tests of it
-pub data Declares (tables : List Interface) (written : List WrittenInterface) (line : ℕ) (tests : List Tested) : Type 0 where
+pub data Declares (tables : List Interface) (written : List WrittenInterface) (line : ℕ)
+    (tests : List Tested) : Type 0 where
   an_interface : (k : ℕ) (i : WrittenInterface)
       → slice_get written k ≡ Some i → line ≡ i.line
       → tests ≡ interface_tests (first_place (all_names tables written)) (length tables + k) i
       → Declares tables written line tests
   a_message : (k : ℕ) (i : WrittenInterface) (side : Side) (o : ℕ) (m : WrittenMessage)
       → slice_get written k ≡ Some i → slice_get (written_of side i) o ≡ Some m → line ≡ m.line
-      → tests ≡ message_tests (first_place (all_names tables written)) (ended_of tables written) i side (first_place (map (λ n. n.name) (written_of side i))) o m
+      → tests ≡ message_tests (first_place (all_names tables written)) (ended_of tables written) i side
+      (first_place (map (λ n. n.name) (written_of side i))) o m
       → Declares tables written line tests
 
 -- the rule is among these and is not kept
@@ -62,7 +70,8 @@ pub record IsFirstTested (tables : List Interface) (written : List WrittenInterf
   pub declares : Declares tables written it.line tests
   pub breaks : Breaks tests it.rule
   pub least : (rule : ℕ) → Breaks tests rule → it.rule ≤ rule
-  pub first : (line : ℕ) (others : List Tested) (rule : ℕ) → Declares tables written line others → Breaks others rule → it.line ≤ line
+  pub first : (line : ℕ) (others : List Tested) (rule : ℕ) → Declares tables written line others → Breaks others rule
+      → it.line ≤ line
 
 -- the rule of the first test that fails
 abbrev failing : List Tested → Option ℕ
@@ -74,33 +83,43 @@ abbrev Ascends : ℕ → List Tested → Type 0
 Ascends n [] = Unit {0}
 Ascends n (t ∷ more) = (n ≤ t.rule) × Ascends t.rule more
 
-ascending : (n : ℕ) (tests : List Tested) → Ascends n tests → (k : ℕ) (t : Tested) → slice_get tests k ≡ Some t → n ≤ t.rule
+ascending : (n : ℕ) (tests : List Tested) → Ascends n tests → (k : ℕ) (t : Tested) → slice_get tests k ≡ Some t
+    → n ≤ t.rule
 ascending n [] up k t at = cc at
 ascending n (x ∷ more) up zero t at = let same : x ≡ t = cc at in subst (λ (y : Tested). n ≤ y.rule) same up.0
-ascending n (x ∷ more) up (suc k) t at = let rest = ascending x.rule more up.1 k t at in let here = up.0 in omega (arith, rest, here)
+ascending n (x ∷ more) up (suc k) t at = let rest = ascending x.rule more up.1 k t at in let here = up.0
+    in omega (arith, rest, here)
 
 -- a rule that fails first among tests in order is the least that fails
 record FailsFirst (tests : List Tested) (rule : ℕ) : Type 0 where
   breaks : Breaks tests rule
   least : (other : ℕ) → Breaks tests other → rule ≤ other
 
-behind_kept : (t : Tested) (more : List Tested) (rule : ℕ) → t.kept ≡ true → ((other : ℕ) → Breaks more other → rule ≤ other)
+behind_kept : (t : Tested) (more : List Tested) (rule : ℕ) → t.kept ≡ true
+    → ((other : ℕ) → Breaks more other → rule ≤ other)
     → (other k : ℕ) → slice_get (t ∷ more) k ≡ Some (tested other false) → rule ≤ other
 behind_kept t more rule kept least other zero at =
     let same : t ≡ tested other false = cc at in
     let no : true ≡ false = sym kept ∙ ap (λ (y : Tested). y.kept) same in cc no
 behind_kept t more rule kept least other (suc k) at = least other (record { place = k; at = at })
 
-fails_first : (n : ℕ) (tests : List Tested) → Ascends n tests → (rule : ℕ) → failing tests ≡ Some rule → FailsFirst tests rule
+fails_first : (n : ℕ) (tests : List Tested) → Ascends n tests → (rule : ℕ) → failing tests ≡ Some rule
+    → FailsFirst tests rule
 fails_first n [] up rule fails = cc fails
 fails_first n (t ∷ more) up rule fails = by_test t.kept refl fails (λ e. fails_first t.rule more up.1 rule e)
   where
-    by_test : (b : Bool) → t.kept ≡ b → cond (not b) (Some t.rule) (failing more) ≡ Some rule → (failing more ≡ Some rule → FailsFirst more rule) → FailsFirst (t ∷ more) rule
+    by_test : (b : Bool) → t.kept ≡ b → cond (not b) (Some t.rule) (failing more) ≡ Some rule
+        → (failing more ≡ Some rule → FailsFirst more rule) → FailsFirst (t ∷ more) rule
     by_test false kept e rest =
         let same : t.rule ≡ rule = cc e in
         record {
-          breaks = record { place = 0; at = ap (λ (b : Bool). Some (tested t.rule b)) kept ∙ ap (λ (r : ℕ). Some (tested r false)) same };
-          least = λ other b. subst (λ (r : ℕ). r ≤ other) same (ascending t.rule (t ∷ more) (omega arith, up.1) b.place (tested other false) b.at);
+          breaks = record {
+            place = 0;
+            at = ap (λ (b : Bool). Some (tested t.rule b)) kept
+                ∙ ap (λ (r : ℕ). Some (tested r false)) same;
+          };
+          least = λ other b. subst (λ (r : ℕ). r ≤ other) same
+              (ascending t.rule (t ∷ more) (omega arith, up.1) b.place (tested other false) b.at);
         }
     by_test true kept e rest =
         let it = rest e in
@@ -110,7 +129,8 @@ fails_first n (t ∷ more) up rule fails = by_test t.kept refl fails (λ e. fail
         }
 
 -- where a rule is broken, some rule fails first
-some_fails : (tests : List Tested) (rule k : ℕ) → slice_get tests k ≡ Some (tested rule false) → (first : ℕ) × (failing tests ≡ Some first)
+some_fails : (tests : List Tested) (rule k : ℕ) → slice_get tests k ≡ Some (tested rule false)
+    → (first : ℕ) × (failing tests ≡ Some first)
 some_fails [] rule k at = cc at
 some_fails (t ∷ more) rule zero at =
     let same : t ≡ tested rule false = cc at in
@@ -118,7 +138,8 @@ some_fails (t ∷ more) rule zero at =
     (t.rule, rw kept refl)
 some_fails (t ∷ more) rule (suc k) at = by_test t.kept (some_fails more rule k at)
   where
-    by_test : (b : Bool) → (first : ℕ) × (failing more ≡ Some first) → (first : ℕ) × (cond (not b) (Some t.rule) (failing more) ≡ Some first)
+    by_test : (b : Bool) → (first : ℕ) × (failing more ≡ Some first)
+        → (first : ℕ) × (cond (not b) (Some t.rule) (failing more) ≡ Some first)
     by_test false rest = (t.rule, refl)
     by_test true rest = rest
 
@@ -128,7 +149,8 @@ record IsLeast (P : ℕ → ℕ → Type 0) (o : Option Broken) : Type 0 where
   below : (it : Broken) → o ≡ Some it → (line rule : ℕ) → P line rule → it.line ≤ line
   none : o ≡ None → (line rule : ℕ) → P line rule → ⊥
 
-like : (P Q : ℕ → ℕ → Type 0) → ((line rule : ℕ) → P line rule → Q line rule) → ((line rule : ℕ) → Q line rule → P line rule) → (o : Option Broken) → IsLeast P o → IsLeast Q o
+like : (P Q : ℕ → ℕ → Type 0) → ((line rule : ℕ) → P line rule → Q line rule)
+    → ((line rule : ℕ) → Q line rule → P line rule) → (o : Option Broken) → IsLeast P o → IsLeast Q o
 like P Q to from o least = record {
   found = λ it e. to it.line it.rule (least.found it e);
   below = λ it e line rule q. least.below it e line rule (from line rule q);
@@ -138,15 +160,24 @@ like P Q to from o least = record {
 abbrev Either : (ℕ → ℕ → Type 0) → (ℕ → ℕ → Type 0) → ℕ → ℕ → Type 0
 Either P Q line rule = P line rule ⊎ Q line rule
 
-of_either : (P Q : ℕ → ℕ → Type 0) (a b : Option Broken) → IsLeast P a → IsLeast Q b → IsLeast (Either P Q) (earlier a b)
+of_either : (P Q : ℕ → ℕ → Type 0) (a b : Option Broken) → IsLeast P a → IsLeast Q b
+    → IsLeast (Either P Q) (earlier a b)
 of_either P Q None b p q = record {
   found = λ it e. inr (q.found it e);
-  below = λ it e line rule some. elim some [ inl this ↦ absurd (p.none refl line rule this) | inr that ↦ q.below it e line rule that ];
+  below = λ it e line rule some. elim some [
+    | inl this ↦ absurd
+        (p.none refl line rule this)
+    | inr that ↦ q.below it e line rule that
+  ];
   none = λ e line rule some. elim some [ inl this ↦ p.none refl line rule this | inr that ↦ q.none e line rule that ];
 }
 of_either P Q (Some x) None p q = record {
   found = λ it e. inl (p.found it e);
-  below = λ it e line rule some. elim some [ inl this ↦ p.below it e line rule this | inr that ↦ absurd (q.none refl line rule that) ];
+  below = λ it e line rule some. elim some [
+    | inl this ↦ p.below it e line rule this
+    | inr that ↦ absurd
+        (q.none refl line rule that)
+  ];
   none = λ e line rule some. cc e;
 }
 of_either P Q (Some x) (Some y) p q = by_test (nat_lt y.line x.line) refl
@@ -170,7 +201,8 @@ of_either P Q (Some x) (Some y) p q = by_test (nat_lt y.line x.line) refl
         | inr that ↦
             let same : x ≡ it = cc e in
             let le = q.below y refl line rule that in
-            subst (λ (z : Broken). z.line ≤ line) same (let least = ltb-false y.line x.line ge in omega (arith, le, least))
+            subst (λ (z : Broken). z.line ≤ line) same
+            (let least = ltb-false y.line x.line ge in omega (arith, le, least))
       ];
       none = λ e line rule some. cc e;
     }
@@ -186,42 +218,66 @@ one_line here None = record {
   none = λ e line rule some. let no = some.1 in cc no;
 }
 one_line here (Some r) = record {
-  found = λ it e. let same : record { line = here; rule = r } ≡ it = cc e in (sym (ap (λ (z : Broken). z.line) same), ap (λ (z : Broken). Some z.rule) same);
-  below = λ it e line rule some. let same : record { line = here; rule = r } ≡ it = cc e in let is = ap (λ (z : Broken). z.line) same in let at = some.0 in omega (arith, is, at);
+  found = λ it e. let same : record { line = here; rule = r } ≡ it = cc e
+      in (sym (ap (λ (z : Broken). z.line) same), ap (λ (z : Broken). Some z.rule) same);
+  below = λ it e line rule some. let same : record { line = here; rule = r } ≡ it = cc e in let is =
+      ap (λ (z : Broken). z.line) same in let at = some.0 in omega (arith, is, at);
   none = λ e line rule some. cc e;
 }
 
 -- the messages of a side
-record InMessages (rule_of : ℕ → WrittenMessage → Option ℕ) (n : ℕ) (ms : List WrittenMessage) (line rule : ℕ) : Type 0 where
+record InMessages (rule_of : ℕ → WrittenMessage → Option ℕ) (n : ℕ) (ms : List WrittenMessage)
+    (line rule : ℕ) : Type 0 where
   place : ℕ
   message : WrittenMessage
   at : slice_get ms place ≡ Some message
   line_is : line ≡ message.line
   breaks : rule_of (n + place) message ≡ Some rule
 
-messages_least : (rule_of : ℕ → WrittenMessage → Option ℕ) (n : ℕ) (ms : List WrittenMessage) → IsLeast (InMessages rule_of n ms) (messages_broken rule_of n ms)
+messages_least : (rule_of : ℕ → WrittenMessage → Option ℕ) (n : ℕ) (ms : List WrittenMessage)
+    → IsLeast (InMessages rule_of n ms) (messages_broken rule_of n ms)
 messages_least rule_of n [] = record {
   found = λ it e. cc e;
   below = λ it e line rule some. cc e;
   none = λ e line rule some. let no = some.at in cc no;
 }
 messages_least rule_of n (m ∷ ms) =
-    like (Either (AtLine m.line (rule_of n m)) (InMessages rule_of (n + 1) ms)) (InMessages rule_of n (m ∷ ms)) to (λ line rule some. from line rule some.place some.message some.at some.line_is some.breaks)
+    like (Either (AtLine m.line (rule_of n m)) (InMessages rule_of (n + 1) ms)) (InMessages rule_of n (m ∷ ms)) to
+    (λ line rule some. from line rule some.place some.message some.at some.line_is some.breaks)
     (messages_broken rule_of n (m ∷ ms))
-    (of_either (AtLine m.line (rule_of n m)) (InMessages rule_of (n + 1) ms) (broken_at m.line (rule_of n m)) (messages_broken rule_of (n + 1) ms) (one_line m.line (rule_of n m)) (messages_least rule_of (n + 1) ms))
+    (of_either (AtLine m.line (rule_of n m)) (InMessages rule_of (n + 1) ms) (broken_at m.line (rule_of n m))
+    (messages_broken rule_of (n + 1) ms) (one_line m.line (rule_of n m)) (messages_least rule_of (n + 1) ms))
   where
-    to : (line rule : ℕ) → Either (AtLine m.line (rule_of n m)) (InMessages rule_of (n + 1) ms) line rule → InMessages rule_of n (m ∷ ms) line rule
+    to : (line rule : ℕ) → Either (AtLine m.line (rule_of n m)) (InMessages rule_of (n + 1) ms) line rule
+        → InMessages rule_of n (m ∷ ms) line rule
     to line rule some = elim some [
-      | inl here ↦ record { place = 0; message = m; at = refl; line_is = here.0; breaks = let on : n + 0 ≡ n = omega arith in rw on here.1 }
-      | inr rest ↦ record { place = suc rest.place; message = rest.message; at = rest.at; line_is = rest.line_is; breaks = let on : n + suc rest.place ≡ n + 1 + rest.place = omega arith in rw on rest.breaks }
+      | inl here ↦ record {
+        place = 0;
+        message = m;
+        at = refl;
+        line_is = here.0;
+        breaks = let on : n + 0 ≡ n = omega arith in rw on here.1;
+      }
+      | inr rest ↦ record {
+        place = suc rest.place;
+        message = rest.message;
+        at = rest.at;
+        line_is = rest.line_is;
+        breaks = let on : n + suc rest.place ≡ n + 1 + rest.place = omega arith in rw on rest.breaks;
+      }
     ]
 
-    from : (line rule place : ℕ) (x : WrittenMessage) → slice_get (m ∷ ms) place ≡ Some x → line ≡ x.line → rule_of (n + place) x ≡ Some rule
+    from : (line rule place : ℕ) (x : WrittenMessage) → slice_get (m ∷ ms) place ≡ Some x → line ≡ x.line
+        → rule_of (n + place) x ≡ Some rule
         → Either (AtLine m.line (rule_of n m)) (InMessages rule_of (n + 1) ms) line rule
     from line rule zero x at is breaks =
         let same : m ≡ x = cc at in
         let on : n + 0 ≡ n = omega arith in
-        inl (is ∙ ap (λ (z : WrittenMessage). z.line) (sym same), subst (λ (z : WrittenMessage). rule_of n z ≡ Some rule) (sym same) (rw on at breaks))
+        inl (
+          is ∙ ap (λ (z : WrittenMessage). z.line) (sym same),
+          subst
+              (λ (z : WrittenMessage). rule_of n z ≡ Some rule) (sym same) (rw on at breaks),
+        )
     from line rule (suc place) x at is breaks =
         let on : n + suc place ≡ n + 1 + place = omega arith in
         inr (record { place = place; message = x; at = at; line_is = is; breaks = rw on at breaks })
@@ -232,47 +288,77 @@ side_rule place ended i side = message_rule place ended i side (first_place (map
 
 abbrev InInterface : (List ℕ → Option ℕ) → List Bool → ℕ → WrittenInterface → ℕ → ℕ → Type 0
 InInterface place ended here i =
-    Either (AtLine i.line (interface_rule place here i)) (Either (InMessages (side_rule place ended i Request) 0 i.requests) (InMessages (side_rule place ended i Event) 0 i.events))
+    Either (AtLine i.line (interface_rule place here i))
+    (Either (InMessages (side_rule place ended i Request) 0 i.requests)
+    (InMessages (side_rule place ended i Event) 0 i.events))
 
-interface_least : (place : List ℕ → Option ℕ) (ended : List Bool) (here : ℕ) (i : WrittenInterface) → IsLeast (InInterface place ended here i) (interface_broken place ended here i)
+interface_least : (place : List ℕ → Option ℕ) (ended : List Bool) (here : ℕ) (i : WrittenInterface)
+    → IsLeast (InInterface place ended here i) (interface_broken place ended here i)
 interface_least place ended here i =
     let requests = messages_least (side_rule place ended i Request) 0 i.requests in
     let events = messages_least (side_rule place ended i Event) 0 i.events in
-    of_either _ _ (broken_at i.line (interface_rule place here i)) _ (one_line i.line (interface_rule place here i)) (of_either _ _ _ _ requests events)
+    of_either _ _ (broken_at i.line (interface_rule place here i)) _ (one_line i.line (interface_rule place here i))
+    (of_either _ _ _ _ requests events)
 
 -- all interfaces
-record InInterfaces (place : List ℕ → Option ℕ) (ended : List Bool) (n : ℕ) (is : List WrittenInterface) (line rule : ℕ) : Type 0 where
+record InInterfaces (place : List ℕ → Option ℕ) (ended : List Bool) (n : ℕ) (is : List WrittenInterface)
+    (line rule : ℕ) : Type 0 where
   index : ℕ
   interface : WrittenInterface
   at : slice_get is index ≡ Some interface
   breaks : InInterface place ended (n + index) interface line rule
 
-interfaces_least : (place : List ℕ → Option ℕ) (ended : List Bool) (n : ℕ) (is : List WrittenInterface) → IsLeast (InInterfaces place ended n is) (interfaces_broken place ended n is)
+interfaces_least : (place : List ℕ → Option ℕ) (ended : List Bool) (n : ℕ) (is : List WrittenInterface)
+    → IsLeast (InInterfaces place ended n is) (interfaces_broken place ended n is)
 interfaces_least place ended n [] = record {
   found = λ it e. cc e;
   below = λ it e line rule some. cc e;
   none = λ e line rule some. let no = some.at in cc no;
 }
 interfaces_least place ended n (i ∷ is) =
-    like (Either (InInterface place ended n i) (InInterfaces place ended (n + 1) is)) (InInterfaces place ended n (i ∷ is)) to (λ line rule some. from line rule some.index some.interface some.at some.breaks)
+    like (Either (InInterface place ended n i) (InInterfaces place ended (n + 1) is))
+    (InInterfaces place ended n (i ∷ is)) to (λ line rule some. from line rule some.index some.interface some.at
+    some.breaks)
     (interfaces_broken place ended n (i ∷ is))
-    (of_either (InInterface place ended n i) (InInterfaces place ended (n + 1) is) (interface_broken place ended n i) (interfaces_broken place ended (n + 1) is) (interface_least place ended n i) (interfaces_least place ended (n + 1) is))
+    (of_either (InInterface place ended n i) (InInterfaces place ended (n + 1) is) (interface_broken place ended n i)
+    (interfaces_broken place ended (n + 1) is) (interface_least place ended n i)
+    (interfaces_least place ended (n + 1) is))
   where
-    to : (line rule : ℕ) → Either (InInterface place ended n i) (InInterfaces place ended (n + 1) is) line rule → InInterfaces place ended n (i ∷ is) line rule
+    to : (line rule : ℕ) → Either (InInterface place ended n i) (InInterfaces place ended (n + 1) is) line rule
+        → InInterfaces place ended n (i ∷ is) line rule
     to line rule some = elim some [
-      | inl here ↦ record { index = 0; interface = i; at = refl; breaks = let on : n ≡ n + 0 = omega arith in subst (λ (k : ℕ). InInterface place ended k i line rule) on here }
-      | inr rest ↦ record { index = suc rest.index; interface = rest.interface; at = rest.at; breaks = let on : n + 1 + rest.index ≡ n + suc rest.index = omega arith in subst (λ (k : ℕ). InInterface place ended k rest.interface line rule) on rest.breaks }
+      | inl here ↦ record {
+        index = 0;
+        interface = i;
+        at = refl;
+        breaks = let on : n ≡ n + 0 = omega arith
+            in subst (λ (k : ℕ). InInterface place ended k i line rule) on here;
+      }
+      | inr rest ↦ record {
+        index = suc rest.index;
+        interface = rest.interface;
+        at = rest.at;
+        breaks = let on : n + 1 + rest.index ≡ n + suc rest.index = omega arith
+            in subst (λ (k : ℕ). InInterface place ended k rest.interface line rule) on rest.breaks;
+      }
     ]
 
-    from : (line rule index : ℕ) (x : WrittenInterface) → slice_get (i ∷ is) index ≡ Some x → InInterface place ended (n + index) x line rule
+    from : (line rule index : ℕ) (x : WrittenInterface) → slice_get (i ∷ is) index ≡ Some x
+        → InInterface place ended (n + index) x line rule
         → Either (InInterface place ended n i) (InInterfaces place ended (n + 1) is) line rule
     from line rule zero x at breaks =
         let same : x ≡ i = (let e : Some i ≡ Some x = at in cc) in
         let on : n + 0 ≡ n = omega arith in
-        inl (subst (λ (z : WrittenInterface). InInterface place ended n z line rule) same (subst (λ (k : ℕ). InInterface place ended k x line rule) on breaks))
+        inl (subst (λ (z : WrittenInterface). InInterface place ended n z line rule) same
+        (subst (λ (k : ℕ). InInterface place ended k x line rule) on breaks))
     from line rule (suc index) x at breaks =
         let on : n + suc index ≡ n + 1 + index = omega arith in
-        inr (record { index = index; interface = x; at = at; breaks = subst (λ (k : ℕ). InInterface place ended k x line rule) on breaks })
+        inr (record {
+          index = index;
+          interface = x;
+          at = at;
+          breaks = subst (λ (k : ℕ). InInterface place ended k x line rule) on breaks;
+        })
 
 -- what was found declares something of which this rule is the least that it breaks
 record Names (tables : List Interface) (written : List WrittenInterface) (line rule : ℕ) : Type 0 where
@@ -280,12 +366,18 @@ record Names (tables : List Interface) (written : List WrittenInterface) (line r
   declares : Declares tables written line tests
   fails : FailsFirst tests rule
 
-names_of : (tables : List Interface) (written : List WrittenInterface) (line rule index : ℕ) (i : WrittenInterface) → slice_get written index ≡ Some i
-    → InInterface (first_place (all_names tables written)) (ended_of tables written) (length tables + index) i line rule → Names tables written line rule
+names_of : (tables : List Interface) (written : List WrittenInterface) (line rule index : ℕ) (i : WrittenInterface)
+    → slice_get written index ≡ Some i
+    → InInterface (first_place (all_names tables written)) (ended_of tables written) (length tables + index) i line rule
+    → Names tables written line rule
 names_of tables written line rule index i at breaks = elim breaks [
   | inl own ↦
       let tests = interface_tests place (length tables + index) i in
-      record { tests = tests; declares = an_interface index i at own.0 refl; fails = fails_first 0 tests (omega arith, (omega arith, (omega arith, tt))) rule own.1 }
+      record {
+        tests = tests;
+        declares = an_interface index i at own.0 refl;
+        fails = fails_first 0 tests (omega arith, (omega arith, (omega arith, tt))) rule own.1;
+      }
   | inr messages ↦ elim messages [
     | inl request ↦ of_side Request request
     | inr event ↦ of_side Event event
@@ -298,7 +390,8 @@ names_of tables written line rule index i at breaks = elim breaks [
     ended : List Bool
     ended = ended_of tables written
 
-    of_side : (side : Side) → InMessages (side_rule place ended i side) 0 (written_of side i) line rule → Names tables written line rule
+    of_side : (side : Side) → InMessages (side_rule place ended i side) 0 (written_of side i) line rule
+        → Names tables written line rule
     of_side side m =
         let first = first_place (map (λ n. n.name) (written_of side i)) in
         let tests = message_tests place ended i side first m.place m.message in
@@ -306,27 +399,69 @@ names_of tables written line rule index i at breaks = elim breaks [
         record {
           tests = tests;
           declares = a_message index i side m.place m.message at m.at m.line_is refl;
-          fails = fails_first 0 tests (omega arith, (omega arith, (omega arith, (omega arith, (omega arith, (omega arith, (omega arith, (omega arith, tt)))))))) rule (rw on at m.breaks);
+          fails = fails_first 0 tests (
+            omega arith,
+            (
+              omega arith,
+              (
+                omega arith,
+                (
+                  omega arith,
+                  (omega arith, (omega arith, (omega arith, (omega arith, tt)))),
+                ),
+              ),
+            ),
+          ) rule (rw on at m.breaks);
         }
 
 -- whatever breaks a rule is among those of which the first was found
-among : (tables : List Interface) (written : List WrittenInterface) (line rule : ℕ) (tests : List Tested) → Declares tables written line tests → Breaks tests rule
-    → (first : ℕ) × InInterfaces (first_place (all_names tables written)) (ended_of tables written) (length tables) written line first
+among : (tables : List Interface) (written : List WrittenInterface) (line rule : ℕ) (tests : List Tested)
+    → Declares tables written line tests → Breaks tests rule
+    → (first : ℕ) × InInterfaces (first_place (all_names tables written)) (ended_of tables written)
+    (length tables) written line first
 among tables written line rule tests (an_interface k i at line_is tests_are) breaks =
     let some = some_fails tests rule breaks.place breaks.at in
     (some.0, record { index = k; interface = i; at = at; breaks = inl (line_is, sym (ap failing tests_are) ∙ some.1) })
 among tables written line rule tests (a_message k i Request o m at of line_is tests_are) breaks =
     let some = some_fails tests rule breaks.place breaks.at in
-    let on : o ≡ 0 + o = omega arith in
-    (some.0, record { index = k; interface = i; at = at; breaks = inr (inl (record { place = o; message = m; at = of; line_is = line_is; breaks = rw (← on) (sym (ap failing tests_are) ∙ some.1) })) })
+    let on : o ≡ 0 + o = omega arith in (
+      some.0,
+      record {
+        index = k;
+        interface = i;
+        at = at;
+        breaks = inr (inl (record {
+          place = o;
+          message = m;
+          at = of;
+          line_is = line_is;
+          breaks = rw (← on) (sym (ap failing tests_are) ∙ some.1);
+        }));
+      },
+    )
 among tables written line rule tests (a_message k i Event o m at of line_is tests_are) breaks =
     let some = some_fails tests rule breaks.place breaks.at in
-    let on : o ≡ 0 + o = omega arith in
-    (some.0, record { index = k; interface = i; at = at; breaks = inr (inr (record { place = o; message = m; at = of; line_is = line_is; breaks = rw (← on) (sym (ap failing tests_are) ∙ some.1) })) })
+    let on : o ≡ 0 + o = omega arith in (
+      some.0,
+      record {
+        index = k;
+        interface = i;
+        at = at;
+        breaks = inr (inr (record {
+          place = o;
+          message = m;
+          at = of;
+          line_is = line_is;
+          breaks = rw (← on) (sym (ap failing tests_are) ∙ some.1);
+        }));
+      },
+    )
 
-pub first_tested : (tables : List Interface) (written : List WrittenInterface) (it : Broken) → first_broken tables written ≡ Some it → IsFirstTested tables written it
+pub first_tested : (tables : List Interface) (written : List WrittenInterface) (it : Broken)
+    → first_broken tables written ≡ Some it → IsFirstTested tables written it
 first_tested tables written it found =
-    let least = interfaces_least (first_place (all_names tables written)) (ended_of tables written) (length tables) written in
+    let least = interfaces_least (first_place (all_names tables written)) (ended_of tables written)
+    (length tables) written in
     let here = least.found it found in
     let names = names_of tables written it.line it.rule here.index here.interface here.at here.breaks in
     record {
@@ -334,13 +469,15 @@ first_tested tables written it found =
       declares = names.declares;
       breaks = names.fails.breaks;
       least = names.fails.least;
-      first = λ line others rule declares breaks. let some = among tables written line rule others declares breaks in least.below it found line some.0 some.1;
+      first = λ line others rule declares breaks. let some = among tables written line rule others declares breaks
+          in least.below it found line some.0 some.1;
     }
 
 -- where no line is found, all tests pass
 pub none_tested : (tables : List Interface) (written : List WrittenInterface) → first_broken tables written ≡ None
     → (line rule : ℕ) (tests : List Tested) → Declares tables written line tests → Breaks tests rule → ⊥
 none_tested tables written none line rule tests declares breaks =
-    let least = interfaces_least (first_place (all_names tables written)) (ended_of tables written) (length tables) written in
+    let least = interfaces_least (first_place (all_names tables written)) (ended_of tables written)
+    (length tables) written in
     let some = among tables written line rule tests declares breaks in
     least.none none line some.0 some.1

@@ -1,5 +1,7 @@
 -- Maps from names to their first places.
-use Rattle.std.proofs.Common.{◌≡◌, ℕ, ◌+◌, ◌<◌, ◌≤◌, ◌==◌, true, false, cond, List, [], ◌∷◌, ◌++◌, length, get_or, take, refl, sym, ap, ◌∙◌, subst, Some, None, Option, Bool, bytes_eq, arith}
+use Rattle.std.proofs.Common.{◌≡◌, ℕ, ◌+◌, ◌<◌, ◌≤◌, ◌==◌, true, false, cond, List, [], ◌∷◌, ◌++◌}
+use Rattle.std.proofs.Common.{length, get_or, take, refl, sym, ap, ◌∙◌, subst, Some, None, Option}
+use Rattle.std.proofs.Common.{Bool, bytes_eq, arith}
 use Rattle.std.specs.Prelude.{nat_lt, map}
 use Rattle.std.specs.List.{position_or_len}
 use Rattle.std.proofs.lemmas.List.{map_more, length-append, length-map, length-take-le}
@@ -21,14 +23,18 @@ with_name (Some place) same next = Some place
 with_name None same next = cond same (Some next) None
 
 after_one : (n len : ℕ) (same : Bool) → n ≤ len
-    → cond (nat_lt (cond (n == len) (len + cond same 0 1) n) (len + 1)) (Some (cond (n == len) (len + cond same 0 1) n)) None ≡ with_name (cond (nat_lt n len) (Some n) None) same len
+    → cond (nat_lt (cond (n == len) (len + cond same 0 1) n) (len + 1))
+    (Some (cond (n == len) (len + cond same 0 1) n)) None ≡ with_name (cond (nat_lt n len) (Some n) None) same len
 after_one n len true le = grind (arith, nat_tests)
 after_one n len false le = grind (arith, nat_tests)
 
-pub first_place-push : (names : List (List ℕ)) (name q : List ℕ) → first_place (names ++ name ∷ []) q ≡ with_name (first_place names q) (bytes_eq name q) (length names)
+pub first_place-push : (names : List (List ℕ)) (name q : List ℕ)
+    → first_place (names ++ name ∷ []) q ≡ with_name (first_place names q) (bytes_eq name q) (length names)
 first_place-push names name q =
     let p : List ℕ → Bool = λ other. bytes_eq other q in
-    rw (position_or_len_push p names name, length-append) (after_one (position_or_len p names) (length names) (bytes_eq name q) (prefix_len-le-length (λ other. not (p other)) names))
+    rw (position_or_len_push p names name, length-append)
+    (after_one (position_or_len p names) (length names) (bytes_eq name q)
+    (prefix_len-le-length (λ other. not (p other)) names))
 
 -- places of names, once one more name that had none has the next place
 pub inserted : (places : List ℕ → Option ℕ) (name q : List ℕ) (next : ℕ) → is_some (places name) ≡ false
@@ -69,14 +75,23 @@ had_place places name q next some = by_test (bytes_eq name q) refl
     by_test false is = stays (places q)
 
 -- the step of a loop over names
-pub places-next : (names : List (Bor (List ℕ))) (k : ℕ) (d : Bor (List ℕ)) (old new : List ℕ → Option ℕ) → k < length names
+pub places-next : (names : List (Bor (List ℕ))) (k : ℕ) (d : Bor (List ℕ)) (old new : List ℕ → Option ℕ)
+    → k < length names
     → ((q : List ℕ) → old q ≡ first_place (map (λ n. n.now) (take k names)) q)
     → ((q : List ℕ) → new q ≡ with_name (old q) (bytes_eq (get_or names k d).now q) k)
     → (q : List ℕ) → new q ≡ first_place (map (λ n. n.now) (take (k + 1) names)) q
 places-next names k d old new within before after q =
-    let len : length (map (λ (n : Bor (List ℕ)). n.now) (take k names)) ≡ k = omega (arith, length-map (take k names) (λ (n : Bor (List ℕ)). n.now), length-take-le k names (omega (arith, within))) in
+    let len : length (map (λ (n : Bor (List ℕ)). n.now) (take k names)) ≡ k =
+    omega (
+      arith,
+      length-map (take k names) (λ (n : Bor (List ℕ)). n.now),
+      length-take-le k names
+          (omega (arith, within)),
+    ) in
     let pushed = first_place-push (map (λ (n : Bor (List ℕ)). n.now) (take k names)) (get_or names k d).now q in
-    after q ∙ rw (before q, map_more (λ (n : Bor (List ℕ)). n.now) names k d within) (sym (pushed ∙ ap (with_name (first_place (map (λ (n : Bor (List ℕ)). n.now) (take k names)) q) (bytes_eq (get_or names k d).now q)) len))
+    after q ∙ rw (before q, map_more (λ (n : Bor (List ℕ)). n.now) names k d within)
+    (sym (pushed ∙ ap (with_name (first_place (map (λ (n : Bor (List ℕ)). n.now) (take k names)) q)
+    (bytes_eq (get_or names k d).now q)) len))
 
 -- where a name has a first place, no earlier place has it
 stops_here : (passes : Bool) (n : ℕ) → passes ≡ true → cond (not passes) (1 + n) 0 ≤ 0
@@ -87,16 +102,19 @@ stops_le : (passes : Bool) (m n : ℕ) → m ≤ n → cond (not passes) (1 + m)
 stops_le true m n le = omega arith
 stops_le false m n le = omega arith
 
-first_before : {X : Type 0} (p : X → Bool) (xs : List X) (k : ℕ) (x : X) → slice_get xs k ≡ Some x → p x ≡ true → position_or_len p xs ≤ k
+first_before : {X : Type 0} (p : X → Bool) (xs : List X) (k : ℕ) (x : X) → slice_get xs k ≡ Some x → p x ≡ true
+    → position_or_len p xs ≤ k
 first_before p [] k x at passes = cc at
-first_before p (y ∷ ys) zero x at passes = let same : y ≡ x = cc in stops_here (p y) (position_or_len p ys) (let e = ap p same in cc)
+first_before p (y ∷ ys) zero x at passes = let same : y ≡ x = cc
+    in stops_here (p y) (position_or_len p ys) (let e = ap p same in cc)
 first_before p (y ∷ ys) (suc k) x at passes = stops_le (p y) (position_or_len p ys) k (first_before p ys k x at passes)
 
 found_some : (t : Bool) (a b : ℕ) → cond t (Some a) None ≡ Some b → a ≡ b
 found_some true a b e = cc e
 found_some false a b e = cc e
 
-pub first_place-le : (names : List (List ℕ)) (name : List ℕ) (p q : ℕ) → first_place names name ≡ Some p → slice_get names q ≡ Some name → p ≤ q
+pub first_place-le : (names : List (List ℕ)) (name : List ℕ) (p q : ℕ) → first_place names name ≡ Some p
+    → slice_get names q ≡ Some name → p ≤ q
 first_place-le names name p q first at =
     let is = found_some (nat_lt (position_or_len (λ other. bytes_eq other name) names) (length names)) _ p first in
     let le = first_before (λ other. bytes_eq other name) names q name at ((bytes_eq-Decides name name).1 refl) in
@@ -105,18 +123,24 @@ first_place-le names name p q first at =
 found_within : (a n b : ℕ) → cond (nat_lt a n) (Some a) None ≡ Some b → b < n
 found_within a n b e = grind (arith, nat_tests)
 
-pub first_place-within : (names : List (List ℕ)) (name : List ℕ) (p : ℕ) → first_place names name ≡ Some p → p < length names
-first_place-within names name p first = found_within (position_or_len (λ other. bytes_eq other name) names) (length names) p first
+pub first_place-within : (names : List (List ℕ)) (name : List ℕ) (p : ℕ) → first_place names name ≡ Some p
+    → p < length names
+first_place-within names name p first = found_within (position_or_len (λ other. bytes_eq other name) names)
+    (length names) p first
 
 -- a name that is there has a first place, where it stands
-pub first_place-of : (names : List (List ℕ)) (name : List ℕ) (q : ℕ) → slice_get names q ≡ Some name → (p : ℕ) × (first_place names name ≡ Some p) × (slice_get names p ≡ Some name)
+pub first_place-of : (names : List (List ℕ)) (name : List ℕ) (q : ℕ) → slice_get names q ≡ Some name
+    → (p : ℕ) × (first_place names name ≡ Some p) × (slice_get names p ≡ Some name)
 first_place-of (first ∷ more) name q at =
     let names : List (List ℕ) = first ∷ more in
     let same : List ℕ → Bool = λ other. bytes_eq other name in
     let le = first_before same names q name at ((bytes_eq-Decides name name).1 refl) in
     let within = slice_get_within names q name at in
-    let found : first_place names name ≡ Some (position_or_len same names) = ap (λ b. cond b (Some (position_or_len same names)) None) (lt-ltb (position_or_len same names) (length names) (omega (arith, le, within))) in
+    let found : first_place names name ≡ Some (position_or_len same names) =
+    ap (λ b. cond b (Some (position_or_len same names)) None)
+    (lt-ltb (position_or_len same names) (length names) (omega (arith, le, within))) in
     let p = position-Some same names (position_or_len same names) first found in
-    let is : get_or names (position_or_len same names) first ≡ name = (bytes_eq-Decides (get_or names (position_or_len same names) first) name).0 p.1 in
+    let is : get_or names (position_or_len same names) first ≡ name =
+    (bytes_eq-Decides (get_or names (position_or_len same names) first) name).0 p.1 in
     (position_or_len same names, found, slice_get-get_or names (position_or_len same names) first p.0 ∙ ap Some is)
 first_place-of [] name q at = cc at

@@ -1,5 +1,7 @@
 -- Tables joined with those of a text are valid where no line of it breaks a rule.
-use Rattle.std.proofs.Common.{◌≡◌, ◌≢◌, ℕ, suc, ◌+◌, ◌-◌, ◌<◌, ◌≤◌, ◌⊎◌, inl, inr, true, false, List, [], ◌∷◌, ◌++◌, length, map, refl, sym, ap, ◌∙◌, subst, Some, None, Option, Bool, slice_get, get_or, take, append_assoc, arith}
+use Rattle.std.proofs.Common.{◌≡◌, ◌≢◌, ℕ, suc, ◌+◌, ◌-◌, ◌<◌, ◌≤◌, ◌⊎◌, inl, inr, true, false}
+use Rattle.std.proofs.Common.{List, [], ◌∷◌, ◌++◌, length, map, refl, sym, ap, ◌∙◌, subst, Some}
+use Rattle.std.proofs.Common.{None, Option, Bool, slice_get, get_or, take, append_assoc, arith}
 use Rattle.std.specs.List.{All, list_any}
 use Rattle.std.proofs.lemmas.Bool.{leb-true, ltb-true, eqb-true}
 use Rattle.std.proofs.lemmas.List.Elements.{All-weaker}
@@ -16,16 +18,24 @@ use Rattle.wl_wire.specs.declared.kind.Kind.TheVariants as kinds
 use Rattle.wl_sigs.specs.declared.signature.Side.{Side}
 use Rattle.wl_sigs.specs.declared.signature.Side.TheVariants.{Request, Event}
 use Rattle.wl_sigs.specs.Rules.{is_empty}
-use Rattle.wl_sigs.specs.Tables.{Message, Interface, interface_at, messages_of, signature_at, new_objects, named_interface, has_destroying_event, destroys_target, destroys_argument}
-use Rattle.wl_sigs.specs.Valid.{IsName, NamesAreDistinct, HasFixedFour, AreSmall, MakeFewObjects, UnnamedNewInBindAlone, NoAnyInRequests, SincesAreInRange, DestroyingEventsAreRaceFree, NamedInterfacesAreThere, ArgumentEndsInFixesAlone, Valid}
+use Rattle.wl_sigs.specs.Tables.{Message, Interface, interface_at, messages_of, signature_at}
+use Rattle.wl_sigs.specs.Tables.{new_objects, named_interface, has_destroying_event}
+use Rattle.wl_sigs.specs.Tables.{destroys_target, destroys_argument}
+use Rattle.wl_sigs.specs.Valid.{IsName, NamesAreDistinct, HasFixedFour, AreSmall, MakeFewObjects}
+use Rattle.wl_sigs.specs.Valid.{UnnamedNewInBindAlone, NoAnyInRequests, SincesAreInRange}
+use Rattle.wl_sigs.specs.Valid.{DestroyingEventsAreRaceFree, NamedInterfacesAreThere}
+use Rattle.wl_sigs.specs.Valid.{ArgumentEndsInFixesAlone, Valid}
 use Rattle.wl_interface_text.specs.Text.{WrittenMessage, WrittenInterface}
 use Rattle.wl_sigs.specs.Joined.{all_names, first_place, kind_placed, destroys_of, interface_placed, joined}
 use Rattle.wl_sigs.specs.Broken.{is_first, ended_of, first_broken}
 use Rattle.wl_sigs.proofs.RulesDecide.{decides_name}
-use Rattle.wl_sigs.proofs.Earlier.{each_interface_keeps}
+use Rattle.wl_sigs.proofs.FirstBrokenLine.{each_interface_keeps}
 use Rattle.wl_sigs.specs.FirstBroken.{written_of}
 use Rattle.wl_sigs.proofs.Kept.{Keeps, MessageKeeps, kept}
-use Rattle.wl_sigs.proofs.JoinedLookup.{in_front, Brought, either_interface, placing, placing_message, each_interface, each_message, length_joined, length_names, placed_messages, either_message}
+use Rattle.wl_sigs.proofs.JoinedLookup.{in_front, Brought, either_interface, placing}
+use Rattle.wl_sigs.proofs.JoinedLookup.{placing_message, each_interface, each_message}
+use Rattle.wl_sigs.proofs.JoinedLookup.{length_joined, length_names, placed_messages}
+use Rattle.wl_sigs.proofs.JoinedLookup.{either_message}
 use Rattle.wl_sigs.proofs.PlacedKinds.{all_placed, count_placed, not_unnamed, not_any, there, NotEndedIn, not_ended}
 
 -- no line of the text breaks a rule
@@ -33,18 +43,23 @@ abbrev pub NoneBroken : List Interface → List WrittenInterface → Type 0
 NoneBroken tables written = (k : ℕ) (w : WrittenInterface) → slice_get written k ≡ Some w
     → Keeps (first_place (all_names tables written)) (ended_of tables written) (length tables + k) w
 
-pub none_broken : (tables : List Interface) (written : List WrittenInterface) → first_broken tables written ≡ None → NoneBroken tables written
+pub none_broken : (tables : List Interface) (written : List WrittenInterface) → first_broken tables written ≡ None
+    → NoneBroken tables written
 none_broken tables written none k w at =
-    kept _ _ _ w (each_interface_keeps (first_place (all_names tables written)) (ended_of tables written) (length tables) written none k w at)
+    kept _ _ _ w (each_interface_keeps (first_place (all_names tables written)) (ended_of tables written)
+    (length tables) written none k w at)
 
 -- what one message keeps
-keeps_at : (tables : List Interface) (written : List WrittenInterface) → NoneBroken tables written → (side : Side) (k : ℕ) (w : WrittenInterface) (o : ℕ) (m : WrittenMessage)
+keeps_at : (tables : List Interface) (written : List WrittenInterface) → NoneBroken tables written
+    → (side : Side) (k : ℕ) (w : WrittenInterface) (o : ℕ) (m : WrittenMessage)
     → slice_get written k ≡ Some w → slice_get (written_of side w) o ≡ Some m
-    → MessageKeeps (first_place (all_names tables written)) (ended_of tables written) w side (first_place (map (λ n. n.name) (written_of side w))) o m
+    → MessageKeeps (first_place (all_names tables written)) (ended_of tables written) w side
+    (first_place (map (λ n. n.name) (written_of side w))) o m
 keeps_at tables written none side k w o m at of = (none k w at).messages side o m of
 
 -- V2
-fixed_joined : (tables : List Interface) (written : List WrittenInterface) → HasFixedFour tables → HasFixedFour (joined tables written)
+fixed_joined : (tables : List Interface) (written : List WrittenInterface) → HasFixedFour tables
+    → HasFixedFour (joined tables written)
 fixed_joined tables written four =
     let new = map (placing tables written) written in
     record {
@@ -55,7 +70,8 @@ fixed_joined tables written four =
     }
 
 -- V4
-few_joined : (tables : List Interface) (written : List WrittenInterface) → NoneBroken tables written → MakeFewObjects tables → MakeFewObjects (joined tables written)
+few_joined : (tables : List Interface) (written : List WrittenInterface) → NoneBroken tables written
+    → MakeFewObjects tables → MakeFewObjects (joined tables written)
 few_joined tables written none few = record {
   events =
       each_message (λ m. new_objects m.kinds ≡ []) tables written Event few.events
@@ -76,48 +92,63 @@ few_joined tables written none few = record {
     none_left (x ∷ xs) le = absurd (omega arith)
 
 -- V5
-unnamed_joined : (tables : List Interface) (written : List WrittenInterface) → NoneBroken tables written → UnnamedNewInBindAlone tables → UnnamedNewInBindAlone (joined tables written)
-unnamed_joined tables written none old place side opcode m h = elim (either_message tables written place side opcode m h) [
-  | inl front ↦ old place side opcode m front
-  | inr b ↦
-      let keeps = keeps_at tables written none side b.index b.interface opcode b.from b.at b.of in
-      let names = all_names tables written in
-      let all = all_placed _ (kind_placed (first_place names) (length names)) (λ k. k ≢ kinds.New None) (λ k t. not_unnamed (first_place names) (length names) k.kind k.iface t) b.from.kinds keeps.none_unnamed in
-      inr (subst (λ (x : Message). All (λ k. k ≢ kinds.New None) x.kinds) b.is all)
-]
+unnamed_joined : (tables : List Interface) (written : List WrittenInterface) → NoneBroken tables written
+    → UnnamedNewInBindAlone tables → UnnamedNewInBindAlone (joined tables written)
+unnamed_joined tables written none old place side opcode m h =
+    elim (either_message tables written place side opcode m h) [
+      | inl front ↦ old place side opcode m front
+      | inr b ↦
+          let keeps = keeps_at tables written none side b.index b.interface opcode b.from b.at b.of in
+          let names = all_names tables written in
+          let all = all_placed _ (kind_placed (first_place names) (length names)) (λ k. k ≢ kinds.New None)
+          (λ k t. not_unnamed (first_place names) (length names) k.kind k.iface t) b.from.kinds keeps.none_unnamed
+          in
+          inr (subst (λ (x : Message). All (λ k. k ≢ kinds.New None) x.kinds) b.is all)
+    ]
 
 -- V6
-any_joined : (tables : List Interface) (written : List WrittenInterface) → NoneBroken tables written → NoAnyInRequests tables → NoAnyInRequests (joined tables written)
+any_joined : (tables : List Interface) (written : List WrittenInterface) → NoneBroken tables written
+    → NoAnyInRequests tables → NoAnyInRequests (joined tables written)
 any_joined tables written none old =
     each_message (λ m. All (λ k. (null : Bool) → k ≢ kinds.Obj null None) m.kinds) tables written Request old
     (λ k w o m at of.
     let keeps = keeps_at tables written none Request k w o m at of in
     let names = all_names tables written in
-    all_placed _ (kind_placed (first_place names) (length names)) (λ k. (null : Bool) → k ≢ kinds.Obj null None) (λ k t. not_any (first_place names) (length names) k.kind k.iface t) m.kinds keeps.none_any)
+    all_placed _ (kind_placed (first_place names) (length names)) (λ k. (null : Bool) → k ≢ kinds.Obj null None)
+    (λ k t. not_any (first_place names) (length names) k.kind k.iface t) m.kinds keeps.none_any)
 
 -- V8
-sinces_joined : (tables : List Interface) (written : List WrittenInterface) → NoneBroken tables written → SincesAreInRange tables → SincesAreInRange (joined tables written)
+sinces_joined : (tables : List Interface) (written : List WrittenInterface) → NoneBroken tables written
+    → SincesAreInRange tables → SincesAreInRange (joined tables written)
 sinces_joined tables written none old = record {
-  versions = each_interface (λ i. 1 ≤ i.version) tables written old.versions (λ k w at. leb-true _ _ (none k w at).interface.version);
-  from_one = λ side. each_message (λ m. 1 ≤ m.since) tables written side (old.from_one side) (λ k w o m at of. leb-true _ _ (keeps_at tables written none side k w o m at of).since);
+  versions = each_interface (λ i. 1 ≤ i.version) tables written old.versions
+      (λ k w at. leb-true _ _ (none k w at).interface.version);
+  from_one = λ side. each_message (λ m. 1 ≤ m.since) tables written side (old.from_one side)
+      (λ k w o m at of. leb-true _ _ (keeps_at tables written none side k w o m at of).since);
   to_version = λ place side opcode i m at h. elim (either_message tables written place side opcode m h) [
     | inl front ↦
         let it = found tables place side opcode m front in
-        old.to_version place side opcode i m (in_tables place i at (slice_get_within tables place it.interface it.at)) front
+        old.to_version place side opcode i m (in_tables place i at (slice_get_within tables place it.interface it.at))
+        front
     | inr b ↦
-        let own : placing tables written b.interface ≡ i = same_interface place i b.index b.interface b.at b.place_is at in
-        let le = leb-true _ _ (keeps_at tables written none side b.index b.interface opcode b.from b.at b.of).to_version in
-        subst (λ (x : Interface). m.since ≤ x.version) own (subst (λ (x : Message). x.since ≤ b.interface.version) b.is le)
+        let own : placing tables written b.interface ≡ i =
+        same_interface place i b.index b.interface b.at b.place_is at in
+        let le = leb-true _ _ (keeps_at tables written none side b.index b.interface opcode b.from b.at b.of).to_version
+        in
+        subst (λ (x : Interface). m.since ≤ x.version) own
+        (subst (λ (x : Message). x.since ≤ b.interface.version) b.is le)
   ];
 }
   where
-    in_tables : (place : ℕ) (i : Interface) → interface_at (joined tables written) place ≡ Some i → place < length tables → interface_at tables place ≡ Some i
+    in_tables : (place : ℕ) (i : Interface) → interface_at (joined tables written) place ≡ Some i
+        → place < length tables → interface_at tables place ≡ Some i
     in_tables place i at lt = elim (either_interface tables written place i at) [
       | inl front ↦ front
       | inr b ↦ absurd (let is = b.place_is in omega (arith, is, lt))
     ]
 
-    same_interface : (place : ℕ) (i : Interface) (k : ℕ) (w : WrittenInterface) → slice_get written k ≡ Some w → place ≡ length tables + k → interface_at (joined tables written) place ≡ Some i → placing tables written w ≡ i
+    same_interface : (place : ℕ) (i : Interface) (k : ℕ) (w : WrittenInterface) → slice_get written k ≡ Some w
+        → place ≡ length tables + k → interface_at (joined tables written) place ≡ Some i → placing tables written w ≡ i
     same_interface place i k w own is at = elim (either_interface tables written place i at) [
       | inl front ↦ absurd (let within = slice_get_within tables place i front in omega (arith, is, within))
       | inr b ↦
@@ -130,18 +161,26 @@ sinces_joined tables written none old = record {
 -- the last of a list, if it has one
 last_at : {X : Type 0} (xs : List X) → (length xs ≡ 0) ⊎ ((x : X) × (slice_get xs (length xs - 1) ≡ Some x))
 last_at [] = inl refl
-last_at (x ∷ xs) = inr (get_or (x ∷ xs) (length (x ∷ xs) - 1) x, slice_get-get_or (x ∷ xs) (length (x ∷ xs) - 1) x (omega arith))
+last_at (x ∷ xs) = inr (
+  get_or (x ∷ xs) (length (x ∷ xs) - 1) x,
+  slice_get-get_or (x ∷ xs) (length (x ∷ xs) - 1) x
+      (omega arith),
+)
 
 -- V3
-small_joined : (tables : List Interface) (written : List WrittenInterface) → NoneBroken tables written → AreSmall tables → AreSmall (joined tables written)
+small_joined : (tables : List Interface) (written : List WrittenInterface) → NoneBroken tables written → AreSmall tables
+    → AreSmall (joined tables written)
 small_joined tables written none old = record {
   interfaces = elim (last_at written) [
     | inl empty ↦ let most = old.interfaces in omega (arith, length_joined tables written)
     | inr last ↦ let lt = ltb-true _ _ (none (length written - 1) last.0 last.1).interface.small in
-        let within = slice_get_within written (length written - 1) last.0 last.1 in omega (arith, length_joined tables written, lt, within)
+        let within = slice_get_within written (length written - 1) last.0 last.1
+        in omega (arith, length_joined tables written, lt, within)
   ];
   messages = λ side. each_interface (λ i. length (messages_of side i) ≤ 256) tables written (old.messages side)
-      (λ k w at. rw (placed_messages tables written side w) (let len = length-map (written_of side w) (placing_message tables written) in let few = few_messages side k w at in omega (arith, len, few)));
+      (λ k w at. rw (placed_messages tables written side w)
+      (let len = length-map (written_of side w) (placing_message tables written)
+      in let few = few_messages side k w at in omega (arith, len, few)));
   arguments = λ side. each_message (λ m. length m.kinds ≤ 20) tables written side (old.arguments side)
       (λ k w o m at of.
       let short = leb-true _ _ (keeps_at tables written none side k w o m at of).short in
@@ -149,11 +188,14 @@ small_joined tables written none old = record {
       let len = length-map m.kinds (kind_placed (first_place names) (length names)) in omega (arith, len, short));
 }
   where
-    few_messages : (side : Side) (k : ℕ) (w : WrittenInterface) → slice_get written k ≡ Some w → length (written_of side w) ≤ 256
+    few_messages : (side : Side) (k : ℕ) (w : WrittenInterface) → slice_get written k ≡ Some w
+        → length (written_of side w) ≤ 256
     few_messages side k w at = elim (last_at (written_of side w)) [
       | inl empty ↦ omega arith
-      | inr last ↦ let lt = ltb-true _ _ (keeps_at tables written none side k w (length (written_of side w) - 1) last.0 at last.1).few in
-          let within = slice_get_within (written_of side w) (length (written_of side w) - 1) last.0 last.1 in omega (arith, lt, within)
+      | inr last ↦ let lt = ltb-true _ _ (keeps_at tables written none side k w
+          (length (written_of side w) - 1) last.0 at last.1).few in
+          let within = slice_get_within (written_of side w) (length (written_of side w) - 1) last.0 last.1
+          in omega (arith, lt, within)
     ]
 
 -- an argument names no interface that is not there
@@ -161,19 +203,25 @@ abbrev IsThereIn : List Interface → Kind → Type 0
 IsThereIn all k = (iface : Iface) → named_interface k ≡ Some iface → iface.0 < length all
 
 -- V9
-interfaces_joined : (tables : List Interface) (written : List WrittenInterface) → NoneBroken tables written → NamedInterfacesAreThere tables → NamedInterfacesAreThere (joined tables written)
+interfaces_joined : (tables : List Interface) (written : List WrittenInterface) → NoneBroken tables written
+    → NamedInterfacesAreThere tables → NamedInterfacesAreThere (joined tables written)
 interfaces_joined tables written none old side =
     let names = all_names tables written in
-    let lens : length (joined tables written) ≡ length names = omega (arith, length_joined tables written, length_names tables written) in
+    let lens : length (joined tables written) ≡ length names =
+    omega (arith, length_joined tables written, length_names tables written) in
     each_message (λ m. All (IsThereIn (joined tables written)) m.kinds) tables written side
-    (λ place opcode m h. All-weaker (IsThereIn tables) (IsThereIn (joined tables written)) (λ k there iface e. let lt = there iface e in omega (arith, lt, length_joined tables written)) m.kinds (old side place opcode m h))
+    (λ place opcode m h. All-weaker (IsThereIn tables) (IsThereIn (joined tables written))
+    (λ k there iface e. let lt = there iface e in omega (arith, lt, length_joined tables written)) m.kinds
+    (old side place opcode m h))
     (λ k w o m at of.
     let keeps = keeps_at tables written none side k w o m at of in
     all_placed _ (kind_placed (first_place names) (length names)) (IsThereIn (joined tables written))
-    (λ x t iface e. let lt = there (first_place names) (length names) (first_place-within names) x.kind x.iface t iface e in omega (arith, lt, lens)) m.kinds keeps.none_missing)
+    (λ x t iface e. let lt = there (first_place names) (length names)
+    (first_place-within names) x.kind x.iface t iface e in omega (arith, lt, lens)) m.kinds keeps.none_missing)
 
 -- a name that stands first at a place is found there
-found_first : (place : List ℕ → Option ℕ) (name : List ℕ) (here : ℕ) → is_first place name here ≡ true → place name ≡ Some here
+found_first : (place : List ℕ → Option ℕ) (name : List ℕ) (here : ℕ) → is_first place name here ≡ true
+    → place name ≡ Some here
 found_first place name here first = from_option (place name) first
   where
     from_option : (o : Option ℕ) → option_map_or (λ p. p == here) o false ≡ true → o ≡ Some here
@@ -181,8 +229,10 @@ found_first place name here first = from_option (place name) first
     from_option (Some p) e = ap Some (eqb-true p here e)
 
 -- V1, the names of interfaces
-interfaces_apart : (tables : List Interface) (written : List WrittenInterface) → NoneBroken tables written → NamesAreDistinct tables → (p q : ℕ) (i j : Interface)
-    → interface_at (joined tables written) p ≡ Some i → interface_at (joined tables written) q ≡ Some j → i.name ≡ j.name → p ≡ q
+interfaces_apart : (tables : List Interface) (written : List WrittenInterface) → NoneBroken tables written
+    → NamesAreDistinct tables → (p q : ℕ) (i j : Interface)
+    → interface_at (joined tables written) p ≡ Some i → interface_at (joined tables written) q ≡ Some j
+    → i.name ≡ j.name → p ≡ q
 interfaces_apart tables written none old p q i j at at' same =
     elim (either_interface tables written p i at) [
       | inl front ↦ elim (either_interface tables written q j at') [
@@ -199,41 +249,57 @@ interfaces_apart tables written none old p q i j at at' same =
       ]
     ]
   where
-    brought_first : (p : ℕ) (i : Interface) → Brought tables written p i → first_place (all_names tables written) i.name ≡ Some p
+    brought_first : (p : ℕ) (i : Interface) → Brought tables written p i
+        → first_place (all_names tables written) i.name ≡ Some p
     brought_first p i b =
-        let first = found_first (first_place (all_names tables written)) b.from.name (length tables + b.index) (none b.index b.from b.at).interface.first in
+        let first = found_first (first_place (all_names tables written)) b.from.name (length tables + b.index)
+        (none b.index b.from b.at).interface.first in
         let named : b.from.name ≡ i.name = ap (λ (x : Interface). x.name) b.is in
         rw (← named, b.place_is) first
 
-    not_before : (p : ℕ) (i : Interface) → interface_at tables p ≡ Some i → (q : ℕ) (j : Interface) → Brought tables written q j → i.name ≡ j.name → ⊥
+    not_before : (p : ℕ) (i : Interface) → interface_at tables p ≡ Some i → (q : ℕ) (j : Interface)
+        → Brought tables written q j → i.name ≡ j.name → ⊥
     not_before p i front q j b same =
         let first = brought_first q j b in
-        let at : slice_get (map (λ (x : Interface). x.name) tables) p ≡ Some i.name = slice_get-map (λ (x : Interface). x.name) tables p ∙ ap (option_map (λ (x : Interface). x.name)) front in
-        let at_name : slice_get (all_names tables written) p ≡ Some j.name = in_front _ (map (λ (w : WrittenInterface). w.name) written) p i.name at ∙ ap Some same in
+        let at : slice_get (map (λ (x : Interface). x.name) tables) p ≡ Some i.name =
+        slice_get-map (λ (x : Interface). x.name) tables p
+        ∙ ap (option_map (λ (x : Interface). x.name)) front in
+        let at_name : slice_get (all_names tables written) p ≡ Some j.name =
+        in_front _ (map (λ (w : WrittenInterface). w.name) written) p i.name at ∙ ap Some same in
         let le = first_place-le (all_names tables written) j.name q p first at_name in
         let within = slice_get_within tables p i front in
         let is = b.place_is in
         omega (arith, le, within, is)
 
 -- V1, the names of messages
-messages_apart : (tables : List Interface) (written : List WrittenInterface) → NoneBroken tables written → NamesAreDistinct tables → (place : ℕ) (side : Side) (o p : ℕ) (m n : Message)
-    → signature_at (joined tables written) place side o ≡ Some m → signature_at (joined tables written) place side p ≡ Some n → m.name ≡ n.name → o ≡ p
+messages_apart : (tables : List Interface) (written : List WrittenInterface) → NoneBroken tables written
+    → NamesAreDistinct tables → (place : ℕ) (side : Side) (o p : ℕ) (m n : Message)
+    → signature_at (joined tables written) place side o ≡ Some m
+    → signature_at (joined tables written) place side p ≡ Some n → m.name ≡ n.name → o ≡ p
 messages_apart tables written none old place side o p m n h h' same =
     elim (either_message tables written place side o m h) [
       | inl front ↦ elim (either_message tables written place side p n h') [
         | inl front' ↦ old.messages_distinct place side o p m n front front' same
-        | inr b' ↦ absurd (let it = found tables place side o m front in let within = slice_get_within tables place it.interface it.at in let is = b'.place_is in omega (arith, within, is))
+        | inr b' ↦ absurd (let it = found tables place side o m front
+            in let within = slice_get_within tables place it.interface it.at in let is = b'.place_is
+            in omega (arith, within, is))
       ]
       | inr b ↦ elim (either_message tables written place side p n h') [
-        | inl front' ↦ absurd (let it = found tables place side p n front' in let within = slice_get_within tables place it.interface it.at in let is = b.place_is in omega (arith, within, is))
+        | inl front' ↦ absurd (let it = found tables place side p n front'
+            in let within = slice_get_within tables place it.interface it.at in let is = b.place_is
+            in omega (arith, within, is))
         | inr b' ↦
             let index : b'.index ≡ b.index = (let is = b.place_is in let is' = b'.place_is in omega (arith, is, is')) in
-            let one : Some b'.interface ≡ Some b.interface = sym b'.at ∙ ap (λ (k : ℕ). slice_get written k) index ∙ b.at in
+            let one : Some b'.interface ≡ Some b.interface =
+            sym b'.at ∙ ap (λ (k : ℕ). slice_get written k) index ∙ b.at in
             let own : b'.interface ≡ b.interface = cc one in
-            let of' : slice_get (written_of side b.interface) p ≡ Some b'.from = subst (λ (w : WrittenInterface). slice_get (written_of side w) p ≡ Some b'.from) own b'.of in
+            let of' : slice_get (written_of side b.interface) p ≡ Some b'.from =
+            subst (λ (w : WrittenInterface). slice_get (written_of side w) p ≡ Some b'.from) own b'.of in
             let first : List ℕ → Option ℕ = first_place (map (λ n. n.name) (written_of side b.interface)) in
-            let a = found_first first b.from.name o (keeps_at tables written none side b.index b.interface o b.from b.at b.of).first_named in
-            let d = found_first first b'.from.name p (keeps_at tables written none side b.index b.interface p b'.from b.at of').first_named in
+            let a = found_first first b.from.name o
+            (keeps_at tables written none side b.index b.interface o b.from b.at b.of).first_named in
+            let d = found_first first b'.from.name p
+            (keeps_at tables written none side b.index b.interface p b'.from b.at of').first_named in
             let named : b.from.name ≡ m.name = ap (λ (x : Message). x.name) b.is in
             let named' : b'.from.name ≡ n.name = ap (λ (x : Message). x.name) b'.is in
             let e : Some o ≡ Some p = sym a ∙ ap first (named ∙ same ∙ sym named') ∙ d in
@@ -242,9 +308,11 @@ messages_apart tables written none old place side o p m n h h' same =
     ]
 
 -- V1
-names_joined_apart : (tables : List Interface) (written : List WrittenInterface) → NoneBroken tables written → NamesAreDistinct tables → NamesAreDistinct (joined tables written)
+names_joined_apart : (tables : List Interface) (written : List WrittenInterface) → NoneBroken tables written
+    → NamesAreDistinct tables → NamesAreDistinct (joined tables written)
 names_joined_apart tables written none old = record {
-  interfaces_named = each_interface (λ i. IsName i.name) tables written old.interfaces_named (λ k w at. (decides_name w.name).0 (none k w at).interface.named);
+  interfaces_named = each_interface (λ i. IsName i.name) tables written old.interfaces_named
+      (λ k w at. (decides_name w.name).0 (none k w at).interface.named);
   interfaces_distinct = interfaces_apart tables written none old;
   messages_named = λ side. each_message (λ m. IsName m.name) tables written side (old.messages_named side)
       (λ k w o m at of. (decides_name m.name).0 (keeps_at tables written none side k w o m at of).named);
@@ -252,18 +320,21 @@ names_joined_apart tables written none old = record {
 }
 
 -- some element passes
-any_at : {X : Type 0} (test : X → Bool) (xs : List X) → list_any test xs ≡ true → (o : ℕ) × (x : X) × (slice_get xs o ≡ Some x) × (test x ≡ true)
+any_at : {X : Type 0} (test : X → Bool) (xs : List X) → list_any test xs ≡ true
+    → (o : ℕ) × (x : X) × (slice_get xs o ≡ Some x) × (test x ≡ true)
 any_at test [] any = cc any
 any_at {X} test (x ∷ xs) any = head_or_tail (test x) refl any (λ behind. any_at test xs behind)
   where
-    head_or_tail : (t : Bool) → test x ≡ t → t || list_any test xs ≡ true → (list_any test xs ≡ true → (o : ℕ) × (y : X) × (slice_get xs o ≡ Some y) × (test y ≡ true))
+    head_or_tail : (t : Bool) → test x ≡ t → t || list_any test xs ≡ true
+        → (list_any test xs ≡ true → (o : ℕ) × (y : X) × (slice_get xs o ≡ Some y) × (test y ≡ true))
         → (o : ℕ) × (y : X) × (slice_get (x ∷ xs) o ≡ Some y) × (test y ≡ true)
     head_or_tail true is any behind = (0, x, refl, is)
     head_or_tail false is any behind = let rest = behind any in (suc rest.0, rest.1, rest.2, rest.3)
 
 -- whether an event destroys its target, before and after the names are looked up
 pub destroying : (tables : List Interface) (written : List WrittenInterface) (ms : List WrittenMessage)
-    → list_any (λ m. destroys_target m.destroys) (map (placing_message tables written) ms) ≡ list_any (λ m. m.destroys) ms
+    → list_any (λ m. destroys_target m.destroys) (map (placing_message tables written) ms)
+    ≡ list_any (λ m. m.destroys) ms
 destroying tables written [] = refl
 destroying tables written (m ∷ ms) = rw (target_is m.destroys, destroying tables written ms) refl
   where
@@ -272,26 +343,33 @@ destroying tables written (m ∷ ms) = rw (target_is m.destroys, destroying tabl
     target_is false = refl
 
 ended_behind : (tables : List Interface) (all written : List WrittenInterface)
-    → map has_destroying_event (map (placing tables all) written) ≡ map (λ (w : WrittenInterface). list_any (λ m. m.destroys) w.events) written
+    → map has_destroying_event (map (placing tables all) written)
+    ≡ map (λ (w : WrittenInterface). list_any (λ m. m.destroys) w.events) written
 ended_behind tables all [] = refl
 ended_behind tables all (w ∷ written) = rw (destroying tables all w.events, ended_behind tables all written) refl
 
-pub ended_joined : (tables : List Interface) (written : List WrittenInterface) → map has_destroying_event (joined tables written) ≡ ended_of tables written
+pub ended_joined : (tables : List Interface) (written : List WrittenInterface)
+    → map has_destroying_event (joined tables written) ≡ ended_of tables written
 ended_joined tables written =
-    map-append has_destroying_event tables (map (placing tables written) written) ∙ ap (λ (b : List Bool). map has_destroying_event tables ++ b) (ended_behind tables written written)
+    map-append has_destroying_event tables (map (placing tables written) written)
+    ∙ ap (λ (b : List Bool). map has_destroying_event tables ++ b) (ended_behind tables written written)
 
-pub ended_at : (tables : List Interface) (written : List WrittenInterface) (p : ℕ) (i : Interface) → interface_at (joined tables written) p ≡ Some i
+pub ended_at : (tables : List Interface) (written : List WrittenInterface) (p : ℕ) (i : Interface)
+    → interface_at (joined tables written) p ≡ Some i
     → slice_get (ended_of tables written) p ≡ Some (has_destroying_event i)
 ended_at tables written p i at =
-    rw (← ended_joined tables written) (slice_get-map has_destroying_event (joined tables written) p ∙ ap (option_map has_destroying_event) at)
+    rw (← ended_joined tables written) (slice_get-map has_destroying_event (joined tables written) p
+    ∙ ap (option_map has_destroying_event) at)
 
-none_destroying : (destroys : Bool) (requests : List WrittenMessage) → not destroys || is_empty requests ≡ true → destroys ≡ true → requests ≡ []
+none_destroying : (destroys : Bool) (requests : List WrittenMessage) → not destroys || is_empty requests ≡ true
+    → destroys ≡ true → requests ≡ []
 none_destroying false requests free is = cc is
 none_destroying true [] free is = refl
 none_destroying true (m ∷ ms) free is = cc free
 
 -- V7
-race_free_joined : (tables : List Interface) (written : List WrittenInterface) → NoneBroken tables written → NamedInterfacesAreThere tables → DestroyingEventsAreRaceFree tables
+race_free_joined : (tables : List Interface) (written : List WrittenInterface) → NoneBroken tables written
+    → NamedInterfacesAreThere tables → DestroyingEventsAreRaceFree tables
     → DestroyingEventsAreRaceFree (joined tables written)
 race_free_joined tables written none inside old = record {
   no_requests = each_interface (λ i. has_destroying_event i ≡ true → i.requests ≡ []) tables written old.no_requests
@@ -300,35 +378,44 @@ race_free_joined tables written none inside old = record {
       let free = (keeps_at tables written none Event k w event.0 event.1 at event.2).race_free in
       ap (map (placing_message tables written)) (none_destroying event.1.destroys w.requests free event.3));
   no_arguments = each_message (λ m. All (NotEndedIn (joined tables written)) m.kinds) tables written Request
-      (λ place opcode m h. λ t d lt. old_kinds (get_or m.kinds t d) (old.no_arguments place opcode m h t d lt) (inside Request place opcode m h t d lt))
+      (λ place opcode m h. λ t d lt. old_kinds (get_or m.kinds t d) (old.no_arguments place opcode m h t d lt)
+      (inside Request place opcode m h t d lt))
       (λ k w o m at of.
       let names = all_names tables written in
       all_placed _ (kind_placed (first_place names) (length names)) (NotEndedIn (joined tables written))
-      (λ x t. not_ended (joined tables written) (first_place names) (length names) (ended_of tables written) (ended_at tables written) past x.kind x.iface t) m.kinds
+      (λ x t. not_ended (joined tables written) (first_place names) (length names) (ended_of tables written)
+      (ended_at tables written) past x.kind x.iface t) m.kinds
       (keeps_at tables written none Request k w o m at of).race_free);
 }
   where
     past : interface_at (joined tables written) (length (all_names tables written)) ≡ None
-    past = slice_get_past (joined tables written) (length (all_names tables written)) (omega (arith, length_joined tables written, length_names tables written))
+    past = slice_get_past (joined tables written) (length (all_names tables written))
+        (omega (arith, length_joined tables written, length_names tables written))
 
-    old_kinds : (k : Kind) → NotEndedIn tables k → ((iface : Iface) → named_interface k ≡ Some iface → iface.0 < length tables) → NotEndedIn (joined tables written) k
+    old_kinds : (k : Kind) → NotEndedIn tables k →
+        ((iface : Iface) → named_interface k ≡ Some iface → iface.0 < length tables)
+        → NotEndedIn (joined tables written) k
     old_kinds k old inside null iface i e at = elim (either_interface tables written iface.0 i at) [
       | inl front ↦ old null iface i e front
       | inr b ↦ absurd (let lt = inside iface (ap named_interface e) in let is = b.place_is in omega (arith, lt, is))
     ]
 
 -- V10
-argument_joined : (tables : List Interface) (written : List WrittenInterface) → ArgumentEndsInFixesAlone tables → ArgumentEndsInFixesAlone (joined tables written)
-argument_joined tables written old place side opcode m h = elim (either_message tables written place side opcode m h) as (λ _. (place ≡ 18) ⊎ (destroys_argument m.destroys ≡ false)) [
-  | inl front ↦ old place side opcode m front
-  | inr b ↦ inr (subst (λ (x : Message). destroys_argument x.destroys ≡ false) b.is (no_argument b.from.destroys))
-]
+argument_joined : (tables : List Interface) (written : List WrittenInterface) → ArgumentEndsInFixesAlone tables
+    → ArgumentEndsInFixesAlone (joined tables written)
+argument_joined tables written old place side opcode m h =
+    elim (either_message tables written place side opcode m h) as
+    (λ _. (place ≡ 18) ⊎ (destroys_argument m.destroys ≡ false)) [
+      | inl front ↦ old place side opcode m front
+      | inr b ↦ inr (subst (λ (x : Message). destroys_argument x.destroys ≡ false) b.is (no_argument b.from.destroys))
+    ]
   where
     no_argument : (b : Bool) → destroys_argument (destroys_of b) ≡ false
     no_argument true = refl
     no_argument false = refl
 
-pub joined_valid : (tables : List Interface) (written : List WrittenInterface) → Valid tables → first_broken tables written ≡ None → Valid (joined tables written)
+pub joined_valid : (tables : List Interface) (written : List WrittenInterface) → Valid tables
+    → first_broken tables written ≡ None → Valid (joined tables written)
 joined_valid tables written valid none =
     let keeps = none_broken tables written none in
     record {
@@ -345,16 +432,21 @@ joined_valid tables written valid none =
     }
 
 -- the places of joined tables fit a number of 16 bits
-pub few_joined_interfaces : (tables : List Interface) (written : List WrittenInterface) → Valid tables → first_broken tables written ≡ None → length tables + length written ≤ 1024
+pub few_joined_interfaces : (tables : List Interface) (written : List WrittenInterface) → Valid tables
+    → first_broken tables written ≡ None → length tables + length written ≤ 1024
 few_joined_interfaces tables written valid none =
-    let most = (joined_valid tables written valid none).small.interfaces in omega (arith, most, length_joined tables written)
+    let most = (joined_valid tables written valid none).small.interfaces
+    in omega (arith, most, length_joined tables written)
 
-pub places_fit : (tables : List Interface) (written : List WrittenInterface) → Valid tables → first_broken tables written ≡ None → (place : List ℕ → Option ℕ)
-    → ((name : List ℕ) → place name ≡ first_place (all_names tables written) name) → (name : List ℕ) → unwrap_or (place name) (length tables + length written) < 65536
+pub places_fit : (tables : List Interface) (written : List WrittenInterface) → Valid tables
+    → first_broken tables written ≡ None → (place : List ℕ → Option ℕ)
+    → ((name : List ℕ) → place name ≡ first_place (all_names tables written) name) → (name : List ℕ)
+    → unwrap_or (place name) (length tables + length written) < 65536
 places_fit tables written valid none place are name =
     rw (are name) (below (first_place (all_names tables written) name) refl)
   where
-    below : (o : Option ℕ) → first_place (all_names tables written) name ≡ o → unwrap_or o (length tables + length written) < 65536
+    below : (o : Option ℕ) → first_place (all_names tables written) name ≡ o
+        → unwrap_or o (length tables + length written) < 65536
     below None is = let few = few_joined_interfaces tables written valid none in omega (arith, few)
     below (Some p) is =
         let few = few_joined_interfaces tables written valid none in
@@ -368,7 +460,8 @@ pub joined_by : (tables : List Interface) (written : List WrittenInterface) (pla
 joined_by tables written place are = rw (fun_ext are, ← length_names tables written) refl
 
 -- the step of a loop that places interfaces behind others
-pub placed_more : (f : WrittenInterface → Interface) (tables : List Interface) (written : List WrittenInterface) (k : ℕ) (w : WrittenInterface) → k < length written → w ≡ get_or written k w
+pub placed_more : (f : WrittenInterface → Interface) (tables : List Interface) (written : List WrittenInterface) (k : ℕ)
+    (w : WrittenInterface) → k < length written → w ≡ get_or written k w
     → (tables ++ map f (take k written)) ++ f w ∷ [] ≡ tables ++ map f (take (k + 1) written)
 placed_more f tables written k w within is =
     rw (map_more f written k w within, ← is) (append_assoc tables (map f (take k written)) (f w ∷ []))

@@ -1,14 +1,17 @@
 -- What a line keeps that breaks no rule.
-use Rattle.std.proofs.Common.{◌≡◌, ℕ, ◌+◌, true, false, List, map, refl, Some, None, Option, Bool, nat_le, nat_lt, length, slice_get, not, cond, ◌&&◌, arith}
+use Rattle.std.proofs.Common.{◌≡◌, ℕ, ◌+◌, true, false, List, map, refl, Some, None, Option, Bool}
+use Rattle.std.proofs.Common.{nat_le, nat_lt, length, slice_get, not, cond, ◌&&◌, arith}
 use Rattle.std.specs.List.{list_all, count_by}
 use Rattle.wl_sigs.specs.declared.signature.Side.{Side}
 use Rattle.wl_sigs.specs.declared.signature.Side.TheVariants.{Request, Event}
 use Rattle.wl_sigs.specs.Rules.{is_name}
 use Rattle.wl_interface_text.specs.Text.{WrittenMessage, WrittenInterface}
 use Rattle.wl_sigs.specs.Joined.{first_place}
-use Rattle.wl_sigs.specs.Broken.{is_first, makes_object, makes_unnamed, names_missing, most_new, names_objects, is_race_free, interface_rule, message_rule, broken_at, side_broken, interface_broken}
+use Rattle.wl_sigs.specs.Broken.{is_first, makes_object, makes_unnamed, names_missing, most_new}
+use Rattle.wl_sigs.specs.Broken.{names_objects, is_race_free, interface_rule, message_rule}
+use Rattle.wl_sigs.specs.Broken.{broken_at, side_broken, interface_broken}
 use Rattle.wl_sigs.specs.FirstBroken.{written_of}
-use Rattle.wl_sigs.proofs.Earlier.{earlier_none, each_message_keeps}
+use Rattle.wl_sigs.proofs.FirstBrokenLine.{earlier_none, each_message_keeps}
 
 both : (a b : Bool) → a && b ≡ true → (a ≡ true) × (b ≡ true)
 both true true e = (refl, refl)
@@ -30,7 +33,8 @@ pub record InterfaceKeeps (place : List ℕ → Option ℕ) (here : ℕ) (i : Wr
   pub small : nat_lt here 1024 ≡ true
   pub version : nat_le 1 i.version ≡ true
 
-interface_kept : (place : List ℕ → Option ℕ) (here : ℕ) (i : WrittenInterface) → interface_rule place here i ≡ None → InterfaceKeeps place here i
+interface_kept : (place : List ℕ → Option ℕ) (here : ℕ) (i : WrittenInterface) → interface_rule place here i ≡ None
+    → InterfaceKeeps place here i
 interface_kept place here i none =
     let a = unless (is_name i.name && is_first place i.name here) 1 _ none in
     let b = unless (nat_lt here 1024) 3 _ a.1 in
@@ -38,7 +42,8 @@ interface_kept place here i none =
     let names = both (is_name i.name) (is_first place i.name here) a.0 in
     record { named = names.0; first = names.1; small = b.0; version = d.0 }
 
-pub record MessageKeeps (place : List ℕ → Option ℕ) (ended : List Bool) (i : WrittenInterface) (side : Side) (first : List ℕ → Option ℕ) (opcode : ℕ) (m : WrittenMessage) : Type 0 where
+pub record MessageKeeps (place : List ℕ → Option ℕ) (ended : List Bool) (i : WrittenInterface) (side : Side)
+    (first : List ℕ → Option ℕ) (opcode : ℕ) (m : WrittenMessage) : Type 0 where
   pub named : is_name m.name ≡ true
   pub first_named : is_first first m.name opcode ≡ true
   pub few : nat_lt opcode 256 ≡ true
@@ -51,7 +56,8 @@ pub record MessageKeeps (place : List ℕ → Option ℕ) (ended : List Bool) (i
   pub to_version : nat_le m.since i.version ≡ true
   pub none_missing : list_all (λ k. not (names_missing place k)) m.kinds ≡ true
 
-message_kept : (place : List ℕ → Option ℕ) (ended : List Bool) (i : WrittenInterface) (side : Side) (first : List ℕ → Option ℕ) (opcode : ℕ) (m : WrittenMessage)
+message_kept : (place : List ℕ → Option ℕ) (ended : List Bool) (i : WrittenInterface) (side : Side)
+    (first : List ℕ → Option ℕ) (opcode : ℕ) (m : WrittenMessage)
     → message_rule place ended i side first opcode m ≡ None → MessageKeeps place ended i side first opcode m
 message_kept place ended i side first opcode m none =
     let r1 = unless (is_name m.name && is_first first m.name opcode) 1 _ none in
@@ -85,15 +91,18 @@ pub record Keeps (place : List ℕ → Option ℕ) (ended : List Bool) (here : �
   pub messages : (side : Side) (o : ℕ) (m : WrittenMessage) → slice_get (written_of side i) o ≡ Some m
       → MessageKeeps place ended i side (first_place (map (λ n. n.name) (written_of side i))) o m
 
-side_kept : (place : List ℕ → Option ℕ) (ended : List Bool) (i : WrittenInterface) (side : Side) (messages : List WrittenMessage) → side_broken place ended i side messages ≡ None
-    → (o : ℕ) (m : WrittenMessage) → slice_get messages o ≡ Some m → MessageKeeps place ended i side (first_place (map (λ n. n.name) messages)) o m
+side_kept : (place : List ℕ → Option ℕ) (ended : List Bool) (i : WrittenInterface) (side : Side)
+    (messages : List WrittenMessage) → side_broken place ended i side messages ≡ None
+    → (o : ℕ) (m : WrittenMessage) → slice_get messages o ≡ Some m
+    → MessageKeeps place ended i side (first_place (map (λ n. n.name) messages)) o m
 side_kept place ended i side messages none o m at =
     let first = first_place (map (λ n. n.name) messages) in
     let rule = each_message_keeps (message_rule place ended i side first) 0 messages none o m at in
     let zero_on : 0 + o ≡ o = omega arith in
     message_kept place ended i side first o m (rw zero_on at rule)
 
-pub kept : (place : List ℕ → Option ℕ) (ended : List Bool) (here : ℕ) (i : WrittenInterface) → interface_broken place ended here i ≡ None → Keeps place ended here i
+pub kept : (place : List ℕ → Option ℕ) (ended : List Bool) (here : ℕ) (i : WrittenInterface)
+    → interface_broken place ended here i ≡ None → Keeps place ended here i
 kept place ended here i none =
     let own = earlier_none _ _ none in
     let sides = earlier_none _ _ own.1 in
@@ -102,7 +111,9 @@ kept place ended here i none =
       messages = λ side. by_side side sides.0 sides.1;
     }
   where
-    by_side : (side : Side) → side_broken place ended i Request i.requests ≡ None → side_broken place ended i Event i.events ≡ None
-        → (o : ℕ) (m : WrittenMessage) → slice_get (written_of side i) o ≡ Some m → MessageKeeps place ended i side (first_place (map (λ n. n.name) (written_of side i))) o m
+    by_side : (side : Side) → side_broken place ended i Request i.requests ≡ None
+        → side_broken place ended i Event i.events ≡ None
+        → (o : ℕ) (m : WrittenMessage) → slice_get (written_of side i) o ≡ Some m
+        → MessageKeeps place ended i side (first_place (map (λ n. n.name) (written_of side i))) o m
     by_side Request requests events = side_kept place ended i Request i.requests requests
     by_side Event requests events = side_kept place ended i Event i.events events

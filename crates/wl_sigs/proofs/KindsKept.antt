@@ -1,5 +1,6 @@
 -- What the kinds of a text must have been, where what they became keeps the rules.
-use Rattle.std.proofs.Common.{◌≡◌, ◌≢◌, ℕ, ◌<◌, true, false, List, [], ◌∷◌, map, refl, sym, ◌∙◌, Some, None, Option, Bool, slice_get, not, ◌&&◌, arith}
+use Rattle.std.proofs.Common.{◌≡◌, ◌≢◌, ℕ, ◌<◌, true, false, List, [], ◌∷◌, map, refl, sym, ◌∙◌}
+use Rattle.std.proofs.Common.{Some, None, Option, Bool, slice_get, not, ◌&&◌, arith}
 use Rattle.std.specs.Prelude.{option_map, unwrap_or, is_some}
 use Rattle.std.specs.List.{All, list_all}
 use Rattle.std.specs.Option.{option_map_or}
@@ -17,14 +18,16 @@ abbrev as_iface : ℕ → Iface
 as_iface place = record { 0 = place }
 
 -- a test passes at each written kind, where what each becomes shows it
-pub all_tested : (test : WrittenKind → Bool) (f : WrittenKind → Kind) (P : Kind → Type 0) → ((k : WrittenKind) → P (f k) → test k ≡ true) → (ks : List WrittenKind)
+pub all_tested : (test : WrittenKind → Bool) (f : WrittenKind → Kind) (P : Kind → Type 0)
+    → ((k : WrittenKind) → P (f k) → test k ≡ true) → (ks : List WrittenKind)
     → All P (map f ks) → list_all test ks ≡ true
 all_tested test f P each [] all = refl
 all_tested test f P each (k ∷ ks) all =
     rw (each k (All-head P (f k) (map f ks) all), all_tested test f P each ks (All-tail P (f k) (map f ks) all)) refl
 
 -- V5
-pub was_named : (place : List ℕ → Option ℕ) (past : ℕ) (kind : Kind) (iface : Option (List ℕ)) → with_iface kind (option_map (iface_named place past) iface) ≢ kinds.New None
+pub was_named : (place : List ℕ → Option ℕ) (past : ℕ) (kind : Kind) (iface : Option (List ℕ))
+    → with_iface kind (option_map (iface_named place past) iface) ≢ kinds.New None
     → not (is_new kind && not (is_some iface)) ≡ true
 was_named place past kinds.Int iface never = refl
 was_named place past kinds.Uint iface never = refl
@@ -56,23 +59,28 @@ placed_there past None lt = absurd (omega (arith, lt))
 placed_there past (Some p) lt = refl
 
 pub was_there : (place : List ℕ → Option ℕ) (past : ℕ) (kind : Kind) (iface : Option (List ℕ))
-    → ((i : Iface) → named_interface (with_iface kind (option_map (iface_named place past) iface)) ≡ Some i → i.0 < past)
+    → ((i : Iface) → named_interface (with_iface kind (option_map (iface_named place past) iface)) ≡ Some i
+    → i.0 < past)
     → not (takes_interface kind && option_map_or (λ name. not (is_some (place name))) iface false) ≡ true
 was_there place past kinds.Int iface below = refl
 was_there place past kinds.Uint iface below = refl
 was_there place past kinds.Fixed iface below = refl
 was_there place past (kinds.Str null) iface below = refl
 was_there place past (kinds.Obj null x) None below = refl
-was_there place past (kinds.Obj null x) (Some name) below = placed_there past (place name) (below (as_iface (unwrap_or (place name) past)) refl)
+was_there place past (kinds.Obj null x) (Some name) below =
+    placed_there past (place name) (below (as_iface (unwrap_or (place name) past)) refl)
 was_there place past (kinds.New x) None below = refl
-was_there place past (kinds.New x) (Some name) below = placed_there past (place name) (below (as_iface (unwrap_or (place name) past)) refl)
+was_there place past (kinds.New x) (Some name) below =
+    placed_there past (place name) (below (as_iface (unwrap_or (place name) past)) refl)
 was_there place past kinds.Array iface below = refl
 was_there place past kinds.Fd iface below = refl
 
 -- V7: in tables where `ended` says which interfaces have a destroying event, and has no more places than they
 pub was_not_ended : (tables : List Interface) (place : List ℕ → Option ℕ) (past : ℕ) (ended : List Bool)
-    → ((p : ℕ) (b : Bool) → slice_get ended p ≡ Some b → (i : Interface) × (interface_at tables p ≡ Some i) × (has_destroying_event i ≡ b))
-    → (kind : Kind) (iface : Option (List ℕ)) → NotEndedIn tables (with_iface kind (option_map (iface_named place past) iface))
+    → ((p : ℕ) (b : Bool) → slice_get ended p ≡ Some b
+    → (i : Interface) × (interface_at tables p ≡ Some i) × (has_destroying_event i ≡ b))
+    → (kind : Kind) (iface : Option (List ℕ)) → NotEndedIn tables
+    (with_iface kind (option_map (iface_named place past) iface))
     → not (is_object kind && option_map_or (λ name. is_ended ended (place name)) iface false) ≡ true
 was_not_ended tables place past ended ends kinds.Int iface free = refl
 was_not_ended tables place past ended ends kinds.Uint iface free = refl
@@ -86,7 +94,8 @@ was_not_ended tables place past ended ends (kinds.Obj n x) (Some name) free =
     not_true None all = refl
     not_true (Some b) all = rw (all b refl) refl
 
-    object_free : (o : Option ℕ) → ((i : Interface) → interface_at tables (unwrap_or o past) ≡ Some i → has_destroying_event i ≡ false) → not (is_ended ended o) ≡ true
+    object_free : (o : Option ℕ) → ((i : Interface) → interface_at tables (unwrap_or o past) ≡ Some i
+        → has_destroying_event i ≡ false) → not (is_ended ended o) ≡ true
     object_free None all = refl
     object_free (Some p) all = not_true (slice_get ended p) (λ b at. let it = ends p b at in sym it.2 ∙ all it.0 it.1)
 was_not_ended tables place past ended ends (kinds.New x) iface free = refl

@@ -1,6 +1,6 @@
 pub mod Lookups
 pub mod FirstPlaces
-pub mod Earlier
+pub mod FirstBrokenLine
 mod MessagesNamed
 mod Got
 mod Kept
@@ -14,7 +14,7 @@ mod FirstLine
 mod LinesApart
 mod TestedRules
 pub mod FirstWords
-mod Deciding
+mod TestsDecide
 mod Distinct
 mod ByPlace
 mod RulesDecide

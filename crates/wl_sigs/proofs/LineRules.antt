@@ -1,5 +1,7 @@
 -- What each test of a line says, in the words of its rule.
-use Rattle.std.proofs.Common.{◌≡◌, ℕ, suc, ◌⊎◌, inl, inr, ◌<◌, ◌≤◌, ◌==◌, true, false, List, [], ◌∷◌, map, refl, ap, ◌∙◌, subst, Some, None, Option, Bool, slice_get, not, ◌&&◌, arith}
+use Rattle.std.proofs.Common.{◌≡◌, ℕ, suc, ◌⊎◌, inl, inr, ◌<◌, ◌≤◌, ◌==◌, true, false, List, []}
+use Rattle.std.proofs.Common.{◌∷◌, map, refl, ap, ◌∙◌, subst, Some, None, Option, Bool, slice_get}
+use Rattle.std.proofs.Common.{not, ◌&&◌, arith}
 use Rattle.std.specs.Prelude.{option_map, unwrap_or, is_some}
 use Rattle.std.specs.List.{All, Contains, list_all}
 use Rattle.std.specs.Option.{option_map_or}
@@ -23,11 +25,13 @@ all_contain : {X : Type 0} (P : X → Type 0) (xs : List X) (x : X) → All P xs
 all_contain P xs x all it = subst P it.2 (all it.0 x it.1)
 
 -- an element at which a test fails
-fails_at : {X : Type 0} (test : X → Bool) (xs : List X) → list_all test xs ≡ false → (k : ℕ) × (x : X) × (slice_get xs k ≡ Some x) × (test x ≡ false)
+fails_at : {X : Type 0} (test : X → Bool) (xs : List X) → list_all test xs ≡ false
+    → (k : ℕ) × (x : X) × (slice_get xs k ≡ Some x) × (test x ≡ false)
 fails_at test [] e = cc e
 fails_at {X} test (x ∷ xs) e = here (test x) refl e (λ rest. fails_at test xs rest)
   where
-    here : (t : Bool) → test x ≡ t → t && list_all test xs ≡ false → (list_all test xs ≡ false → (k : ℕ) × (y : X) × (slice_get xs k ≡ Some y) × (test y ≡ false))
+    here : (t : Bool) → test x ≡ t → t && list_all test xs ≡ false
+        → (list_all test xs ≡ false → (k : ℕ) × (y : X) × (slice_get xs k ≡ Some y) × (test y ≡ false))
         → (k : ℕ) × (y : X) × (slice_get (x ∷ xs) k ≡ Some y) × (test y ≡ false)
     here false is e rest = (0, x, refl, is)
     here true is e rest = let r = rest e in (suc r.0, r.1, r.2, r.3)
@@ -57,19 +61,27 @@ pub record SomeKind (test : WrittenKind → Bool) (f : WrittenKind → Kind) (ks
   pub passes : test kind ≡ true
   pub there : Contains (map f ks) (f kind)
 
-pub some_kind : (test : WrittenKind → Bool) (f : WrittenKind → Kind) (ks : List WrittenKind) → list_all (λ k. not (test k)) ks ≡ false → SomeKind test f ks
+pub some_kind : (test : WrittenKind → Bool) (f : WrittenKind → Kind) (ks : List WrittenKind)
+    → list_all (λ k. not (test k)) ks ≡ false → SomeKind test f ks
 some_kind test f ks fails =
     let it = fails_at (λ k. not (test k)) ks fails in
-    record { kind = it.1; passes = was_true (test it.1) it.3; there = contains (map f ks) it.0 (f it.1) (slice_get-map f ks it.0 ∙ ap (option_map f) it.2) }
+    record {
+      kind = it.1;
+      passes = was_true (test it.1) it.3;
+      there = contains (map f ks) it.0 (f it.1) (slice_get-map f ks it.0 ∙ ap (option_map f) it.2);
+    }
 
 -- a test of all kinds fails where one of what they become is not as it would be
-pub kinds_fail : (test : WrittenKind → Bool) (f : WrittenKind → Kind) (P : Kind → Type 0) → ((k : WrittenKind) → not (test k) ≡ true → P (f k)) → (ks : List WrittenKind) (kind : Kind)
+pub kinds_fail : (test : WrittenKind → Bool) (f : WrittenKind → Kind) (P : Kind → Type 0)
+    → ((k : WrittenKind) → not (test k) ≡ true → P (f k)) → (ks : List WrittenKind) (kind : Kind)
     → Contains (map f ks) kind → ¬ P kind → list_all (λ k. not (test k)) ks ≡ false
 kinds_fail test f P each ks kind at never =
-    fails_unless (list_all (λ k. not (test k)) ks) (λ all. never (all_contain P (map f ks) kind (all_placed (λ k. not (test k)) f P each ks all) at))
+    fails_unless (list_all (λ k. not (test k)) ks)
+    (λ all. never (all_contain P (map f ks) kind (all_placed (λ k. not (test k)) f P each ks all) at))
 
 -- V5
-pub unnamed_is : (place : List ℕ → Option ℕ) (past : ℕ) (kind : Kind) (iface : Option (List ℕ)) → is_new kind && not (is_some iface) ≡ true
+pub unnamed_is : (place : List ℕ → Option ℕ) (past : ℕ) (kind : Kind) (iface : Option (List ℕ))
+    → is_new kind && not (is_some iface) ≡ true
     → with_iface kind (option_map (iface_named place past) iface) ≡ kinds.New None
 unnamed_is place past kinds.Int iface t = cc t
 unnamed_is place past kinds.Uint iface t = cc t
@@ -82,7 +94,8 @@ unnamed_is place past kinds.Array iface t = cc t
 unnamed_is place past kinds.Fd iface t = cc t
 
 -- V6
-pub any_is : (place : List ℕ → Option ℕ) (past : ℕ) (kind : Kind) (iface : Option (List ℕ)) → is_object kind && not (is_some iface) ≡ true
+pub any_is : (place : List ℕ → Option ℕ) (past : ℕ) (kind : Kind) (iface : Option (List ℕ))
+    → is_object kind && not (is_some iface) ≡ true
     → (null : Bool) × (with_iface kind (option_map (iface_named place past) iface) ≡ kinds.Obj null None)
 any_is place past kinds.Int iface t = cc t
 any_is place past kinds.Uint iface t = cc t
@@ -104,8 +117,10 @@ pub record IsEnded (tables : List Interface) (kind : Kind) : Type 0 where
   pub ends : has_destroying_event interface ≡ true
 
 pub ended_named : (tables : List Interface) (place : List ℕ → Option ℕ) (past : ℕ) (ended : List Bool)
-    → ((p : ℕ) (b : Bool) → slice_get ended p ≡ Some b → (i : Interface) × (interface_at tables p ≡ Some i) × (has_destroying_event i ≡ b))
-    → (kind : Kind) (iface : Option (List ℕ)) → is_object kind && option_map_or (λ name. is_ended ended (place name)) iface false ≡ true
+    → ((p : ℕ) (b : Bool) → slice_get ended p ≡ Some b
+    → (i : Interface) × (interface_at tables p ≡ Some i) × (has_destroying_event i ≡ b))
+    → (kind : Kind) (iface : Option (List ℕ)) → is_object kind
+    && option_map_or (λ name. is_ended ended (place name)) iface false ≡ true
     → IsEnded tables (with_iface kind (option_map (iface_named place past) iface))
 ended_named tables place past ended ends kinds.Int iface t = cc t
 ended_named tables place past ended ends kinds.Uint iface t = cc t
@@ -114,14 +129,23 @@ ended_named tables place past ended ends (kinds.Str n) iface t = cc t
 ended_named tables place past ended ends (kinds.Obj null x) None t = cc t
 ended_named tables place past ended ends (kinds.Obj null x) (Some name) t = by_place (place name) refl t
   where
-    by_mark : (p : ℕ) → place name ≡ Some p → (o : Option Bool) → slice_get ended p ≡ o → option_map_or (λ b. b) o false ≡ true
+    by_mark : (p : ℕ) → place name ≡ Some p → (o : Option Bool) → slice_get ended p ≡ o
+        → option_map_or (λ b. b) o false ≡ true
         → IsEnded tables (kinds.Obj null (Some (iface_named place past name)))
     by_mark p named None at t = cc t
     by_mark p named (Some b) at t =
         let it = ends p b at in
-        record { null = null; iface = iface_named place past name; interface = it.0; is = refl; at = rw named it.1; ends = it.2 ∙ t }
+        record {
+          null = null;
+          iface = iface_named place past name;
+          interface = it.0;
+          is = refl;
+          at = rw named it.1;
+          ends = it.2 ∙ t;
+        }
 
-    by_place : (o : Option ℕ) → place name ≡ o → is_ended ended o ≡ true → IsEnded tables (kinds.Obj null (Some (iface_named place past name)))
+    by_place : (o : Option ℕ) → place name ≡ o → is_ended ended o ≡ true
+        → IsEnded tables (kinds.Obj null (Some (iface_named place past name)))
     by_place None named t = cc t
     by_place (Some p) named t = by_mark p named (slice_get ended p) refl t
 ended_named tables place past ended ends (kinds.New x) iface t = cc t
@@ -135,20 +159,24 @@ missing_past past (Some p) t = cc t
 
 pub missing_named : (place : List ℕ → Option ℕ) (past : ℕ) (kind : Kind) (iface : Option (List ℕ))
     → takes_interface kind && option_map_or (λ name. not (is_some (place name))) iface false ≡ true
-    → (i : Iface) × (named_interface (with_iface kind (option_map (iface_named place past) iface)) ≡ Some i) × (past ≤ i.0)
+    → (i : Iface) × (named_interface (with_iface kind (option_map (iface_named place past) iface)) ≡ Some i)
+    × (past ≤ i.0)
 missing_named place past kinds.Int iface t = cc t
 missing_named place past kinds.Uint iface t = cc t
 missing_named place past kinds.Fixed iface t = cc t
 missing_named place past (kinds.Str null) iface t = cc t
 missing_named place past (kinds.Obj null x) None t = cc t
-missing_named place past (kinds.Obj null x) (Some name) t = (iface_named place past name, refl, missing_past past (place name) t)
+missing_named place past (kinds.Obj null x) (Some name) t =
+    (iface_named place past name, refl, missing_past past (place name) t)
 missing_named place past (kinds.New x) None t = cc t
-missing_named place past (kinds.New x) (Some name) t = (iface_named place past name, refl, missing_past past (place name) t)
+missing_named place past (kinds.New x) (Some name) t =
+    (iface_named place past name, refl, missing_past past (place name) t)
 missing_named place past kinds.Array iface t = cc t
 missing_named place past kinds.Fd iface t = cc t
 
 -- V1: a name that is not the first at its place
-pub earlier_name : (names : List (List ℕ)) (name : List ℕ) (here : ℕ) → slice_get names here ≡ Some name → is_first (first_place names) name here ≡ false
+pub earlier_name : (names : List (List ℕ)) (name : List ℕ) (here : ℕ) → slice_get names here ≡ Some name
+    → is_first (first_place names) name here ≡ false
     → (earlier : ℕ) × (earlier < here) × (slice_get names earlier ≡ Some name)
 earlier_name names name here at fails =
     let first = first_place-of names name here at in
@@ -159,7 +187,8 @@ earlier_name names name here at fails =
     less : (p q : ℕ) → p ≤ q → p == q ≡ false → p < q
     less p q le differs = grind arith
 
-pub not_first : (names : List (List ℕ)) (name : List ℕ) (here earlier : ℕ) → earlier < here → slice_get names earlier ≡ Some name → is_first (first_place names) name here ≡ false
+pub not_first : (names : List (List ℕ)) (name : List ℕ) (here earlier : ℕ) → earlier < here
+    → slice_get names earlier ≡ Some name → is_first (first_place names) name here ≡ false
 not_first names name here earlier lt at =
     let first = first_place-of names name earlier at in
     let le = first_place-le names name first.0 earlier first.1 at in

@@ -1,5 +1,6 @@
 -- No two things that a text lists stand at one line.
-use Rattle.std.proofs.Common.{◌≡◌, ℕ, zero, suc, ◌+◌, ◌≤◌, ◌⊎◌, inl, inr, List, [], ◌∷◌, refl, sym, ap, ◌∙◌, Some, Option, slice_get, arith}
+use Rattle.std.proofs.Common.{◌≡◌, ℕ, zero, suc, ◌+◌, ◌≤◌, ◌⊎◌, inl, inr, List, [], ◌∷◌, refl, sym}
+use Rattle.std.proofs.Common.{ap, ◌∙◌, Some, Option, slice_get, arith}
 use Rattle.std.specs.Prelude.{option_map, option_and_then}
 use Rattle.wl_sigs.specs.declared.signature.Side.{Side}
 use Rattle.wl_sigs.specs.declared.signature.Side.TheVariants.{Request, Event}
@@ -24,7 +25,8 @@ message_line ms o = option_map (λ (m : WrittenMessage). m.line) (slice_get ms o
 abbrev pub line_at : List WrittenMessage → List WrittenMessage → List WrittenInterface → Item → Option ℕ
 line_at requests events interfaces (loose side o) = message_line (of_side side requests events) o
 line_at requests events interfaces (own k) = option_map (λ (i : WrittenInterface). i.line) (slice_get interfaces k)
-line_at requests events interfaces (of k side o) = option_and_then (λ i. message_line (written_of side i) o) (slice_get interfaces k)
+line_at requests events interfaces (of k side o) =
+    option_and_then (λ i. message_line (written_of side i) o) (slice_get interfaces k)
 
 -- all lines are at least n, and no two items have one
 record Apart (n : ℕ) (line : Item → Option ℕ) : Type 0 where
@@ -63,8 +65,10 @@ past_request (loose Event o) = loose Event o
 past_request (own k) = own k
 past_request (of k side o) = of k side o
 
-from_request : (n : ℕ) (m : WrittenMessage) (requests events : List WrittenMessage) (interfaces : List WrittenInterface) → m.line ≡ n
-    → (x : Item) (l : ℕ) → line_at (m ∷ requests) events interfaces x ≡ Some l → From n (loose Request 0) past_request (line_at requests events interfaces) x l
+from_request : (n : ℕ) (m : WrittenMessage) (requests events : List WrittenMessage) (interfaces : List WrittenInterface)
+    → m.line ≡ n
+    → (x : Item) (l : ℕ) → line_at (m ∷ requests) events interfaces x ≡ Some l
+    → From n (loose Request 0) past_request (line_at requests events interfaces) x l
 from_request n m requests events interfaces is (loose Request zero) l at = inl (refl, some_is m.line l at ∙ is)
 from_request n m requests events interfaces is (loose Request (suc o)) l at = inr (loose Request o, refl, at)
 from_request n m requests events interfaces is (loose Event o) l at = inr (loose Event o, refl, at)
@@ -77,8 +81,10 @@ past_event (loose Event o) = loose Event (suc o)
 past_event (own k) = own k
 past_event (of k side o) = of k side o
 
-from_event : (n : ℕ) (m : WrittenMessage) (requests events : List WrittenMessage) (interfaces : List WrittenInterface) → m.line ≡ n
-    → (x : Item) (l : ℕ) → line_at requests (m ∷ events) interfaces x ≡ Some l → From n (loose Event 0) past_event (line_at requests events interfaces) x l
+from_event : (n : ℕ) (m : WrittenMessage) (requests events : List WrittenMessage) (interfaces : List WrittenInterface)
+    → m.line ≡ n
+    → (x : Item) (l : ℕ) → line_at requests (m ∷ events) interfaces x ≡ Some l
+    → From n (loose Event 0) past_event (line_at requests events interfaces) x l
 from_event n m requests events interfaces is (loose Request o) l at = inr (loose Request o, refl, at)
 from_event n m requests events interfaces is (loose Event zero) l at = inl (refl, some_is m.line l at ∙ is)
 from_event n m requests events interfaces is (loose Event (suc o)) l at = inr (loose Event o, refl, at)
@@ -91,7 +97,8 @@ past_interface (own k) = own (suc k)
 past_interface (of k side o) = of (suc k) side o
 
 from_interface : (n : ℕ) (i : WrittenInterface) (interfaces : List WrittenInterface) → i.line ≡ n
-    → (x : Item) (l : ℕ) → line_at [] [] (i ∷ interfaces) x ≡ Some l → From n (own 0) past_interface (line_at i.requests i.events interfaces) x l
+    → (x : Item) (l : ℕ) → line_at [] [] (i ∷ interfaces) x ≡ Some l
+    → From n (own 0) past_interface (line_at i.requests i.events interfaces) x l
 from_interface n i interfaces is (loose Request o) l at = cc at
 from_interface n i interfaces is (loose Event o) l at = cc at
 from_interface n i interfaces is (own zero) l at = inl (refl, some_is i.line l at ∙ is)
@@ -106,18 +113,22 @@ none_at (loose Event o) l at = cc at
 none_at (own k) l at = cc at
 none_at (of k side o) l at = cc at
 
-said_apart : {n : ℕ} {all : List (List ℕ)} {requests events : List WrittenMessage} {interfaces : List WrittenInterface} → Say n all requests events interfaces
+said_apart : {n : ℕ} {all : List (List ℕ)} {requests events : List WrittenMessage} {interfaces : List WrittenInterface}
+    → Say n all requests events interfaces
     → Apart n (line_at requests events interfaces)
 said_apart nothing = record { above = λ x l at. absurd (none_at x l at); one = λ x y l at at'. absurd (none_at x l at) }
 said_apart (skipped {n} skip rest) =
     let it = said_apart rest in
     record { above = λ x l at. let le = it.above x l at in omega (arith, le); one = it.one }
 said_apart (request {n} {m} {requests} {events} {interfaces} said is rest) =
-    apart_more n (loose Request 0) past_request (line_at requests events interfaces) (line_at (m ∷ requests) events interfaces) (from_request n m requests events interfaces is) (said_apart rest)
+    apart_more n (loose Request 0) past_request (line_at requests events interfaces)
+    (line_at (m ∷ requests) events interfaces) (from_request n m requests events interfaces is) (said_apart rest)
 said_apart (event {n} {m} {requests} {events} {interfaces} said is rest) =
-    apart_more n (loose Event 0) past_event (line_at requests events interfaces) (line_at requests (m ∷ events) interfaces) (from_event n m requests events interfaces is) (said_apart rest)
+    apart_more n (loose Event 0) past_event (line_at requests events interfaces)
+    (line_at requests (m ∷ events) interfaces) (from_event n m requests events interfaces is) (said_apart rest)
 said_apart (interface {n} {i} {interfaces} said is rest) =
-    apart_more n (own 0) past_interface (line_at i.requests i.events interfaces) (line_at [] [] (i ∷ interfaces)) (from_interface n i interfaces is) (said_apart rest)
+    apart_more n (own 0) past_interface (line_at i.requests i.events interfaces) (line_at [] [] (i ∷ interfaces))
+    (from_interface n i interfaces is) (said_apart rest)
 
 -- no two items of what a text lists stand at one line
 pub lines_apart : (text : List ℕ) (written : List WrittenInterface) → TableText text written

@@ -18,7 +18,8 @@ Named tables place side name opcode = (m : Message) × (signature_at tables plac
 abbrev has_name : List ℕ → Message → Bool
 has_name name m = bytes_eq m.name name
 
-at_position : (ms : List Message) (name : List ℕ) (opcode : ℕ) → position (has_name name) ms ≡ Some opcode → (m : Message) × (slice_get ms opcode ≡ Some m) × (m.name ≡ name)
+at_position : (ms : List Message) (name : List ℕ) (opcode : ℕ) → position (has_name name) ms ≡ Some opcode
+    → (m : Message) × (slice_get ms opcode ≡ Some m) × (m.name ≡ name)
 at_position [] name opcode h = cc h
 at_position (first ∷ more) name opcode h =
     let ms = first ∷ more in
@@ -26,26 +27,36 @@ at_position (first ∷ more) name opcode h =
     let m = get_or ms opcode first in
     (m, slice_get-get_or ms opcode first p.0, (bytes_eq-Decides m.name name).0 p.1)
 
-named_there : (tables : List Interface) (place : ℕ) (side : Side) (name : List ℕ) (opcode : ℕ) → opcode_of tables place side name ≡ Some opcode → Named tables place side name opcode
+named_there : (tables : List Interface) (place : ℕ) (side : Side) (name : List ℕ) (opcode : ℕ)
+    → opcode_of tables place side name ≡ Some opcode → Named tables place side name opcode
 named_there tables place side name opcode h =
     let it = then_some (λ i. position (has_name name) (messages_of side i)) (interface_at tables place) opcode h in
     let m = at_position (messages_of side it.0) name opcode it.2 in
     (m.0, signature_from tables place side opcode it.0 m.0 it.1 m.1, m.2)
 
-there_named : (tables : List Interface) → Valid tables → (place : ℕ) (side : Side) (name : List ℕ) (opcode : ℕ) → Named tables place side name opcode → opcode_of tables place side name ≡ Some opcode
+there_named : (tables : List Interface) → Valid tables → (place : ℕ) (side : Side) (name : List ℕ) (opcode : ℕ)
+    → Named tables place side name opcode → opcode_of tables place side name ≡ Some opcode
 there_named tables valid place side name opcode h =
     let m = h.0 in
     let it = found tables place side opcode m h.1 in
     let ms = messages_of side it.interface in
     let within = passes_within (has_name name) ms opcode m it.of ((bytes_eq-Decides m.name name).1 h.2) in
     let first = position_or_len (has_name name) ms in
-    let answer : opcode_of tables place side name ≡ Some first = ap (option_and_then (λ i. position (has_name name) (messages_of side i))) it.at ∙ position_within (has_name name) ms within in
+    let answer : opcode_of tables place side name ≡ Some first =
+    ap (option_and_then (λ i. position (has_name name) (messages_of side i))) it.at
+    ∙ position_within (has_name name) ms within in
     let other = named_there tables place side name first answer in
-    let same : first ≡ opcode = valid.names_distinct.messages_distinct place side first opcode other.0 m other.1 h.1 (other.2 ∙ sym h.2) in
+    let same : first ≡ opcode = valid.names_distinct.messages_distinct place side first opcode other.0 m other.1 h.1
+    (other.2 ∙ sym h.2) in
     answer ∙ ap (λ (o : ℕ). Some o) same
 
 -- what an answer of this value says
-pub opcode_named : (tables : List Interface) → Valid tables → (place : ℕ) (side : Side) (name : List ℕ) (o : Option ℕ) → o ≡ opcode_of tables place side name
-    → (opcode : ℕ) → (o ≡ Some opcode) ↔ ((m : Message) × (signature_at tables place side opcode ≡ Some m) × (m.name ≡ name))
-opcode_named tables valid place side name o is opcode =
-    (λ e. named_there tables place side name opcode (sym is ∙ e), λ h. is ∙ there_named tables valid place side name opcode h)
+pub opcode_named : (tables : List Interface) → Valid tables → (place : ℕ) (side : Side) (name : List ℕ) (o : Option ℕ)
+    → o ≡ opcode_of tables place side name
+    → (opcode : ℕ) → (o ≡ Some opcode) ↔ ((m : Message) × (signature_at tables place side opcode ≡ Some m)
+    × (m.name ≡ name))
+opcode_named tables valid place side name o is opcode = (
+  λ e. named_there tables place side name opcode (sym is ∙ e),
+  λ h. is
+      ∙ there_named tables valid place side name opcode h,
+)

@@ -1,5 +1,7 @@
 -- What the kinds of a text become.
-use Rattle.std.proofs.Common.{◌≡◌, ◌≢◌, ℕ, ◌+◌, ◌<◌, true, false, List, [], ◌∷◌, length, map, refl, sym, ◌∙◌, subst, Some, None, Option, Bool, slice_get, not, cond, ◌&&◌, arith}
+use Rattle.std.proofs.Common.{◌≡◌, ◌≢◌, ℕ, ◌+◌, ◌<◌, true, false, List, [], ◌∷◌, length, map, refl}
+use Rattle.std.proofs.Common.{sym, ◌∙◌, subst, Some, None, Option, Bool, slice_get, not, cond, ◌&&◌}
+use Rattle.std.proofs.Common.{arith}
 use Rattle.std.specs.Prelude.{option_map, unwrap_or, is_some}
 use Rattle.std.specs.List.{All, list_all, count_by}
 use Rattle.std.specs.Option.{option_map_or}
@@ -17,7 +19,8 @@ abbrev as_iface : ℕ → Iface
 as_iface place = record { 0 = place }
 
 -- what a test says of each written kind holds of each kind that it becomes
-pub all_placed : (test : WrittenKind → Bool) (f : WrittenKind → Kind) (P : Kind → Type 0) → ((k : WrittenKind) → test k ≡ true → P (f k)) → (ks : List WrittenKind)
+pub all_placed : (test : WrittenKind → Bool) (f : WrittenKind → Kind) (P : Kind → Type 0)
+    → ((k : WrittenKind) → test k ≡ true → P (f k)) → (ks : List WrittenKind)
     → list_all test ks ≡ true → All P (map f ks)
 all_placed test f P each [] all = All-nil P
 all_placed test f P each (k ∷ ks) all =
@@ -30,8 +33,10 @@ all_placed test f P each (k ∷ ks) all =
     both false b e = cc e
 
 -- as many new objects
-counted : (place : List ℕ → Option ℕ) (past : ℕ) (kind : Kind) (iface : Option (List ℕ)) (more : List Kind) (n : ℕ) → length (new_objects more) ≡ n
-    → length (new_objects (with_iface kind (option_map (iface_named place past) iface) ∷ more)) ≡ cond (is_new kind) 1 0 + n
+counted : (place : List ℕ → Option ℕ) (past : ℕ) (kind : Kind) (iface : Option (List ℕ)) (more : List Kind) (n : ℕ)
+    → length (new_objects more) ≡ n
+    → length (new_objects (with_iface kind (option_map (iface_named place past) iface) ∷ more))
+    ≡ cond (is_new kind) 1 0 + n
 counted place past kinds.Int iface more n e = omega arith
 counted place past kinds.Uint iface more n e = omega arith
 counted place past kinds.Fixed iface more n e = omega arith
@@ -41,13 +46,17 @@ counted place past (kinds.New i) iface more n e = omega arith
 counted place past kinds.Array iface more n e = omega arith
 counted place past kinds.Fd iface more n e = omega arith
 
-pub count_placed : (place : List ℕ → Option ℕ) (past : ℕ) (ks : List WrittenKind) → length (new_objects (map (kind_placed place past) ks)) ≡ count_by makes_object ks
+pub count_placed : (place : List ℕ → Option ℕ) (past : ℕ) (ks : List WrittenKind)
+    → length (new_objects (map (kind_placed place past) ks)) ≡ count_by makes_object ks
 count_placed place past [] = refl
 count_placed place past (k ∷ ks) =
-    rw (sum_by-cons (λ (x : WrittenKind). cond (makes_object x) 1 0) k ks) (counted place past k.kind k.iface (map (kind_placed place past) ks) (count_by makes_object ks) (count_placed place past ks))
+    rw (sum_by-cons (λ (x : WrittenKind). cond (makes_object x) 1 0) k ks)
+    (counted place past k.kind k.iface (map (kind_placed place past) ks) (count_by makes_object ks)
+    (count_placed place past ks))
 
 -- V5
-pub not_unnamed : (place : List ℕ → Option ℕ) (past : ℕ) (kind : Kind) (iface : Option (List ℕ)) → not (is_new kind && not (is_some iface)) ≡ true
+pub not_unnamed : (place : List ℕ → Option ℕ) (past : ℕ) (kind : Kind) (iface : Option (List ℕ))
+    → not (is_new kind && not (is_some iface)) ≡ true
     → with_iface kind (option_map (iface_named place past) iface) ≢ kinds.New None
 not_unnamed place past kinds.Int iface t e = cc e
 not_unnamed place past kinds.Uint iface t e = cc e
@@ -60,7 +69,8 @@ not_unnamed place past kinds.Array iface t e = cc e
 not_unnamed place past kinds.Fd iface t e = cc e
 
 -- V6
-pub not_any : (place : List ℕ → Option ℕ) (past : ℕ) (kind : Kind) (iface : Option (List ℕ)) → not (is_object kind && not (is_some iface)) ≡ true
+pub not_any : (place : List ℕ → Option ℕ) (past : ℕ) (kind : Kind) (iface : Option (List ℕ))
+    → not (is_object kind && not (is_some iface)) ≡ true
     → (null : Bool) → with_iface kind (option_map (iface_named place past) iface) ≢ kinds.Obj null None
 not_any place past kinds.Int iface t null e = cc e
 not_any place past kinds.Uint iface t null e = cc e
@@ -73,7 +83,8 @@ not_any place past kinds.Array iface t null e = cc e
 not_any place past kinds.Fd iface t null e = cc e
 
 -- V9
-there_named : (place : List ℕ → Option ℕ) (past : ℕ) → ((name : List ℕ) (p : ℕ) → place name ≡ Some p → p < past) → (name : List ℕ) (o : Option ℕ) → place name ≡ o
+there_named : (place : List ℕ → Option ℕ) (past : ℕ) → ((name : List ℕ) (p : ℕ) → place name ≡ Some p → p < past)
+    → (name : List ℕ) (o : Option ℕ) → place name ≡ o
     → not (not (is_some o)) ≡ true → (i : Iface) → Some (as_iface (unwrap_or o past)) ≡ Some i → i.0 < past
 there_named place past within name None is t i e = cc t
 there_named place past within name (Some p) is t i e =
@@ -81,7 +92,8 @@ there_named place past within name (Some p) is t i e =
     let same : as_iface p ≡ i = cc in
     subst (λ (x : Iface). x.0 < past) same lt
 
-pub there : (place : List ℕ → Option ℕ) (past : ℕ) → ((name : List ℕ) (p : ℕ) → place name ≡ Some p → p < past) → (kind : Kind) (iface : Option (List ℕ))
+pub there : (place : List ℕ → Option ℕ) (past : ℕ) → ((name : List ℕ) (p : ℕ) → place name ≡ Some p → p < past)
+    → (kind : Kind) (iface : Option (List ℕ))
     → not (takes_interface kind && option_map_or (λ name. not (is_some (place name))) iface false) ≡ true
     → (i : Iface) → named_interface (with_iface kind (option_map (iface_named place past) iface)) ≡ Some i → i.0 < past
 there place past within kinds.Int iface t i e = cc e
@@ -89,7 +101,8 @@ there place past within kinds.Uint iface t i e = cc e
 there place past within kinds.Fixed iface t i e = cc e
 there place past within (kinds.Str null) iface t i e = cc e
 there place past within (kinds.Obj null x) None t i e = cc e
-there place past within (kinds.Obj null x) (Some name) t i e = there_named place past within name (place name) refl t i e
+there place past within (kinds.Obj null x) (Some name) t i e =
+    there_named place past within name (place name) refl t i e
 there place past within (kinds.New x) None t i e = cc e
 there place past within (kinds.New x) (Some name) t i e = there_named place past within name (place name) refl t i e
 there place past within kinds.Array iface t i e = cc e
@@ -97,11 +110,14 @@ there place past within kinds.Fd iface t i e = cc e
 
 -- V7: an object of an interface that no event destroys
 abbrev pub NotEndedIn : List Interface → Kind → Type 0
-NotEndedIn tables k = (null : Bool) (iface : Iface) (i : Interface) → k ≡ kinds.Obj null (Some iface) → interface_at tables iface.0 ≡ Some i → has_destroying_event i ≡ false
+NotEndedIn tables k = (null : Bool) (iface : Iface) (i : Interface) → k ≡ kinds.Obj null (Some iface)
+    → interface_at tables iface.0 ≡ Some i → has_destroying_event i ≡ false
 
 pub not_ended : (tables : List Interface) (place : List ℕ → Option ℕ) (past : ℕ) (ended : List Bool)
-    → ((p : ℕ) (i : Interface) → interface_at tables p ≡ Some i → slice_get ended p ≡ Some (has_destroying_event i)) → interface_at tables past ≡ None
-    → (kind : Kind) (iface : Option (List ℕ)) → not (is_object kind && option_map_or (λ name. is_ended ended (place name)) iface false) ≡ true
+    → ((p : ℕ) (i : Interface) → interface_at tables p ≡ Some i → slice_get ended p ≡ Some (has_destroying_event i))
+    → interface_at tables past ≡ None
+    → (kind : Kind) (iface : Option (List ℕ)) → not
+    (is_object kind && option_map_or (λ name. is_ended ended (place name)) iface false) ≡ true
     → NotEndedIn tables (with_iface kind (option_map (iface_named place past) iface))
 not_ended tables place past ended ends none kinds.Int iface t null f i e at = cc e
 not_ended tables place past ended ends none kinds.Uint iface t null f i e at = cc e
@@ -116,7 +132,8 @@ not_ended tables place past ended ends none (kinds.Obj n x) (Some name) t null f
     is_false o true is t = let no : not true ≡ true = rw is at t in cc no
     is_false o false is t = refl
 
-    object_ended : (o : Option ℕ) → not (is_ended ended o) ≡ true → interface_at tables (unwrap_or o past) ≡ Some i → has_destroying_event i ≡ false
+    object_ended : (o : Option ℕ) → not (is_ended ended o) ≡ true → interface_at tables (unwrap_or o past) ≡ Some i
+        → has_destroying_event i ≡ false
     object_ended None t at = let no : None ≡ Some i = sym none ∙ at in cc no
     object_ended (Some p) t at = is_false (slice_get ended p) (has_destroying_event i) (ends p i at) t
 not_ended tables place past ended ends none (kinds.New x) iface t null f i e at = cc e

@@ -1,5 +1,7 @@
 -- The tests of a line fail exactly where the line breaks their rules.
-use Rattle.std.proofs.Common.{◌≡◌, ◌≢◌, ℕ, zero, suc, ◌+◌, ◌<◌, ◌≤◌, inl, inr, true, false, List, [], ◌∷◌, length, map, refl, sym, ap, ◌∙◌, subst, Some, None, Option, Bool, slice_get, not, nat_le, nat_lt, ◌&&◌, ◌||◌, arith}
+use Rattle.std.proofs.Common.{◌≡◌, ◌≢◌, ℕ, zero, suc, ◌+◌, ◌<◌, ◌≤◌, inl, inr, true, false, List}
+use Rattle.std.proofs.Common.{[], ◌∷◌, length, map, refl, sym, ap, ◌∙◌, subst, Some, None, Option}
+use Rattle.std.proofs.Common.{Bool, slice_get, not, nat_le, nat_lt, ◌&&◌, ◌||◌, arith}
 use Rattle.std.specs.Prelude.{option_map}
 use Rattle.std.specs.List.{Contains, list_all, count_by}
 use Rattle.std.proofs.lemmas.Bool.{leb-true, ltb-true, leb-false, ltb-false}
@@ -15,15 +17,25 @@ use Rattle.wl_sigs.specs.Tables.{Message, Interface, interface_at, new_objects, 
 use Rattle.wl_sigs.specs.Valid.{IsName}
 use Rattle.wl_interface_text.specs.Text.{WrittenKind, WrittenMessage, WrittenInterface}
 use Rattle.wl_sigs.specs.Joined.{all_names, first_place, kind_placed, destroys_of, joined}
-use Rattle.wl_sigs.specs.Broken.{is_first, makes_object, makes_unnamed, takes_any, takes_ended, names_missing, most_new, names_objects, is_race_free, ended_of}
-use Rattle.wl_sigs.specs.FirstBroken.{written_of, InterfaceBreaks, interface_misnamed, interface_named_again, interface_beyond, version_below_one, MessageBreaks, message_misnamed, message_named_again, message_beyond, too_many_arguments, event_makes, request_makes_two, new_without_interface, object_of_any, event_destroys, object_of_ended, since_below_one, since_above_version, interface_missing}
+use Rattle.wl_sigs.specs.Broken.{is_first, makes_object, makes_unnamed, takes_any, takes_ended}
+use Rattle.wl_sigs.specs.Broken.{names_missing, most_new, names_objects, is_race_free, ended_of}
+use Rattle.wl_sigs.specs.FirstBroken.{written_of, InterfaceBreaks, interface_misnamed}
+use Rattle.wl_sigs.specs.FirstBroken.{interface_named_again, interface_beyond, version_below_one}
+use Rattle.wl_sigs.specs.FirstBroken.{MessageBreaks, message_misnamed, message_named_again}
+use Rattle.wl_sigs.specs.FirstBroken.{message_beyond, too_many_arguments, event_makes}
+use Rattle.wl_sigs.specs.FirstBroken.{request_makes_two, new_without_interface, object_of_any}
+use Rattle.wl_sigs.specs.FirstBroken.{event_destroys, object_of_ended, since_below_one}
+use Rattle.wl_sigs.specs.FirstBroken.{since_above_version, interface_missing}
 use Rattle.wl_sigs.proofs.RulesDecide.{decides_name}
 use Rattle.wl_sigs.proofs.FirstPlaces.{first_place-within}
-use Rattle.wl_sigs.proofs.JoinedLookup.{mapped_at, placing, placing_message, placed_messages, length_joined, length_names, names_joined}
+use Rattle.wl_sigs.proofs.JoinedLookup.{mapped_at, placing, placing_message, placed_messages}
+use Rattle.wl_sigs.proofs.JoinedLookup.{length_joined, length_names, names_joined}
 use Rattle.wl_sigs.proofs.JoinedValid.{ended_at}
 use Rattle.wl_sigs.proofs.ValidKeeps.{placed_at, ended_is}
 use Rattle.wl_sigs.proofs.PlacedKinds.{count_placed, not_unnamed, not_any, there, NotEndedIn, not_ended}
-use Rattle.wl_sigs.proofs.LineRules.{fails_unless, either_fails, left_fails, right_fails, some_kind, kinds_fail, unnamed_is, any_is, ended_named, missing_named, earlier_name, not_first}
+use Rattle.wl_sigs.proofs.LineRules.{fails_unless, either_fails, left_fails, right_fails, some_kind}
+use Rattle.wl_sigs.proofs.LineRules.{kinds_fail, unnamed_is, any_is, ended_named, missing_named}
+use Rattle.wl_sigs.proofs.LineRules.{earlier_name, not_first}
 use Rattle.wl_sigs.proofs.FirstLine.{Tested, tested, interface_tests, message_tests, Breaks}
 
 -- each test that fails says that its rule is broken
@@ -31,7 +43,8 @@ abbrev EachSays : (ℕ → Type 0) → List Tested → Type 0
 EachSays Broken [] = Unit {0}
 EachSays Broken (t ∷ more) = (t.kept ≡ false → Broken t.rule) × EachSays Broken more
 
-each_says : (Broken : ℕ → Type 0) (tests : List Tested) → EachSays Broken tests → (rule k : ℕ) → slice_get tests k ≡ Some (tested rule false) → Broken rule
+each_says : (Broken : ℕ → Type 0) (tests : List Tested) → EachSays Broken tests → (rule k : ℕ)
+    → slice_get tests k ≡ Some (tested rule false) → Broken rule
 each_says Broken [] all rule k at = cc at
 each_says Broken (t ∷ more) all rule zero at =
     let same : t ≡ tested rule false = cc at in
@@ -44,14 +57,18 @@ pub record Says (Broken : ℕ → Type 0) (tests : List Tested) : Type 0 where
   pub from : (rule : ℕ) → Broken rule → Breaks tests rule
 
 -- the test at this place is of the rule and fails
-failing_at : (tests : List Tested) (k own rule : ℕ) (kept : Bool) → slice_get tests k ≡ Some (tested own kept) → rule ≡ own → kept ≡ false → Breaks tests rule
+failing_at : (tests : List Tested) (k own rule : ℕ) (kept : Bool) → slice_get tests k ≡ Some (tested own kept)
+    → rule ≡ own → kept ≡ false → Breaks tests rule
 failing_at tests k own rule kept at is fails = record {
   place = k;
   at = at ∙ ap (λ (b : Bool). Some (tested own b)) fails ∙ ap (λ (r : ℕ). Some (tested r false)) (sym is);
 }
 
-name_at : (tables : List Interface) (written : List WrittenInterface) (p : ℕ) (i : Interface) → interface_at (joined tables written) p ≡ Some i → slice_get (all_names tables written) p ≡ Some i.name
-name_at tables written p i found = rw (← names_joined tables written) (slice_get-map (λ (i : Interface). i.name) (joined tables written) p ∙ ap (option_map (λ (i : Interface). i.name)) found)
+name_at : (tables : List Interface) (written : List WrittenInterface) (p : ℕ) (i : Interface)
+    → interface_at (joined tables written) p ≡ Some i → slice_get (all_names tables written) p ≡ Some i.name
+name_at tables written p i found = rw (← names_joined tables written)
+    (slice_get-map (λ (i : Interface). i.name) (joined tables written) p
+    ∙ ap (option_map (λ (i : Interface). i.name)) found)
 
 not_name : (name : List ℕ) → is_name name ≡ false → ¬ IsName name
 not_name name fails is = let passes = (decides_name name).1 is in let no : false ≡ true = sym fails ∙ passes in cc no
@@ -68,12 +85,16 @@ not_le a b lt = fails_unless (nat_le a b) (λ t. let le = leb-true a b t in omeg
 -- an interface
 
 abbrev InterfaceBroken : List Interface → List WrittenInterface → ℕ → WrittenInterface → ℕ → Type 0
-InterfaceBroken tables written k w = InterfaceBreaks (joined tables written) (length tables + k) (placing tables written w)
+InterfaceBroken tables written k w = InterfaceBreaks (joined tables written) (length tables + k)
+    (placing tables written w)
 
-pub interface_says : (tables : List Interface) (written : List WrittenInterface) (k : ℕ) (w : WrittenInterface) → slice_get written k ≡ Some w
-    → Says (InterfaceBroken tables written k w) (interface_tests (first_place (all_names tables written)) (length tables + k) w)
+pub interface_says : (tables : List Interface) (written : List WrittenInterface) (k : ℕ) (w : WrittenInterface)
+    → slice_get written k ≡ Some w
+    → Says (InterfaceBroken tables written k w) (interface_tests (first_place (all_names tables written))
+    (length tables + k) w)
 interface_says tables written k w at = record {
-  to = λ rule breaks. each_says (InterfaceBroken tables written k w) tests (name_says, (beyond_says, (version_says, tt))) rule breaks.place breaks.at;
+  to = λ rule breaks. each_says (InterfaceBroken tables written k w) tests
+      (name_says, (beyond_says, (version_says, tt))) rule breaks.place breaks.at;
   from = λ rule broken. back rule broken;
 }
   where
@@ -89,12 +110,14 @@ interface_says tables written k w at = record {
     here_name : slice_get names here ≡ Some w.name
     here_name = name_at tables written here (placing tables written w) (placed_at tables written k w at)
 
-    name_says : is_name w.name && is_first (first_place names) w.name here ≡ false → InterfaceBroken tables written k w 1
+    name_says : is_name w.name && is_first (first_place names) w.name here ≡ false
+        → InterfaceBroken tables written k w 1
     name_says e = elim (either_fails (is_name w.name) (is_first (first_place names) w.name here) e) [
       | inl none ↦ interface_misnamed refl (not_name w.name none)
       | inr again ↦
           let it = earlier_name names w.name here here_name again.1 in
-          let j = mapped_at (λ (i : Interface). i.name) (joined tables written) it.0 w.name (rw (names_joined tables written) it.2) in
+          let j = mapped_at (λ (i : Interface). i.name) (joined tables written) it.0 w.name
+          (rw (names_joined tables written) it.2) in
           interface_named_again it.0 j.0 refl it.1 j.1 j.2
     ]
 
@@ -105,16 +128,20 @@ interface_says tables written k w at = record {
     version_says e = version_below_one refl (let lt = leb-false 1 w.version e in omega (arith, lt))
 
     back : (rule : ℕ) → InterfaceBroken tables written k w rule → Breaks tests rule
-    back rule (interface_misnamed is never) = failing_at tests 0 1 rule _ refl is (left_fails (is_name w.name) (is_first (first_place names) w.name here) (no_name w.name never))
+    back rule (interface_misnamed is never) = failing_at tests 0 1 rule _ refl is
+        (left_fails (is_name w.name) (is_first (first_place names) w.name here) (no_name w.name never))
     back rule (interface_named_again earlier j is lt found same) =
-        failing_at tests 0 1 rule _ refl is (right_fails (is_name w.name) (is_first (first_place names) w.name here) (not_first names w.name here earlier lt (name_at tables written earlier j found ∙ ap Some same)))
+        failing_at tests 0 1 rule _ refl is (right_fails (is_name w.name) (is_first (first_place names) w.name here)
+        (not_first names w.name here earlier lt (name_at tables written earlier j found ∙ ap Some same)))
     back rule (interface_beyond is le) = failing_at tests 1 3 rule _ refl is (not_lt here 1024 le)
     back rule (version_below_one is lt) = failing_at tests 2 8 rule _ refl is (not_le 1 w.version lt)
 
 -- a message
 
-abbrev MessageBroken : List Interface → List WrittenInterface → WrittenInterface → Side → ℕ → WrittenMessage → ℕ → Type 0
-MessageBroken tables written w side o m = MessageBreaks (joined tables written) (placing tables written w) side o (placing_message tables written m)
+abbrev MessageBroken : List Interface → List WrittenInterface → WrittenInterface → Side → ℕ → WrittenMessage → ℕ
+    → Type 0
+MessageBroken tables written w side o m = MessageBreaks (joined tables written) (placing tables written w) side o
+    (placing_message tables written m)
 
 no_requests : {X Y : Type 0} (f : X → Y) (xs : List X) → is_empty xs ≡ false → 0 < length (map f xs)
 no_requests f [] e = cc e
@@ -128,7 +155,8 @@ either_races : (destroys empty : Bool) → not destroys || empty ≡ false → (
 either_races true empty e = (refl, e)
 either_races false empty e = cc e
 
-both_race : (destroys empty : Bool) → destroys_target (destroys_of destroys) ≡ true → empty ≡ false → not destroys || empty ≡ false
+both_race : (destroys empty : Bool) → destroys_target (destroys_of destroys) ≡ true → empty ≡ false
+    → not destroys || empty ≡ false
 both_race true empty destroys e = e
 both_race false empty destroys e = cc destroys
 
@@ -139,26 +167,43 @@ target_is false e = cc e
 few_fails : (side : Side) (n most : ℕ) → most_new side ≡ most → most < n → nat_le n (most_new side) ≡ false
 few_fails side n most is lt = not_le n (most_new side) (omega (arith, is, lt))
 
-any_fails : (side : Side) (m : WrittenMessage) → side ≡ Request → list_all (λ k. not (takes_any k)) m.kinds ≡ false → names_objects side m ≡ false
+any_fails : (side : Side) (m : WrittenMessage) → side ≡ Request → list_all (λ k. not (takes_any k)) m.kinds ≡ false
+    → names_objects side m ≡ false
 any_fails Request m is e = e
 any_fails Event m is e = cc is
 
-race_fails : (place : List ℕ → Option ℕ) (ended : List Bool) (w : WrittenInterface) (side : Side) (m : WrittenMessage) → side ≡ Request
+race_fails : (place : List ℕ → Option ℕ) (ended : List Bool) (w : WrittenInterface) (side : Side) (m : WrittenMessage)
+    → side ≡ Request
     → list_all (λ k. not (takes_ended place ended k)) m.kinds ≡ false → is_race_free place ended w side m ≡ false
 race_fails place ended w Request m is e = e
 race_fails place ended w Event m is e = cc is
 
-event_race_fails : (place : List ℕ → Option ℕ) (ended : List Bool) (w : WrittenInterface) (side : Side) (m : WrittenMessage) → side ≡ Event
+event_race_fails : (place : List ℕ → Option ℕ) (ended : List Bool) (w : WrittenInterface) (side : Side)
+    (m : WrittenMessage) → side ≡ Event
     → not m.destroys || is_empty w.requests ≡ false → is_race_free place ended w side m ≡ false
 event_race_fails place ended w Request m is e = cc is
 event_race_fails place ended w Event m is e = e
 
-pub message_says : (tables : List Interface) (written : List WrittenInterface) (k : ℕ) (w : WrittenInterface) (side : Side) (o : ℕ) (m : WrittenMessage)
+pub message_says : (tables : List Interface) (written : List WrittenInterface) (k : ℕ) (w : WrittenInterface)
+    (side : Side) (o : ℕ) (m : WrittenMessage)
     → slice_get written k ≡ Some w → slice_get (written_of side w) o ≡ Some m
     → Says (MessageBroken tables written w side o m)
-    (message_tests (first_place (all_names tables written)) (ended_of tables written) w side (first_place (map (λ n. n.name) (written_of side w))) o m)
+    (message_tests (first_place (all_names tables written)) (ended_of tables written) w side
+    (first_place (map (λ n. n.name) (written_of side w))) o m)
 message_says tables written k w side o m at of = record {
-  to = λ rule breaks. each_says Broken tests (name_says, (small_says, (few_says side refl, (unnamed_says, (any_says side refl, (race_says side refl, (since_says, (missing_says, tt)))))))) rule breaks.place breaks.at;
+  to = λ rule breaks. each_says Broken tests (
+    name_says,
+    (
+      small_says,
+      (
+        few_says side refl,
+        (
+          unnamed_says,
+          (any_says side refl, (race_says side refl, (since_says, (missing_says, tt)))),
+        ),
+      ),
+    ),
+  ) rule breaks.place breaks.at;
   from = λ rule broken. back rule broken;
 }
   where
@@ -189,8 +234,10 @@ message_says tables written k w side o m at of = record {
     tests : List Tested
     tests = message_tests place ended w side (first_place own_names) o m
 
-    own_name : (p : ℕ) (n : WrittenMessage) → slice_get (written_of side w) p ≡ Some n → slice_get own_names p ≡ Some n.name
-    own_name p n found = slice_get-map (λ (n : WrittenMessage). n.name) (written_of side w) p ∙ ap (option_map (λ (n : WrittenMessage). n.name)) found
+    own_name : (p : ℕ) (n : WrittenMessage) → slice_get (written_of side w) p ≡ Some n
+        → slice_get own_names p ≡ Some n.name
+    own_name p n found = slice_get-map (λ (n : WrittenMessage). n.name) (written_of side w) p
+        ∙ ap (option_map (λ (n : WrittenMessage). n.name)) found
 
     count : length (new_objects (map kind_of m.kinds)) ≡ count_by makes_object m.kinds
     count = count_placed place past m.kinds
@@ -209,26 +256,32 @@ message_says tables written k w side o m at of = record {
           let it = earlier_name own_names m.name o (own_name o m of) again.1 in
           let n = mapped_at (λ (n : WrittenMessage). n.name) (written_of side w) it.0 m.name it.2 in
           message_named_again it.0 (placing_message tables written n.0) refl it.1
-          (rw (placed_messages tables written side w) (slice_get-map (placing_message tables written) (written_of side w) it.0 ∙ ap (option_map (placing_message tables written)) n.1)) n.2
+          (rw (placed_messages tables written side w)
+          (slice_get-map (placing_message tables written) (written_of side w) it.0
+          ∙ ap (option_map (placing_message tables written)) n.1)) n.2
     ]
 
     -- V3
     small_says : nat_lt o 256 && nat_le (length m.kinds) 20 ≡ false → Broken 3
     small_says e = elim (either_fails (nat_lt o 256) (nat_le (length m.kinds) 20) e) [
       | inl many ↦ message_beyond refl (ltb-false o 256 many)
-      | inr long ↦ too_many_arguments refl (let lt = leb-false (length m.kinds) 20 long.1 in let len = length-map m.kinds kind_of in omega (arith, lt, len))
+      | inr long ↦ too_many_arguments refl (let lt = leb-false (length m.kinds) 20 long.1
+          in let len = length-map m.kinds kind_of in omega (arith, lt, len))
     ]
 
     -- V4
     few_says : (s : Side) → side ≡ s → nat_le (count_by makes_object m.kinds) (most_new s) ≡ false → Broken 4
-    few_says Request is e = request_makes_two refl is (let lt = leb-false (count_by makes_object m.kinds) 1 e in omega (arith, lt, count))
-    few_says Event is e = event_makes refl is (let lt = leb-false (count_by makes_object m.kinds) 0 e in omega (arith, lt, count))
+    few_says Request is e = request_makes_two refl is
+        (let lt = leb-false (count_by makes_object m.kinds) 1 e in omega (arith, lt, count))
+    few_says Event is e = event_makes refl is (let lt = leb-false (count_by makes_object m.kinds) 0 e
+        in omega (arith, lt, count))
 
     -- V5
     unnamed_says : list_all (λ k. not (makes_unnamed k)) m.kinds ≡ false → Broken 5
     unnamed_says e =
         let it = some_kind makes_unnamed kind_of m.kinds e in
-        new_without_interface refl (subst (λ (x : Kind). Contains (map kind_of m.kinds) x) (unnamed_is place past it.kind.kind it.kind.iface it.passes) it.there)
+        new_without_interface refl (subst (λ (x : Kind). Contains (map kind_of m.kinds) x)
+        (unnamed_is place past it.kind.kind it.kind.iface it.passes) it.there)
 
     -- V6
     any_says : (s : Side) → side ≡ s → names_objects s m ≡ false → Broken 6
@@ -243,10 +296,12 @@ message_says tables written k w side o m at of = record {
     race_says Request is e =
         let it = some_kind (takes_ended place ended) kind_of m.kinds e in
         let ends = ended_named all place past ended (ended_is tables written) it.kind.kind it.kind.iface it.passes in
-        object_of_ended ends.null ends.iface ends.interface refl is (subst (λ (x : Kind). Contains (map kind_of m.kinds) x) ends.is it.there) ends.at ends.ends
+        object_of_ended ends.null ends.iface ends.interface refl is
+        (subst (λ (x : Kind). Contains (map kind_of m.kinds) x) ends.is it.there) ends.at ends.ends
     race_says Event is e =
         let both = either_races m.destroys (is_empty w.requests) e in
-        event_destroys refl is (target_is m.destroys both.0) (no_requests (placing_message tables written) w.requests both.1)
+        event_destroys refl is (target_is m.destroys both.0)
+        (no_requests (placing_message tables written) w.requests both.1)
 
     -- V8
     since_says : nat_le 1 m.since && nat_le m.since w.version ≡ false → Broken 8
@@ -260,42 +315,58 @@ message_says tables written k w side o m at of = record {
     missing_says e =
         let it = some_kind (names_missing place) kind_of m.kinds e in
         let missing = missing_named place past it.kind.kind it.kind.iface it.passes in
-        interface_missing (kind_of it.kind) missing.0 refl it.there missing.1 (let le = missing.2 in omega (arith, le, lens))
+        interface_missing (kind_of it.kind) missing.0 refl it.there missing.1
+        (let le = missing.2 in omega (arith, le, lens))
 
     back : (rule : ℕ) → Broken rule → Breaks tests rule
     back rule (message_misnamed is never) =
-        failing_at tests 0 1 rule _ refl is (left_fails (is_name m.name) (is_first (first_place own_names) m.name o) (no_name m.name never))
+        failing_at tests 0 1 rule _ refl is (left_fails (is_name m.name) (is_first (first_place own_names) m.name o)
+        (no_name m.name never))
     back rule (message_named_again earlier n is lt found same) =
-        let listed : slice_get (map (placing_message tables written) (written_of side w)) earlier ≡ Some n = subst (λ ms. slice_get ms earlier ≡ Some n) (placed_messages tables written side w) found in
+        let listed : slice_get (map (placing_message tables written) (written_of side w)) earlier ≡ Some n =
+        subst (λ ms. slice_get ms earlier ≡ Some n) (placed_messages tables written side w) found in
         let x = mapped_at (placing_message tables written) (written_of side w) earlier n listed in
         let named : x.0.name ≡ m.name = ap (λ (y : Message). y.name) x.2 ∙ same in
-        failing_at tests 0 1 rule _ refl is (right_fails (is_name m.name) (is_first (first_place own_names) m.name o) (not_first own_names m.name o earlier lt (own_name earlier x.0 x.1 ∙ ap Some named)))
+        failing_at tests 0 1 rule _ refl is (right_fails (is_name m.name) (is_first (first_place own_names) m.name o)
+        (not_first own_names m.name o earlier lt (own_name earlier x.0 x.1 ∙ ap Some named)))
     back rule (message_beyond is le) =
         failing_at tests 1 3 rule _ refl is (left_fails (nat_lt o 256) (nat_le (length m.kinds) 20) (not_lt o 256 le))
     back rule (too_many_arguments is lt) =
-        failing_at tests 1 3 rule _ refl is (right_fails (nat_lt o 256) (nat_le (length m.kinds) 20) (not_le (length m.kinds) 20 (let len = length-map m.kinds kind_of in omega (arith, lt, len))))
+        failing_at tests 1 3 rule _ refl is (right_fails (nat_lt o 256) (nat_le (length m.kinds) 20)
+        (not_le (length m.kinds) 20 (let len = length-map m.kinds kind_of in omega (arith, lt, len))))
     back rule (event_makes is event lt) =
-        failing_at tests 2 4 rule _ refl is (few_fails side (count_by makes_object m.kinds) 0 (ap most_new event) (omega (arith, lt, count)))
+        failing_at tests 2 4 rule _ refl is (few_fails side (count_by makes_object m.kinds) 0 (ap most_new event)
+        (omega (arith, lt, count)))
     back rule (request_makes_two is request lt) =
-        failing_at tests 2 4 rule _ refl is (few_fails side (count_by makes_object m.kinds) 1 (ap most_new request) (omega (arith, lt, count)))
+        failing_at tests 2 4 rule _ refl is (few_fails side (count_by makes_object m.kinds) 1 (ap most_new request)
+        (omega (arith, lt, count)))
     back rule (new_without_interface is there) =
         failing_at tests 3 5 rule _ refl is
-        (kinds_fail makes_unnamed kind_of (λ x. x ≢ kinds.New None) (λ x t. not_unnamed place past x.kind x.iface t) m.kinds (kinds.New None) there (λ never. never refl))
+        (kinds_fail makes_unnamed kind_of (λ x. x ≢ kinds.New None)
+        (λ x t. not_unnamed place past x.kind x.iface t) m.kinds (kinds.New None) there (λ never. never refl))
     back rule (object_of_any null is request there) =
         failing_at tests 4 6 rule _ refl is (any_fails side m request
-        (kinds_fail takes_any kind_of (λ x. (n : Bool) → x ≢ kinds.Obj n None) (λ x t. not_any place past x.kind x.iface t) m.kinds (kinds.Obj null None) there (λ never. never null refl)))
+        (kinds_fail takes_any kind_of (λ x. (n : Bool) → x ≢ kinds.Obj n None)
+        (λ x t. not_any place past x.kind x.iface t) m.kinds (kinds.Obj null None) there
+        (λ never. never null refl)))
     back rule (event_destroys is event destroys lt) =
         failing_at tests 5 7 rule _ refl is (event_race_fails place ended w side m event
-        (both_race m.destroys (is_empty w.requests) destroys (some_requests (placing_message tables written) w.requests lt)))
+        (both_race m.destroys (is_empty w.requests) destroys
+        (some_requests (placing_message tables written) w.requests lt)))
     back rule (object_of_ended null iface j is request there found ends) =
         failing_at tests 5 7 rule _ refl is (race_fails place ended w side m request
-        (kinds_fail (takes_ended place ended) kind_of (NotEndedIn all) (λ x t. not_ended all place past ended (ended_at tables written) beyond x.kind x.iface t) m.kinds (kinds.Obj null (Some iface)) there
+        (kinds_fail (takes_ended place ended) kind_of (NotEndedIn all)
+        (λ x t. not_ended all place past ended (ended_at tables written) beyond x.kind x.iface t) m.kinds
+        (kinds.Obj null (Some iface)) there
         (λ never. let no : true ≡ false = sym ends ∙ never null iface j refl found in cc no)))
     back rule (since_below_one is lt) =
-        failing_at tests 6 8 rule _ refl is (left_fails (nat_le 1 m.since) (nat_le m.since w.version) (not_le 1 m.since lt))
+        failing_at tests 6 8 rule _ refl is (left_fails (nat_le 1 m.since) (nat_le m.since w.version)
+        (not_le 1 m.since lt))
     back rule (since_above_version is lt) =
-        failing_at tests 6 8 rule _ refl is (right_fails (nat_le 1 m.since) (nat_le m.since w.version) (not_le m.since w.version lt))
+        failing_at tests 6 8 rule _ refl is (right_fails (nat_le 1 m.since) (nat_le m.since w.version)
+        (not_le m.since w.version lt))
     back rule (interface_missing kind iface is there_is named le) =
         failing_at tests 7 9 rule _ refl is
-        (kinds_fail (names_missing place) kind_of (λ x. (i : Iface) → named_interface x ≡ Some i → i.0 < past) (λ x t. there place past (first_place-within names) x.kind x.iface t) m.kinds kind there_is
+        (kinds_fail (names_missing place) kind_of (λ x. (i : Iface) → named_interface x ≡ Some i → i.0 < past)
+        (λ x t. there place past (first_place-within names) x.kind x.iface t) m.kinds kind there_is
         (λ below. let lt = below iface named in omega (arith, lt, le, lens)))

@@ -6,6 +6,8 @@
 
 mod argument;
 mod line;
+mod report;
 mod text;
 
 pub use line::write_line;
+pub use report::{MessageHead, ObjectName, Quoted, ReportLine};

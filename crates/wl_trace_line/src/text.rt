@@ -54,7 +54,7 @@ pub(crate) fn write_new<A: Allocator>(
 }
 
 /// Whether a byte of a string is printed as it stands.
-fn is_plain(byte: u8) -> bool
+pub(crate) fn is_plain(byte: u8) -> bool
     ensures { result ≡ is_plain byte }
 {
     matches!(byte, b' '..=b'~') && byte != b'"' && byte != b'\\'

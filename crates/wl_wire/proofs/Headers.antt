@@ -9,13 +9,17 @@ use Rattle.wl_wire.proofs.Numbers.{Bytewise}
 use Rattle.wl_wire.proofs.Canonicals.{header_bytes-at}
 
 -- the header that stands in front, whatever follows
-pub header_bytes-front : (bytes : List ℕ) → Bytewise bytes → 8 ≤ length bytes → header_bytes (header_at bytes) ≡ take 8 bytes
-header_bytes-front (a ∷ b ∷ c ∷ d ∷ e ∷ f ∷ g ∷ h ∷ rest) w l = header_bytes-at (a ∷ b ∷ c ∷ d ∷ e ∷ f ∷ g ∷ h ∷ []) (All-take (λ (b : ℕ). b < 256) 8 (a ∷ b ∷ c ∷ d ∷ e ∷ f ∷ g ∷ h ∷ rest) w) refl
+pub header_bytes-front : (bytes : List ℕ) → Bytewise bytes → 8 ≤ length bytes
+    → header_bytes (header_at bytes) ≡ take 8 bytes
+header_bytes-front (a ∷ b ∷ c ∷ d ∷ e ∷ f ∷ g ∷ h ∷ rest) w l =
+    header_bytes-at (a ∷ b ∷ c ∷ d ∷ e ∷ f ∷ g ∷ h ∷ [])
+    (All-take (λ (b : ℕ). b < 256) 8 (a ∷ b ∷ c ∷ d ∷ e ∷ f ∷ g ∷ h ∷ rest) w) refl
 header_bytes-front bytes w l = absurd (omega arith)
 
 -- the three numbers that are read there
 pub header-read : (bytes : List ℕ) (object size opcode : ℕ) → Bytewise bytes → 8 ≤ length bytes
-    → object ≡ little_number 4 bytes → size ≡ little_number 2 (take 2 (drop 6 bytes)) → opcode ≡ little_number 2 (take 2 (drop 4 bytes))
+    → object ≡ little_number 4 bytes → size ≡ little_number 2 (take 2 (drop 6 bytes))
+    → opcode ≡ little_number 2 (take 2 (drop 4 bytes))
     → record { object = object; size = size; opcode = opcode } ≡ header_at bytes
 header-read (a ∷ b ∷ c ∷ d ∷ e ∷ f ∷ g ∷ h ∷ rest) object size opcode w l o s p =
     let bytes : List ℕ = a ∷ b ∷ c ∷ d ∷ e ∷ f ∷ g ∷ h ∷ rest in
@@ -34,7 +38,8 @@ header-read (a ∷ b ∷ c ∷ d ∷ e ∷ f ∷ g ∷ h ∷ rest) object size o
 header-read bytes object size opcode w l o s p = absurd (omega (arith, l))
 
 -- the size's two bytes
-pub header-size : (bytes : List ℕ) (size : ℕ) → Bytewise bytes → 8 ≤ length bytes → size ≡ number_at (drop 4 bytes) / 65536
+pub header-size : (bytes : List ℕ) (size : ℕ) → Bytewise bytes → 8 ≤ length bytes
+    → size ≡ number_at (drop 4 bytes) / 65536
     → size ≡ slice_index bytes 6 + 256 * slice_index bytes 7
 header-size (a ∷ b ∷ c ∷ d ∷ e ∷ f ∷ g ∷ h ∷ rest) size w l s =
     let we = w 4 0 (omega (arith, l)) in

@@ -8,3 +8,5 @@ pub mod Headers
 pub mod Refused
 pub mod Texts
 pub mod Nuls
+pub mod Lanes
+pub mod Overs

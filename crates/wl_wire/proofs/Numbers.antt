@@ -1,5 +1,6 @@
 -- Words and the numbers that they are.
-use Rattle.std.proofs.Common.{◌≡◌, ℕ, ◌+◌, ◌-◌, ◌*◌, ◌/◌, ◌%◌, ◌^◌, ◌<◌, ◌≤◌, List, [], ◌∷◌, ◌++◌, length, take, drop, refl, sym, ap, ◌∙◌, arith, get_or, Fits, w8}
+use Rattle.std.proofs.Common.{◌≡◌, ℕ, ◌+◌, ◌-◌, ◌*◌, ◌/◌, ◌%◌, ◌^◌, ◌<◌, ◌≤◌, List, [], ◌∷◌, ◌++◌}
+use Rattle.std.proofs.Common.{length, take, drop, refl, sym, ap, ◌∙◌, arith, get_or, Fits, w8}
 use Rattle.std.specs.Prelude.{FitsSigned, ℤ, pos, negsuc, nat_lt}
 use Rattle.std.specs.List.{All}
 use Rattle.std.specs.Int.{w32}
@@ -14,7 +15,8 @@ Bytewise bytes = All (λ b. b < 256) bytes
 
 -- from what a slice's type says
 pub bytewise_from : (bytes : List ℕ) → ((i : ℕ) → Fits w8 (get_or bytes i 0)) → Bytewise bytes
-bytewise_from bytes f k d h = let e : get_or bytes k d ≡ get_or bytes k 0 = get_or_default bytes k d 0 h in let g = f k in omega (arith, g, e)
+bytewise_from bytes f k d h = let e : get_or bytes k d ≡ get_or bytes k 0 = get_or_default bytes k d 0 h in let g = f k
+    in omega (arith, g, e)
 
 pub number_at_fits : (bytes : List ℕ) → number_at bytes < 2 ^ 32
 number_at_fits bytes = omega arith
@@ -22,7 +24,8 @@ number_at_fits bytes = omega arith
 pub number_at-word : (n : ℕ) (rest : List ℕ) → n < 2 ^ 32 → number_at (word n ++ rest) ≡ n
 number_at-word n rest f = omega arith
 
-four_bytes : (a b c d : ℕ) → a < 256 → b < 256 → c < 256 → d < 256 → a ∷ b ∷ c ∷ d ∷ [] ≡ word (a % 256 + b % 256 * 256 + c % 256 * 65536 + d % 256 * 16777216)
+four_bytes : (a b c d : ℕ) → a < 256 → b < 256 → c < 256 → d < 256
+    → a ∷ b ∷ c ∷ d ∷ [] ≡ word (a % 256 + b % 256 * 256 + c % 256 * 65536 + d % 256 * 16777216)
 four_bytes a b c d fa fb fc fd =
     let n : ℕ = a % 256 + b % 256 * 256 + c % 256 * 65536 + d % 256 * 16777216 in
     let ea : a ≡ n % 256 = omega arith in
@@ -32,7 +35,8 @@ four_bytes a b c d fa fb fc fd =
     cc
 
 pub word-number_at : (bytes : List ℕ) → 4 ≤ length bytes → Bytewise bytes → take 4 bytes ≡ word (number_at bytes)
-word-number_at (a ∷ b ∷ c ∷ d ∷ rest) h f = four_bytes a b c d (f 0 0 (omega arith)) (f 1 0 (omega arith)) (f 2 0 (omega arith)) (f 3 0 (omega arith))
+word-number_at (a ∷ b ∷ c ∷ d ∷ rest) h f = four_bytes a b c d (f 0 0 (omega arith)) (f 1 0 (omega arith))
+    (f 2 0 (omega arith)) (f 3 0 (omega arith))
 word-number_at (a ∷ b ∷ c ∷ []) h f = absurd (omega arith)
 word-number_at (a ∷ b ∷ []) h f = absurd (omega arith)
 word-number_at (a ∷ []) h f = absurd (omega arith)
@@ -40,7 +44,8 @@ word-number_at [] h f = absurd (omega arith)
 
 -- a number that the first four bytes are is the one that is read there
 pub number-from_word : (n : ℕ) (bytes : List ℕ) → n < 2 ^ 32 → take 4 bytes ≡ word n → number_at bytes ≡ n
-number-from_word n bytes f e = ap number_at (sym (take-append-drop 4 bytes) ∙ ap (λ (l : List ℕ). l ++ drop 4 bytes) e) ∙ number_at-word n (drop 4 bytes) f
+number-from_word n bytes f e = ap number_at (sym (take-append-drop 4 bytes) ∙ ap (λ (l : List ℕ). l ++ drop 4 bytes) e)
+    ∙ number_at-word n (drop 4 bytes) f
 
 -- signed numbers
 
@@ -55,13 +60,18 @@ signed-complement (negsuc n) f =
     rw (le-ltb (2 ^ 32 - 1 - n) (2 ^ 31) (omega arith)) (ap negsuc back)
 
 pub complement-signed : (n : ℕ) → n < 2 ^ 32 → complement (signed n) ≡ n
-complement-signed n f = cond_both (nat_lt n (2 ^ 31)) (pos n) (negsuc (2 ^ 32 - 1 - n)) (λ z. complement z ≡ n) (λ e. refl) (λ e. omega arith)
+complement-signed n f = cond_both (nat_lt n (2 ^ 31)) (pos n) (negsuc (2 ^ 32 - 1 - n)) (λ z. complement z ≡ n)
+    (λ e. refl) (λ e. omega arith)
 
 pub signed_fits : (n : ℕ) → n < 2 ^ 32 → FitsSigned w32 (signed n)
-signed_fits n f = cond_both (nat_lt n (2 ^ 31)) (pos n) (negsuc (2 ^ 32 - 1 - n)) (λ z. FitsSigned w32 z) (λ e. let h = ltb-true n (2 ^ 31) e in omega arith) (λ e. let h = ltb-false n (2 ^ 31) e in omega arith)
+signed_fits n f = cond_both (nat_lt n (2 ^ 31)) (pos n) (negsuc (2 ^ 32 - 1 - n)) (λ z. FitsSigned w32 z)
+    (λ e. let h = ltb-true n (2 ^ 31) e in omega arith) (λ e. let h = ltb-false n (2 ^ 31) e in omega arith)
 
 pub number_at-int_word : (z : ℤ) (rest : List ℕ) → FitsSigned w32 z → signed (number_at (int_word z ++ rest)) ≡ z
-number_at-int_word z rest f = ap signed (number_at-word (complement z) rest (complement_fits z f)) ∙ signed-complement z f
+number_at-int_word z rest f = ap signed (number_at-word (complement z) rest (complement_fits z f))
+    ∙ signed-complement z f
 
-pub int_word-signed : (bytes : List ℕ) → 4 ≤ length bytes → Bytewise bytes → take 4 bytes ≡ int_word (signed (number_at bytes))
-int_word-signed bytes h f = word-number_at bytes h f ∙ ap word (sym (complement-signed (number_at bytes) (number_at_fits bytes)))
+pub int_word-signed : (bytes : List ℕ) → 4 ≤ length bytes → Bytewise bytes
+    → take 4 bytes ≡ int_word (signed (number_at bytes))
+int_word-signed bytes h f = word-number_at bytes h f
+    ∙ ap word (sym (complement-signed (number_at bytes) (number_at_fits bytes)))

@@ -1,5 +1,6 @@
 -- Fixed-point numbers as they are printed.
-use Rattle.std.proofs.Common.{◌≡◌, ℕ, ◌-◌, ◌*◌, ◌/◌, ◌%◌, ◌^◌, List, [], ◌∷◌, ◌++◌, length, refl, ap, arith, append-nil, true, false, ℤ, pos}
+use Rattle.std.proofs.Common.{◌≡◌, ℕ, ◌-◌, ◌*◌, ◌/◌, ◌%◌, ◌^◌, List, [], ◌∷◌, ◌++◌, length, refl}
+use Rattle.std.proofs.Common.{ap, arith, append-nil, true, false, ℤ, pos}
 use Rattle.std.specs.Prelude.{decimal, negsuc, nat_abs, int_lt}
 use Rattle.std.proofs.lemmas.Bool.{ltb-true, true≢false}
 use Rattle.std.specs.Fmt.{padded_integral, char_count, format_spec, styled_decimal}
@@ -19,5 +20,8 @@ pub sign_above : (z : ℤ) → int_lt z (pos 0) ≡ false → [] ≡ sign_of z
 sign_above (pos n) e = refl
 sign_above (negsuc n) e = absurd (true≢false e)
 
-pub text_shown : (z : ℤ) (sign : List ℕ) (size : ℕ) → sign ≡ sign_of z → size ≡ nat_abs z → sign ++ (decimal (size / 256) ++ 46 ∷ styled_decimal (format_spec 32 0 4 8 (2 ^ 64 - 1)) (size % 256 * 390625)) ≡ fixed_text z
-text_shown z sign size s e = rw (s, e) (ap (λ (l : List ℕ). sign_of z ++ (decimal (nat_abs z / 256) ++ 46 ∷ l)) (padded_to_eight (nat_abs z % 256 * 390625)))
+pub text_shown : (z : ℤ) (sign : List ℕ) (size : ℕ) → sign ≡ sign_of z → size ≡ nat_abs z
+    → sign ++ (decimal (size / 256) ++ 46 ∷ styled_decimal (format_spec 32 0 4 8 (2 ^ 64 - 1)) (size % 256 * 390625))
+    ≡ fixed_text z
+text_shown z sign size s e = rw (s, e) (ap (λ (l : List ℕ). sign_of z ++ (decimal (nat_abs z / 256) ++ 46 ∷ l))
+    (padded_to_eight (nat_abs z % 256 * 390625)))

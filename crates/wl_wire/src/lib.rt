@@ -7,6 +7,7 @@
 #![tactic(auto)]
 
 mod bytes;
+mod encode;
 mod fixed;
 mod header;
 mod kind;
@@ -19,6 +20,7 @@ mod word;
 mod writing;
 
 pub use bytes::Bytes;
+pub use encode::Encode;
 pub use fixed::Fixed;
 pub use header::{Header, MAX_MESSAGE_LEN};
 pub use kind::{ArgFault, Iface, Kind, ReadError};
@@ -26,4 +28,4 @@ pub use owning::read_value;
 pub use reading::read_ref;
 pub use text::has_nul;
 pub use value::{Value, ValueRef};
-pub use writing::encode_value;
+pub use writing::{encode_value, write_value};

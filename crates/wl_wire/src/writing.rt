@@ -1,5 +1,5 @@
 //! One argument, written.
-ghost use Rattle.std.specs.Prelude.{◌≡◌, ◌<◌, ◌≤◌, ◌+◌, ◌-◌, ◌++◌, length, OnOk, OnErr, IsOk};
+ghost use Rattle.std.specs.Prelude.{◌≡◌, ◌<◌, ◌≤◌, ◌+◌, ◌-◌, ◌++◌, length, drop, OnOk, OnErr, IsOk};
 ghost use Rattle.std.specs.Prelude.{vec_len, vec_capacity};
 ghost use Rattle.wl_wire.specs.Argument.{lent};
 ghost use Rattle.wl_wire.specs.Spelling.{canonical, padded, zeros, Fits, spelled_len};
@@ -95,4 +95,71 @@ fn append_padded<A: Allocator>(out: &mut Vec<u8, A>, len: u32, bytes: &[u8])
     append(out, bytes);
     let extra = padded_len(len as usize) - bytes.len();
     append(out, &[0; 4][..extra]);
+}
+
+/// Writes the bytes of a value that `fits`, padded with zeros, at the front of these, and returns
+/// how many they are.
+#[inline(always)]
+pub fn write_value(value: ValueRef<'_>, out: &mut [u8]) -> usize
+    requires fits { Fits (lent value) }
+    requires room { spelled_len (lent value) ≤ length out.old }
+    ensures bytes { out.new ≡ canonical (lent value.entry)
+        ++ drop (spelled_len (lent value.entry)) out.old }
+    ensures len { result ≡ spelled_len (lent value.entry) }
+{
+    match value {
+        ValueRef::Int(z) => write_int(out, z),
+        ValueRef::Fixed(z) => write_int(out, z.raw()),
+        ValueRef::Uint(n) => write_word(out, n),
+        ValueRef::Obj(id) => write_word(out, id),
+        ValueRef::New(id) => write_word(out, id),
+        ValueRef::Str(None) => write_word(out, 0),
+        ValueRef::Str(Some(text)) => write_padded(out, text.len() as u32 + 1, text),
+        ValueRef::NewNamed { iface, version, id } => {
+            let len = write_padded(out, iface.len() as u32 + 1, iface);
+            write_word(&mut out[len..], version);
+            write_word(&mut out[len + 4..], id);
+            len + 8
+        }
+        ValueRef::Array(bytes) => write_padded(out, bytes.len() as u32, bytes),
+        ValueRef::Fd => 0,
+    }
+}
+
+/// Writes the word of a number.
+#[inline(always)]
+fn write_word(out: &mut [u8], n: u32) -> usize
+    requires { 4 ≤ length out.old }
+    ensures bytes { out.new ≡ word n ++ drop 4 out.old }
+    ensures len { result ≡ 4 }
+{
+    LittleEndian::write_u32(out, n);
+    4
+}
+
+/// Writes the word of a signed number.
+#[inline(always)]
+fn write_int(out: &mut [u8], z: i32) -> usize
+    requires { 4 ≤ length out.old }
+    ensures bytes { out.new ≡ int_word z ++ drop 4 out.old }
+    ensures len { result ≡ 4 }
+{
+    LittleEndian::write_i32(out, z);
+    4
+}
+
+/// Writes a length, the bytes, and zeros up to a multiple of 4.
+fn write_padded(out: &mut [u8], len: u32, bytes: &[u8]) -> usize
+    requires len { (length bytes.now ≤ len) × (len ≤ length bytes.now + 1) }
+    requires room { 4 + padded len ≤ length out.old }
+    ensures bytes { out.new ≡ (word len ++ bytes.now ++ zeros (padded len - length bytes.now))
+        ++ drop (4 + padded len) out.old }
+    ensures len { result ≡ 4 + padded len }
+{
+    let end = 4 + padded_len(len as usize);
+    // The zeros stand in the last word, of which the bytes may take the front.
+    write_word(&mut out[end - 4..], 0);
+    write_word(out, len);
+    out[4..4 + bytes.len()].copy_from_slice(bytes);
+    end
 }

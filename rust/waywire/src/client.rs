@@ -90,6 +90,17 @@ impl Client {
         self.end.take(bytes, tokens)
     }
 
+    /// Gives the client up, and moves the tokens that wait in it into the slice, so that their
+    /// descriptors can be closed. Returns their number: repeat it until that is 0, with room for 20
+    /// tokens at least, which no message has more of.
+    ///
+    /// First come those that were fed and not reported, then those that were to be sent, all of a
+    /// message at once. The client has failed afterwards, and what waited to be sent is dropped with
+    /// its tokens: take first what is still to be sent.
+    pub fn take_waiting_tokens(&mut self, tokens: &mut [u32]) -> usize {
+        self.end.take_waiting_tokens(tokens)
+    }
+
     /// Reads the next message; `None` while none is whole. It allocates nothing.
     // Not an iterator's: what it returns is lent from the client.
     #[inline]

@@ -2,12 +2,14 @@
 
 use crate::args::Args;
 use crate::sys;
-use crate::tables::Object;
+use crate::tables::{Interface, Object};
 
 /// A message that was read: its target, its opcode and its arguments. Lent from the end.
 #[derive(Clone, Debug)]
 pub struct Message<'a> {
     target: Object,
+    interface: Interface,
+    version: u32,
     opcode: u16,
     args: Args<'a>,
 }
@@ -21,13 +23,31 @@ pub type Request<'a> = Message<'a>;
 impl<'a> Message<'a> {
     #[inline]
     pub(crate) fn of(report: &'a sys::Report) -> Message<'a> {
-        Message { target: report.target(), opcode: report.opcode(), args: Args(report.args()) }
+        Message {
+            target: report.target(),
+            interface: report.interface(),
+            version: report.version(),
+            opcode: report.opcode(),
+            args: Args(report.args()),
+        }
     }
 
     /// The object that it is for.
     #[inline]
     pub fn target(&self) -> Object {
         self.target
+    }
+
+    /// Its target's interface, also where the message destroyed the target.
+    #[inline]
+    pub fn interface(&self) -> Interface {
+        self.interface
+    }
+
+    /// The version that its target has.
+    #[inline]
+    pub fn version(&self) -> u32 {
+        self.version
     }
 
     /// Which message of its target's interface it is.

@@ -98,6 +98,12 @@ impl Server {
         self.end.take(bytes, tokens)
     }
 
+    /// Gives the server up, and moves the tokens that wait in it into the slice, as
+    /// [`Client::take_waiting_tokens`](crate::Client::take_waiting_tokens) does.
+    pub fn take_waiting_tokens(&mut self, tokens: &mut [u32]) -> usize {
+        self.end.take_waiting_tokens(tokens)
+    }
+
     /// Reads the next request; `None` while none is whole. An object that it destroys is closed, and
     /// its delete_id is written at once. It allocates only for an object that the request makes.
     // Not an iterator's: what it returns is lent from the server.

@@ -165,6 +165,8 @@ pub struct Report {
     text_length: usize,
     place: usize,
     offset: u64,
+    interface: u16,
+    version: u32,
     /// For C alone.
     #[allow(dead_code)]
     user: *mut c_void,
@@ -206,6 +208,8 @@ impl Report {
             text_length: 0,
             place: 0,
             offset: 0,
+            interface: 0,
+            version: 0,
             user: ptr::null_mut(),
             args: [NO_ARG; MAX_ARGS as usize],
         }
@@ -219,6 +223,16 @@ impl Report {
     #[inline]
     pub fn opcode(&self) -> u16 {
         self.opcode as u16
+    }
+
+    #[inline]
+    pub fn interface(&self) -> Interface {
+        Interface(self.interface)
+    }
+
+    #[inline]
+    pub fn version(&self) -> u32 {
+        self.version
     }
 
     #[inline]
@@ -352,7 +366,7 @@ type RawEnd = c_void;
 
 macro_rules! end_calls {
     ($new:ident $free:ident $display:ident $live:ident $in_room:ident $is_drained:ident
-     $feed:ident $goes:ident $take:ident $send:ident $next:ident) => {
+     $feed:ident $goes:ident $take:ident $take_waiting_tokens:ident $send:ident $next:ident) => {
         extern "C" {
             fn $new(tables: *const RawTables, sizes: *const Sizes, made: *mut *mut RawEnd) -> u32;
             fn $free(end: *mut RawEnd);
@@ -383,6 +397,12 @@ macro_rules! end_calls {
                 token_count: usize,
                 taken: *mut Amounts,
             ) -> u32;
+            fn $take_waiting_tokens(
+                end: *mut RawEnd,
+                tokens: *mut u32,
+                token_count: usize,
+                taken: *mut usize,
+            ) -> u32;
             fn $send(
                 end: *mut RawEnd,
                 target: Object,
@@ -399,10 +419,10 @@ macro_rules! end_calls {
 
 end_calls!(waywire_client_new waywire_client_free waywire_client_display waywire_client_live
     waywire_client_in_room waywire_client_is_drained waywire_client_feed waywire_client_goes
-    waywire_client_take waywire_client_send waywire_client_next);
+    waywire_client_take waywire_client_take_waiting_tokens waywire_client_send waywire_client_next);
 end_calls!(waywire_server_new waywire_server_free waywire_server_display waywire_server_live
     waywire_server_in_room waywire_server_is_drained waywire_server_feed waywire_server_goes
-    waywire_server_take waywire_server_send waywire_server_next);
+    waywire_server_take waywire_server_take_waiting_tokens waywire_server_send waywire_server_next);
 
 extern "C" {
     fn waywire_strerror(status: u32) -> *const c_char;
@@ -594,7 +614,8 @@ fn global_error(status: u32) -> GlobalError {
 
 macro_rules! end {
     ($(#[$doc:meta])* $name:ident: $new:ident $free:ident $display:ident $live:ident $in_room:ident
-     $is_drained:ident $feed:ident $goes:ident $take:ident $send:ident $next:ident) => {
+     $is_drained:ident $feed:ident $goes:ident $take:ident $take_waiting_tokens:ident $send:ident
+     $next:ident) => {
         $(#[$doc])*
         #[derive(Debug)]
         pub struct $name {
@@ -681,6 +702,15 @@ macro_rules! end {
                 taken
             }
 
+            pub fn take_waiting_tokens(&mut self, tokens: &mut [u32]) -> usize {
+                let mut taken = 0;
+                unsafe {
+                    $take_waiting_tokens(self.at.as_ptr(), tokens.as_mut_ptr(), tokens.len(),
+                        &mut taken)
+                };
+                taken
+            }
+
             #[inline]
             pub fn send(
                 &mut self,
@@ -720,13 +750,13 @@ end!(
     /// A client's end, freed when it is dropped.
     Client: waywire_client_new waywire_client_free waywire_client_display waywire_client_live
     waywire_client_in_room waywire_client_is_drained waywire_client_feed waywire_client_goes
-    waywire_client_take waywire_client_send waywire_client_next
+    waywire_client_take waywire_client_take_waiting_tokens waywire_client_send waywire_client_next
 );
 end!(
     /// A server's end, freed when it is dropped.
     Server: waywire_server_new waywire_server_free waywire_server_display waywire_server_live
     waywire_server_in_room waywire_server_is_drained waywire_server_feed waywire_server_goes
-    waywire_server_take waywire_server_send waywire_server_next
+    waywire_server_take waywire_server_take_waiting_tokens waywire_server_send waywire_server_next
 );
 
 // Safety, for each call of these two: as for the calls that both ends have.
@@ -839,7 +869,7 @@ mod tests {
             Sizes, "waywire_sizes": out_bytes out_tokens in_bytes in_tokens limit;
             RawArg, "waywire_arg": kind i u object bytes length;
             Report, "waywire_report": kind opcode target arg_count tokens token_count id code named
-                spelling text text_length place offset user args;
+                spelling text text_length place offset interface version user args;
         };
         wanted.push(("sizeof(waywire_object)".into(), size_of::<Object>()));
         wanted.push(("sizeof(waywire_status)".into(), size_of::<u32>()));

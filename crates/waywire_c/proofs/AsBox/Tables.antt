@@ -9,4 +9,8 @@ use Rattle.waywire_c.specs.contracts.held.HeldTables as Held
 use Rattle.waywire_c.proofs.held.HeldTables.TheLaws as held
 
 abbrev pub E : Bx
-E = record { row = Held.the_row; laws = held.the_row_laws; al = record { row = Heap.the_row; laws = heap.the_row_laws; g = ghosts; d = dict; drops = impl [] tnil dnil } }
+E = record {
+  row = Held.the_row;
+  laws = held.the_row_laws;
+  al = record { row = Heap.the_row; laws = heap.the_row_laws; g = ghosts; d = dict; drops = impl [] tnil dnil };
+}

@@ -17,8 +17,12 @@ returns c =
     let trace_local = is_local _ _ _ _ (ap (λ (a : App). a.top.is_plain) c.in_ok-trace.ensures) in
     let check_local = is_local _ _ _ _ (ap (λ (a : App). a.top.is_plain) c.in_ok-check.ensures) in
     let demo_local = is_local _ _ _ _ (ap (λ (a : App). a.top.is_plain) c.in_ok-demo.ensures) in
-    let one = c.in_ok-subcommand.ensures.shape trace_local ∙ ap₂ with_subcommand top_is (ap (λ (a : App). a.top) c.in_ok-trace.ensures) in
-    let two = c.in_ok-subcommand-2.ensures.shape check_local ∙ ap₂ with_subcommand one (ap (λ (a : App). a.top) c.in_ok-check.ensures) in
+    let one = c.in_ok-subcommand.ensures.shape trace_local
+    ∙ ap₂ with_subcommand top_is (ap (λ (a : App). a.top) c.in_ok-trace.ensures) in
+    let two = c.in_ok-subcommand-2.ensures.shape check_local
+    ∙ ap₂ with_subcommand one (ap (λ (a : App). a.top) c.in_ok-check.ensures) in
     let socket_local = is_local _ _ _ _ (ap (λ (a : App). a.top.is_plain) c.in_ok-socket.ensures) in
-    let three = c.in_ok-subcommand-3.ensures.shape demo_local ∙ ap₂ with_subcommand two (ap (λ (a : App). a.top) c.in_ok-demo.ensures) in
-    IfOk-weaker c.subcommand-4.result _ _ (λ r adds. adds.shape socket_local ∙ ap₂ with_subcommand three (ap (λ (a : App). a.top) c.in_ok-socket.ensures)) c.subcommand-4.ensures
+    let three = c.in_ok-subcommand-3.ensures.shape demo_local
+    ∙ ap₂ with_subcommand two (ap (λ (a : App). a.top) c.in_ok-demo.ensures) in
+    IfOk-weaker c.subcommand-4.result _ _ (λ r adds. adds.shape socket_local
+    ∙ ap₂ with_subcommand three (ap (λ (a : App). a.top) c.in_ok-socket.ensures)) c.subcommand-4.ensures

@@ -22,14 +22,16 @@ check_socket : codes "check" ≡ codes "socket" → ⊥
 check_socket e = cc
 
 -- where a trace is given no limit, nothing is asked for
-no_trace : (name : Text) (rows : List Row) → name ≡ codes "trace" → IsLimitOf rows None → (job : Job) → IsGiven name rows job → ⊥
+no_trace : (name : Text) (rows : List Row) → name ≡ codes "trace" → IsLimitOf rows None → (job : Job)
+    → IsGiven name rows job → ⊥
 no_trace name rows e none (Trace tables limit file) g = none limit g.2
 no_trace name rows e none (Check tables limit file) g = trace_check (sym e ∙ g.0)
 no_trace name rows e none (Demo piece) g = trace_demo (sym e ∙ g.0)
 no_trace name rows e none (Socket path) g = trace_socket (sym e ∙ g.0)
 
 -- and the same of a check
-no_check : (name : Text) (rows : List Row) → name ≡ codes "check" → IsLimitOf rows None → (job : Job) → IsGiven name rows job → ⊥
+no_check : (name : Text) (rows : List Row) → name ≡ codes "check" → IsLimitOf rows None → (job : Job)
+    → IsGiven name rows job → ⊥
 no_check name rows e none (Trace tables limit file) g = trace_check (sym g.0 ∙ e)
 no_check name rows e none (Check tables limit file) g = none limit g.2
 no_check name rows e none (Demo piece) g = check_demo (sym e ∙ g.0)

@@ -17,7 +17,9 @@ pub returns-clause-asked : goal.returns-clause-asked
 returns-clause-asked c =
     let line = c.in_ok-command.ensures in
     let found : subcommand_rows_of c.in_ok-matches.matches ≡ subcommand_of command_line (texts_of c.args.words.now) =
-    (c.in_ok-matches.ensures.matches (ap is_simple line ∙ simple)).1 ∙ ap (λ (a : App). subcommand_of a (texts_of c.args.words.now)) line in
+    (c.in_ok-matches.ensures.matches (ap is_simple line ∙ simple)).1
+    ∙ ap (λ (a : App). subcommand_of a (texts_of c.args.words.now)) line in
     let faultless : fault_of command_line (texts_of c.args.words.now) ≡ [] =
-    ap (λ (a : App). fault_of a (texts_of c.args.words.now)) (sym line) ∙ c.in_ok-matches.ensures.kinds (ap is_simple_and_free line ∙ whole) in
+    ap (λ (a : App). fault_of a (texts_of c.args.words.now)) (sym line)
+    ∙ c.in_ok-matches.ensures.kinds (ap is_simple_and_free line ∙ whole) in
     (faultless, subst (λ (o : Option (Text × List Row)). Names o c.in_ok-chosen.field-0) found c.in_ok-chosen.ensures)

@@ -12,17 +12,22 @@ again-init g c = λ last more. more
 pub returns-then-not-do_something : goal.returns-then-not-do_something
 returns-then-not-do_something g c =
     let move : c.deref.result.now ≡ c.args.action ∷ [] = c.deref.ensures.value ∙ c.in_ok-moves.ensures in
-    let ran : Ran c.again.pair (move_of c.args.action ∷ []) (replies_of c.in_ok-replies.replies.items) c.run_all.new.pair =
-    subst (λ moves. Ran c.again.pair (moves_of moves) (replies_of c.in_ok-replies.replies.items) c.run_all.new.pair) move c.in_ok-replies.ensures in
+    let ran : Ran c.again.pair (move_of c.args.action ∷ [])
+    (replies_of c.in_ok-replies.replies.items) c.run_all.new.pair =
+    subst (λ moves. Ran c.again.pair (moves_of moves) (replies_of c.in_ok-replies.replies.items) c.run_all.new.pair)
+    move c.in_ok-replies.ensures in
     let replies = any_mapped reply_of playing.does_something c.in_ok-replies.replies.items in
-    c.again.invariant c.run_all.new.pair (plays_last (move_of c.args.action) (replies_of c.in_ok-replies.replies.items) c.again.pair c.run_all.new.pair ran
+    c.again.invariant c.run_all.new.pair (plays_last (move_of c.args.action)
+    (replies_of c.in_ok-replies.replies.items) c.again.pair c.run_all.new.pair ran
     (cc (replies, c.do_something.ensures, c.deref-in-again.ensures.value, c.if-not-do_something.true)))
 
 pub again-smaller : goal.again-smaller
 again-smaller g c =
     let move : c.deref.result.now ≡ c.args.action ∷ [] = c.deref.ensures.value ∙ c.in_ok-moves.ensures in
-    let ran : Ran c.again.pair (move_of c.args.action ∷ []) (replies_of c.in_ok-replies.replies.items) c.run_all.new.pair =
-    subst (λ moves. Ran c.again.pair (moves_of moves) (replies_of c.in_ok-replies.replies.items) c.run_all.new.pair) move c.in_ok-replies.ensures in
+    let ran : Ran c.again.pair (move_of c.args.action ∷ [])
+    (replies_of c.in_ok-replies.replies.items) c.run_all.new.pair =
+    subst (λ moves. Ran c.again.pair (moves_of moves) (replies_of c.in_ok-replies.replies.items) c.run_all.new.pair)
+    move c.in_ok-replies.ensures in
     let replies = any_mapped reply_of playing.does_something c.in_ok-replies.replies.items in
     less_after (move_of c.args.action) (replies_of c.in_ok-replies.replies.items) c.again.pair c.run_all.new.pair ran
     (cc (replies, c.do_something.ensures, c.deref-in-again.ensures.value, c.if-not-do_something.false))
@@ -30,8 +35,11 @@ again-smaller g c =
 pub again-preserved : goal.again-preserved
 again-preserved g c =
     let move : c.deref.result.now ≡ c.args.action ∷ [] = c.deref.ensures.value ∙ c.in_ok-moves.ensures in
-    let ran : Ran c.again.pair (move_of c.args.action ∷ []) (replies_of c.in_ok-replies.replies.items) c.run_all.new.pair =
-    subst (λ moves. Ran c.again.pair (moves_of moves) (replies_of c.in_ok-replies.replies.items) c.run_all.new.pair) move c.in_ok-replies.ensures in
+    let ran : Ran c.again.pair (move_of c.args.action ∷ [])
+    (replies_of c.in_ok-replies.replies.items) c.run_all.new.pair =
+    subst (λ moves. Ran c.again.pair (moves_of moves) (replies_of c.in_ok-replies.replies.items) c.run_all.new.pair)
+    move c.in_ok-replies.ensures in
     let replies = any_mapped reply_of playing.does_something c.in_ok-replies.replies.items in
-    λ last more. c.again.invariant last (plays_again (move_of c.args.action) (replies_of c.in_ok-replies.replies.items) c.again.pair c.run_all.new.pair last ran
+    λ last more. c.again.invariant last (plays_again (move_of c.args.action)
+    (replies_of c.in_ok-replies.replies.items) c.again.pair c.run_all.new.pair last ran
     (cc (replies, c.do_something.ensures, c.deref-in-again.ensures.value, c.if-not-do_something.false)) more)

@@ -3,12 +3,13 @@ use Rattle.theory_connection.specs.Pair.{PairState}
 use Rattle.wl_session.specs.Meaning.{move_of}
 use Rattle.program_demo.specs.Session.{Until}
 use Rattle.program_demo.specs.Playing.{Plays}
-use Rattle.program_demo.proofs.Leaving.{left_for}
+use Rattle.program_demo.proofs.LessIsLeft.{left_for}
 use Rattle.program_demo.proofs.playing.repeat.Given as goal
 
 -- what is still to be played goes on from here
 abbrev pub invariant-again : goal.invariant-again
-invariant-again g l = (last : PairState) → Plays (Until (move_of l.fn.action) ∷ []) l.pair last → Plays (Until (move_of l.fn.action) ∷ []) l.fn.pair last
+invariant-again g l = (last : PairState) → Plays (Until (move_of l.fn.action) ∷ []) l.pair last
+    → Plays (Until (move_of l.fn.action) ∷ []) l.fn.pair last
 
 abbrev pub decreases-again : goal.decreases-again
 decreases-again g l = left_for (move_of l.fn.action) l.pair

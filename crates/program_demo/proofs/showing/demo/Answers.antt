@@ -15,5 +15,7 @@ sizes_by limit = record sizes { limit = limit }
 pub returns : goal.returns
 returns g c =
     let new = c.in_ok-pair.ensures in
-    let begins = new.begins ∙ ap₂ (λ (client server : Limit). new_pair c.args.tables.now (sizes_by client) (sizes_by server)) (same_limit _ usual refl) (same_limit _ usual refl) in
-    shown_from_new (λ text. text.items) c.args.tables.now c.args.piece c.in_ok-pair.pair c.play.new.pair c.printed.result begins new.stands c.in_ok-play.ensures c.printed.ensures
+    let begins = new.begins ∙ ap₂ (λ (client server : Limit). new_pair c.args.tables.now (sizes_by client)
+    (sizes_by server)) (same_limit _ usual refl) (same_limit _ usual refl) in
+    shown_from_new (λ text. text.items) c.args.tables.now c.args.piece c.in_ok-pair.pair c.play.new.pair
+    c.printed.result begins new.stands c.in_ok-play.ensures c.printed.ensures

@@ -5,6 +5,7 @@ pub returns : goal.returns
 returns g c = record {
   agree = c.agree.result;
   exact = c.agree.ensures.exact;
-  whole = whole_text c.args.tables.now c.recording.result.now c.args.pair.now.recording c.in_ok-text.text.items c.write_agreement.new.out.items c.agree.result c.len.result _
+  whole = whole_text c.args.tables.now c.recording.result.now c.args.pair.now.recording c.in_ok-text.text.items
+      c.write_agreement.new.out.items c.agree.result c.len.result _
       c.in_ok-text.ensures.lines c.recording.ensures.lends c.len.ensures c.in_ok-write_agreement.ensures;
 }

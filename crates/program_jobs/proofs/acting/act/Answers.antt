@@ -1,8 +1,10 @@
 use Rattle.program_jobs.proofs.acting.act.Goals as goal
 
 pub returns-clause-acted : goal.returns-clause-acted
-returns-clause-acted g c = c.finish.ensures.acted c.args.job.now (g.T.Read.remaining c.args.tables.now) (g.R.Read.remaining c.args.file.now) c.output.ensures.done c.output.ensures.refused
+returns-clause-acted g c = c.finish.ensures.acted c.args.job.now (g.T.Read.remaining c.args.tables.now)
+    (g.R.Read.remaining c.args.file.now) c.output.ensures.done c.output.ensures.refused
 
 -- where there is an output, no line is bad
 pub returns-clause-bad : goal.returns-clause-bad
-returns-clause-bad g c = λ text n known bad reads. c.finish.ensures.refused (c.output.ensures.bad text n known bad reads)
+returns-clause-bad g c = λ text n known bad reads. c.finish.ensures.refused
+    (c.output.ensures.bad text n known bad reads)

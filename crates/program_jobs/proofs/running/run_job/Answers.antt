@@ -3,13 +3,18 @@ use Rattle.std.specs.Prelude.{◌≡◌, IsSomeAnd, string_bytes}
 use Rattle.std.proofs.lemmas.Result.{IfErr-weaker}
 use Rattle.program_arguments.specs.declared.job.Job.{Job}
 use Rattle.program_jobs.specs.declared.failure.Failure.{Failure}
-use Rattle.program_jobs.specs.declared.failure.Failure.TheVariants.{CannotRead, TooLong, BadLine, BadTablesLine, BreaksRule, CannotWrite, SocketFailed, Memory}
-use Rattle.program_jobs.specs.Output.{BindsSocket, IsDone, IsRefused, IsSocketRefusal, NamesFile, NamesPath, NamesTables, ReadsFile, ReadsTables}
+use Rattle.program_jobs.specs.declared.failure.Failure.TheVariants.{CannotRead, TooLong, BadLine}
+use Rattle.program_jobs.specs.declared.failure.Failure.TheVariants.{BadTablesLine, BreaksRule}
+use Rattle.program_jobs.specs.declared.failure.Failure.TheVariants.{CannotWrite, SocketFailed}
+use Rattle.program_jobs.specs.declared.failure.Failure.TheVariants.{Memory}
+use Rattle.program_jobs.specs.Output.{BindsSocket, IsDone, IsRefused, IsSocketRefusal, NamesFile}
+use Rattle.program_jobs.specs.Output.{NamesPath, NamesTables, ReadsFile, ReadsTables}
 use Rattle.program_jobs.specs.Running.{needs_none, opened, over, no_tables, bound, not_bound, alone}
 use Rattle.program_jobs.proofs.running.run_job.Goals as goal
 
 -- why a session over a socket prints nothing is why the job prints nothing
-socket_refused : (job : Job) (known_tables known : Option (List ℕ)) (why : Failure) → BindsSocket job → IsSocketRefusal why → IsRefused job known_tables known why
+socket_refused : (job : Job) (known_tables known : Option (List ℕ)) (why : Failure) → BindsSocket job
+    → IsSocketRefusal why → IsRefused job known_tables known why
 socket_refused job known_tables known SocketFailed binds is = binds
 socket_refused job known_tables known Memory binds is = tt
 socket_refused job known_tables known (CannotRead name) binds is = absurd is
@@ -21,13 +26,15 @@ socket_refused job known_tables known CannotWrite binds is = absurd is
 
 -- a demonstration reads nothing, and binds nothing
 pub returns-in-Demo : goal.returns-in-Demo
-returns-in-Demo g c = alone _ _ (λ reads. subst (λ (job : Job). ReadsFile job) c.in-Demo.is reads) (λ binds. subst (λ (job : Job). BindsSocket job) c.in-Demo.is binds) c.act.ensures.acted
+returns-in-Demo g c = alone _ _ (λ reads. subst (λ (job : Job). ReadsFile job) c.in-Demo.is reads)
+    (λ binds. subst (λ (job : Job). BindsSocket job) c.in-Demo.is binds) c.act.ensures.acted
 
 -- both files are named, and the tables' is open
 pub returns-in-Ok-opener : goal.returns-in-Ok-opener
 returns-in-Ok-opener g c =
     let named : IsSomeAnd c.in-Trace.tables (λ it. string_bytes it ≡ c.as_str-in-Some.result.now) =
-    subst (λ o. IsSomeAnd o (λ it. string_bytes it ≡ c.as_str-in-Some.result.now)) (sym c.in-Some.is) (sym c.as_str-in-Some.ensures.value) in
+    subst (λ o. IsSomeAnd o (λ it. string_bytes it ≡ c.as_str-in-Some.result.now)) (sym c.in-Some.is)
+    (sym c.as_str-in-Some.ensures.value) in
     let tables : NamesTables c.args.job.now c.as_str-in-Some.result.now = elim c.in-Trace.is [
       | inl e ↦ subst (λ (job : Job). NamesTables job c.as_str-in-Some.result.now) (sym e.1) named
       | inr e ↦ subst (λ (job : Job). NamesTables job c.as_str-in-Some.result.now) (sym e.1) named
@@ -36,18 +43,21 @@ returns-in-Ok-opener g c =
       | inl e ↦ subst (λ (job : Job). NamesFile job (string_bytes c.in-Trace.name)) (sym e.1) refl
       | inr e ↦ subst (λ (job : Job). NamesFile job (string_bytes c.in-Trace.name)) (sym e.1) refl
     ] in
-    over _ (string_bytes c.in-Trace.name) (opened c.as_str-in-Some.result.now c.in-Ok-opener.tables tables (search rules) refl) names c.run_over_file.ensures
+    over _ (string_bytes c.in-Trace.name) (opened c.as_str-in-Some.result.now c.in-Ok-opener.tables tables
+    (search rules) refl) names c.run_over_file.ensures
 
 -- the tables' file cannot be opened
 pub returns-in-Some : goal.returns-in-Some
 returns-in-Some g c =
     let named : IsSomeAnd c.in-Trace.tables (λ it. string_bytes it ≡ c.as_str-in-Some.result.now) =
-    subst (λ o. IsSomeAnd o (λ it. string_bytes it ≡ c.as_str-in-Some.result.now)) (sym c.in-Some.is) (sym c.as_str-in-Some.ensures.value) in
+    subst (λ o. IsSomeAnd o (λ it. string_bytes it ≡ c.as_str-in-Some.result.now)) (sym c.in-Some.is)
+    (sym c.as_str-in-Some.ensures.value) in
     let tables : NamesTables c.args.job.now c.as_str-in-Some.result.now = elim c.in-Trace.is [
       | inl e ↦ subst (λ (job : Job). NamesTables job c.as_str-in-Some.result.now) (sym e.1) named
       | inr e ↦ subst (λ (job : Job). NamesTables job c.as_str-in-Some.result.now) (sym e.1) named
     ] in
-    no_tables c.as_str-in-Some.result.now c.in-Err-opener.error c.open_failure.result tables (search rules) (search rules) c.report-in-Err-opener.ensures.status refl c.report-in-Err-opener.ensures.said
+    no_tables c.as_str-in-Some.result.now c.in-Err-opener.error c.open_failure.result tables (search rules)
+    (search rules) c.report-in-Err-opener.ensures.status refl c.report-in-Err-opener.ensures.said
 
 -- no tables are named
 pub returns-in-Trace : goal.returns-in-Trace
@@ -58,8 +68,10 @@ returns-in-Trace g c =
     ] in
     over _ (string_bytes c.in-Trace.name)
     (needs_none (λ reads. elim c.in-Trace.is [
-      | inl e ↦ subst (λ o. IsSomeAnd o (λ it. string_bytes it ≡ reads.0)) c.in-None.is (subst (λ (job : Job). NamesTables job reads.0) e.1 reads.1)
-      | inr e ↦ subst (λ o. IsSomeAnd o (λ it. string_bytes it ≡ reads.0)) c.in-None.is (subst (λ (job : Job). NamesTables job reads.0) e.1 reads.1)
+      | inl e ↦ subst (λ o. IsSomeAnd o (λ it. string_bytes it ≡ reads.0)) c.in-None.is
+          (subst (λ (job : Job). NamesTables job reads.0) e.1 reads.1)
+      | inr e ↦ subst (λ o. IsSomeAnd o (λ it. string_bytes it ≡ reads.0)) c.in-None.is
+          (subst (λ (job : Job). NamesTables job reads.0) e.1 reads.1)
     ]))
     names c.run_over_file-in-None.ensures
 
@@ -67,13 +79,20 @@ returns-in-Trace g c =
 pub returns-in-Ok : goal.returns-in-Ok
 returns-in-Ok g c =
     let job_is = sym c.in-Socket.is in
-    let names : NamesPath c.args.job.now c.as_str.result.now = subst (λ (job : Job). NamesPath job c.as_str.result.now) job_is (sym c.as_str.ensures.value) in
+    let names : NamesPath c.args.job.now c.as_str.result.now =
+    subst (λ (job : Job). NamesPath job c.as_str.result.now) job_is (sym c.as_str.ensures.value) in
     let binds : BindsSocket c.args.job.now = subst (λ (job : Job). BindsSocket job) job_is tt in
-    let done = subst (λ (job : Job). IfOk c.run_over_socket.result (λ o. IsDone job None None o.text.items o.status)) job_is c.run_over_socket.ensures.shows in
-    let refuses = IfErr-weaker c.run_over_socket.result _ _ (λ why is. socket_refused c.args.job.now None None why binds is) c.run_over_socket.ensures.refused in
-    bound c.as_str.result.now c.in-Ok.bound None None names (search rules) (c.finish.ensures.acted c.args.job.now None None done refuses)
+    let done = subst (λ (job : Job). IfOk c.run_over_socket.result (λ o. IsDone job None None o.text.items o.status))
+    job_is c.run_over_socket.ensures.shows in
+    let refuses = IfErr-weaker c.run_over_socket.result _ _
+    (λ why is. socket_refused c.args.job.now None None why binds is) c.run_over_socket.ensures.refused in
+    bound c.as_str.result.now c.in-Ok.bound None None names (search rules)
+    (c.finish.ensures.acted c.args.job.now None None done refuses)
 
 pub returns : goal.returns
 returns g c =
-    let names : NamesPath c.args.job.now c.as_str.result.now = subst (λ (job : Job). NamesPath job c.as_str.result.now) (sym c.in-Socket.is) (sym c.as_str.ensures.value) in
-    not_bound c.as_str.result.now c.in-Err.error c.of_socket.result names (search rules) (search rules) c.report.ensures.status refl c.report.ensures.said
+    let names : NamesPath c.args.job.now c.as_str.result.now =
+    subst (λ (job : Job). NamesPath job c.as_str.result.now) (sym c.in-Socket.is)
+    (sym c.as_str.ensures.value) in
+    not_bound c.as_str.result.now c.in-Err.error c.of_socket.result names (search rules)
+    (search rules) c.report.ensures.status refl c.report.ensures.said

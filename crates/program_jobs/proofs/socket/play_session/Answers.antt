@@ -9,5 +9,7 @@ use Rattle.program_jobs.proofs.socket.play_session.Goals as goal
 pub returns-clause-shows : goal.returns-clause-shows
 returns-clause-shows g c =
     let stream = known g.B.Stream.Read.remaining g.B.Stream.Write.contents in
-    subst (λ (tables : List Interface). IsShownOverStreams tables c.in_ok-socket_text.field-0.items) c.in_ok-core.ensures.holds
-    (shown_over_streams stream stream c.in_ok-core.field-0 c.in_ok-client.client c.in_ok-server.server c.in_ok-socket_text.field-0.items c.in_ok-socket_text.ensures)
+    subst (λ (tables : List Interface). IsShownOverStreams tables c.in_ok-socket_text.field-0.items)
+    c.in_ok-core.ensures.holds
+    (shown_over_streams stream stream c.in_ok-core.field-0 c.in_ok-client.client c.in_ok-server.server
+    c.in_ok-socket_text.field-0.items c.in_ok-socket_text.ensures)

@@ -4,4 +4,5 @@ use Rattle.program_jobs.proofs.writing.write_whole.Given as goal
 
 -- what was taken so far was appended
 abbrev pub invariant-writes : goal.invariant-writes
-invariant-writes g l = (l.at ≤ length l.bytes) × Appends (g.O.Write.contents l.fn.out) (g.O.Write.contents l.out) (take l.at l.bytes)
+invariant-writes g l = (l.at ≤ length l.bytes) × Appends (g.O.Write.contents l.fn.out) (g.O.Write.contents l.out)
+    (take l.at l.bytes)

@@ -11,7 +11,8 @@ returns g c =
     let last = connected c.play.new.self in
     record {
       last = last;
-      played = subst (λ begins. PlaysOver client server (session c.args.tables.now) begins last) c.in_ok-session.ensures c.in_ok-play.ensures;
+      played = subst (λ begins. PlaysOver client server (session c.args.tables.now) begins last) c.in_ok-session.ensures
+          c.in_ok-play.ensures;
       passed = c.ended.ensures.passed;
       exact = c.ended.ensures.agree;
       counted = c.ended.ensures.objects;

@@ -12,6 +12,8 @@ returns g c =
     record {
       pieces = played.recording;
       objects = played.objects;
-      ends = ends_agreeing client server c.args.tables.now c.args.client c.args.server played.recording played.agree played.objects c.if-not-played.false c.in_ok-played.ensures;
-      whole = c.in_ok-write_agreement.ensures ∙ ap (λ (lines : List ℕ). lines ++ agreement_line true played.objects) c.in_ok-text.ensures.lines;
+      ends = ends_agreeing client server c.args.tables.now c.args.client c.args.server played.recording played.agree
+          played.objects c.if-not-played.false c.in_ok-played.ensures;
+      whole = c.in_ok-write_agreement.ensures ∙ ap
+          (λ (lines : List ℕ). lines ++ agreement_line true played.objects) c.in_ok-text.ensures.lines;
     }

@@ -2,4 +2,5 @@ use Rattle.theory_connection.proofs.Worlds.{in_world, made_not_counted}
 use Rattle.theory_connection.proofs.laws.made_is_not_counted.Goals as goal
 
 pub returns : goal.returns
-returns c = λ pair world object h i l. in_world pair world h (λ asked told s. made_not_counted pair world asked told s object i l)
+returns c = λ pair world object h i l. in_world pair world h
+    (λ asked told s. made_not_counted pair world asked told s object i l)

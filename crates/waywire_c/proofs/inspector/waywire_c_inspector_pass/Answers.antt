@@ -11,6 +11,11 @@ use Rattle.waywire_c.proofs.inspector.waywire_c_inspector_pass.Goals as goal
 pub returns-in-Ok-clause-passed : goal.returns-in-Ok-clause-passed
 returns-in-Ok-clause-passed c = λ done.
     let way : direction_of c.args.sender ≡ Some c.in-Some.direction = sym c.direction_of.ensures ∙ c.in-Some.is in
-    subst (λ (sent : Option Direction). IfSome sent (λ direction. (limit : ℕ) (tables : List Interface) → Passes limit tables (piece_of direction c.args.bytes.now c.args.tokens) c.args.inspector.now.held.inspector c.pass.new.self))
+    subst (λ (sent : Option Direction). IfSome sent
+    (λ direction. (limit : ℕ) (tables : List Interface)
+    → Passes limit tables (piece_of direction c.args.bytes.now c.args.tokens) c.args.inspector.now.held.inspector
+    c.pass.new.self))
     (sym way)
-    (λ limit tables. subst (λ (held : HeldInspector). Passes limit tables (piece_of c.in-Some.direction c.args.bytes.now c.args.tokens) held.inspector c.pass.new.self) c.get_mut.ensures.value (c.in-Ok.ensures.ok limit tables))
+    (λ limit tables. subst (λ (held : HeldInspector). Passes limit tables
+    (piece_of c.in-Some.direction c.args.bytes.now c.args.tokens) held.inspector c.pass.new.self)
+    c.get_mut.ensures.value (c.in-Ok.ensures.ok limit tables))

@@ -6,9 +6,11 @@ use Rattle.wl_check.proofs.checking.check.Goals as goal
 
 pub returns-clause-answers : goal.returns-clause-answers
 returns-clause-answers g c =
-    subst (λ (ps : List Piece). Answers c.args.tables.now (session_of c.args.limit.bytes ps) c.in_ok-_text.verdict) c.pieces.ensures.all c.in_ok-_text.ensures.verdict
+    subst (λ (ps : List Piece). Answers c.args.tables.now (session_of c.args.limit.bytes ps) c.in_ok-_text.verdict)
+    c.pieces.ensures.all c.in_ok-_text.ensures.verdict
 
 pub returns-clause-exact : goal.returns-clause-exact
 returns-clause-exact g c =
     exact_from c.args.tables.now (session_of c.args.limit.bytes c.args.recording.now) c.in_ok-_text.verdict
-    (subst (λ (ps : List Piece). Answers c.args.tables.now (session_of c.args.limit.bytes ps) c.in_ok-_text.verdict) c.pieces.ensures.all c.in_ok-_text.ensures.verdict)
+    (subst (λ (ps : List Piece). Answers c.args.tables.now (session_of c.args.limit.bytes ps) c.in_ok-_text.verdict)
+    c.pieces.ensures.all c.in_ok-_text.ensures.verdict)

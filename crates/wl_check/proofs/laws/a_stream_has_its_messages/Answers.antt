@@ -1,5 +1,5 @@
-use Rattle.wl_check.proofs.Bringing.{cut_messages}
-use Rattle.wl_check.proofs.Ordering.{ends_with}
+use Rattle.wl_check.proofs.LastBytes.{cut_messages}
+use Rattle.wl_check.proofs.MergedOrder.{ends_with}
 use Rattle.wl_check.proofs.laws.a_stream_has_its_messages.Goals as goal
 
 pub returns : goal.returns

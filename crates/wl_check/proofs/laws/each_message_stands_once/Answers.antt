@@ -1,4 +1,4 @@
-use Rattle.wl_check.proofs.Once.{once}
+use Rattle.wl_check.proofs.EachOnce.{once}
 use Rattle.wl_check.proofs.laws.each_message_stands_once.Goals as goal
 
 pub returns : goal.returns

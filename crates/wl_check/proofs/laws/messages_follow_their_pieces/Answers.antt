@@ -1,4 +1,4 @@
-use Rattle.wl_check.proofs.Ordering.{in_order}
+use Rattle.wl_check.proofs.MergedOrder.{in_order}
 use Rattle.wl_check.proofs.laws.messages_follow_their_pieces.Goals as goal
 
 pub returns : goal.returns

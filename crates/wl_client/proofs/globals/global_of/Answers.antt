@@ -7,4 +7,5 @@ use Rattle.wl_client.proofs.globals.global_of.Goals as goal
 pub returns : goal.returns
 returns c =
     c.copied.ensures
-    ∙ find_from_yields_List (is_named c.args.name) _ _ c.find.result c.find.ensures.ran (YieldsList-from_slice c.args.globals.now (cc)) (λ x b q k. search (rules, tests))
+    ∙ find_from_yields_List (is_named c.args.name) _ _ c.find.result c.find.ensures.ran
+    (YieldsList-from_slice c.args.globals.now (cc)) (λ x b q k. search (rules, tests))

@@ -1,4 +1,4 @@
-use Rattle.wl_connection.proofs.Coming.{is_found, reported_stays, past_stays, fault_stays, none_short}
+use Rattle.wl_connection.proofs.FoundStays.{is_found, reported_stays, past_stays, fault_stays, none_short}
 use Rattle.wl_connection.proofs.laws.found_stays.Goals as goal
 
 pub returns-clause-message : goal.returns-clause-message

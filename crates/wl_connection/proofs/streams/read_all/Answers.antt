@@ -6,7 +6,9 @@ use Rattle.wl_connection.specs.Core.{no_room}
 use Rattle.wl_connection.specs.Reads.{reading_of, arrived, appended, ReadsOn, ReadsAll}
 use Rattle.wl_connection.proofs.Appended.{kept_same, kept_again, behind_again}
 use Rattle.wl_connection.proofs.Pieces.{parts_len, part_at, few_fit, none_fits_end}
-use Rattle.wl_connection.proofs.Readings.{arrived_nothing, on_first, on_again, until_again, on_to_none, ends_between, ends_within, reads_piece, room_is}
+use Rattle.wl_connection.proofs.ReadsGoOn.{arrived_nothing, on_first, on_again, until_again}
+use Rattle.wl_connection.proofs.ReadsGoOn.{on_to_none, ends_between, ends_within, reads_piece}
+use Rattle.wl_connection.proofs.ReadsGoOn.{room_is}
 use Rattle.wl_connection.proofs.streams.read_all.Goals as goal
 
 pub loop-taken-init : goal.loop-taken-init
@@ -16,7 +18,8 @@ loop-taken-init g c =
     let before = c.args.reports.now.items in
     record {
       kept = kept_same before;
-      some = subst (λ s. ReadsOn e s (appended g.E.Receiver.seen before before) start) (sym (arrived_nothing e g.met.E.End.laws start)) (on_first e g.E.Receiver.seen start before);
+      some = subst (λ s. ReadsOn e s (appended g.E.Receiver.seen before before) start)
+          (sym (arrived_nothing e g.met.E.End.laws start)) (on_first e g.E.Receiver.seen start before);
       sound = sym c.has_failed.ensures ∙ c.if-has_failed.false;
     }
 
@@ -24,7 +27,8 @@ pub returns-then-has_failed-clause-reports : goal.returns-then-has_failed-clause
 returns-then-has_failed-clause-reports g c = kept_same c.args.reports.now.items
 
 pub returns-in-Err-clause-reports : goal.returns-in-Err-clause-reports
-returns-in-Err-clause-reports g c = kept_again c.args.reports.now.items c.loop-taken.reports.items c.read_waiting.new.reports.items c.loop-taken.invariant.kept c.in-Err.ensures.reports
+returns-in-Err-clause-reports g c = kept_again c.args.reports.now.items c.loop-taken.reports.items
+    c.read_waiting.new.reports.items c.loop-taken.invariant.kept c.in-Err.ensures.reports
 
 pub returns-in-Err-clause-reads : goal.returns-in-Err-clause-reads
 returns-in-Err-clause-reads g c sound =
@@ -35,14 +39,17 @@ returns-in-Err-clause-reads g c sound =
     let end = c.read_waiting.new.end in
     let before = c.args.reports.now.items in
     let after = c.read_waiting.new.reports.items in
-    ends_between e c.args.end.now end pieces i (appended g.E.Receiver.seen before after) c.ended-in-Err.result c.in-Err.stop
+    ends_between e c.args.end.now end pieces i (appended g.E.Receiver.seen before after) c.ended-in-Err.result
+    c.in-Err.stop
     (omega (arith, parts_len c.args.pieces.now, c.loop-taken-test.true)) c.ended-in-Err.ensures
-    (until_again e g.met.E.End.laws g.E.Receiver.seen first c.loop-taken.end end before c.loop-taken.reports.items after c.in-Err.stop
+    (until_again e g.met.E.End.laws g.E.Receiver.seen first c.loop-taken.end end before c.loop-taken.reports.items after
+    c.in-Err.stop
     c.loop-taken.invariant.some c.loop-taken.invariant.kept c.in-Err.ensures.reports c.in-Err.ensures.reads.0)
     (λ s f. absurd (cc (c.in-Err.ensures.reads.1 s, f)))
 
 pub returns-then-in_room-piece-clause-reports : goal.returns-then-in_room-piece-clause-reports
-returns-then-in_room-piece-clause-reports g c = kept_again c.args.reports.now.items c.loop-taken.reports.items c.read_waiting.new.reports.items c.loop-taken.invariant.kept c.in_default.ensures.reports
+returns-then-in_room-piece-clause-reports g c = kept_again c.args.reports.now.items c.loop-taken.reports.items
+    c.read_waiting.new.reports.items c.loop-taken.invariant.kept c.in_default.ensures.reports
 
 pub returns-then-in_room-piece-clause-reads : goal.returns-then-in_room-piece-clause-reads
 returns-then-in_room-piece-clause-reads g c sound =
@@ -55,16 +62,21 @@ returns-then-in_room-piece-clause-reads g c sound =
     let after = c.read_waiting.new.reports.items in
     let nothing = c.in_default.ensures.reads.1 in
     let room = room_is (g.E.End.core end) c.in_room.result nothing.sound c.in_room.ensures in
-    ends_between e c.args.end.now end pieces i (appended g.E.Receiver.seen before after) c.ended-then-in_room-piece.result None
+    ends_between e c.args.end.now end pieces i (appended g.E.Receiver.seen before after)
+    c.ended-then-in_room-piece.result None
     (omega (arith, parts_len c.args.pieces.now, c.loop-taken-test.true)) c.ended-then-in_room-piece.ensures
-    (on_to_none e g.met.E.End.laws first end _ (on_again e g.E.Receiver.seen first c.loop-taken.end end before c.loop-taken.reports.items after
-    c.loop-taken.invariant.some c.loop-taken.invariant.kept c.in_default.ensures.reports c.in_default.ensures.reads.0) nothing)
+    (on_to_none e g.met.E.End.laws first end _ (on_again e g.E.Receiver.seen first c.loop-taken.end end before
+    c.loop-taken.reports.items after
+    c.loop-taken.invariant.some c.loop-taken.invariant.kept c.in_default.ensures.reports c.in_default.ensures.reads.0)
+    nothing)
     (λ s f. few_fit _ c.in_room.result.tokens c.args.pieces.now i _ c.loop-taken-test.true c.if-in_room-piece.true room)
 
 pub returns-in-Err-read_piece-clause-reports : goal.returns-in-Err-read_piece-clause-reports
 returns-in-Err-read_piece-clause-reports g c =
-    let kept = kept_again c.args.reports.now.items c.loop-taken.reports.items c.read_waiting.new.reports.items c.loop-taken.invariant.kept c.in_default.ensures.reports in
-    kept_again c.args.reports.now.items c.read_waiting.new.reports.items c.read_piece.new.reports.items kept c.in-Err-read_piece.ensures.reports
+    let kept = kept_again c.args.reports.now.items c.loop-taken.reports.items c.read_waiting.new.reports.items
+    c.loop-taken.invariant.kept c.in_default.ensures.reports in
+    kept_again c.args.reports.now.items c.read_waiting.new.reports.items c.read_piece.new.reports.items kept
+    c.in-Err-read_piece.ensures.reports
 
 pub returns-in-Err-read_piece-clause-reads : goal.returns-in-Err-read_piece-clause-reads
 returns-in-Err-read_piece-clause-reads g c sound =
@@ -80,12 +92,16 @@ returns-in-Err-read_piece-clause-reads g c sound =
     let after = c.read_piece.new.reports.items in
     let ended = c.in-Err-read_piece.ended in
     let read = c.in-Err-read_piece.ensures.reads in
-    let kept = kept_again before c.loop-taken.reports.items mid c.loop-taken.invariant.kept c.in_default.ensures.reports in
-    subst (λ (rs : List _). ReadsAll e c.args.end.now pieces rs (record { pieces = i; part = ended.part; stop = ended.stop }) end)
+    let kept = kept_again before c.loop-taken.reports.items mid c.loop-taken.invariant.kept c.in_default.ensures.reports
+    in
+    subst (λ (rs : List _). ReadsAll e c.args.end.now pieces rs
+    (record { pieces = i; part = ended.part; stop = ended.stop }) end)
     (sym (behind_again seen before mid after kept c.in-Err-read_piece.ensures.reports))
-    (ends_within e g.met.E.End.laws c.args.end.now middle end pieces i _ _ (appended seen before mid) (appended seen mid after) ended.part ended.stop
+    (ends_within e g.met.E.End.laws c.args.end.now middle end pieces i _ _ (appended seen before mid)
+    (appended seen mid after) ended.part ended.stop
     (part_at c.args.pieces.now i _ c.loop-taken-test.true)
-    (on_again e seen first c.loop-taken.end middle before c.loop-taken.reports.items mid c.loop-taken.invariant.some c.loop-taken.invariant.kept c.in_default.ensures.reports c.in_default.ensures.reads.0)
+    (on_again e seen first c.loop-taken.end middle before c.loop-taken.reports.items mid c.loop-taken.invariant.some
+    c.loop-taken.invariant.kept c.in_default.ensures.reports c.in_default.ensures.reads.0)
     read.0 read.1 read.2 read.3)
 
 pub loop-taken-preserved : goal.loop-taken-preserved
@@ -100,20 +116,26 @@ loop-taken-preserved g c =
     let before = c.args.reports.now.items in
     let mid = c.read_waiting.new.reports.items in
     let after = c.read_piece.new.reports.items in
-    let kept = kept_again before c.loop-taken.reports.items mid c.loop-taken.invariant.kept c.in_default.ensures.reports in
+    let kept = kept_again before c.loop-taken.reports.items mid c.loop-taken.invariant.kept c.in_default.ensures.reports
+    in
     record {
       kept = kept_again before mid after kept c.in_default-read_piece.ensures.reports;
-      some = subst (λ (rs : List _). ReadsOn e (arrived e c.args.end.now (part_bytes (take (i + 1) pieces)) (part_tokens (take (i + 1) pieces))) rs end)
+      some = subst (λ (rs : List _). ReadsOn e (arrived e c.args.end.now (part_bytes (take (i + 1) pieces))
+          (part_tokens (take (i + 1) pieces))) rs end)
           (sym (behind_again seen before mid after kept c.in_default-read_piece.ensures.reports))
-          (reads_piece e g.met.E.End.laws c.args.end.now middle end pieces i (i + 1) _ _ (appended seen before mid) (appended seen mid after)
+          (reads_piece e g.met.E.End.laws c.args.end.now middle end pieces i (i + 1) _ _ (appended seen before mid)
+          (appended seen mid after)
           (part_at c.args.pieces.now i _ c.loop-taken-test.true) (add-one i)
-          (on_again e seen first c.loop-taken.end middle before c.loop-taken.reports.items mid c.loop-taken.invariant.some c.loop-taken.invariant.kept c.in_default.ensures.reports c.in_default.ensures.reads.0)
+          (on_again e seen first c.loop-taken.end middle before c.loop-taken.reports.items mid
+          c.loop-taken.invariant.some c.loop-taken.invariant.kept c.in_default.ensures.reports
+          c.in_default.ensures.reads.0)
           c.in_default-read_piece.ensures.reads.0);
       sound = c.in_default-read_piece.ensures.reads.1;
     }
 
 pub returns-in-Err-read_waiting-clause-reports : goal.returns-in-Err-read_waiting-clause-reports
-returns-in-Err-read_waiting-clause-reports g c = kept_again c.args.reports.now.items c.loop-taken.reports.items c.read_waiting-2.new.reports.items c.loop-taken.invariant.kept c.in-Err-read_waiting.ensures.reports
+returns-in-Err-read_waiting-clause-reports g c = kept_again c.args.reports.now.items c.loop-taken.reports.items
+    c.read_waiting-2.new.reports.items c.loop-taken.invariant.kept c.in-Err-read_waiting.ensures.reports
 
 pub returns-in-Err-read_waiting-clause-reads : goal.returns-in-Err-read_waiting-clause-reads
 returns-in-Err-read_waiting-clause-reads g c sound =
@@ -126,14 +148,19 @@ returns-in-Err-read_waiting-clause-reads g c sound =
     let after = c.read_waiting-2.new.reports.items in
     let stop = c.in-Err-read_waiting.stop in
     let count : length c.args.pieces.now ≡ i = omega (arith, c.loop-taken-test.false, c.loop-taken.auto.taken-end) in
-    ends_between e c.args.end.now end pieces i (appended g.E.Receiver.seen before after) c.ended-in-Err-read_waiting.result stop
-    (omega (arith, parts_len c.args.pieces.now, count)) (c.ended-in-Err-read_waiting.ensures ∙ ap (λ (n : ℕ). record { pieces = n; part = no_room; stop = stop }) count)
-    (until_again e g.met.E.End.laws g.E.Receiver.seen first c.loop-taken.end end before c.loop-taken.reports.items after stop
-    c.loop-taken.invariant.some c.loop-taken.invariant.kept c.in-Err-read_waiting.ensures.reports c.in-Err-read_waiting.ensures.reads.0)
+    ends_between e c.args.end.now end pieces i (appended g.E.Receiver.seen before after)
+    c.ended-in-Err-read_waiting.result stop
+    (omega (arith, parts_len c.args.pieces.now, count))
+    (c.ended-in-Err-read_waiting.ensures ∙ ap (λ (n : ℕ). record { pieces = n; part = no_room; stop = stop }) count)
+    (until_again e g.met.E.End.laws g.E.Receiver.seen first c.loop-taken.end end before c.loop-taken.reports.items after
+    stop
+    c.loop-taken.invariant.some c.loop-taken.invariant.kept c.in-Err-read_waiting.ensures.reports
+    c.in-Err-read_waiting.ensures.reads.0)
     (λ s f. absurd (cc (c.in-Err-read_waiting.ensures.reads.1 s, f)))
 
 pub returns-clause-reports : goal.returns-clause-reports
-returns-clause-reports g c = kept_again c.args.reports.now.items c.loop-taken.reports.items c.read_waiting-2.new.reports.items c.loop-taken.invariant.kept c.in_default-read_waiting.ensures.reports
+returns-clause-reports g c = kept_again c.args.reports.now.items c.loop-taken.reports.items
+    c.read_waiting-2.new.reports.items c.loop-taken.invariant.kept c.in_default-read_waiting.ensures.reports
 
 pub returns-clause-reads : goal.returns-clause-reads
 returns-clause-reads g c sound =
@@ -147,7 +174,9 @@ returns-clause-reads g c sound =
     let read = c.in_default-read_waiting.ensures in
     let count : length c.args.pieces.now ≡ i = omega (arith, c.loop-taken-test.false, c.loop-taken.auto.taken-end) in
     ends_between e c.args.end.now end pieces i (appended g.E.Receiver.seen before after) c.ended-2.result None
-    (omega (arith, parts_len c.args.pieces.now, count)) (c.ended-2.ensures ∙ ap (λ (n : ℕ). record { pieces = n; part = no_room; stop = None }) count)
-    (on_to_none e g.met.E.End.laws first end _ (on_again e g.E.Receiver.seen first c.loop-taken.end end before c.loop-taken.reports.items after
+    (omega (arith, parts_len c.args.pieces.now, count))
+    (c.ended-2.ensures ∙ ap (λ (n : ℕ). record { pieces = n; part = no_room; stop = None }) count)
+    (on_to_none e g.met.E.End.laws first end _ (on_again e g.E.Receiver.seen first c.loop-taken.end end before
+    c.loop-taken.reports.items after
     c.loop-taken.invariant.some c.loop-taken.invariant.kept read.reports read.reads.0) read.reads.1)
     (λ s f. none_fits_end _ pieces i (omega (arith, parts_len c.args.pieces.now, count)))

@@ -8,6 +8,8 @@ invariant-loop-taken g l =
     let e = reading_of g.E.End.core g.E.End.with_core g.E.Receiver.answer g.E.Receiver.after g.E.Receiver.is_last in
     record {
       kept : take (length l.fn.reports.items) l.reports.items ≡ l.fn.reports.items;
-      some : ReadsOn e (arrived e l.fn.end (part_bytes (take l.taken (map part l.pieces))) (part_tokens (take l.taken (map part l.pieces)))) (appended g.E.Receiver.seen l.fn.reports.items l.reports.items) l.end;
+      some : ReadsOn e (arrived e l.fn.end (part_bytes (take l.taken (map part l.pieces)))
+          (part_tokens (take l.taken (map part l.pieces))))
+          (appended g.E.Receiver.seen l.fn.reports.items l.reports.items) l.end;
       sound : (g.E.End.core l.end).failed ≡ false;
     }

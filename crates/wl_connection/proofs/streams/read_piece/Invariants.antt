@@ -7,7 +7,8 @@ invariant-rest g l =
     let e = reading_of g.E.End.core g.E.End.with_core g.E.Receiver.answer g.E.Receiver.after g.E.Receiver.is_last in
     record {
       kept : take (length l.fn.reports.items) l.reports.items ≡ l.fn.reports.items;
-      some : ReadsOn e (arrived e l.fn.end (take l.part.bytes l.piece.bytes.now) l.piece.tokens.now) (appended g.E.Receiver.seen l.fn.reports.items l.reports.items) l.end;
+      some : ReadsOn e (arrived e l.fn.end (take l.part.bytes l.piece.bytes.now) l.piece.tokens.now)
+          (appended g.E.Receiver.seen l.fn.reports.items l.reports.items) l.end;
       sound : (g.E.End.core l.end).failed ≡ false;
       within : l.part.bytes ≤ length l.piece.bytes.now;
       tokens : l.part.tokens ≡ length l.piece.tokens.now;

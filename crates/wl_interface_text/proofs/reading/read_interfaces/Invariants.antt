@@ -5,7 +5,8 @@ use Rattle.wl_interface_text.proofs.reading.read_interfaces.Given as goal
 
 abbrev pub invariant-lines : goal.invariant-lines
 invariant-lines g l =
-    (listed 1 (lines l.text) [] ≡ listed (l.number + 1) (lines l.rest) l.interfaces.items) × (l.number + length l.rest ≤ length l.text)
+    (listed 1 (lines l.text) [] ≡ listed (l.number + 1) (lines l.rest) l.interfaces.items)
+    × (l.number + length l.rest ≤ length l.text)
 
 abbrev pub decreases-lines : goal.decreases-lines
 decreases-lines g l = length l.rest

@@ -7,4 +7,5 @@ returns-in-empty-clause-word c =
 
 pub returns-in-len1-up-clause-word : goal.returns-in-len1-up-clause-word
 returns-in-len1-up-clause-word c =
-    word_ended c.args.line.now _ _ c.split_before.ensures.whole c.split_before.ensures.front c.split_before.ensures.rest c.in-len1-up.len_at_least
+    word_ended c.args.line.now _ _ c.split_before.ensures.whole c.split_before.ensures.front c.split_before.ensures.rest
+    c.in-len1-up.len_at_least

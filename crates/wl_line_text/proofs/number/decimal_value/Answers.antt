@@ -10,9 +10,11 @@ use Rattle.std.proofs.lemmas.List.Folds.{list_all_more}
 use Rattle.wl_line_text.proofs.number.decimal_value.Goals as goal
 
 -- one more digit
-step : (digits : List ℕ) (i value last : ℕ) → i < length digits → is_ascii_digit (get_or digits i 0) ≡ true → last ≡ get_or digits i 0 - 48
+step : (digits : List ℕ) (i value last : ℕ) → i < length digits → is_ascii_digit (get_or digits i 0) ≡ true
+    → last ≡ get_or digits i 0 - 48
     → AllDigits 10 (take i digits) → digits_value 10 (take i digits) ≡ value
-    → AllDigits 10 (take (i + 1) digits) × (digits_value 10 (take (i + 1) digits) ≡ value * 10 + last) × (value * 10 + last < 10 ^ (i + 1))
+    → AllDigits 10 (take (i + 1) digits) × (digits_value 10 (take (i + 1) digits) ≡ value * 10 + last)
+    × (value * 10 + last < 10 ^ (i + 1))
 step digits i value last lt is_digit last_is all so_far =
     let digit : digit_value (get_or digits i 0) ≡ last = grind (arith, nat_tests) in
     let small : last < 10 = grind (arith, nat_tests) in
@@ -25,8 +27,10 @@ step digits i value last lt is_digit last_is all so_far =
 
 pub loop-digit-preserved : goal.loop-digit-preserved
 loop-digit-preserved c =
-    let s = step _ _ _ _ c.loop-digit-test.true (grind arith) c.from.ensures c.loop-digit.invariant.0 c.loop-digit.invariant.1 in
+    let s = step _ _ _ _ c.loop-digit-test.true (grind arith) c.from.ensures c.loop-digit.invariant.0
+    c.loop-digit.invariant.1 in
     let more = list_all_more is_ascii_digit c.args.digits.now c.loop-digit.digit-index 0 c.loop-digit-test.true in
     let is : is_ascii_digit (get_or c.args.digits.now c.loop-digit.digit-index 0) ≡ true = grind arith in
-    let so_far : list_all is_ascii_digit (take c.loop-digit.digit-index c.args.digits.now) ≡ true = c.loop-digit.invariant.3 in
+    let so_far : list_all is_ascii_digit (take c.loop-digit.digit-index c.args.digits.now) ≡ true =
+    c.loop-digit.invariant.3 in
     (s.0, s.1, s.2, rw (more, so_far, is) refl)

@@ -1,5 +1,5 @@
-use Rattle.wl_message.proofs.Goings.{goes_goes, goes_one}
-use Rattle.wl_message.proofs.Passing.{passes}
+use Rattle.wl_message.proofs.WhatGoes.{goes_goes, goes_one}
+use Rattle.wl_message.proofs.TakenInStep.{passes}
 use Rattle.wl_message.proofs.laws.one_amount.Goals as goal
 
 pub returns-clause-exists : goal.returns-clause-exists

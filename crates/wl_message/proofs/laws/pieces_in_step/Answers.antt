@@ -1,4 +1,4 @@
-use Rattle.wl_message.proofs.Passing.{gave_in_step, gave_all}
+use Rattle.wl_message.proofs.TakenInStep.{gave_in_step, gave_all}
 use Rattle.wl_message.proofs.laws.pieces_in_step.Goals as goal
 
 pub returns-clause-step : goal.returns-clause-step

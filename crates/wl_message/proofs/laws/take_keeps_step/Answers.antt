@@ -1,4 +1,4 @@
-use Rattle.wl_message.proofs.Passing.{keeps_step, carried}
+use Rattle.wl_message.proofs.TakenInStep.{keeps_step, carried}
 use Rattle.wl_message.specs.InStep.{part_taken}
 use Rattle.wl_message.proofs.laws.take_keeps_step.Goals as goal
 

@@ -10,7 +10,8 @@ invariant-parts g l = record {
   stops : (waiting_bytes (after_taking l.fn.outbox l.total) ≡ []) ⊎ NextHasTokens (after_taking l.fn.outbox l.total);
   within : l.written ≤ l.total;
   gone : l.outbox ≡ after_taking l.fn.outbox l.written;
-  written : Appends (g.W.Write.contents l.fn.writer) (g.W.Write.contents l.writer) (take l.written (waiting_bytes l.fn.outbox));
+  written : Appends (g.W.Write.contents l.fn.writer) (g.W.Write.contents l.writer)
+      (take l.written (waiting_bytes l.fn.outbox));
 }
 
 abbrev pub decreases-parts : goal.decreases-parts

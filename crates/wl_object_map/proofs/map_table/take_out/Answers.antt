@@ -14,4 +14,5 @@ pub returns-else-last-id-clause-items : goal.returns-else-last-id-clause-items
 returns-else-last-id-clause-items g c =
     let same : c.in-Some.last ≡ c.args.id = grind (arith, common_steps, c.if-last-id.false) in
     let e = c.in-Some.ensures.items ∙ ap (λ (x : ℕ). c.pop.new.self.items ++ x ∷ []) same in
-    sym (ap (λ (xs : List ℕ). without c.args.id xs) e ∙ without-last c.args.id _ (subst (λ (xs : List ℕ). times c.args.id xs ≤ 1) e c.requires))
+    sym (ap (λ (xs : List ℕ). without c.args.id xs) e
+    ∙ without-last c.args.id _ (subst (λ (xs : List ℕ). times c.args.id xs ≤ 1) e c.requires))

@@ -7,4 +7,6 @@ pub returns-clause-chain : goal.returns-clause-chain
 returns-clause-chain c =
     let free = c.in-Some-Free in
     let at = sym c.slot_of.ensures ∙ free.is ∙ ap (λ (s : Slot). Some s) free.field-0-is in
-    λ ids chain stands. taken_out c.args.slots.now c.set_older.new.slots c.set_newer.new.slots c.args.first.now c.set_older.new.first c.args.id _ _ ids chain stands at c.set_older.ensures.slots c.set_newer.ensures c.set_older.ensures.first
+    λ ids chain stands. taken_out c.args.slots.now c.set_older.new.slots c.set_newer.new.slots c.args.first.now
+    c.set_older.new.first c.args.id _ _ ids chain stands at c.set_older.ensures.slots c.set_newer.ensures
+    c.set_older.ensures.first

@@ -1,4 +1,4 @@
-use Rattle.wl_objects.proofs.Fitting.{call-makes}
+use Rattle.wl_objects.proofs.CheckedCalls.{call-makes}
 use Rattle.wl_objects.proofs.laws.call_makes_its_object.Goals as goal
 
 pub returns : goal.returns

@@ -1,4 +1,4 @@
-use Rattle.wl_objects.proofs.Meeting.{faulty, fault-read}
+use Rattle.wl_objects.proofs.ArgumentsMeet.{faulty, fault-read}
 use Rattle.wl_objects.proofs.laws.first_fault.Goals as goal
 
 pub returns : goal.returns

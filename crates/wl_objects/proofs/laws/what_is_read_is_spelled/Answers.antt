@@ -1,6 +1,6 @@
 use Rattle.wl_objects.proofs.Wholes.{meets-spelled}
 use Rattle.std.proofs.Common.{refl, []}
-use Rattle.wl_objects.proofs.Meeting.{met}
+use Rattle.wl_objects.proofs.ArgumentsMeet.{met}
 use Rattle.wl_objects.proofs.laws.what_is_read_is_spelled.Goals as goal
 
 pub returns : goal.returns

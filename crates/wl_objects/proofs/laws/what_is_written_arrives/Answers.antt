@@ -1,4 +1,4 @@
-use Rattle.wl_objects.proofs.Carrying.{arrive}
+use Rattle.wl_objects.proofs.WrittenArrives.{arrive}
 use Rattle.wl_objects.proofs.laws.what_is_written_arrives.Goals as goal
 
 pub returns : goal.returns

@@ -1,4 +1,4 @@
-use Rattle.wl_objects.proofs.Meeting.{met, meets-read}
+use Rattle.wl_objects.proofs.ArgumentsMeet.{met, meets-read}
 use Rattle.wl_objects.proofs.laws.what_meets_is_read.Goals as goal
 
 pub returns : goal.returns

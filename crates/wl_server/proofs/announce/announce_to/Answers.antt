@@ -4,88 +4,161 @@ use Rattle.wl_connection.specs.Core.{Core}
 use Rattle.wl_server.specs.State.{Registry}
 use Rattle.wl_server.specs.Announcing.{Owing, marked, Removal, Telling, due_to, owings, owes_removal, owes_telling}
 use Rattle.wl_server.specs.Tellings.{IsWritten, Progress, dues_for}
-use Rattle.wl_server.proofs.Progresses.{count-small}
-use Rattle.wl_server.proofs.Owings.{owings-end}
-use Rattle.wl_server.proofs.Tells.{Adding, Removing, along, removal-skipped, removal-next, removal-told, telling-skipped, telling-next, telling-told, told-blocked}
-use Rattle.wl_server.proofs.announce.announce_to.Goals.{then-owes_removal+else-not-write_global_remove, else-owes_removal, then-owes_telling+else-not-write_global, else-owes_telling}
+use Rattle.wl_server.proofs.TellingGoesOn.{count-small}
+use Rattle.wl_server.proofs.OwedByRegistry.{owings-end}
+use Rattle.wl_server.proofs.Tells.{Adding, Removing, along, removal-skipped, removal-next}
+use Rattle.wl_server.proofs.Tells.{removal-told, telling-skipped, telling-next, telling-told}
+use Rattle.wl_server.proofs.Tells.{told-blocked}
+use Rattle.wl_server.proofs.announce.announce_to.Goals.{then-owes_removal+else-not-write_global_remove}
+use Rattle.wl_server.proofs.announce.announce_to.Goals.{else-owes_removal}
+use Rattle.wl_server.proofs.announce.announce_to.Goals.{then-owes_telling+else-not-write_global}
+use Rattle.wl_server.proofs.announce.announce_to.Goals.{else-owes_telling}
 use Rattle.wl_server.proofs.announce.announce_to.Goals as goal
 
 pub overflow_add-count : goal.overflow_add-count
-overflow_add-count g c = omega (arith, count-small c.args.core.now (c.args.registry.now ∷ []) _ c.removals.count c.removals.core _ _ c.requires.ordinary c.removals.invariant.progress)
+overflow_add-count g c = omega (
+  arith,
+  count-small c.args.core.now
+      (c.args.registry.now ∷ []) _ c.removals.count c.removals.core _ _ c.requires.ordinary
+      c.removals.invariant.progress,
+)
 
 pub returns-then-not-write_global_remove : goal.returns-then-not-write_global_remove
 returns-then-not-write_global_remove g c =
-    told-blocked c.args.core.now (c.args.registry.now ∷ []) (due_to c.args.globals.now c.args.registry.now) c.removals.count c.removals.core c.write_global_remove.new.core (c.removals.registry ∷ []) _ _
-    (removal-next c.args.core.now (c.args.registry.now ∷ []) (due_to c.args.globals.now c.args.registry.now) c.removals.count c.removals.core c.removals.registry c.args.registry.now.object c.args.globals.now c.removals.place
-    c.index-globals-place.result c.removals-test.true c.index-globals-place.is (sym c.if-owes_removal.ensures) c.removals.invariant.progress)
+    told-blocked c.args.core.now (c.args.registry.now ∷ [])
+    (due_to c.args.globals.now c.args.registry.now) c.removals.count c.removals.core c.write_global_remove.new.core
+    (c.removals.registry ∷ []) _ _
+    (removal-next c.args.core.now (c.args.registry.now ∷ [])
+    (due_to c.args.globals.now c.args.registry.now) c.removals.count c.removals.core c.removals.registry
+    c.args.registry.now.object c.args.globals.now c.removals.place
+    c.index-globals-place.result c.removals-test.true c.index-globals-place.is
+    (sym c.if-owes_removal.ensures) c.removals.invariant.progress)
     c.if-not-write_global_remove.ensures
 
 pub removals-preserved : goal.removals-preserved
 removals-preserved g c =
     elim c.if-owes_removal.branch [
       | then-owes_removal+else-not-write_global_remove w ↦ (
-          let own : c.registry.inside.object.id ≡ c.args.registry.now.object.id = ap (λ (r : Registry). r.object.id) c.registry.view_is ∙ ap (λ (o : Object). o.id) c.removals.invariant.object in
+          let own : c.registry.inside.object.id ≡ c.args.registry.now.object.id =
+          ap (λ (r : Registry). r.object.id) c.registry.view_is
+          ∙ ap (λ (o : Object). o.id) c.removals.invariant.object in
           record {
-            object = ap (λ (r : Registry). r.object) (w.registry-is ∙ w.mark_removed.ensures) ∙ c.removals.invariant.object;
-            progress = along (λ (core : Core) (r : Registry) (count : ℕ). Removing c.args.core.now (c.args.registry.now ∷ []) (due_to c.args.globals.now c.args.registry.now) c.args.registry.now.object c.args.globals.now (c.removals.place + 1) count core r)
-                w.write_global_remove.new.core c.if-owes_removal.core (marked (Removal (c.removals.place + 1)) c.removals.registry) c.if-owes_removal.registry (c.removals.count + 1) c.if-owes_removal.count w.core-is (w.registry-is ∙ w.mark_removed.ensures) w.count-is
-                (removal-told c.args.core.now (c.args.registry.now ∷ []) (due_to c.args.globals.now c.args.registry.now) c.removals.count c.removals.core w.write_global_remove.new.core c.removals.registry c.args.registry.now.object c.args.globals.now c.removals.place
-                c.index-globals-place.result c.requires.ordinary c.removals.invariant.object c.removals-test.true c.index-globals-place.is (sym w.if-owes_removal.ensures) c.removals.invariant.progress
-                (subst (λ (id : ℕ). IsWritten c.removals.core id (Removal (c.removals.place + 1)) true w.write_global_remove.new.core) own w.if-not-write_global_remove.ensures));
+            object = ap (λ (r : Registry). r.object) (w.registry-is ∙ w.mark_removed.ensures)
+                ∙ c.removals.invariant.object;
+            progress = along (λ (core : Core) (r : Registry) (count : ℕ). Removing c.args.core.now
+                (c.args.registry.now ∷ []) (due_to c.args.globals.now c.args.registry.now) c.args.registry.now.object
+                c.args.globals.now (c.removals.place + 1) count core r)
+                w.write_global_remove.new.core c.if-owes_removal.core
+                (marked (Removal (c.removals.place + 1)) c.removals.registry) c.if-owes_removal.registry
+                (c.removals.count + 1) c.if-owes_removal.count w.core-is
+                (w.registry-is ∙ w.mark_removed.ensures) w.count-is
+                (removal-told c.args.core.now (c.args.registry.now ∷ [])
+                (due_to c.args.globals.now c.args.registry.now) c.removals.count c.removals.core
+                w.write_global_remove.new.core c.removals.registry c.args.registry.now.object c.args.globals.now
+                c.removals.place
+                c.index-globals-place.result c.requires.ordinary c.removals.invariant.object c.removals-test.true
+                c.index-globals-place.is (sym w.if-owes_removal.ensures) c.removals.invariant.progress
+                (subst (λ (id : ℕ). IsWritten c.removals.core id
+                (Removal (c.removals.place + 1)) true w.write_global_remove.new.core) own
+                w.if-not-write_global_remove.ensures));
           })
       | else-owes_removal w ↦ record {
         object = ap (λ (r : Registry). r.object) w.registry-is ∙ c.removals.invariant.object;
-        progress = along (λ (core : Core) (r : Registry) (count : ℕ). Removing c.args.core.now (c.args.registry.now ∷ []) (due_to c.args.globals.now c.args.registry.now) c.args.registry.now.object c.args.globals.now (c.removals.place + 1) count core r)
-            c.removals.core c.if-owes_removal.core c.removals.registry c.if-owes_removal.registry c.removals.count c.if-owes_removal.count w.core-is w.registry-is w.count-is
-            (removal-skipped c.args.core.now (c.args.registry.now ∷ []) (due_to c.args.globals.now c.args.registry.now) c.removals.count c.removals.core c.removals.registry c.args.registry.now.object c.args.globals.now c.removals.place
-            c.index-globals-place.result c.removals-test.true c.index-globals-place.is (sym w.if-owes_removal.ensures) c.removals.invariant.progress);
+        progress = along (λ (core : Core) (r : Registry) (count : ℕ). Removing c.args.core.now
+            (c.args.registry.now ∷ []) (due_to c.args.globals.now c.args.registry.now) c.args.registry.now.object
+            c.args.globals.now (c.removals.place + 1) count core r)
+            c.removals.core c.if-owes_removal.core c.removals.registry c.if-owes_removal.registry c.removals.count
+            c.if-owes_removal.count w.core-is w.registry-is w.count-is
+            (removal-skipped c.args.core.now (c.args.registry.now ∷ [])
+            (due_to c.args.globals.now c.args.registry.now) c.removals.count c.removals.core c.removals.registry
+            c.args.registry.now.object c.args.globals.now c.removals.place
+            c.index-globals-place.result c.removals-test.true c.index-globals-place.is
+            (sym w.if-owes_removal.ensures) c.removals.invariant.progress);
       }
     ]
 
 pub overflow_add-count-then-owes_telling : goal.overflow_add-count-then-owes_telling
-overflow_add-count-then-owes_telling g c = omega (arith, count-small c.args.core.now (c.args.registry.now ∷ []) _ c.tellings.count c.tellings.core _ _ c.requires.ordinary c.tellings.invariant.progress)
+overflow_add-count-then-owes_telling g c = omega (
+  arith,
+  count-small c.args.core.now
+      (c.args.registry.now ∷ []) _ c.tellings.count c.tellings.core _ _ c.requires.ordinary
+      c.tellings.invariant.progress,
+)
 
 pub returns-then-not-write_global : goal.returns-then-not-write_global
 returns-then-not-write_global g c =
-    told-blocked c.args.core.now (c.args.registry.now ∷ []) (due_to c.args.globals.now c.args.registry.now) c.tellings.count c.tellings.core c.write_global.new.core (c.tellings.registry ∷ []) _ _
-    (telling-next c.args.core.now (c.args.registry.now ∷ []) (due_to c.args.globals.now c.args.registry.now) c.tellings.count c.tellings.core c.tellings.registry c.args.registry.now.object c.args.globals.now c.tellings.place
-    c.index-globals-place-in-tellings.result c.tellings-test.true c.index-globals-place-in-tellings.is (sym c.if-owes_telling.ensures) c.tellings.invariant.progress)
+    told-blocked c.args.core.now (c.args.registry.now ∷ [])
+    (due_to c.args.globals.now c.args.registry.now) c.tellings.count c.tellings.core c.write_global.new.core
+    (c.tellings.registry ∷ []) _ _
+    (telling-next c.args.core.now (c.args.registry.now ∷ [])
+    (due_to c.args.globals.now c.args.registry.now) c.tellings.count c.tellings.core c.tellings.registry
+    c.args.registry.now.object c.args.globals.now c.tellings.place
+    c.index-globals-place-in-tellings.result c.tellings-test.true c.index-globals-place-in-tellings.is
+    (sym c.if-owes_telling.ensures) c.tellings.invariant.progress)
     c.if-not-write_global.ensures
 
 pub tellings-init : goal.tellings-init
 tellings-init g c = record {
   object = c.removals.invariant.object;
-  progress = subst (λ (list : List Owing). Progress c.args.core.now (c.args.registry.now ∷ []) (due_to c.args.globals.now c.args.registry.now) c.removals.count c.removals.core (c.removals.registry ∷ [])
-      (dues_for c.args.registry.now.object (list ++ owings (owes_telling c.removals.registry) Telling 1 c.args.globals.now)))
-      (owings-end (owes_removal c.removals.registry) (λ name _. Removal name) c.removals.place (c.removals.place + 1) c.args.globals.now c.removals-test.false) c.removals.invariant.progress;
+  progress = subst (λ (list : List Owing). Progress c.args.core.now (c.args.registry.now ∷ [])
+      (due_to c.args.globals.now c.args.registry.now) c.removals.count c.removals.core (c.removals.registry ∷ [])
+      (dues_for c.args.registry.now.object (list ++ owings
+      (owes_telling c.removals.registry) Telling 1 c.args.globals.now)))
+      (owings-end (owes_removal c.removals.registry) (λ name _. Removal name) c.removals.place
+      (c.removals.place + 1) c.args.globals.now c.removals-test.false) c.removals.invariant.progress;
 }
 
 pub tellings-preserved : goal.tellings-preserved
 tellings-preserved g c =
     elim c.if-owes_telling.branch [
       | then-owes_telling+else-not-write_global w ↦ (
-          let own : c.registry-in-tellings.inside.object.id ≡ c.args.registry.now.object.id = ap (λ (r : Registry). r.object.id) c.registry-in-tellings.view_is ∙ ap (λ (o : Object). o.id) c.tellings.invariant.object in
+          let own : c.registry-in-tellings.inside.object.id ≡ c.args.registry.now.object.id =
+          ap (λ (r : Registry). r.object.id) c.registry-in-tellings.view_is
+          ∙ ap (λ (o : Object). o.id) c.tellings.invariant.object in
           record {
-            object = ap (λ (r : Registry). r.object) (w.registry-is ∙ w.mark_told.ensures) ∙ c.tellings.invariant.object;
-            progress = along (λ (core : Core) (r : Registry) (count : ℕ). Adding c.args.core.now (c.args.registry.now ∷ []) (due_to c.args.globals.now c.args.registry.now) c.args.registry.now.object c.args.globals.now (c.tellings.place + 1) count core r)
-                w.write_global.new.core c.if-owes_telling.core (marked (Telling (c.tellings.place + 1) c.index-globals-place-in-tellings.result) c.tellings.registry) c.if-owes_telling.registry (c.tellings.count + 1) c.if-owes_telling.count w.core-is (w.registry-is ∙ w.mark_told.ensures) w.count-is
-                (telling-told c.args.core.now (c.args.registry.now ∷ []) (due_to c.args.globals.now c.args.registry.now) c.tellings.count c.tellings.core w.write_global.new.core c.tellings.registry c.args.registry.now.object c.args.globals.now c.tellings.place
-                c.index-globals-place-in-tellings.result c.requires.ordinary c.tellings.invariant.object c.tellings-test.true c.index-globals-place-in-tellings.is (sym w.if-owes_telling.ensures) c.tellings.invariant.progress
-                (subst (λ (id : ℕ). IsWritten c.tellings.core id (Telling (c.tellings.place + 1) c.index-globals-place-in-tellings.result) true w.write_global.new.core) own w.if-not-write_global.ensures));
+            object = ap (λ (r : Registry). r.object) (w.registry-is ∙ w.mark_told.ensures)
+                ∙ c.tellings.invariant.object;
+            progress = along (λ (core : Core) (r : Registry) (count : ℕ). Adding c.args.core.now
+                (c.args.registry.now ∷ []) (due_to c.args.globals.now c.args.registry.now) c.args.registry.now.object
+                c.args.globals.now (c.tellings.place + 1) count core r)
+                w.write_global.new.core c.if-owes_telling.core
+                (marked (Telling (c.tellings.place + 1) c.index-globals-place-in-tellings.result)
+                c.tellings.registry) c.if-owes_telling.registry
+                (c.tellings.count + 1) c.if-owes_telling.count w.core-is
+                (w.registry-is ∙ w.mark_told.ensures) w.count-is
+                (telling-told c.args.core.now (c.args.registry.now ∷ [])
+                (due_to c.args.globals.now c.args.registry.now) c.tellings.count c.tellings.core
+                w.write_global.new.core c.tellings.registry c.args.registry.now.object c.args.globals.now
+                c.tellings.place
+                c.index-globals-place-in-tellings.result c.requires.ordinary c.tellings.invariant.object
+                c.tellings-test.true c.index-globals-place-in-tellings.is
+                (sym w.if-owes_telling.ensures) c.tellings.invariant.progress
+                (subst (λ (id : ℕ). IsWritten c.tellings.core id
+                (Telling (c.tellings.place + 1) c.index-globals-place-in-tellings.result) true
+                w.write_global.new.core) own w.if-not-write_global.ensures));
           })
       | else-owes_telling w ↦ record {
         object = ap (λ (r : Registry). r.object) w.registry-is ∙ c.tellings.invariant.object;
-        progress = along (λ (core : Core) (r : Registry) (count : ℕ). Adding c.args.core.now (c.args.registry.now ∷ []) (due_to c.args.globals.now c.args.registry.now) c.args.registry.now.object c.args.globals.now (c.tellings.place + 1) count core r)
-            c.tellings.core c.if-owes_telling.core c.tellings.registry c.if-owes_telling.registry c.tellings.count c.if-owes_telling.count w.core-is w.registry-is w.count-is
-            (telling-skipped c.args.core.now (c.args.registry.now ∷ []) (due_to c.args.globals.now c.args.registry.now) c.tellings.count c.tellings.core c.tellings.registry c.args.registry.now.object c.args.globals.now c.tellings.place
-            c.index-globals-place-in-tellings.result c.tellings-test.true c.index-globals-place-in-tellings.is (sym w.if-owes_telling.ensures) c.tellings.invariant.progress);
+        progress = along (λ (core : Core) (r : Registry) (count : ℕ). Adding c.args.core.now (c.args.registry.now ∷ [])
+            (due_to c.args.globals.now c.args.registry.now) c.args.registry.now.object c.args.globals.now
+            (c.tellings.place + 1) count core r)
+            c.tellings.core c.if-owes_telling.core c.tellings.registry c.if-owes_telling.registry c.tellings.count
+            c.if-owes_telling.count w.core-is w.registry-is w.count-is
+            (telling-skipped c.args.core.now (c.args.registry.now ∷ [])
+            (due_to c.args.globals.now c.args.registry.now) c.tellings.count c.tellings.core c.tellings.registry
+            c.args.registry.now.object c.args.globals.now c.tellings.place
+            c.index-globals-place-in-tellings.result c.tellings-test.true c.index-globals-place-in-tellings.is
+            (sym w.if-owes_telling.ensures) c.tellings.invariant.progress);
       }
     ]
 
 pub returns : goal.returns
 returns g c = record {
   rest = [];
-  progress = subst (λ (list : List Owing). Progress c.args.core.now (c.args.registry.now ∷ []) (due_to c.args.globals.now c.args.registry.now) c.tellings.count c.tellings.core (c.tellings.registry ∷ []) (dues_for c.args.registry.now.object list))
-      (owings-end (owes_telling c.tellings.registry) Telling c.tellings.place (c.tellings.place + 1) c.args.globals.now c.tellings-test.false) c.tellings.invariant.progress;
+  progress = subst (λ (list : List Owing). Progress c.args.core.now (c.args.registry.now ∷ [])
+      (due_to c.args.globals.now c.args.registry.now) c.tellings.count c.tellings.core (c.tellings.registry ∷ [])
+      (dues_for c.args.registry.now.object list))
+      (owings-end (owes_telling c.tellings.registry) Telling c.tellings.place
+      (c.tellings.place + 1) c.args.globals.now c.tellings-test.false) c.tellings.invariant.progress;
   end = refl;
 }

@@ -6,4 +6,5 @@ use Rattle.wl_server.proofs.announce.announce_to_all.Given as goal
 -- what is left is owed to the registries that are left
 abbrev pub invariant-registries : goal.invariant-registries
 invariant-registries g l =
-    Progress l.fn.core l.fn.registries (owed_in l.globals l.fn.registries) l.count l.core l.registries (owed_in l.globals (drop l.registry-index l.registries))
+    Progress l.fn.core l.fn.registries (owed_in l.globals l.fn.registries) l.count l.core l.registries
+    (owed_in l.globals (drop l.registry-index l.registries))

@@ -7,5 +7,6 @@ use Rattle.wl_session.proofs.lending.lend.Given as goal
 
 abbrev pub invariant-loop-arg : goal.invariant-loop-arg
 invariant-loop-arg g l =
-    (given l.list.items ≡ args_of (take l.arg-index l.args)) × Each IsGiven (args_of (take l.arg-index l.args)) × (vec_len l.list ≡ l.arg-index)
+    (given l.list.items ≡ args_of (take l.arg-index l.args)) × Each IsGiven (args_of (take l.arg-index l.args))
+    × (vec_len l.list ≡ l.arg-index)
     × (vec_capacity l.list ≡ vec_capacity l.fn.list) × (length l.args ≤ vec_capacity l.fn.list)

@@ -4,4 +4,5 @@ use Rattle.wl_sigs.specs.Places.{place_in}
 use Rattle.wl_sigs.proofs.interface.placed_signatures.Given as goal
 
 abbrev pub invariant-messages : goal.invariant-messages
-invariant-messages g l = l.signatures.items ≡ map (message_placed (place_in l.places) l.past) (take l.message-index l.messages)
+invariant-messages g l = l.signatures.items ≡ map (message_placed (place_in l.places) l.past)
+    (take l.message-index l.messages)

@@ -7,4 +7,5 @@ use Rattle.wl_sigs.proofs.rules.side_broken.Given as goal
 
 abbrev pub invariant-loop-opcode : goal.invariant-loop-opcode
 invariant-loop-opcode g l =
-    option_map broken l.first ≡ messages_broken (message_rule (place_in l.places) l.ended l.interface l.side (place_in l.opcodes)) 0 (take l.opcode l.messages)
+    option_map broken l.first ≡ messages_broken (message_rule (place_in l.places) l.ended l.interface l.side
+    (place_in l.opcodes)) 0 (take l.opcode l.messages)

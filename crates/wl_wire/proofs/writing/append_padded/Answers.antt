@@ -7,4 +7,5 @@ pub returns-clause-items : goal.returns-clause-items
 returns-clause-items g c =
     let k : ℕ = padded c.args.len - length c.args.bytes.now in
     let e : take k (0 ∷ 0 ∷ 0 ∷ 0 ∷ []) ≡ zeros k = zeros_front k (omega arith) in
-    rw (c.append-2.ensures.items, c.append.ensures.items, c.append_word.ensures.items, c.padded_len.ensures, e) (simp append_assoc)
+    rw (c.append-2.ensures.items, c.append.ensures.items, c.append_word.ensures.items, c.padded_len.ensures, e)
+    (simp append_assoc)

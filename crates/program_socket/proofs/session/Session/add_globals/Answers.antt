@@ -17,6 +17,9 @@ returns g c =
     let seat = named c.args.tables.now (codes "wl_seat") in
     let middle = connected c.add_global.new.self in
     let last = connected c.add_global-2.new.self in
-    plays_then client server c.add_global-2.result (Call (AddGlobal compositor 6) ∷ []) (Call (AddGlobal seat 9) ∷ []) start middle last
-    (plays_call client server _ (AddGlobal compositor 6) start middle (global_named compositor c.in_ok-interface.field-0 6 c.in_ok-interface.ensures) c.in_ok-add_global.ensures)
-    (ends_call client server c.add_global-2.result _ (AddGlobal seat 9) middle last (global_named seat c.in_ok-interface-2.field-0 9 c.in_ok-interface-2.ensures) c.add_global-2.ensures)
+    plays_then client server c.add_global-2.result (Call (AddGlobal compositor 6) ∷ [])
+    (Call (AddGlobal seat 9) ∷ []) start middle last
+    (plays_call client server _ (AddGlobal compositor 6) start middle
+    (global_named compositor c.in_ok-interface.field-0 6 c.in_ok-interface.ensures) c.in_ok-add_global.ensures)
+    (ends_call client server c.add_global-2.result _ (AddGlobal seat 9) middle last
+    (global_named seat c.in_ok-interface-2.field-0 9 c.in_ok-interface-2.ensures) c.add_global-2.ensures)

@@ -9,7 +9,13 @@ pub returns : goal.returns
 returns g c = record {
   reply = Announce (Ok c.in_ok-announce.field-0);
   accepted = tt;
-  does = announces (record { client = c.args.self.now.client; server = c.args.self.now.server; recording = c.args.self.now.recording; ended_at = None }) _ (Ok c.in_ok-announce.field-0) c.in_ok-announce.ensures.ok c.in_ok-announce.ensures.err;
+  does = announces (record {
+    client = c.args.self.now.client;
+    server = c.args.self.now.server;
+    recording = c.args.self.now.recording;
+    ended_at = None;
+  }) _
+      (Ok c.in_ok-announce.field-0) c.in_ok-announce.ensures.ok c.in_ok-announce.ensures.err;
   client_stream = refl;
   server_stream = refl;
 }

@@ -10,4 +10,5 @@ returns g c =
     let client = known g.C.Read.remaining g.C.Write.contents in
     let server = known g.S.Read.remaining g.S.Write.contents in
     let start = connected c.args.self.now in
-    ends_call client server c.announce.result Announce Announce start (connected c.announce.new.self) refl c.announce.ensures
+    ends_call client server c.announce.result Announce Announce start
+    (connected c.announce.new.self) refl c.announce.ensures

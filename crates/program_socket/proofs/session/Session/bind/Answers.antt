@@ -10,7 +10,13 @@ pub returns : goal.returns
 returns g c = record {
   reply = ClientBind (new_in (Ok c.in_ok-bind.field-0));
   accepted = tt;
-  does = binds (λ s. record { client = s; server = c.args.self.now.server; recording = c.args.self.now.recording; ended_at = None }) _ _ _ _ (Ok c.in_ok-bind.field-0) c.in_ok-bind.ensures.answer c.in_ok-bind.ensures.ok c.in_ok-bind.ensures.err;
+  does = binds (λ s. record {
+    client = s;
+    server = c.args.self.now.server;
+    recording = c.args.self.now.recording;
+    ended_at = None;
+  }) _ _ _ _ (Ok c.in_ok-bind.field-0) c.in_ok-bind.ensures.answer c.in_ok-bind.ensures.ok
+      c.in_ok-bind.ensures.err;
   client_stream = refl;
   server_stream = refl;
 }

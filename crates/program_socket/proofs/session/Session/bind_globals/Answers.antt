@@ -17,8 +17,13 @@ returns g c =
     let seat = connected c.bind-2.new.self in
     let last = connected c.send_request.new.self in
     plays_then client server c.send_request.result (Call (ClientBind the_registry 1 (codes "wl_compositor") 6) ∷ [])
-    (Call (ClientBind the_registry 2 (codes "wl_seat") 9) ∷ Call (ClientSend the_display 0 (new_object ∷ [])) ∷ []) start compositor last
-    (plays_call client server _ (ClientBind the_registry 1 (codes "wl_compositor") 6) start compositor refl c.in_ok-bind.ensures)
-    (plays_then client server c.send_request.result (Call (ClientBind the_registry 2 (codes "wl_seat") 9) ∷ []) (Call (ClientSend the_display 0 (new_object ∷ [])) ∷ []) compositor seat last
-    (plays_call client server _ (ClientBind the_registry 2 (codes "wl_seat") 9) compositor seat refl c.in_ok-bind-2.ensures)
-    (ends_call client server c.send_request.result _ (ClientSend the_display 0 (new_object ∷ [])) seat last refl c.send_request.ensures))
+    (Call (ClientBind the_registry 2 (codes "wl_seat") 9) ∷ Call (ClientSend the_display 0 (new_object ∷ [])) ∷ [])
+    start compositor last
+    (plays_call client server _ (ClientBind the_registry 1 (codes "wl_compositor") 6) start compositor refl
+    c.in_ok-bind.ensures)
+    (plays_then client server c.send_request.result (Call (ClientBind the_registry 2 (codes "wl_seat") 9) ∷ [])
+    (Call (ClientSend the_display 0 (new_object ∷ [])) ∷ []) compositor seat last
+    (plays_call client server _ (ClientBind the_registry 2 (codes "wl_seat") 9) compositor seat refl
+    c.in_ok-bind-2.ensures)
+    (ends_call client server c.send_request.result _
+    (ClientSend the_display 0 (new_object ∷ [])) seat last refl c.send_request.ensures))

@@ -17,7 +17,10 @@ returns g c =
     let last = connected c.send_request-3.new.self in
     plays_then client server c.send_request-3.result (Call (ClientSend the_compositor 0 (new_object ∷ [])) ∷ [])
     (Call (ClientSend the_surface 6 []) ∷ Call (ClientSend the_surface 0 []) ∷ []) start made last
-    (plays_call client server _ (ClientSend the_compositor 0 (new_object ∷ [])) start made refl c.in_ok-send_request.ensures)
-    (plays_then client server c.send_request-3.result (Call (ClientSend the_surface 6 []) ∷ []) (Call (ClientSend the_surface 0 []) ∷ []) made committed last
+    (plays_call client server _ (ClientSend the_compositor 0 (new_object ∷ [])) start made refl
+    c.in_ok-send_request.ensures)
+    (plays_then client server c.send_request-3.result (Call (ClientSend the_surface 6 []) ∷ [])
+    (Call (ClientSend the_surface 0 []) ∷ []) made committed last
     (plays_call client server _ (ClientSend the_surface 6 []) made committed refl c.in_ok-send_request-2.ensures)
-    (ends_call client server c.send_request-3.result _ (ClientSend the_surface 0 []) committed last refl c.send_request-3.ensures))
+    (ends_call client server c.send_request-3.result _
+    (ClientSend the_surface 0 []) committed last refl c.send_request-3.ensures))

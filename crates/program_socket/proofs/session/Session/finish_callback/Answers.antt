@@ -12,4 +12,5 @@ returns g c =
     let client = known g.C.Read.remaining g.C.Write.contents in
     let server = known g.S.Read.remaining g.S.Write.contents in
     let start = connected c.args.self.now in
-    ends_call client server c.send_event.result _ (ServerSend the_callback 0 (Uint 1 ∷ [])) start (connected c.send_event.new.self) refl c.send_event.ensures
+    ends_call client server c.send_event.result _ (ServerSend the_callback 0 (Uint 1 ∷ [])) start
+    (connected c.send_event.new.self) refl c.send_event.ensures

@@ -11,4 +11,5 @@ returns g c =
     let client = known g.C.Read.remaining g.C.Write.contents in
     let server = known g.S.Read.remaining g.S.Write.contents in
     let start = connected c.args.self.now in
-    ends_call client server c.send_request.result _ (ClientSend the_display 1 (new_object ∷ [])) start (connected c.send_request.new.self) refl c.send_request.ensures
+    ends_call client server c.send_request.result _ (ClientSend the_display 1 (new_object ∷ [])) start
+    (connected c.send_request.new.self) refl c.send_request.ensures

@@ -15,8 +15,12 @@ sizes_by limit = record sizes { limit = limit }
 
 pub returns : goal.returns
 returns g c =
-    let client : c.in_ok-new.field-0 ≡ client.new_state c.args.tables.now sizes = c.in_ok-new.ensures ∙ ap (λ (limit : Limit). client.new_state c.args.tables.now (sizes_by limit)) (same_limit _ usual refl) in
-    let server : c.in_ok-new-2.field-0 ≡ server.new_state c.args.tables.now sizes = c.in_ok-new-2.ensures ∙ ap (λ (limit : Limit). server.new_state c.args.tables.now (sizes_by limit)) (same_limit _ usual refl) in
+    let client : c.in_ok-new.field-0 ≡ client.new_state c.args.tables.now sizes =
+    c.in_ok-new.ensures ∙ ap (λ (limit : Limit). client.new_state c.args.tables.now (sizes_by limit))
+    (same_limit _ usual refl) in
+    let server : c.in_ok-new-2.field-0 ≡ server.new_state c.args.tables.now sizes =
+    c.in_ok-new-2.ensures ∙ ap (λ (limit : Limit). server.new_state c.args.tables.now (sizes_by limit))
+    (same_limit _ usual refl) in
     λ i. record {
       pair = record { client = client i; server = server i; recording = c.new-recording.ensures i; ended_at = None };
       client_stream = c.args.client;

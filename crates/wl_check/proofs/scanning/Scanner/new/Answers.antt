@@ -1,4 +1,4 @@
-use Rattle.wl_check.proofs.Piecing.{none_judged}
+use Rattle.wl_check.proofs.SessionByPiece.{none_judged}
 use Rattle.wl_check.proofs.scanning.Scanner.new.Goals as goal
 
 pub returns-clause-none : goal.returns-clause-none

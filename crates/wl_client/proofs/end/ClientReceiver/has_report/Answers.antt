@@ -8,11 +8,12 @@ use Rattle.wl_client.proofs.end.ClientReceiver.has_report.Goals as goal
 
 pub returns-clause-yes : goal.returns-clause-yes
 returns-clause-yes g c t =
-    let state : State = record { core = c.self.inside.core; globals = c.self.inside.globals } in
-    elim c.match-find_event.branch [
+    let state : State = record { core = c.self.inside.end.core; globals = c.self.inside.globals } in
+    elim c.match-find.branch [
       | in-Ok-Some w ↦
           let front = rw w.in-Ok-Some.field-0-is at w.in-Ok-Some.ensures.comes in
-          subst (HasReport reading) c.self.view_is (has_one state front.0 (ap (λ (s : State). s.core.failed) c.self.view_is ∙ c.requires) front.1)
+          subst (HasReport reading) c.self.view_is
+          (has_one state front.0 (ap (λ (s : State). s.core.failed) c.self.view_is ∙ c.requires) front.1)
       | in_default w ↦ absurd (let r = w.result-is in cc)
       | in_default-2 w ↦ absurd (let r = w.result-is in cc)
     ]

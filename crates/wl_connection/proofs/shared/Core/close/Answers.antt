@@ -7,7 +7,9 @@ pub invariant_of-self : goal.invariant_of-self
 invariant_of-self g c = record {
   store = c.self.invariant.store;
   room = c.self.invariant.room;
-  display = subst HasDisplay (sym c.close.ensures) (HasDisplay-closed (g.T.Table.view c.self.inside.table) c.args.id c.requires.not_display c.self.invariant.display);
+  display = subst HasDisplay (sym c.close.ensures)
+      (HasDisplay-closed (g.T.Table.view c.self.inside.table) c.args.id c.requires.not_display
+      c.self.invariant.display);
   no_error = c.self.invariant.no_error;
   whole = c.self.invariant.whole;
 }

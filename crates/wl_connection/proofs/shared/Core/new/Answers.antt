@@ -9,7 +9,8 @@ use Rattle.wl_connection.proofs.shared.Core.new.Goals as goal
 pub invariant_of-result : goal.invariant_of-result
 invariant_of-result g c = record {
   store = omega (arith, c.in_ok-store.ensures.exact, c.args.sizes.limit.in_range.0);
-  room = subst (λ (o : Outgoing). o.limit.bytes ≤ vec_capacity c.in_ok-store.store) (sym c.in_ok-outbox.ensures) (omega (arith, c.in_ok-store.ensures.exact));
+  room = subst (λ (o : Outgoing). o.limit.bytes ≤ vec_capacity c.in_ok-store.store) (sym c.in_ok-outbox.ensures)
+      (omega (arith, c.in_ok-store.ensures.exact));
   display = subst HasDisplay (sym c.in_ok-table.ensures) HasDisplay-opening;
   no_error = λ h. subst IsOrdinary (sym c.in_ok-outbox.ensures) (refl, refl, c.requires.out_bytes);
   whole = subst (λ (i : Arrived). i.limit.bytes ≤ i.capacity) (sym c.in_ok-inbox.ensures) c.requires.in_bytes_low;
@@ -17,4 +18,11 @@ invariant_of-result g c = record {
 
 pub returns : goal.returns
 returns g c =
-    λ i. record { tables = c.args.tables.now; view = c.in_ok-table.ensures i; inbox = c.in_ok-inbox.ensures i; outbox = c.in_ok-outbox.ensures i; failed = false; read = 0 }
+    λ i. record {
+      tables = c.args.tables.now;
+      view = c.in_ok-table.ensures i;
+      inbox = c.in_ok-inbox.ensures i;
+      outbox = c.in_ok-outbox.ensures i;
+      failed = false;
+      read = 0;
+    }

@@ -8,8 +8,10 @@ pub invariant_of-self : goal.invariant_of-self
 invariant_of-self g c = record {
   store = c.self.invariant.store;
   room = c.self.invariant.room;
-  display = HasDisplay-opening_next c.open_next.result (g.T.Table.view c.self.inside.table) (g.T.Table.view c.open_next.new.self) c.args.iface c.args.version
-      (subst (λ (core : Core). Sound core.view) (sym c.self.view_is) c.requires) c.self.invariant.display c.open_next.ensures.ok c.open_next.ensures.err;
+  display = HasDisplay-opening_next c.open_next.result (g.T.Table.view c.self.inside.table)
+      (g.T.Table.view c.open_next.new.self) c.args.iface c.args.version
+      (subst (λ (core : Core). Sound core.view) (sym c.self.view_is) c.requires) c.self.invariant.display
+      c.open_next.ensures.ok c.open_next.ensures.err;
   no_error = c.self.invariant.no_error;
   whole = c.self.invariant.whole;
 }

@@ -1,4 +1,4 @@
-use Rattle.std.proofs.Common.{◌≡◌, ◌≢◌, ◌+◌, ℕ, List, true, take, length, sym, subst, ap, ◌∙◌, arith, rules}
+use Rattle.std.proofs.Common.{◌≡◌, ◌≢◌, ℕ, true, length, refl, sym, subst, ap, ◌∙◌, rules}
 use Rattle.std.specs.Prelude.{Option, is_some}
 use Rattle.std.proofs.Common.{Ok, Err}
 use Rattle.std.proofs.lemmas.Result.{err_from_is_err_and}
@@ -8,76 +8,97 @@ use Rattle.wl_sigs.specs.Tables.{destroys_one}
 use Rattle.wl_objects.specs.declared.error.SendError.TheVariants as refusals
 use Rattle.wl_object_map.specs.View.{is_live}
 use Rattle.wl_objects.specs.Messages.{opens, ended_id}
-use Rattle.wl_objects.specs.Writing.{on_wire, message_len, tokens_of, given, id_of, call_makes}
+use Rattle.wl_objects.specs.Writing.{on_wire, message_len, tokens_of, given, id_of}
 use Rattle.wl_connection.specs.Core.{Core}
 use Rattle.wl_connection.specs.Outcomes.{AnswersOrMemory}
 use Rattle.wl_connection.specs.Sending.{fits, following_len, next_object, opening_answer, with_sent}
-use Rattle.wl_connection.proofs.Sends.{answered, ended-known, fits-known, fits-any, fits-behind, ended-other, ended-live, written-known}
+use Rattle.wl_connection.proofs.CheckedSends.{answered, ended-known, fits-known, fits-any}
+use Rattle.wl_connection.proofs.CheckedSends.{fits-behind, ended-other, ended-live, written-known}
 use Rattle.wl_connection.proofs.shared.Core.write_checked.Goals as goal
 
 pub returns-in_err-new-clause-answer : goal.returns-in_err-new-clause-answer
 returns-in_err-new-clause-answer g c =
-    let fit = fits-known c.args.self.now.outbox c.args.args.now c.args.call.len c.following_len.result (following_len c.args.side c.args.call.signature.now.destroys) c.tokens_of-count.result
-    c.tokens_of-count.new.tokens true (c.requires.len 0) (c.following_len.ensures ∙ ap (following_len c.args.side) c.destroys-what.ensures) c.tokens_of-count.ensures.tokens
-    (omega (arith, c.tokens_of-count.array_long, c.tokens_of-count.ensures.few, c.requires.few)) c.if-not-fits.ensures in
-    let iface : c.call_makes.result ≡ call_makes c.args.call.signature.now.kinds = c.call_makes.ensures ∙ ap call_makes c.kinds.ensures in
+    let fit = fits-known c.args.self.now.outbox c.args.args.now c.args.call.len c.following_len.result
+    (following_len c.args.side c.args.call.signature.now.destroys) c.args.call.tokens true
+    (c.requires.len 0) (c.following_len.ensures ∙ ap (following_len c.args.side) c.destroys-what.ensures)
+    c.requires.tokens c.if-not-fits.ensures in
     let p = err_from_is_err_and c.from_residual.result c.from_residual.ensures.1 in
     rw (p.1, p.2)
-    (answered c.args.self.now c.args.side c.args.target c.args.opcode c.args.args.now c.args.call.signature.now c.args.call.entry (Err c.in_err-new.field-0.0) c.requires.passes c.requires.entry (sym fit)
-    (subst (λ (i : Option Iface). AnswersOrMemory refusals.Memory (is_some i) (opening_answer c.args.self.now (next_object c.args.self.now.view c.args.call.entry.version i)) (Err c.in_err-new.field-0.0)) iface c.in_err-new.ensures.answer))
+    (answered c.args.self.now c.args.side c.args.target c.args.opcode c.args.args.now c.args.call.signature.now
+    c.args.call.entry (Err c.in_err-new.field-0.0) c.requires.passes c.requires.entry (sym fit)
+    (subst (λ (i : Option Iface). AnswersOrMemory refusals.Memory (is_some i)
+    (opening_answer c.args.self.now (next_object c.args.self.now.view c.args.call.entry.version i))
+    (Err c.in_err-new.field-0.0)) c.requires.makes c.in_err-new.ensures.answer))
 
 pub write_call-requires-clause-room : goal.write_call-requires-clause-room
 write_call-requires-clause-room g c =
-    let fit = fits-known c.args.self.now.outbox c.args.args.now c.args.call.len c.following_len.result (following_len c.args.side c.args.call.signature.now.destroys) c.tokens_of-count.result
-    c.tokens_of-count.new.tokens true (c.requires.len 0) (c.following_len.ensures ∙ ap (following_len c.args.side) c.destroys-what.ensures) c.tokens_of-count.ensures.tokens
-    (omega (arith, c.tokens_of-count.array_long, c.tokens_of-count.ensures.few, c.requires.few)) c.if-not-fits.ensures in
-    let tokens : take c.tokens_of-count.result c.tokens_of-count.new.tokens ≡ tokens_of (given c.args.args.now) = c.tokens_of-count.ensures.tokens in
-    subst (λ (core : Core). fits core.outbox (message_len (on_wire (id_of c.in_ok-new.new) c.args.args.now)) (length (take c.tokens_of-count.result c.tokens_of-count.new.tokens)) ≡ true) (sym c.in_ok-new.ensures.ok)
-    (subst (λ (l : List ℕ). fits c.args.self.now.outbox (message_len (on_wire (id_of c.in_ok-new.new) c.args.args.now)) (length l) ≡ true) (sym tokens)
-    (fits-any c.args.self.now.outbox c.args.args.now (id_of c.in_ok-new.new) (following_len c.args.side c.args.call.signature.now.destroys) (length (tokens_of (given c.args.args.now))) (sym fit)))
+    let fit = fits-known c.args.self.now.outbox c.args.args.now c.args.call.len c.following_len.result
+    (following_len c.args.side c.args.call.signature.now.destroys) c.args.call.tokens true
+    (c.requires.len 0) (c.following_len.ensures ∙ ap (following_len c.args.side) c.destroys-what.ensures)
+    c.requires.tokens c.if-not-fits.ensures in
+    subst (λ (core : Core). fits core.outbox (message_len (on_wire (id_of c.in_ok-new.new) c.args.args.now))
+    (length (tokens_of (given c.args.args.now))) ≡ true) (sym c.in_ok-new.ensures.ok)
+    (fits-any c.args.self.now.outbox c.args.args.now (id_of c.in_ok-new.new)
+    (following_len c.args.side c.args.call.signature.now.destroys) (length (tokens_of (given c.args.args.now)))
+    (sym fit))
 
 pub end_object-requires-clause-live : goal.end_object-requires-clause-live
 end_object-requires-clause-live g c =
-    let id = c.ended_id.ensures ∙ ap (λ (what : Destroys). ended_id what c.args.target.id (on_wire 0 c.args.args.now)) c.destroys-what.ensures in
+    let id = c.ended_id.ensures ∙ ap (λ (what : Destroys). ended_id what c.args.target.id (on_wire 0 c.args.args.now))
+    c.destroys-what.ensures in
     ap (λ (core : Core). is_live core.view c.ended_id.result) c.write_call.ensures
     ∙ (ap (λ (core : Core). is_live core.view c.ended_id.result) c.in_ok-new.ensures.ok
-    ∙ (ap (is_live (opens c.args.self.now.view (next_object c.args.self.now.view c.args.call.entry.version c.call_makes.result))) id
-    ∙ ended-live c.args.self.now c.args.side c.args.target c.args.opcode c.args.args.now c.args.call.signature.now c.call_makes.result c.args.call.entry.version c.requires.valid c.requires.passes))
+    ∙ (ap (is_live (opens c.args.self.now.view (next_object c.args.self.now.view c.args.call.entry.version
+    c.args.call.makes))) id
+    ∙ ended-live c.args.self.now c.args.side c.args.target c.args.opcode c.args.args.now c.args.call.signature.now
+    c.args.call.makes c.args.call.entry.version c.requires.valid c.requires.passes))
 
 pub end_object-requires-clause-other : goal.end_object-requires-clause-other
 end_object-requires-clause-other g c =
-    let id = c.ended_id.ensures ∙ ap (λ (what : Destroys). ended_id what c.args.target.id (on_wire 0 c.args.args.now)) c.destroys-what.ensures in
-    λ one. subst (λ (n : ℕ). n ≢ 1) (sym id) (ended-other c.args.self.now c.args.side c.args.target c.args.opcode c.args.args.now c.args.call.signature.now c.requires.valid c.requires.display c.requires.passes (ap destroys_one (sym c.destroys-what.ensures) ∙ one))
+    let id = c.ended_id.ensures ∙ ap (λ (what : Destroys). ended_id what c.args.target.id (on_wire 0 c.args.args.now))
+    c.destroys-what.ensures in
+    λ one. subst (λ (n : ℕ). n ≢ 1) (sym id) (ended-other c.args.self.now c.args.side c.args.target c.args.opcode
+    c.args.args.now c.args.call.signature.now c.requires.valid c.requires.display c.requires.passes
+    (ap destroys_one (sym c.destroys-what.ensures) ∙ one))
 
 pub end_object-requires-clause-room : goal.end_object-requires-clause-room
 end_object-requires-clause-room g c =
-    let fit = fits-known c.args.self.now.outbox c.args.args.now c.args.call.len c.following_len.result (following_len c.args.side c.args.call.signature.now.destroys) c.tokens_of-count.result
-    c.tokens_of-count.new.tokens true (c.requires.len 0) (c.following_len.ensures ∙ ap (following_len c.args.side) c.destroys-what.ensures) c.tokens_of-count.ensures.tokens
-    (omega (arith, c.tokens_of-count.array_long, c.tokens_of-count.ensures.few, c.requires.few)) c.if-not-fits.ensures in
-    let tokens : take c.tokens_of-count.result c.tokens_of-count.new.tokens ≡ tokens_of (given c.args.args.now) = c.tokens_of-count.ensures.tokens in
-    let view = opens c.args.self.now.view (next_object c.args.self.now.view c.args.call.entry.version c.call_makes.result) in
-    subst (λ (what : Destroys). fits c.write_call.new.self.outbox (following_len c.args.side what) 0 ≡ true) (sym c.destroys-what.ensures)
-    (fits-behind c.args.self.now c.write_call.new.self view c.args.args.now c.args.target.id c.args.opcode (id_of c.in_ok-new.new) (following_len c.args.side c.args.call.signature.now.destroys)
-    (take c.tokens_of-count.result c.tokens_of-count.new.tokens)
-    (ap (λ (l : List ℕ). fits c.args.self.now.outbox (message_len (on_wire 0 c.args.args.now) + following_len c.args.side c.args.call.signature.now.destroys) (length l)) tokens ∙ sym fit)
-    (c.write_call.ensures ∙ ap (λ (core : Core). with_sent core c.args.target.id c.args.opcode (on_wire (id_of c.in_ok-new.new) c.args.args.now) (take c.tokens_of-count.result c.tokens_of-count.new.tokens)) c.in_ok-new.ensures.ok))
+    let fit = fits-known c.args.self.now.outbox c.args.args.now c.args.call.len c.following_len.result
+    (following_len c.args.side c.args.call.signature.now.destroys) c.args.call.tokens true
+    (c.requires.len 0) (c.following_len.ensures ∙ ap (following_len c.args.side) c.destroys-what.ensures)
+    c.requires.tokens c.if-not-fits.ensures in
+    let view = opens c.args.self.now.view (next_object c.args.self.now.view c.args.call.entry.version c.args.call.makes)
+    in
+    subst (λ (what : Destroys). fits c.write_call.new.self.outbox (following_len c.args.side what) 0 ≡ true)
+    (sym c.destroys-what.ensures)
+    (fits-behind c.args.self.now c.write_call.new.self view c.args.args.now c.args.target.id c.args.opcode
+    (id_of c.in_ok-new.new) (following_len c.args.side c.args.call.signature.now.destroys)
+    (tokens_of (given c.args.args.now))
+    (sym fit)
+    (c.write_call.ensures ∙ ap (λ (core : Core). with_sent core c.args.target.id c.args.opcode
+    (on_wire (id_of c.in_ok-new.new) c.args.args.now) (tokens_of (given c.args.args.now))) c.in_ok-new.ensures.ok))
 
 pub returns-clause-answer : goal.returns-clause-answer
 returns-clause-answer g c =
-    let fit = fits-known c.args.self.now.outbox c.args.args.now c.args.call.len c.following_len.result (following_len c.args.side c.args.call.signature.now.destroys) c.tokens_of-count.result
-    c.tokens_of-count.new.tokens true (c.requires.len 0) (c.following_len.ensures ∙ ap (following_len c.args.side) c.destroys-what.ensures) c.tokens_of-count.ensures.tokens
-    (omega (arith, c.tokens_of-count.array_long, c.tokens_of-count.ensures.few, c.requires.few)) c.if-not-fits.ensures in
-    let iface : c.call_makes.result ≡ call_makes c.args.call.signature.now.kinds = c.call_makes.ensures ∙ ap call_makes c.kinds.ensures in
-    answered c.args.self.now c.args.side c.args.target c.args.opcode c.args.args.now c.args.call.signature.now c.args.call.entry (Ok c.in_ok-new.new) c.requires.passes c.requires.entry (sym fit)
-    (subst (λ (i : Option Iface). AnswersOrMemory refusals.Memory (is_some i) (opening_answer c.args.self.now (next_object c.args.self.now.view c.args.call.entry.version i)) (Ok c.in_ok-new.new)) iface c.in_ok-new.ensures.answer)
+    let fit = fits-known c.args.self.now.outbox c.args.args.now c.args.call.len c.following_len.result
+    (following_len c.args.side c.args.call.signature.now.destroys) c.args.call.tokens true
+    (c.requires.len 0) (c.following_len.ensures ∙ ap (following_len c.args.side) c.destroys-what.ensures)
+    c.requires.tokens c.if-not-fits.ensures in
+    answered c.args.self.now c.args.side c.args.target c.args.opcode c.args.args.now c.args.call.signature.now
+    c.args.call.entry (Ok c.in_ok-new.new) c.requires.passes c.requires.entry (sym fit)
+    (subst (λ (i : Option Iface). AnswersOrMemory refusals.Memory (is_some i)
+    (opening_answer c.args.self.now (next_object c.args.self.now.view c.args.call.entry.version i))
+    (Ok c.in_ok-new.new)) c.requires.makes c.in_ok-new.ensures.answer)
 
 pub returns-clause-ok : goal.returns-clause-ok
 returns-clause-ok g c =
-    let iface : c.call_makes.result ≡ call_makes c.args.call.signature.now.kinds = c.call_makes.ensures ∙ ap call_makes c.kinds.ensures in
-    let tokens : take c.tokens_of-count.result c.tokens_of-count.new.tokens ≡ tokens_of (given c.args.args.now) = c.tokens_of-count.ensures.tokens in
-    let w = written-known c.args.self.now c.open_new.new.self c.write_call.new.self c.args.side c.args.target c.args.opcode c.args.args.now c.args.call.signature.now c.args.call.entry c.in_ok-new.new c.call_makes.result
-    (take c.tokens_of-count.result c.tokens_of-count.new.tokens) c.requires.passes c.requires.entry iface c.in_ok-new.ensures.ok c.in_ok-new.ensures.id c.write_call.ensures tokens in
-    ended-known c.args.self.now c.write_call.new.self c.end_object.new.self c.args.side c.args.target c.args.opcode c.args.args.now c.args.call.signature.now c.destroys-what.result c.ended_id.result w c.end_object.ensures c.destroys-what.ensures c.ended_id.ensures
+    let w = written-known c.args.self.now c.open_new.new.self c.write_call.new.self c.args.side c.args.target
+    c.args.opcode c.args.args.now c.args.call.signature.now c.args.call.entry c.in_ok-new.new c.args.call.makes
+    (tokens_of (given c.args.args.now)) c.requires.passes c.requires.entry c.requires.makes c.in_ok-new.ensures.ok
+    c.in_ok-new.ensures.id c.write_call.ensures refl in
+    ended-known c.args.self.now c.write_call.new.self c.end_object.new.self c.args.side c.args.target c.args.opcode
+    c.args.args.now c.args.call.signature.now c.destroys-what.result c.ended_id.result w c.end_object.ensures
+    c.destroys-what.ensures c.ended_id.ensures
 
 pub returns-then-not-fits-clause-err : goal.returns-then-not-fits-clause-err
 returns-then-not-fits-clause-err g c = search rules

@@ -1,6 +1,6 @@
 use Rattle.std.proofs.Common.{◌≡◌, false, ap, ◌∙◌, arith}
 use Rattle.wl_message.specs.Outgoing.{with_error}
-use Rattle.wl_message.proofs.Keeps.{pushed_error, error_kept, marks_fit}
+use Rattle.wl_message.proofs.PartedQueue.{pushed_error, error_kept, marks_fit}
 use Rattle.wl_message.proofs.outbox.Outbox.push_error.Goals as goal
 
 pub push_mark-requires : goal.push_mark-requires
@@ -9,14 +9,23 @@ push_mark-requires g c =
     let i = c.self.invariant.kept in
     let f : o.has_error ≡ false = rw (← c.self.view_is) at c.requires.first in
     let z = i.no_error f in
-    omega (arith, z, marks_fit o.marks.items i.each, i.bytes, i.room, c.self.invariant.reserved, c.self.invariant.marks_reserved)
+    omega (
+      arith,
+      z,
+      marks_fit o.marks.items i.each,
+      i.bytes,
+      i.room,
+      c.self.invariant.reserved,
+      c.self.invariant.marks_reserved,
+    )
 
 pub invariant_of-self : goal.invariant_of-self
 invariant_of-self g c =
     let i = c.self.invariant in
     let f : c.self.inside.has_error ≡ false = rw (← c.self.view_is) at c.requires.first in
     record {
-      kept = rw (c.len-self-inside.ensures.len, c.append.ensures, c.push_mark.ensures) (error_kept _ c.args.message.now i.kept f c.requires.whole.size.header c.requires.short);
+      kept = rw (c.len-self-inside.ensures.len, c.append.ensures, c.push_mark.ensures)
+          (error_kept _ c.args.message.now i.kept f c.requires.whole.size.header c.requires.short);
       small = i.small;
       reserved = rw (c.append.ensures) i.reserved;
       marks_reserved = rw (c.append.ensures, c.push_mark.ensures) i.marks_reserved;

@@ -1,5 +1,5 @@
 use Rattle.std.proofs.Common.{arith}
-use Rattle.wl_message.proofs.Keeps.{bytes_wait}
+use Rattle.wl_message.proofs.PartedQueue.{bytes_wait}
 use Rattle.wl_message.proofs.outbox.Outbox.room.Goals as goal
 
 pub returns-clause-room : goal.returns-clause-room
@@ -8,4 +8,5 @@ returns-clause-room g c =
 
 pub returns-clause-within : goal.returns-clause-within
 returns-clause-within g c =
-    rw (← c.self.view_is, bytes_wait _ c.self.invariant.kept) (omega (arith, c.len.ensures.len, c.self.invariant.kept.room, c.self.invariant.kept.error_order))
+    rw (← c.self.view_is, bytes_wait _ c.self.invariant.kept)
+    (omega (arith, c.len.ensures.len, c.self.invariant.kept.room, c.self.invariant.kept.error_order))

@@ -14,10 +14,17 @@ push_reserved-requires g c =
 
 pub invariant_of-self : goal.invariant_of-self
 invariant_of-self g c =
-    let e = same_view c.self.inside.births (rows_remove _ _ c.args.id c.remove.ensures.updates.0) (ap reverse c.push_reserved.ensures.items ∙ reverse-append c.self.inside.freed.items (c.args.id ∷ [])) refl in
-    (subst Sound (sym e) (Sound-closed _ c.args.id c.self.invariant.0 (subst (λ (v : View). is_held v c.args.id ≡ true) (sym c.self.view_is) c.requires.held) c.requires.not_display), omega arith)
+    let e = same_view c.self.inside.births (rows_remove _ _ c.args.id c.remove.ensures.updates.0)
+    (ap reverse c.push_reserved.ensures.items ∙ reverse-append c.self.inside.freed.items (c.args.id ∷ [])) refl
+    in (
+      subst Sound (sym e) (Sound-closed _ c.args.id c.self.invariant.0
+          (subst (λ (v : View). is_held v c.args.id ≡ true) (sym c.self.view_is) c.requires.held)
+          c.requires.not_display),
+      omega arith,
+    )
 
 pub returns : goal.returns
 returns g c =
-    same_view _ (rows_remove _ _ c.args.id c.remove.ensures.updates.0) (ap reverse c.push_reserved.ensures.items ∙ reverse-append c.self.inside.freed.items (c.args.id ∷ [])) refl
+    same_view _ (rows_remove _ _ c.args.id c.remove.ensures.updates.0)
+    (ap reverse c.push_reserved.ensures.items ∙ reverse-append c.self.inside.freed.items (c.args.id ∷ [])) refl
     ∙ ap (λ (v : View). closed v c.args.id) c.self.view_is

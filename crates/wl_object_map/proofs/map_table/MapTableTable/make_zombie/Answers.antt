@@ -7,7 +7,13 @@ use Rattle.wl_object_map.proofs.map_table.MapTableTable.make_zombie.Goals as goa
 
 pub returns-in_default : goal.returns-in_default
 returns-in_default g c =
-    let held = lives_held (record { rows = from_entries c.self.inside.rows.entries; freed = reverse c.self.inside.freed.items; used = c.self.inside.used; births = c.self.inside.births }) c.args.id (subst (λ (v : View). is_live v c.args.id ≡ true) (sym c.self.view_is) c.requires.live) in
+    let held = lives_held (record {
+      rows = from_entries c.self.inside.rows.entries;
+      freed = reverse c.self.inside.freed.items;
+      used = c.self.inside.used;
+      births = c.self.inside.births;
+    })
+    c.args.id (subst (λ (v : View). is_live v c.args.id ≡ true) (sym c.self.view_is) c.requires.live) in
     let e = get_rows c.self.inside.rows.entries c.args.id in
     let v = c.in_default.ensures.value in
     let bad : true ≡ false = sym held ∙ ap is_some (e ∙ sym v) in cc
@@ -17,7 +23,8 @@ invariant_of-self-2 g c =
     let w = (c.get_mut.follows.holds (zombie c.in-Some.entry.now)).3 (ap is_some (sym c.in-Some.ensures.value)) in
     let e = rows_insert c.self.inside.rows.entries _ c.args.id (zombie c.in-Some.entry.now) w.0 in
     let got = get_rows c.self.inside.rows.entries c.args.id ∙ sym c.in-Some.ensures.value in
-    let z = same_view {xs = reverse c.self.inside.freed.items} c.self.inside.births (e ∙ ap (with_zombie (from_entries c.self.inside.rows.entries) c.args.id) (sym got)) refl refl in
+    let z = same_view {xs = reverse c.self.inside.freed.items} c.self.inside.births
+    (e ∙ ap (with_zombie (from_entries c.self.inside.rows.entries) c.args.id) (sym got)) refl refl in
     (subst Sound (sym z) (Sound-zombied _ c.args.id c.self.invariant.0 c.requires.not_display), c.self.invariant.1)
 
 pub returns : goal.returns
@@ -25,5 +32,6 @@ returns g c =
     let w = (c.get_mut.follows.holds (zombie c.in-Some.entry.now)).3 (ap is_some (sym c.in-Some.ensures.value)) in
     let e = rows_insert c.self.inside.rows.entries _ c.args.id (zombie c.in-Some.entry.now) w.0 in
     let got = get_rows c.self.inside.rows.entries c.args.id ∙ sym c.in-Some.ensures.value in
-    same_view {xs = reverse c.self.inside.freed.items} c.self.inside.births (e ∙ ap (with_zombie (from_entries c.self.inside.rows.entries) c.args.id) (sym got)) refl refl
+    same_view {xs = reverse c.self.inside.freed.items} c.self.inside.births
+    (e ∙ ap (with_zombie (from_entries c.self.inside.rows.entries) c.args.id) (sym got)) refl refl
     ∙ ap (λ (v : View). zombied v c.args.id) c.self.view_is

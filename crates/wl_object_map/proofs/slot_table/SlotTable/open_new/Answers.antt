@@ -13,7 +13,8 @@ invariant_of-self-2 g c =
     let e = pushed ∙ ap (λ (s : Slot). c.self.inside.slots.items ++ s ∷ []) c.live.ensures in
     let b = becomes_opened _ c.push.new.self.items _ _ _ c.args.iface c.args.version c.self.invariant e in
     let room = subst (λ (v : View). has_room v (v.used + 1) ≡ true) (sym c.self.view_is) c.requires.room in
-    holds_of _ _ _ _ _ b (Sound-opened_at _ _ c.args.iface c.args.version c.self.invariant.sound (grind (arith, common_steps, nat_tests)) room)
+    holds_of _ _ _ _ _ b (Sound-opened_at _ _ c.args.iface c.args.version c.self.invariant.sound
+    (grind (arith, common_steps, nat_tests)) room)
 
 pub returns-clause-ok : goal.returns-clause-ok
 returns-clause-ok g c =

@@ -8,5 +8,7 @@ use Rattle.wl_object_map.proofs.slot_table.SlotTableTable.new.Goals as goal
 
 pub invariant_of-result : goal.invariant_of-result
 invariant_of-result g c =
-    let e = c.push_reserved.ensures.items ∙ ap (λ (s : List Slot). s ++ c.live.result ∷ []) c.in_ok-slots.ensures.items ∙ ap (λ (s : Slot). s ∷ []) c.live.ensures in
-    subst (λ (s : List Slot). Holds s 0 0 1) (sym e) (holds_of _ 0 0 1 (opening c.args.display) (becomes_opening c.args.display) (Sound-opening c.args.display))
+    let e = c.push_reserved.ensures.items ∙ ap (λ (s : List Slot). s ++ c.live.result ∷ []) c.in_ok-slots.ensures.items
+    ∙ ap (λ (s : Slot). s ∷ []) c.live.ensures in
+    subst (λ (s : List Slot). Holds s 0 0 1) (sym e)
+    (holds_of _ 0 0 1 (opening c.args.display) (becomes_opening c.args.display) (Sound-opening c.args.display))

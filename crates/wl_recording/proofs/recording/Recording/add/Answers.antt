@@ -7,7 +7,8 @@ pub fill_last-requires : goal.fill_last-requires
 fill_last-requires g c =
     let some : 0 < length c.args.bytes.now = grind arith in
     let zeros = length-replicate (length c.args.bytes.now) 0 in
-    let last = last_len-passed c.args.self.now c.args.direction (replicate (length c.args.bytes.now) 0) c.args.tokens (omega (arith, zeros, some)) in
+    let last = last_len-passed c.args.self.now c.args.direction (replicate (length c.args.bytes.now) 0) c.args.tokens
+    (omega (arith, zeros, some)) in
     rw c.in_ok-prepare.ensures.ok (sym (last ∙ zeros))
 
 pub returns-then-not-is_empty-clause-ok : goal.returns-then-not-is_empty-clause-ok

@@ -6,7 +6,8 @@ use Rattle.wl_recording.specs.Piece.{IsTellable}
 use Rattle.wl_recording.proofs.FillLemmas.{zeros_small}
 use Rattle.wl_recording.proofs.WriteLemmas.{tellable_with}
 use Rattle.wl_recording.proofs.recording.Recording.prepare.Goals as goal
-use Rattle.wl_recording.proofs.recording.Recording.prepare.Goals.{then-tokens-gt-MOST_TOKENS, else-tokens-gt-MOST_TOKENS}
+use Rattle.wl_recording.proofs.recording.Recording.prepare.Goals.{then-tokens-gt-MOST_TOKENS}
+use Rattle.wl_recording.proofs.recording.Recording.prepare.Goals.{else-tokens-gt-MOST_TOKENS}
 
 pub invariant_of-self-2 : goal.invariant_of-self-2
 invariant_of-self-2 g c =
@@ -16,13 +17,22 @@ invariant_of-self-2 g c =
     let requires = c.requires in
     elim c.if-tokens-gt-MOST_TOKENS.branch [
       | then-tokens-gt-MOST_TOKENS w ↦
-          rw (c.push_reserved-2.ensures.items, w.self-inside-is, w.push_reserved.ensures.items, c.in_ok-reserve.ensures.items, map-append, map-append)
+          rw (
+            c.push_reserved-2.ensures.items,
+            w.self-inside-is,
+            w.push_reserved.ensures.items,
+            c.in_ok-reserve.ensures.items,
+            map-append,
+            map-append,
+          )
           (All-push IsTellable _ _
           (All-push IsTellable _ _ c.self.invariant
-          (tellable_with c.args.direction _ [] 65535 (c.from_vec-none.ensures ∙ c.new.ensures.items) (λ k. omega arith) (omega arith)))
+          (tellable_with c.args.direction _ [] 65535 (c.from_vec-none.ensures ∙ c.new.ensures.items) (λ k. omega arith)
+          (omega arith)))
           (tellable_with c.args.direction _ _ _ zeros small (omega (arith, w.tokens-is))))
       | else-tokens-gt-MOST_TOKENS w ↦
           rw (c.push_reserved-2.ensures.items, w.self-inside-is, c.in_ok-reserve.ensures.items, map-append)
           (All-push IsTellable _ _ c.self.invariant
-          (tellable_with c.args.direction _ _ _ zeros small (omega (arith, w.tokens-is, w.if-tokens-gt-MOST_TOKENS.false))))
+          (tellable_with c.args.direction _ _ _ zeros small
+          (omega (arith, w.tokens-is, w.if-tokens-gt-MOST_TOKENS.false))))
     ]

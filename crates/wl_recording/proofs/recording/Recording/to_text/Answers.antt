@@ -8,7 +8,8 @@ use Rattle.wl_recording.proofs.recording.Recording.to_text.Goals as goal
 pub loop-piece-preserved : goal.loop-piece-preserved
 loop-piece-preserved g c =
     let invariant = c.loop-piece.invariant in
-    let more = text_more plain c.deref-piece-items.result.now c.loop-piece.piece-index c.piece-item.result c.loop-piece-test.true c.piece-item.is in
+    let more = text_more plain c.deref-piece-items.result.now c.loop-piece.piece-index c.piece-item.result
+    c.loop-piece-test.true c.piece-item.is in
     c.in_ok-write_piece.ensures ∙ rw invariant (sym more)
 
 pub returns-clause-told : goal.returns-clause-told

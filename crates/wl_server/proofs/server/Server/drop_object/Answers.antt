@@ -12,13 +12,19 @@ use Rattle.wl_server.specs.Registries.{HasRegistries, BirthsAreOnce}
 use Rattle.wl_server.proofs.Registries.{has_dropped, births_closed}
 use Rattle.wl_server.proofs.server.Server.drop_object.Goals as goal
 
-has_by : {X : Type 0} (rs : List Registry) (object : Object) (r : Result X SendError) (before now : Core) → refusal_in r ≡ drop_refusal before object → OnOk r (now ≡ after_drop before object) → OnErr r (now ≡ before) → IfOk r (λ _. Valid before.tables)
+has_by : {X : Type 0} (rs : List Registry) (object : Object) (r : Result X SendError) (before now : Core)
+    → refusal_in r ≡ drop_refusal before object → OnOk r (now ≡ after_drop before object) → OnErr r (now ≡ before)
+    → IfOk r (λ _. Valid before.tables)
     → HasRegistries before.view rs → HasRegistries now.view rs
-has_by rs object (Ok x) before now a ok err v h = subst (λ (k : Core). HasRegistries k.view rs) (sym ok) (has_dropped before rs object v a h)
+has_by rs object (Ok x) before now a ok err v h =
+    subst (λ (k : Core). HasRegistries k.view rs) (sym ok) (has_dropped before rs object v a h)
 has_by rs object (Err why) before now a ok err v h = subst (λ (k : Core). HasRegistries k.view rs) (sym err) h
 
-births_by : {X E : Type 0} (object : Object) (r : Result X E) (before now : Core) → OnOk r (now ≡ after_drop before object) → OnErr r (now ≡ before) → BirthsAreOnce before.view → BirthsAreOnce now.view
-births_by object (Ok x) before now ok err b = subst (λ (k : Core). BirthsAreOnce k.view) (sym ok) (births_closed before.view object.id b)
+births_by : {X E : Type 0} (object : Object) (r : Result X E) (before now : Core)
+    → OnOk r (now ≡ after_drop before object) → OnErr r (now ≡ before) → BirthsAreOnce before.view
+    → BirthsAreOnce now.view
+births_by object (Ok x) before now ok err b = subst (λ (k : Core). BirthsAreOnce k.view) (sym ok)
+    (births_closed before.view object.id b)
 births_by object (Err why) before now ok err b = subst (λ (k : Core). BirthsAreOnce k.view) (sym err) b
 
 pub invariant_of-self : goal.invariant_of-self
@@ -26,6 +32,8 @@ invariant_of-self g c =
     let e = c.close_dropped.ensures in
     record {
       few = c.self.invariant.few;
-      registries = has_by c.self.inside.registries.items c.args.object c.close_dropped.result c.self.inside.core c.close_dropped.new.core e.answer e.ok e.err e.valid c.self.invariant.registries;
-      births = births_by c.args.object c.close_dropped.result c.self.inside.core c.close_dropped.new.core e.ok e.err c.self.invariant.births;
+      registries = has_by c.self.inside.registries.items c.args.object c.close_dropped.result c.self.inside.end.core
+          c.close_dropped.new.core e.answer e.ok e.err e.valid c.self.invariant.registries;
+      births = births_by c.args.object c.close_dropped.result c.self.inside.end.core c.close_dropped.new.core e.ok e.err
+          c.self.invariant.births;
     }

@@ -1,4 +1,4 @@
-use Rattle.std.proofs.Common.{rules, sym, ap, subst, arith, []}
+use Rattle.std.proofs.Common.{rules, sym, ap, subst, ◌∙◌, arith, []}
 use Rattle.wl_sigs.specs.Fixed.{display}
 use Rattle.wl_object_map.specs.View.{View, opening}
 use Rattle.wl_object_map.specs.Sounds.{Sound-opening}
@@ -12,9 +12,10 @@ returns c = search rules
 
 pub invariant_of-result : goal.invariant_of-result
 invariant_of-result g c =
-    let view = ap (λ (k : Core). k.view) c.in_ok-core.ensures in
+    let view = ap (λ (k : Core). k.view) (c.new-2.ensures ∙ c.in_ok-core.ensures) in
     record {
       few = grind (arith, c.new-globals.ensures.items);
-      registries = subst (HasRegistries c.in_ok-core.core.view) (sym c.new-registries.ensures.items) (subst (λ (v : View). HasRegistries v []) (sym view) has_none);
+      registries = subst (HasRegistries c.new-2.result.core.view) (sym c.new-registries.ensures.items)
+          (subst (λ (v : View). HasRegistries v []) (sym view) has_none);
       births = subst BirthsAreOnce (sym view) (births_of_sound (opening display) (Sound-opening display));
     }

@@ -11,7 +11,8 @@ use Rattle.wl_server.proofs.Registries.{has_sent, births_sent}
 use Rattle.wl_server.proofs.server.Server.send.Goals as goal
 
 -- what held of the end before holds of it after, where it does after an accepted call
-by_result : {X E : Type 0} (P : Core → Type 0) (r : Result X E) (before now sent : Core) → OnOk r (now ≡ sent) → OnErr r (now ≡ before) → IfOk r (λ _. Valid before.tables)
+by_result : {X E : Type 0} (P : Core → Type 0) (r : Result X E) (before now sent : Core) → OnOk r (now ≡ sent)
+    → OnErr r (now ≡ before) → IfOk r (λ _. Valid before.tables)
     → (Valid before.tables → now ≡ sent → P now) → P before → P now
 by_result P (Ok x) before now sent ok err v f h = f v ok
 by_result P (Err why) before now sent ok err v f h = subst P (sym err) h
@@ -19,14 +20,17 @@ by_result P (Err why) before now sent ok err v f h = subst P (sym err) h
 pub invariant_of-self : goal.invariant_of-self
 invariant_of-self g c =
     let list = given c.args.args.now in
-    let core = c.self.inside.core in
+    let core = c.self.inside.end.core in
     let now = c.send.new.self in
     let sent = after_send core Event c.args.target c.args.opcode list in
     let e = c.send.ensures in
     record {
       few = c.self.invariant.few;
-      registries = by_result (λ (k : Core). HasRegistries k.view c.self.inside.registries.items) c.send.result core now sent e.ok e.err e.valid
-          (λ v is. has_sent core now c.self.inside.registries.items c.args.target c.args.opcode list v is c.self.invariant.registries) c.self.invariant.registries;
+      registries = by_result (λ (k : Core). HasRegistries k.view c.self.inside.registries.items) c.send.result core now
+          sent e.ok e.err e.valid
+          (λ v is. has_sent core now c.self.inside.registries.items c.args.target c.args.opcode list v is
+          c.self.invariant.registries) c.self.invariant.registries;
       births = by_result (λ (k : Core). BirthsAreOnce k.view) c.send.result core now sent e.ok e.err e.valid
-          (λ v is. births_sent core now c.args.target c.args.opcode list v is c.self.invariant.births) c.self.invariant.births;
+          (λ v is. births_sent core now c.args.target c.args.opcode list v is c.self.invariant.births)
+          c.self.invariant.births;
     }

@@ -7,4 +7,5 @@ abbrev pub invariant-loop-entry : goal.invariant-loop-entry
 invariant-loop-entry g l = l.ended.items ≡ map has_destroying_event (take l.entry-index l.entry-items)
 
 abbrev pub invariant-loop-interface : goal.invariant-loop-interface
-invariant-loop-interface g l = l.ended.items ≡ map has_destroying_event l.fn.self ++ map (λ i. list_any (λ m. m.destroys) i.events) (take l.interface-index l.written)
+invariant-loop-interface g l = l.ended.items ≡ map has_destroying_event l.fn.self
+    ++ map (λ i. list_any (λ m. m.destroys) i.events) (take l.interface-index l.written)

@@ -5,4 +5,5 @@ abbrev pub invariant-loop-entry : goal.invariant-loop-entry
 invariant-loop-entry g l = map (λ n. n.now) l.names.items ≡ map (λ i. i.name) (take l.entry-index l.entry-items)
 
 abbrev pub invariant-loop-interface : goal.invariant-loop-interface
-invariant-loop-interface g l = map (λ n. n.now) l.names.items ≡ map (λ i. i.name) l.fn.self ++ map (λ i. i.name) (take l.interface-index l.written)
+invariant-loop-interface g l = map (λ n. n.now) l.names.items
+    ≡ map (λ i. i.name) l.fn.self ++ map (λ i. i.name) (take l.interface-index l.written)

@@ -23,5 +23,7 @@ returns g c =
     let len : c.len-from.result ≡ length tables = grind (arith, common_steps) in
     let ended : c.as_slice.result.now ≡ ended_of tables written = c.as_slice.ensures.value ∙ c.in_ok-ended.ensures in
     let place : place_in c.args.places.now ≡ first_place (all_names tables written) = fun_ext c.requires in
-    let same : interfaces_broken (place_in c.args.places.now) c.as_slice.result.now c.len-from.result written ≡ first_broken tables written = rw (place, ended, len) refl in
-    subst (λ (it : Option Broken). IfOk c.interfaces_broken.result (λ found. option_map broken found ≡ it)) same c.interfaces_broken.ensures
+    let same : interfaces_broken (place_in c.args.places.now) c.as_slice.result.now c.len-from.result written
+    ≡ first_broken tables written = rw (place, ended, len) refl in
+    subst (λ (it : Option Broken). IfOk c.interfaces_broken.result (λ found. option_map broken found ≡ it)) same
+    c.interfaces_broken.ensures

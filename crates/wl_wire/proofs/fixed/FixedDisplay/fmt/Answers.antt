@@ -18,4 +18,6 @@ returns-clause-writes g c = λ plain ok.
       | else-raw-lt0 w ↦ ap (λ r. r.now) w.sign-is ∙ sign_above _ w.if-raw-lt0.false ∙ ap sign_of same
     ] in
     let size : c.unsigned_abs-size.result ≡ nat_abs raw = c.unsigned_abs-size.ensures.value ∙ ap nat_abs same in
-    subst (λ (text : List ℕ). HasWritten {W = g.row.W.Denot} g.W.Write.write_str_gives c.args.f.now text c.write.new.self) (rw c.laid_out.ensures (text_shown raw c.if-raw-lt0.sign.now c.unsigned_abs-size.result sign size ∙ ap fixed_text c.raw-raw.ensures)) (c.write.ensures.writes plain ok)
+    subst (λ (text : List ℕ). HasWritten {W = g.row.W.Denot} g.W.Write.write_str_gives c.args.f.now text
+    c.write.new.self) (rw c.laid_out.ensures (text_shown raw c.if-raw-lt0.sign.now c.unsigned_abs-size.result sign
+    size ∙ ap fixed_text c.raw-raw.ensures)) (c.write.ensures.writes plain ok)

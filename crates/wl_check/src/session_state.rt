@@ -1,0 +1,150 @@
+//! A session's messages, judged one after another.
+ghost use Rattle.std.specs.Prelude.{◌≡◌, ◌≤◌, ◌++◌, ◌^◌, ◌<◌, ℕ, true, false, drop, length, OnOk};
+ghost use Rattle.std.specs.Prelude.{IfOk};
+ghost use Rattle.wl_sigs.specs.Valid.{Valid};
+ghost use Rattle.wl_check.specs.SessionState.{is_open, AllJudged, Comes, Follows, IsFresh, IsJudged};
+ghost use Rattle.wl_check.specs.SessionState.{OthersStay, WentOn};
+ghost use Rattle.wl_check.specs.Session.{Session};
+
+use crate::frames::{FramedMessage, size_in_front};
+use crate::judging::judge;
+use crate::progress::Progress;
+use std::alloc::{AllocError, Allocator, Global};
+use wl_message::Limit;
+use wl_objects::Fault;
+use wl_recording::Direction;
+use wl_sigs::Tables;
+
+/// What is written of a session.
+#[derive(Clone, Copy, Debug)]
+pub(crate) enum Output {
+    Nothing,
+    /// The line of each message.
+    Lines,
+}
+
+/// Whether there are messages to judge.
+#[derive(Clone, Copy, Debug)]
+pub(crate) enum SessionStatus {
+    /// No message broke a rule, and none ended the session.
+    Open,
+    /// The last message was wl_display.error, which ends the session.
+    Ended,
+    /// The next message breaks a rule: this is the first that it breaks.
+    Broken(FramedMessage, Fault),
+}
+
+/// How far a session was judged.
+#[derive(Drop)]
+pub(crate) struct SessionState<A: Allocator = Global> {
+    /// What is known behind the messages that keep the rules, and what was counted of them.
+    pub progress: Progress<A>,
+    /// How many these are.
+    pub count: u64,
+    /// What was written of them.
+    pub text: Vec<u8, A>,
+    pub status: SessionStatus,
+}
+
+impl<A: Allocator + Clone> SessionState<A> {
+    /// Before the first message.
+    pub(crate) fn new(alloc: &A, tables: &Tables) -> Result<Self, AllocError>
+        ensures valid { OnOk result (Valid tables.now) }
+        ensures fresh { IfOk result IsFresh }
+    {
+        Ok(SessionState {
+            progress: Progress::new(alloc, tables)?,
+            count: 0,
+            text: Vec::new(alloc.clone()?),
+            status: SessionStatus::Open,
+        })
+    }
+
+    /// Judges the messages that stand whole in these bytes of a direction, and returns where the
+    /// bytes of the next begin. One that breaks a rule or ends the session is the last.
+    pub(crate) fn judge_all(
+        &mut self,
+        bytes: &[u8],
+        direction: Direction,
+        tokens: u128,
+        tables: &Tables,
+        limit: Limit,
+        output: Output,
+    ) -> Result<usize, AllocError>
+        requires valid { Valid tables.now }
+        requires follows { (s : Session)
+            × Follows limit.bytes tables.now s output self.old direction tokens bytes.now }
+        ensures place { IfOk result (λ place. place ≤ length bytes.now) }
+        ensures judged { IfOk result (λ place. (s : Session)
+            → Follows limit.bytes tables.now s output self.old direction tokens bytes.now
+            → AllJudged limit.bytes tables.now s output self.new direction (drop place bytes.now)) }
+        ensures other { OnOk result (OthersStay direction self.old self.new) }
+    {
+        let mut place = 0;
+        'messages: loop {
+            let rest = &bytes[place..];
+            let Some(size) = size_in_front(rest, limit) else {
+                return Ok(place);
+            };
+            let frame = FramedMessage {
+                direction,
+                start: self.progress.tally(direction).end,
+                size,
+                tokens,
+            };
+            self.judge_next(rest, &frame, tables, limit, output)?;
+            if !self.is_open() {
+                return Ok(place);
+            }
+            place += size as usize;
+        }
+    }
+
+    /// Judges the next message, which begins these bytes, and writes what is wanted of it.
+    fn judge_next(
+        &mut self,
+        bytes: &[u8],
+        frame: &FramedMessage,
+        tables: &Tables,
+        limit: Limit,
+        output: Output,
+    ) -> Result<(), AllocError>
+        requires valid { Valid tables.now }
+        requires comes { (s : Session)
+            × Comes limit.bytes tables.now s output self.old frame.now bytes.now }
+        ensures judged { OnOk result ((s : Session)
+            → Comes limit.bytes tables.now s output self.old frame.now bytes.now
+            → IsJudged tables.now s output self.new) }
+        ensures on { OnOk result (is_open self.new.status ≡ true
+            → WentOn limit.bytes frame.now self.old self.new) }
+        ensures other { OnOk result (OthersStay frame.now.direction self.old self.new) }
+    {
+        let known = &self.progress.known;
+        let changes = match judge(tables, known, bytes, frame, limit, &mut self.text, output)? {
+            Ok(changes) => changes,
+            Err(fault) => {
+                self.status = SessionStatus::Broken(*frame, fault);
+                return Ok(());
+            }
+        };
+        let place = self.count + 1;
+        self.progress.advance(place, frame, &changes)?;
+        self.count = place;
+        if changes.is_error {
+            self.status = SessionStatus::Ended;
+        }
+        Ok(())
+    }
+}
+
+impl<A: Allocator> SessionState<A> {
+    /// Whether there are messages to judge.
+    pub(crate) fn is_open(&self) -> bool
+        ensures { result ≡ is_open self.now.status }
+    {
+        match self.status {
+            SessionStatus::Open => true,
+            SessionStatus::Ended | SessionStatus::Broken(..) => false,
+        }
+    }
+}

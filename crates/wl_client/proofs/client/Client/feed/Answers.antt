@@ -1,5 +1,0 @@
-use Rattle.std.proofs.Common.{rules}
-use Rattle.wl_client.proofs.client.Client.feed.Goals as goal
-
-pub returns-clause-fed : goal.returns-clause-fed
-returns-clause-fed c = search rules

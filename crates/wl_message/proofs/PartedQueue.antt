@@ -1,0 +1,442 @@
+-- An outbox's lists, parted into messages.
+use Rattle.std.proofs.Common.{◌≡◌, ℕ, zero, suc, ◌+◌, ◌-◌, ◌*◌, ◌<◌, ◌≤◌, min, true, false, List}
+use Rattle.std.proofs.Common.{[], ◌∷◌, ◌++◌, length, take, drop, refl, sym, ap, subst, ◌∙◌, arith}
+use Rattle.std.proofs.Common.{length-append, length-drop}
+use Rattle.std.specs.List.{AllByRecursion}
+use Rattle.std.proofs.lemmas.List.{length-take, append-nil, take-append-drop, take-append-le}
+use Rattle.std.proofs.lemmas.List.{drop-append-le, drop-drop, drop-take, take_all}
+use Rattle.std.proofs.Math.Seq.{take-add}
+use Rattle.wl_message.specs.declared.marks.Mark.{Mark}
+use Rattle.wl_message.specs.declared.marks.Reach.{Reach}
+use Rattle.wl_message.specs.Outgoing.{Message, message, Outgoing, all_bytes, all_tokens, begun}
+use Rattle.wl_message.specs.Outgoing.{newly_begun, going_bytes, goes, waiting_bytes, waiting_tokens}
+use Rattle.wl_message.specs.Outgoing.{with_message, with_error, after_taking}
+use Rattle.wl_message.specs.Marks.{reach, Reaches, parted, lens, token_counts, Kept, outgoing, IsKept}
+use Rattle.wl_message.proofs.WhatGoes.{begun_front, marks_of, reaches}
+
+-- ---- marks
+
+pub lens-append : (ks : List Mark) (k : Mark) → lens (ks ++ k ∷ []) ≡ lens ks + k.len
+lens-append [] k = omega arith
+lens-append (j ∷ ks) k = omega (arith, lens-append ks k)
+
+pub token_counts-append : (ks : List Mark) (k : Mark) → token_counts (ks ++ k ∷ []) ≡ token_counts ks + k.tokens
+token_counts-append [] k = omega arith
+token_counts-append (j ∷ ks) k = omega (arith, token_counts-append ks k)
+
+pub each-append : (ks : List Mark) (k : Mark) → AllByRecursion (λ (i : Mark). 8 ≤ i.len) ks → 8 ≤ k.len
+    → AllByRecursion (λ (i : Mark). 8 ≤ i.len) (ks ++ k ∷ [])
+each-append [] k h p = (p, tt)
+each-append (j ∷ ks) k h p = (h.0, each-append ks k h.1 p)
+
+pub each-drop : (n : ℕ) (ks : List Mark) → AllByRecursion (λ (i : Mark). 8 ≤ i.len) ks
+    → AllByRecursion (λ (i : Mark). 8 ≤ i.len) (drop n ks)
+each-drop zero ks h = h
+each-drop (suc n) [] h = tt
+each-drop (suc n) (k ∷ ks) h = each-drop n ks h.1
+
+-- there are at most an eighth as many marks as bytes
+pub marks_fit : (ks : List Mark) → AllByRecursion (λ (i : Mark). 8 ≤ i.len) ks → 8 * length ks ≤ lens ks
+marks_fit [] h = omega arith
+marks_fit (k ∷ ks) h = omega (arith, marks_fit ks h.1, h.0)
+
+lens-parts : (n : ℕ) (ks : List Mark) → lens (take n ks) + lens (drop n ks) ≡ lens ks
+lens-parts zero ks = omega arith
+lens-parts (suc n) [] = omega arith
+lens-parts (suc n) (k ∷ ks) = omega (arith, lens-parts n ks)
+
+counts-parts : (n : ℕ) (ks : List Mark) → token_counts (take n ks) + token_counts (drop n ks) ≡ token_counts ks
+counts-parts zero ks = omega arith
+counts-parts (suc n) [] = omega arith
+counts-parts (suc n) (k ∷ ks) = omega (arith, counts-parts n ks)
+
+-- ---- messages
+
+-- marks that tell of these bytes and tokens
+pub record Parts (ks : List Mark) (bs ts : List ℕ) : Type 0 where
+  pub bytes : lens ks ≡ length bs
+  pub tokens : token_counts ks ≡ length ts
+
+parts_tail : (k : Mark) (ks : List Mark) (bs ts : List ℕ) → Parts (k ∷ ks) bs ts
+    → Parts ks (drop k.len bs) (drop k.tokens ts)
+parts_tail k ks bs ts h = record {
+  bytes = omega (arith, h.bytes, length-drop k.len bs);
+  tokens = omega (arith, h.tokens, length-drop k.tokens ts);
+}
+
+empty : (xs : List ℕ) → 0 ≡ length xs → xs ≡ []
+empty [] h = refl
+empty (x ∷ xs) h = absurd (omega arith)
+
+pub bytes-parted : (ks : List Mark) (bs ts : List ℕ) → Parts ks bs ts → all_bytes (parted ks bs ts) ≡ bs
+bytes-parted [] bs ts h = sym (empty bs h.bytes)
+bytes-parted (k ∷ ks) bs ts h =
+    ap (λ (x : List ℕ). take k.len bs ++ x) (bytes-parted ks _ _ (parts_tail k ks bs ts h)) ∙ take-append-drop k.len bs
+
+pub tokens-parted : (ks : List Mark) (bs ts : List ℕ) → Parts ks bs ts → all_tokens (parted ks bs ts) ≡ ts
+tokens-parted [] bs ts h = sym (empty ts h.tokens)
+tokens-parted (k ∷ ks) bs ts h =
+    ap (λ (x : List ℕ). take k.tokens ts ++ x) (tokens-parted ks _ _ (parts_tail k ks bs ts h))
+    ∙ take-append-drop k.tokens ts
+
+-- the marks are those of the messages
+marks-parted : (ks : List Mark) (bs ts : List ℕ) → Parts ks bs ts → marks_of (parted ks bs ts) ≡ ks
+marks-parted [] bs ts h = refl
+marks-parted (k ∷ ks) bs ts h =
+    let p : length (take k.len bs) ≡ k.len = omega (arith, length-take k.len bs, h.bytes) in
+    let q : length (take k.tokens ts) ≡ k.tokens = omega (arith, length-take k.tokens ts, h.tokens) in
+    let r = marks-parted ks _ _ (parts_tail k ks bs ts h) in
+    λ i. record { len = p i; tokens = q i } ∷ r i
+
+some-parted : (ks : List Mark) (bs ts : List ℕ) → Parts ks bs ts → AllByRecursion (λ (i : Mark). 8 ≤ i.len) ks
+    → AllByRecursion (λ (m : Message). 0 < length m.bytes) (parted ks bs ts)
+some-parted [] bs ts h e = tt
+some-parted (k ∷ ks) bs ts h e = (
+  omega (arith, length-take k.len bs, h.bytes, e.0),
+  some-parted ks _ _
+      (parts_tail k ks bs ts h) e.1,
+)
+
+-- each message of an outbox has bytes
+pub some_messages : (h : Kept) → IsKept h → AllByRecursion (λ (m : Message). 0 < length m.bytes) (outgoing h).messages
+some_messages h i = some-parted h.marks _ _ (record {
+  bytes = omega (arith, i.bytes, length-drop h.left h.bytes);
+  tokens = i.tokens;
+}) i.each
+
+length-parted : (ks : List Mark) (bs ts : List ℕ) → length (parted ks bs ts) ≡ length ks
+length-parted [] bs ts = refl
+length-parted (k ∷ ks) bs ts = ap suc (length-parted ks _ _)
+
+-- a message more at the end
+pub parted-append : (ks : List Mark) (bs ts m t : List ℕ) → Parts ks bs ts
+    → parted (ks ++ record { len = length m; tokens = length t } ∷ []) (bs ++ m) (ts ++ t)
+    ≡ parted ks bs ts ++ message m t ∷ []
+parted-append [] bs ts m t h =
+    rw (empty bs h.bytes, empty ts h.tokens) (λ i. message (take_all (length m) m (omega arith) i)
+    (take_all (length t) t (omega arith) i) ∷ [])
+parted-append (k ∷ ks) bs ts m t h =
+    let rest = parted-append ks (drop k.len bs) (drop k.tokens ts) m t (parts_tail k ks bs ts h) in
+    let p : k.len ≤ length bs = omega (arith, h.bytes) in
+    let q : k.tokens ≤ length ts = omega (arith, h.tokens) in
+    rw (
+      take-append-le k.len bs m p,
+      drop-append-le k.len bs m p,
+      take-append-le k.tokens ts t q,
+      drop-append-le
+          k.tokens ts t q,
+      rest,
+    ) refl
+
+-- the first messages, and the others
+pub record Split (n : ℕ) (ks : List Mark) (bs ts : List ℕ) : Type 0 where
+  pub bytes : all_bytes (take n (parted ks bs ts)) ≡ take (lens (take n ks)) bs
+  pub tokens : all_tokens (take n (parted ks bs ts)) ≡ take (token_counts (take n ks)) ts
+  pub others : drop n (parted ks bs ts) ≡ parted (drop n ks) (drop (lens (take n ks)) bs)
+      (drop (token_counts (take n ks)) ts)
+
+split : (n : ℕ) (ks : List Mark) (bs ts : List ℕ) → Parts ks bs ts → Split n ks bs ts
+split zero ks bs ts h = record { bytes = refl; tokens = refl; others = refl }
+split (suc n) [] bs ts h = record { bytes = refl; tokens = refl; others = refl }
+split (suc n) (k ∷ ks) bs ts h =
+    let s = split n ks (drop k.len bs) (drop k.tokens ts) (parts_tail k ks bs ts h) in
+    record {
+      bytes = ap (λ (l : List ℕ). take k.len bs ++ l) s.bytes ∙ sym (take-add k.len (lens (take n ks)) bs);
+      tokens = ap (λ (l : List ℕ). take k.tokens ts ++ l) s.tokens
+          ∙ sym (take-add k.tokens (token_counts (take n ks)) ts);
+      others = s.others ∙ (λ i. parted (drop n ks) (drop-drop (lens (take n ks)) k.len bs i)
+          (drop-drop (token_counts (take n ks)) k.tokens ts i));
+    }
+
+-- ---- an outbox
+
+kept_parts : (h : Kept) → IsKept h → Parts h.marks (drop h.left h.bytes) h.tokens
+kept_parts h i = record { bytes = omega (arith, i.bytes, length-drop h.left h.bytes); tokens = i.tokens }
+
+pub bytes_wait : (h : Kept) → IsKept h → waiting_bytes (outgoing h) ≡ h.bytes
+bytes_wait h i =
+    ap (λ (x : List ℕ). take h.left h.bytes ++ x) (bytes-parted h.marks _ _ (kept_parts h i))
+    ∙ take-append-drop h.left h.bytes
+
+pub tokens_wait : (h : Kept) → IsKept h → waiting_tokens (outgoing h) ≡ h.tokens
+tokens_wait h i = tokens-parted h.marks _ _ (kept_parts h i)
+
+pub left_len : (h : Kept) → IsKept h → length (take h.left h.bytes) ≡ h.left
+left_len h i = omega (arith, i.bytes, length-take h.left h.bytes)
+
+-- a message more
+abbrev pub kept_with : Kept → List ℕ → List ℕ → Kept
+kept_with h m t = record h {
+  bytes = h.bytes ++ m;
+  tokens = h.tokens ++ t;
+  marks = h.marks ++ record { len = length m; tokens = length t } ∷ [];
+}
+
+same_left : (h : Kept) (m : List ℕ) → IsKept h → take h.left (h.bytes ++ m) ≡ take h.left h.bytes
+same_left h m i = let p : h.left ≤ length h.bytes = omega (arith, i.bytes) in take-append-le h.left h.bytes m p
+
+more_behind : (h : Kept) (m t : List ℕ) → IsKept h
+    → parted (h.marks ++ record { len = length m; tokens = length t } ∷ []) (drop h.left (h.bytes ++ m)) (h.tokens ++ t)
+    ≡ parted h.marks (drop h.left h.bytes) h.tokens ++ message m t ∷ []
+more_behind h m t i =
+    let p : h.left ≤ length h.bytes = omega (arith, i.bytes) in
+    rw (drop-append-le h.left h.bytes m p) (parted-append h.marks (drop h.left h.bytes) h.tokens m t (kept_parts h i))
+
+pub pushed : (h : Kept) (m t : List ℕ) → IsKept h → outgoing (kept_with h m t) ≡ with_message (outgoing h) m t
+pushed h m t i = λ d. record {
+  left = same_left h m i d;
+  messages = more_behind h m t i d;
+  capacity = h.capacity;
+  token_capacity = h.token_capacity;
+  limit = h.limit;
+  has_error = h.has_error;
+  error_from = h.error_from;
+  error_to = h.error_to;
+}
+
+pub pushed_kept : (h : Kept) (m t : List ℕ) → IsKept h → 8 ≤ length m
+    → length h.bytes + length m + h.error_from ≤ h.capacity + h.error_to → length h.tokens + length t ≤ h.token_capacity
+    → IsKept (kept_with h m t)
+pushed_kept h m t i low room token_room = record {
+  bytes = omega (
+    arith,
+    i.bytes,
+    lens-append h.marks
+        (record { len = length m; tokens = length t }),
+    length-append h.bytes m,
+  );
+  tokens = omega (
+    arith,
+    i.tokens,
+    token_counts-append h.marks
+        (record { len = length m; tokens = length t }),
+    length-append h.tokens t,
+  );
+  each = each-append h.marks (record { len = length m; tokens = length t }) i.each low;
+  room = omega (arith, room, length-append h.bytes m);
+  token_room = omega (arith, token_room, length-append h.tokens t);
+  error_order = i.error_order;
+  error_there = omega (arith, i.error_there, length-append h.bytes m);
+  error_len = i.error_len;
+  no_error = i.no_error;
+}
+
+-- the error event
+abbrev pub kept_with_error : Kept → List ℕ → Kept
+kept_with_error h m = record h {
+  bytes = h.bytes ++ m;
+  marks = h.marks ++ record { len = length m; tokens = 0 } ∷ [];
+  has_error = true;
+  error_from = length h.bytes;
+  error_to = length h.bytes + length m;
+}
+
+pub pushed_error : (h : Kept) (m : List ℕ) → IsKept h → outgoing (kept_with_error h m) ≡ with_error (outgoing h) m
+pushed_error h m i =
+    let w : length h.bytes ≡ length (waiting_bytes (outgoing h)) =
+    ap (λ (l : List ℕ). length l) (sym (bytes_wait h i)) in
+    let e = subst (λ (l : List ℕ). parted (h.marks ++ record { len = length m; tokens = 0 } ∷ [])
+    (drop h.left (h.bytes ++ m)) l ≡ parted h.marks (drop h.left h.bytes) h.tokens ++ message m [] ∷ [])
+    (append-nil h.tokens) (more_behind h m [] i) in
+    λ d. record {
+      left = same_left h m i d;
+      messages = e d;
+      capacity = h.capacity;
+      token_capacity = h.token_capacity;
+      limit = h.limit;
+      has_error = true;
+      error_from = w d;
+      error_to = w d + length m;
+    }
+
+pub error_kept : (h : Kept) (m : List ℕ) → IsKept h → h.has_error ≡ false → 8 ≤ length m → length m ≤ 64
+    → IsKept (kept_with_error h m)
+error_kept h m i first low high =
+    let z = i.no_error first in
+    record {
+      bytes = omega (
+        arith,
+        i.bytes,
+        lens-append h.marks
+            (record { len = length m; tokens = 0 }),
+        length-append h.bytes m,
+      );
+      tokens = omega (arith, i.tokens, token_counts-append h.marks (record { len = length m; tokens = 0 }));
+      each = each-append h.marks (record { len = length m; tokens = 0 }) i.each low;
+      room = omega (arith, i.room, z, i.error_order, length-append h.bytes m);
+      token_room = i.token_room;
+      error_order = omega arith;
+      error_there = omega (arith, length-append h.bytes m);
+      error_len = omega (arith, high);
+      no_error = λ e. absurd (cc e);
+    }
+
+-- ---- what goes
+
+pub reaches_kept : (h : Kept) (b t first : ℕ) (r : Reach) → IsKept h → first ≡ min b h.left
+    → r ≡ reach (b - first) t 0 h.marks
+    → Reaches (outgoing h) b t (record {
+      bytes = r.bytes;
+      tokens = r.tokens;
+      begun = r.begun;
+      left = h.left - first + r.left;
+    })
+reaches_kept h b t first r i f e =
+    let p = kept_parts h i in
+    let l = left_len h i in
+    let m = marks-parted h.marks _ _ p in
+    let f' : first ≡ min b (length (take h.left h.bytes)) = f ∙ ap (min b) (sym l) in
+    let e' : r ≡ reach (b - min b (length (take h.left h.bytes))) t 0
+    (marks_of (parted h.marks (drop h.left h.bytes) h.tokens)) =
+    e ∙ (λ d. reach (b - f' d) t 0 (sym m d)) in
+    let g = reaches (outgoing h) b t r (some-parted h.marks _ _ p i.each) e' in
+    subst (λ (n : ℕ). Reaches (outgoing h) b t (record {
+      bytes = r.bytes;
+      tokens = r.tokens;
+      begun = r.begun;
+      left = n + r.left;
+    }))
+    (λ d. l d - sym f' d) g
+
+-- the outbox once n bytes and k tokens are gone
+abbrev pub kept_after : Kept → ℕ → ℕ → ℕ → ℕ → Kept
+kept_after h n k begun left = record h {
+  bytes = drop n h.bytes;
+  tokens = drop k h.tokens;
+  marks = drop begun h.marks;
+  left = left;
+  error_from = h.error_from - n;
+  error_to = h.error_to - n;
+}
+
+-- how much goes, and what that leaves
+pub record Leaves (h : Kept) (n k begun left : ℕ) : Type 0 where
+  pub bytes : n ≤ length h.bytes
+  pub tokens : k ≤ length h.tokens
+  pub marks : begun ≤ length h.marks
+  pub after : outgoing (kept_after h n k begun left) ≡ after_taking (outgoing h) n
+  pub kept : IsKept (kept_after h n k begun left)
+
+pub leaves : (h : Kept) (b t n k : ℕ) (r : Reach) → IsKept h → Reaches (outgoing h) b t r → n ≡ b - r.bytes
+    → k ≡ t - r.tokens → Leaves h n k r.begun r.left
+leaves h b t n k r i g en ek =
+    let p = kept_parts h i in
+    let o = outgoing h in
+    let l : ℕ = h.left in
+    let j : ℕ = r.begun in
+    let ms = parted h.marks (drop l h.bytes) h.tokens in
+    let s = split j h.marks (drop l h.bytes) h.tokens p in
+    let size : ℕ = lens (take j h.marks) in
+    let count : ℕ = token_counts (take j h.marks) in
+    let n_is : n ≡ going_bytes o b t = omega (arith, en, g.bytes) in
+    let begun_is : newly_begun o n ≡ take j ms =
+    ap (λ (q : ℕ). newly_begun o q) n_is ∙ begun_front (going_bytes o b t - length o.left) ms
+    ∙ ap (λ (q : ℕ). take q ms) (sym g.begun) in
+    let begun_len : length (newly_begun o n) ≡ j = ap (λ (q : ℕ). length (newly_begun o q)) n_is ∙ sym g.begun in
+    let bytes_are : all_bytes (newly_begun o n) ≡ take size (drop l h.bytes) =
+    ap (λ (m : List Message). all_bytes m) begun_is ∙ s.bytes in
+    let tokens_are : all_tokens (newly_begun o n) ≡ take count h.tokens =
+    ap (λ (m : List Message). all_tokens m) begun_is ∙ s.tokens in
+    let size_within : size + lens (drop j h.marks) ≡ lens h.marks = lens-parts j h.marks in
+    let count_within : count + token_counts (drop j h.marks) ≡ token_counts h.marks = counts-parts j h.marks in
+    let bytes_len : length (all_bytes (newly_begun o n)) ≡ size =
+    ap (λ (q : List ℕ). length q) bytes_are ∙ omega (arith, length-take size (drop l h.bytes), p.bytes, size_within) in
+    let tokens_len : length (all_tokens (newly_begun o n)) ≡ count =
+    ap (λ (q : List ℕ). length q) tokens_are ∙ omega (arith, length-take count h.tokens, p.tokens, count_within) in
+    let reached : r.left + n ≡ length (o.left ++ all_bytes (newly_begun o n)) =
+    subst (λ (q : ℕ). r.left + q ≡ length (o.left ++ all_bytes (newly_begun o q))) (sym n_is) g.left in
+    let ends : l + size ≡ n + r.left = omega (
+      arith,
+      reached,
+      length-append o.left
+          (all_bytes (newly_begun o n)),
+      left_len h i,
+      bytes_len,
+    ) in
+    let k_is : k ≡ count =
+    omega (arith, ek, g.tokens, ap (λ (q : ℕ). length (all_tokens (newly_begun o q))) n_is, tokens_len) in
+    let front : drop n (take l h.bytes ++ all_bytes (newly_begun o n)) ≡ take r.left (drop n h.bytes) =
+    ap (λ (q : List ℕ). drop n (take l h.bytes ++ q)) bytes_are ∙ ap (drop n) (sym (take-add l size h.bytes))
+    ∙ ap (λ (q : ℕ). drop n (take q h.bytes)) ends ∙ drop-take n r.left h.bytes in
+    let behind : drop r.left (drop n h.bytes) ≡ drop size (drop l h.bytes) =
+    drop-drop r.left n h.bytes ∙ ap (λ (q : ℕ). drop q h.bytes) (sym ends) ∙ sym (drop-drop size l h.bytes) in
+    let others : parted (drop j h.marks) (drop r.left (drop n h.bytes)) (drop k h.tokens)
+    ≡ drop (length (newly_begun o n)) ms =
+    (λ d. parted (drop j h.marks) (behind d) (drop (k_is d) h.tokens)) ∙ sym s.others
+    ∙ ap (λ (q : ℕ). drop q ms) (sym begun_len) in
+    let n_there : n ≤ length h.bytes = omega (arith, ends, i.bytes, size_within) in
+    record {
+      bytes = n_there;
+      tokens = omega (arith, k_is, i.tokens, count_within);
+      marks = omega (
+        arith,
+        begun_len,
+        ap (λ (q : List Message). length q) begun_is,
+        length-take j ms,
+        length-parted
+            h.marks (drop l h.bytes) h.tokens,
+      );
+      after = λ d. record {
+        left = sym front d;
+        messages = others d;
+        capacity = h.capacity;
+        token_capacity = h.token_capacity;
+        limit = h.limit;
+        has_error = h.has_error;
+        error_from = h.error_from - n;
+        error_to = h.error_to - n;
+      };
+      kept = record {
+        bytes = omega (arith, ends, i.bytes, size_within, length-drop n h.bytes);
+        tokens = omega (arith, k_is, i.tokens, count_within, length-drop k h.tokens);
+        each = each-drop j h.marks i.each;
+        room = omega (arith, i.room, i.error_order, n_there, length-drop n h.bytes);
+        token_room = omega (arith, i.token_room, length-drop k h.tokens);
+        error_order = omega (arith, i.error_order);
+        error_there = omega (arith, i.error_there, length-drop n h.bytes);
+        error_len = omega (arith, i.error_len);
+        no_error = λ e. let z = i.no_error e in omega (arith, z);
+      };
+    }
+
+pub is_taken : (o : Outgoing) (b t : ℕ) (r : Reach) → Reaches o b t r
+    → record { bytes = b - r.bytes; tokens = t - r.tokens } ≡ goes o b t
+unfolding goes
+is_taken o b t r g =
+    let p : b - r.bytes ≡ going_bytes o b t = omega (arith, g.bytes) in
+    let q : t - r.tokens ≡ length (all_tokens (newly_begun o (going_bytes o b t))) = omega (arith, g.tokens) in
+    λ d. record { bytes = p d; tokens = q d }
+
+-- ---- an outbox in which nothing waits
+
+no_marks : (ks : List Mark) → length ks ≡ 0 → ks ≡ []
+no_marks [] h = refl
+no_marks (k ∷ ks) h = absurd (omega arith)
+
+kept_none : (h : Kept) → IsKept h → length h.bytes ≡ 0 → h.marks ≡ []
+kept_none h i z = no_marks h.marks (omega (arith, marks_fit h.marks i.each, i.bytes))
+
+nothing : (xs : List ℕ) → length xs ≡ 0 → xs ≡ []
+nothing [] h = refl
+nothing (x ∷ xs) h = absurd (omega arith)
+
+pub nothing_waits : (h : Kept) → IsKept h → length h.bytes ≡ 0
+    → (waiting_bytes (outgoing h) ≡ []) × (waiting_tokens (outgoing h) ≡ [])
+nothing_waits h i z = (
+  bytes_wait h i ∙ nothing h.bytes z,
+  tokens_wait h i
+      ∙ nothing h.tokens (omega (arith, i.tokens, ap (λ (k : List Mark). token_counts k) (kept_none h i z))),
+)
+
+pub nothing_left : (h : Kept) → IsKept h → length h.bytes ≡ 0 → ((outgoing h).left ≡ []) × ((outgoing h).messages ≡ [])
+nothing_left h i z = (
+  nothing (take h.left h.bytes) (omega (arith, length-take h.left h.bytes)),
+  ap
+      (λ (k : List Mark). parted k (drop h.left h.bytes) h.tokens) (kept_none h i z),
+)
+
+pub no_bytes : (h : Kept) → IsKept h → waiting_bytes (outgoing h) ≡ [] → length h.bytes ≡ 0
+no_bytes h i e = ap (λ (l : List ℕ). length l) (sym (bytes_wait h i) ∙ e)
+
+pub no_messages_bytes : (h : Kept) → IsKept h → (outgoing h).left ≡ [] → (outgoing h).messages ≡ [] → length h.bytes ≡ 0
+no_messages_bytes h i p q = no_bytes h i (λ d. p d ++ all_bytes (q d))

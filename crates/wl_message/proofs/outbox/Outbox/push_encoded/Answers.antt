@@ -1,0 +1,67 @@
+use Rattle.std.proofs.Common.{◌-◌, ◌≤◌, length, ap, ◌∙◌, arith}
+use Rattle.wl_message.specs.Outgoing.{with_message}
+use Rattle.wl_message.proofs.PartedQueue.{bytes_wait, tokens_wait, pushed, pushed_kept, marks_fit}
+use Rattle.wl_message.proofs.outbox.Outbox.push_encoded.Goals as goal
+
+pub push_mark-requires : goal.push_mark-requires
+push_mark-requires g c =
+    let o = c.self.inside in
+    let i = c.self.invariant.kept in
+    let r : length (g.E.Encode.message c.args.message.now) ≤ o.capacity -
+    (length o.bytes.items - (o.error_to - o.error_from)) =
+    rw (bytes_wait _ i) at (rw (← c.self.view_is) at c.requires.bytes) in
+    omega (
+      arith,
+      r,
+      marks_fit o.marks.items i.each,
+      i.bytes,
+      i.error_there,
+      i.error_order,
+      i.error_len,
+      c.self.invariant.reserved,
+      c.self.invariant.marks_reserved,
+      c.requires.whole.size.header,
+    )
+
+pub push-requires-clause-room : goal.push-requires-clause-room
+push-requires-clause-room g c =
+    let o = c.self.inside in
+    let i = c.self.invariant.kept in
+    let r : length (g.E.Encode.message c.args.message.now) ≤ o.capacity -
+    (length o.bytes.items - (o.error_to - o.error_from)) =
+    rw (bytes_wait _ i) at (rw (← c.self.view_is) at c.requires.bytes) in
+    omega (arith, r, i.error_there, i.error_order, i.error_len, c.self.invariant.reserved, c.requires.whole.size.header)
+
+pub append-requires : goal.append-requires
+append-requires g c =
+    let o = c.self.inside in
+    let i = c.self.invariant.kept in
+    let r : length c.args.tokens.now ≤ o.tokens.capacity - length o.tokens.items =
+    rw (tokens_wait _ i) at (rw (← c.self.view_is) at c.requires.tokens) in
+    omega (arith, r, i.token_room)
+
+pub invariant_of-self : goal.invariant_of-self
+invariant_of-self g c =
+    let o = c.self.inside in
+    let v = c.self.invariant in
+    let i = v.kept in
+    let message = g.E.Encode.message c.args.message.now in
+    let r : length message ≤ o.capacity - (length o.bytes.items - (o.error_to - o.error_from)) =
+    rw (bytes_wait _ i) at (rw (← c.self.view_is) at c.requires.bytes) in
+    let s : length c.args.tokens.now ≤ o.tokens.capacity - length o.tokens.items =
+    rw (tokens_wait _ i) at (rw (← c.self.view_is) at c.requires.tokens) in
+    record {
+      kept = rw (c.push.ensures.ring, c.append.ensures, c.push_mark.ensures, c.encoded_len.ensures)
+          (pushed_kept _ message c.args.tokens.now i c.requires.whole.size.header
+          (omega (arith, r, i.error_there, i.error_order, c.requires.whole.size.header))
+          (omega (arith, s, i.token_room)));
+      small = v.small;
+      reserved = rw (c.push.ensures.ring) v.reserved;
+      marks_reserved = rw (c.push.ensures.ring, c.push_mark.ensures) v.marks_reserved;
+    }
+
+pub returns-clause-outbox : goal.returns-clause-outbox
+returns-clause-outbox g c =
+    rw (c.push.ensures.ring, c.append.ensures, c.push_mark.ensures, c.encoded_len.ensures)
+    (pushed _ (g.E.Encode.message c.args.message.now) c.args.tokens.now c.self.invariant.kept
+    ∙ ap (λ w. with_message w (g.E.Encode.message c.args.message.now) c.args.tokens.now) c.self.view_is)

@@ -1,0 +1,46 @@
+use Rattle.std.proofs.Common.{◌≡◌, false, ap, ◌∙◌, arith}
+use Rattle.wl_message.specs.Outgoing.{with_error}
+use Rattle.wl_message.proofs.PartedQueue.{pushed_error, error_kept, marks_fit}
+use Rattle.wl_message.proofs.outbox.Outbox.push_encoded_error.Goals as goal
+
+pub push_mark-requires : goal.push_mark-requires
+push_mark-requires g c =
+    let o = c.self.inside in
+    let i = c.self.invariant.kept in
+    let f : o.has_error ≡ false = rw (← c.self.view_is) at c.requires.first in
+    let z = i.no_error f in
+    omega (
+      arith,
+      z,
+      marks_fit o.marks.items i.each,
+      i.bytes,
+      i.room,
+      c.self.invariant.reserved,
+      c.self.invariant.marks_reserved,
+    )
+
+pub push-requires-clause-room : goal.push-requires-clause-room
+push-requires-clause-room g c =
+    let o = c.self.inside in
+    let i = c.self.invariant.kept in
+    let f : o.has_error ≡ false = rw (← c.self.view_is) at c.requires.first in
+    let z = i.no_error f in
+    omega (arith, z, i.room, c.requires.short, c.self.invariant.reserved)
+
+pub invariant_of-self : goal.invariant_of-self
+invariant_of-self g c =
+    let i = c.self.invariant in
+    let f : c.self.inside.has_error ≡ false = rw (← c.self.view_is) at c.requires.first in
+    record {
+      kept = rw (c.len-self-inside.ensures.len, c.push.ensures.ring, c.push_mark.ensures, c.encoded_len-len.ensures)
+          (error_kept _ (g.E.Encode.message c.args.message.now) i.kept f c.requires.whole.size.header c.requires.short);
+      small = i.small;
+      reserved = rw (c.push.ensures.ring) i.reserved;
+      marks_reserved = rw (c.push.ensures.ring, c.push_mark.ensures) i.marks_reserved;
+    }
+
+pub returns-clause-outbox : goal.returns-clause-outbox
+returns-clause-outbox g c =
+    rw (c.len-self-inside.ensures.len, c.push.ensures.ring, c.push_mark.ensures, c.encoded_len-len.ensures)
+    (pushed_error _ (g.E.Encode.message c.args.message.now) c.self.invariant.kept
+    ∙ ap (λ w. with_error w (g.E.Encode.message c.args.message.now)) c.self.view_is)

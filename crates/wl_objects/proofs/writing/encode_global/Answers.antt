@@ -1,5 +1,0 @@
-use Rattle.std.proofs.Common.{rules}
-use Rattle.wl_objects.proofs.writing.encode_global.Goals as goal
-
-pub returns-clause-message : goal.returns-clause-message
-returns-clause-message c = search rules

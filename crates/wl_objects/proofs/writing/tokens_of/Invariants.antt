@@ -1,7 +1,0 @@
-use Rattle.std.proofs.Common.{◌≡◌, ◌≤◌, ◌++◌, drop, take}
-use Rattle.wl_objects.specs.Writing.{given, tokens_of}
-use Rattle.wl_objects.proofs.writing.tokens_of.Given as goal
-
--- the tokens so far, and those of the arguments that are left
-abbrev pub invariant-arguments : goal.invariant-arguments
-invariant-arguments l = (l.count ≤ l.arg-index) × (take l.count l.tokens ++ tokens_of (given (drop l.arg-index l.args)) ≡ tokens_of (given l.args))

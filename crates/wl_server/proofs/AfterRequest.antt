@@ -1,0 +1,310 @@
+-- What a server is after the step of a request.
+use Rattle.std.proofs.Common.{◌≡◌, ◌≢◌, ℕ, ◌+◌, ◌<◌, length, take, get_or, Bool, true, false, List}
+use Rattle.std.proofs.Common.{[], ◌∷◌, ◌++◌, Some, None, map, refl, sym, ap, subst, ◌∙◌, inr, arith}
+use Rattle.std.proofs.Common.{rules, eqb, cond}
+use Rattle.std.specs.Prelude.{Option, not, nat_eq, if◌then◌else◌, IsOk, IsTrue, is_some}
+use Rattle.std.specs.List.{filter}
+use Rattle.std.specs.declared.result.Result.{Result}
+use Rattle.std.specs.declared.result.Result.TheVariants.{Ok, Err}
+use Rattle.wl_sigs.specs.declared.signature.Destroys.{Destroys}
+use Rattle.wl_sigs.specs.declared.signature.Destroys.TheVariants.{Nothing, Target, Arg}
+use Rattle.wl_sigs.specs.Tables.{Interface}
+use Rattle.wl_wire.specs.declared.kind.Kind.{Kind}
+use Rattle.wl_object_map.specs.declared.object.Entry.{Entry}
+use Rattle.wl_objects.specs.declared.error.Fault.{Fault}
+use Rattle.wl_objects.specs.declared.error.NextError.{NextError}
+use Rattle.wl_objects.specs.declared.error.NextError.TheVariants as errors
+use Rattle.wl_object_map.specs.declared.object.Object.{Object}
+use Rattle.wl_object_map.specs.View.{View, is_held, look}
+use Rattle.wl_object_map.specs.Views.{look-opened_at}
+use Rattle.wl_objects.specs.declared.parsed.ParsedArg.{ParsedArg}
+use Rattle.wl_objects.specs.Messages.{NewObject, made, opens, same_iface, reader_of}
+use Rattle.wl_sigs.specs.Fixed.{registry}
+use Rattle.wl_message.specs.Arrived.{Arrived, Tells, without_first}
+use Rattle.wl_message.specs.declared.inbox.Frame.{Frame}
+use Rattle.wl_connection.specs.Core.{Core, past, with_view}
+use Rattle.wl_connection.specs.Receiving.{Found, is_none}
+use Rattle.wl_connection.specs.Outcomes.{answers_with, left}
+use Rattle.wl_connection.proofs.Frames.{body-front}
+use Rattle.wl_connection.proofs.ReceivedMessage.{first-tokens, some_reported}
+use Rattle.wl_server.specs.State.{State, Global, Registry, RiseFrom, with_core, untold}
+use Rattle.wl_server.specs.Requests.{Report, report, request, made_in, is_out_full, next_answer}
+use Rattle.wl_server.specs.Requests.{after_next, answer_found, state_found, state_past}
+use Rattle.wl_server.specs.Requests.{registries_after, needs_memory, opens_object, IsNext}
+use Rattle.wl_server.specs.Requests.{IsLentNext}
+use Rattle.wl_server.specs.Registries.{without_registry, registry_birth}
+use Rattle.wl_server.specs.declared.pending.PendingRequest.{PendingRequest}
+use Rattle.wl_server.specs.Steps.{CanTake, Step, ended_by, pending_in, outlined, taken_report}
+use Rattle.wl_server.specs.Steps.{step_of, step_found, front_step, checked_front, after_front}
+use Rattle.wl_server.specs.Steps.{after_step, report_by, core_by, core_told, core_without}
+use Rattle.wl_server.specs.Steps.{registries_by, state_of, whole_state}
+use Rattle.wl_server.proofs.RisingBirths.{rise-below, rise-new}
+
+-- ---- the registries
+
+-- taking one out keeps those of other births
+pub without-filter : (birth : ℕ) (registries : List Registry)
+    → filter (λ (r : Registry). not (nat_eq r.object.birth birth)) registries
+    ≡ without_registry registry_birth true birth registries
+without-filter birth [] = refl
+without-filter birth (r ∷ registries) = by_test (nat_eq r.object.birth birth) (without-filter birth registries)
+  where
+    by_test : (b : Bool) → filter (λ (r : Registry). not (nat_eq r.object.birth birth)) registries
+        ≡ without_registry registry_birth true birth registries
+        → cond (not b) (r ∷ filter (λ (r : Registry). not (nat_eq r.object.birth birth)) registries)
+        (filter (λ (r : Registry). not (nat_eq r.object.birth birth)) registries)
+        ≡ (if b then without_registry registry_birth true birth registries
+        else r ∷ without_registry registry_birth true birth registries)
+    by_test true h = h
+    by_test false h = ap (λ (l : List Registry). r ∷ l) h
+
+pub rise-opened : (core : Core) (registries : List Registry) (made : Option NewObject)
+    → RiseFrom 0 core.view.births registries → RiseFrom 0 (opens core.view made).births
+    (registries_after core registries made)
+rise-opened core registries None r = r
+rise-opened core registries (Some m) r = by_test (same_iface m.iface registry)
+  where
+    by_test : (b : Bool) → RiseFrom 0 (core.view.births + 1)
+        (if b then registries ++ untold (record { id = m.id; birth = core.view.births }) ∷ [] else registries)
+    by_test true = rise-new 0 m.id core.view.births registries r
+    by_test false = rise-below 0 core.view.births (core.view.births + 1) registries (omega arith) r
+
+-- ---- the target is still there
+
+held-either : (b : Bool) (e : Entry) (o : Option Entry) → is_some o ≡ true → is_some (cond b (Some e) o) ≡ true
+held-either true e o h = refl
+held-either false e o h = h
+
+pub held-opened : (view : View) (made : Option NewObject) (id : ℕ) → IsTrue (is_held view id)
+    → IsTrue (is_held (opens view made) id)
+held-opened view None id h = h
+held-opened view (Some m) id h = ap is_some (look-opened_at view m.id m.iface m.version id)
+    ∙ held-either (eqb id m.id) _ (look view id) h
+
+-- ---- what is answered and left, by the step in front
+
+answer-by : (core : Core) (f : Found) (b : Bool) → is_out_full core f ≡ b
+    → report_by (step_found core (Ok (Some f))) ≡ answer_found core (Ok (Some f))
+answer-by core f true e = rw (e) refl
+answer-by core f false e = rw (e) refl
+
+answer-found : (core : Core) (x : Result (Option Found) Fault) → report_by (step_found core x) ≡ answer_found core x
+answer-found core (Err fault) = refl
+answer-found core (Ok None) = refl
+answer-found core (Ok (Some f)) = answer-by core f (is_out_full core f) refl
+
+pub answer-checked : (state : State) → next_answer state ≡ report_by (checked_front state)
+answer-checked state = by_failed state.core.failed
+  where
+    by_failed : (b : Bool) → (if b then Err errors.Failed else answer_found state.core (request state))
+        ≡ report_by (if b then Err errors.Failed else front_step state)
+    by_failed true = refl
+    by_failed false = sym (answer-found state.core (request state))
+
+left-by : (state : State) (f : Found) (b : Bool) → is_out_full state.core f ≡ b
+    → after_front state (step_found state.core (Ok (Some f))) ≡ state_found state (Ok (Some f))
+left-by state f true e = rw (e) refl
+left-by state f false e = rw (e) (after-past state f)
+  where
+    after-past : (state : State) (f : Found) → after_step state (step_of state.core f) ≡ state_past state f
+    after-past state f = by_case f.message.signature.destroys
+      where
+        by_case : (d : Destroys) → after_step state
+            (record (step_of state.core f) { ended = ended_by d (report state.core f) })
+            ≡ state_past state (record f {
+              message =
+                  record f.message { signature = record f.message.signature { destroys = d } };
+            })
+        by_case Nothing = refl
+        by_case Target = refl
+        by_case (Arg place) = refl
+
+left-found : (state : State) (x : Result (Option Found) Fault)
+    → after_front state (step_found state.core x) ≡ state_found state x
+left-found state (Err fault) = refl
+left-found state (Ok None) = refl
+left-found state (Ok (Some f)) = left-by state f (is_out_full state.core f) refl
+
+pub left-checked : (state : State) → after_next state ≡ after_front state (checked_front state)
+left-checked state = by_failed state.core.failed
+  where
+    by_failed : (b : Bool) → (if b then state else state_found state (request state))
+        ≡ after_front state (if b then Err errors.Failed else front_step state)
+    by_failed true = refl
+    by_failed false = sym (left-found state (request state))
+
+-- ---- each way that a read goes
+
+pub after-is : (state : State) (x : Result (Option Step) NextError) → x ≡ checked_front state
+    → after_front state x ≡ after_next state
+after-is state x e = ap (after_front state) e ∙ sym (left-checked state)
+
+pub answer-is : (state : State) (x : Result (Option Step) NextError) → x ≡ checked_front state
+    → report_by x ≡ next_answer state
+answer-is state x e = ap report_by e ∙ sym (answer-checked state)
+
+-- what stands in front is never a lack of memory
+no-memory-found : (core : Core) (x : Result (Option Found) Fault) → step_found core x ≢ Err errors.Memory
+no-memory-found core (Err fault) e = cc e
+no-memory-found core (Ok None) e = cc e
+no-memory-found core (Ok (Some f)) e = by_full (is_out_full core f) e
+  where
+    by_full : (b : Bool) → (if b then Err errors.OutFull else Ok (Some (step_of core f))) ≡ Err errors.Memory → ⊥
+    by_full true k = cc k
+    by_full false k = cc k
+
+no-memory : (state : State) → checked_front state ≢ Err errors.Memory
+no-memory state = by_failed state.core.failed
+  where
+    by_failed : (b : Bool) → (if b then Err errors.Failed else front_step state) ≢ Err errors.Memory
+    by_failed true e = cc e
+    by_failed false e = no-memory-found state.core (request state) e
+
+-- so what is left after an error is what the error leaves
+pub leaves-err : (state : State) (why : NextError) → Err why ≡ checked_front state
+    → with_core state (core_told state.core why) ≡ left state (after_next state)
+    (let it : Result (Option Report) NextError = Err why in it)
+leaves-err state errors.Memory e = absurd (no-memory state (sym e))
+leaves-err state errors.Failed e = after-is state (Err errors.Failed) e
+leaves-err state errors.OutFull e = after-is state (Err errors.OutFull) e
+leaves-err state (errors.Fault fault offset) e = after-is state (Err (errors.Fault fault offset)) e
+
+-- what stands in front does not depend on the registries
+pub seen-by : (state : State) (globals : List Global) (x : Result (Option Step) NextError) → state.core.failed ≡ false
+    → globals ≡ state.globals → x ≡ front_step (state_of state.core globals) → x ≡ checked_front state
+seen-by state globals x h e g =
+    subst (λ (l : List Global). x ≡ front_step (state_of state.core l)) e g
+    ∙ sym (ap (λ (b : Bool). if b then Err errors.Failed else front_step state) h)
+
+-- ---- where memory can be refused
+
+-- what was found, behind a step
+found-by : (state : State) (step : Step) → Ok (Some step) ≡ checked_front state
+    → (f : Found) × (request state ≡ Ok (Some f)) × (step ≡ step_of state.core f)
+found-by state step e = by_failed state.core.failed e
+  where
+    by_found : (x : Result (Option Found) Fault) → request state ≡ x → Ok (Some step) ≡ step_found state.core x
+        → (f : Found) × (request state ≡ Ok (Some f)) × (step ≡ step_of state.core f)
+    by_found (Err fault) r k = absurd (cc k)
+    by_found (Ok None) r k = absurd (cc k)
+    by_found (Ok (Some f)) r k = by_full (is_out_full state.core f) k
+      where
+        by_full : (b : Bool) → Ok (Some step) ≡ (if b then Err errors.OutFull else Ok (Some (step_of state.core f)))
+            → (g : Found) × (request state ≡ Ok (Some g)) × (step ≡ step_of state.core g)
+        by_full true q = absurd (cc q)
+        by_full false q = (f, r, cc q)
+
+    by_failed : (b : Bool) → Ok (Some step) ≡ (if b then Err errors.Failed else front_step state)
+        → (f : Found) × (request state ≡ Ok (Some f)) × (step ≡ step_of state.core f)
+    by_failed true k = absurd (cc k)
+    by_failed false k = by_found (request state) refl k
+
+is_made : (o : Option NewObject) → o ≢ None → is_some o ≡ true
+is_made None h = absurd (h refl)
+is_made (Some m) h = refl
+
+-- a request that opens an object
+pub opens-one : (state : State) (step : Step) → Ok (Some step) ≡ checked_front state → step.made ≢ None
+    → IsLentNext state (let it : Result (Option Report) NextError = Err errors.Memory in it)
+opens-one state step e m =
+    let f = found-by state step e in
+    let answer : next_answer state ≡ Ok (Some step.report) = sym (answer-is state (Ok (Some step)) e) in
+    inr (
+      refl,
+      ap (opens_object state.core) f.1 ∙
+          (sym (ap (λ (s : Step). is_some s.made) f.2) ∙ is_made step.made m),
+      subst IsOk (sym answer) (search rules),
+    )
+
+-- and it has arguments
+made-nothing : (tables : List Interface) (version : ℕ) (ks : List Kind) → made tables version ks [] ≡ None
+made-nothing tables version [] = refl
+made-nothing tables version (k ∷ ks) = refl
+
+made-some : (core : Core) (f : Found) → made_in core f.message ≢ None → f.message.values ≢ []
+made-some core f m none = m (ap (made core.tables f.message.entry.version f.message.signature.kinds) none
+    ∙ made-nothing core.tables f.message.entry.version f.message.signature.kinds)
+
+pub needs-some : (state : State) (step : Step) → Ok (Some step) ≡ checked_front state → needs_memory step.report ≡ true
+    → IsNext state (let it : Result (Option Report) NextError = Err errors.Memory in it)
+needs-some state step e n =
+    let answer : next_answer state ≡ Ok (Some step.report) = sym (answer-is state (Ok (Some step)) e) in
+    inr (refl, ap (answers_with needs_memory) answer ∙ n, subst IsOk (sym answer) (search rules))
+
+pub memory-wanted : (state : State) (step : Step) → Ok (Some step) ≡ checked_front state → step.made ≢ None
+    → IsNext state (let it : Result (Option Report) NextError = Err errors.Memory in it)
+memory-wanted state step e m =
+    let f = found-by state step e in
+    let some : f.0.message.values ≢ [] = made-some state.core f.0 (λ none. m (ap (λ (s : Step). s.made) f.2 ∙ none)) in
+    needs-some state step e (ap (λ (s : Step). needs_memory s.report) f.2
+    ∙ some_reported (reader_of state.core.view) state.core.inbox.tokens f.0.message.values some)
+
+pub some-args : {X Y : Type 0} (f : X → Y) (xs : List X) → xs ≢ [] → not (is_none (map f xs)) ≡ true
+some-args f [] h = absurd (h refl)
+some-args f (x ∷ xs) h = refl
+
+-- ---- what was taken last
+
+inbox-without : (ended : Option Object) (core : Core) → (core_without ended core).inbox ≡ core.inbox
+inbox-without None core = refl
+inbox-without (Some object) core = refl
+
+pub inbox-taken : (core : Core) (step : Step) → (core_by core step).inbox
+    ≡ without_first core.inbox step.size step.tokens
+inbox-taken core step = inbox-without step.ended (past
+    (with_view core (opens core.view step.made)) step.size step.tokens)
+
+-- ---- the report that is lent
+
+pub taken-is : (core now : Core) (args : List ParsedArg) (p : PendingRequest)
+    → now ≡ core_by core (pending_in core args p) → taken_report now args p ≡ (pending_in core args p).report
+taken-is core now args p e = ap (λ (k : Core). taken_report k args p) e
+    ∙ ap (λ (b : Arrived). outlined b.last args b.last_tokens p.outline) (inbox-taken core (pending_in core args p))
+
+-- ---- the report that is copied
+
+-- the body and the tokens of a request in front, as they were told
+pub front-told : (core inner : Core) (args held : List ParsedArg) (p : PendingRequest) (o : Option Frame) (f : Frame)
+    (tokens : List ℕ) → inner ≡ core → held ≡ args → CanTake core (pending_in core args p) → o ≡ Some f
+    → Tells inner.inbox (Ok o) → length tokens ≡ 20
+    → ((place : ℕ) → place < p.tokens → place < 20 → get_or tokens place 0 ≡ get_or inner.inbox.tokens place 0)
+    → outlined f.body.now held (take p.tokens tokens) p.outline ≡ (pending_in core args p).report
+front-told core inner args held p o f tokens same kept can e t all first =
+    let told = subst (λ (x : Option Frame). Tells core.inbox (Ok x)) e
+    (subst (λ (k : Core). Tells k.inbox (Ok o)) same t) in
+    let body = body-front core.inbox.limit.bytes core.inbox.bytes f.body.now p.size f.header can.whole told.0 told.1 in
+    let few = can.few in
+    let own = first-tokens p.tokens tokens core.inbox.tokens (omega (arith, few, all)) can.tokens
+    (λ k less. first k less (omega (arith, less, few)) ∙ ap (λ (b : Core). get_or b.inbox.tokens k 0) same) in
+    λ i. outlined (body i) (kept i) (own i) p.outline
+
+-- ---- a read of an end and what stands beside it
+
+-- after an error
+pub err-left : (core now : Core) (globals : List Global) (rs : List Registry) (why : NextError)
+    → Err why ≡ checked_front (whole_state core globals rs) → now ≡ core_told core why
+    → whole_state now globals rs ≡ left (whole_state core globals rs) (after_next (whole_state core globals rs))
+    (let it : Result (Option Report) NextError = Err why in it)
+err-left core now globals rs why e n = ap (λ (k : Core). whole_state k globals rs) n
+    ∙ leaves-err (whole_state core globals rs) why e
+
+-- where nothing is whole yet
+pub none-left : (core now : Core) (globals : List Global) (rs : List Registry)
+    → Ok None ≡ checked_front (whole_state core globals rs) → now ≡ core
+    → whole_state now globals rs ≡ after_next (whole_state core globals rs)
+none-left core now globals rs e n = ap (λ (k : Core). whole_state k globals rs) n
+    ∙ after-is (whole_state core globals rs) (Ok None) e
+
+-- where a request was taken
+pub taken-left : (core now : Core) (globals : List Global) (rs ms : List Registry) (step : Step)
+    → Ok (Some step) ≡ checked_front (whole_state core globals rs) → now ≡ core_by core step
+    → ms ≡ registries_by core rs step
+    → whole_state now globals ms ≡ after_next (whole_state core globals rs)
+taken-left core now globals rs ms step e n m = (λ i. whole_state (n i) globals (m i))
+    ∙ after-is (whole_state core globals rs) (Ok (Some step)) e
+
+-- what is reported of it
+pub step-answer : (state : State) (step : Step) (report : Report) → Ok (Some step) ≡ checked_front state
+    → report ≡ step.report → (let it : Result (Option Report) NextError = Ok (Some report) in it) ≡ next_answer state
+step-answer state step report e r = ap (λ (x : Report). let it : Result (Option Report) NextError = Ok (Some x) in it) r
+    ∙ answer-is state (Ok (Some step)) e

@@ -1,0 +1,62 @@
+-- An object that is no registry leaves the registries as they are.
+use Rattle.std.proofs.Common.{◌≡◌, ◌≢◌, ℕ, Bool, true, false, cond, eqb, List, [], ◌∷◌, Some, refl}
+use Rattle.std.proofs.Common.{sym, ap, subst, ◌∙◌, inl, inr}
+use Rattle.std.specs.Prelude.{Option}
+use Rattle.std.specs.Option.{option_map_or}
+use Rattle.std.proofs.lemmas.Bool.{ne_eqb}
+use Rattle.wl_wire.specs.declared.kind.Iface.{Iface}
+use Rattle.wl_sigs.specs.Fixed.{registry}
+use Rattle.wl_object_map.specs.declared.object.Object.{Object}
+use Rattle.wl_object_map.specs.declared.object.Entry.{Entry}
+use Rattle.wl_object_map.specs.View.{View, look}
+use Rattle.wl_objects.specs.Messages.{NewObject, opens, same_iface}
+use Rattle.wl_connection.specs.Core.{Core}
+use Rattle.wl_server.specs.State.{Registry}
+use Rattle.wl_server.specs.Registries.{IsAmong, IsFresh, IsSound, without_registry, registry_birth}
+use Rattle.wl_server.specs.Requests.{registries_after}
+use Rattle.wl_server.specs.Steps.{HasRow}
+use Rattle.wl_server.proofs.Registries.{births_opened, has_opened, row_kept}
+
+-- no registry has this birth
+without-none : (birth : ℕ) (rs : List Registry) → ((o : Object) → IsAmong o rs → o.birth ≢ birth)
+    → without_registry registry_birth true birth rs ≡ rs
+without-none birth [] f = refl
+without-none birth (r ∷ rs) f =
+    ap (λ b. cond b (without_registry registry_birth true birth rs) (r ∷ without_registry registry_birth true birth rs))
+    (ne_eqb r.object.birth birth (f r.object (inl refl)))
+    ∙ ap (λ (l : List Registry). r ∷ l) (without-none birth rs (λ o a. f o (inr a)))
+
+pub no_registry : (v : View) (rs : List Registry) (object : Object) (d : Entry) → look v object.id ≡ Some d
+    → d.birth ≡ object.birth → d.iface ≢ registry → IsSound v rs
+    → without_registry registry_birth true object.birth rs ≡ rs
+no_registry v rs object d row birth ne s =
+    without-none object.birth rs (λ o a same.
+    let r = s.has.only o a in
+    let id : o.id ≡ object.id = s.once.one o.id object.id r.entry d r.row row (r.birth ∙ same ∙ sym birth) in
+    let both = sym r.row ∙ (ap (look v) id ∙ row) in
+    let entry : r.entry ≡ d = cc both in
+    ne (ap (λ (x : Entry). x.iface) (sym entry) ∙ r.iface))
+
+pub not_same : (v : View) (id : ℕ) (d : Entry) (b : Bool)
+    → b ≡ option_map_or (λ (e : Entry). same_iface e.iface registry) (look v id) false → b ≡ false → look v id ≡ Some d
+    → d.iface ≢ registry
+not_same v id d b e f row is =
+    let told = ap (λ (o : Option Entry). option_map_or (λ (x : Entry). same_iface x.iface registry) o false) row in
+    let same : same_iface d.iface registry ≡ true = ap (λ (x : Iface). same_iface x registry) is in
+    let both : false ≡ true = sym f ∙ (e ∙ (told ∙ same)) in
+    cc both
+
+-- ---- once an object was opened
+
+pub row_opened : (v w : View) (m : Option NewObject) (o : Object) → w ≡ opens v m → IsFresh v m → HasRow v o
+    → HasRow w o
+row_opened v w m o e f h = subst (λ (x : View). HasRow x o) (sym e)
+    (record { entry = h.entry; row = row_kept v m o.id h.entry f h.row; birth = h.birth })
+
+pub sound_opened : (core now : Core) (rs ms : List Registry) (m : Option NewObject) → now.view ≡ opens core.view m
+    → ms ≡ registries_after core rs m → IsFresh core.view m
+    → IsSound core.view rs → IsSound now.view ms
+sound_opened core now rs ms m e r f s =
+    subst (λ (v : View). IsSound v ms) (sym e)
+    (subst (λ (l : List Registry). IsSound (opens core.view m) l) (sym r)
+    (record { has = has_opened core rs m f s.has; once = births_opened core.view m s.once }))

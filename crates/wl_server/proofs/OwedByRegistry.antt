@@ -1,0 +1,59 @@
+-- What one registry is owed, name by name.
+use Rattle.std.proofs.Common.{◌≡◌, ◌≢◌, ℕ, suc, ◌+◌, ◌-◌, ◌<◌, ◌≤◌, Bool, true, false, List, []}
+use Rattle.std.proofs.Common.{◌∷◌, length, drop, get_or, refl, sym, ◌∙◌, ap, arith, add-one}
+use Rattle.std.proofs.Common.{drop-cons}
+use Rattle.std.specs.Prelude.{not, ◌&&◌, if◌then◌else◌}
+use Rattle.std.proofs.lemmas.List.{drop_all, get_or-set_other}
+use Rattle.std.proofs.lemmas.Option.{unwrap_or-slice_get}
+use Rattle.wl_server.specs.State.{Global, Registry, mark_of, with_mark}
+use Rattle.wl_server.specs.Announcing.{Owing, Removal, Telling, owings, owes_removal, owes_telling, marked}
+
+-- the first name is owed nothing
+pub owings-skip : (test : ℕ → Global → Bool) (owing : ℕ → Global → Owing) (i : ℕ) (globals : List Global) (x : Global)
+    → i < length globals → x ≡ get_or globals i x → test (i + 1) x ≡ false
+    → owings test owing (i + 1) (drop i globals) ≡ owings test owing (i + 1 + 1) (drop (i + 1) globals)
+owings-skip test owing i globals x l e t = rw (drop-cons globals i x l, ← e, t) (rw (add-one, add-one) refl)
+
+-- the first name is owed an event
+pub owings-take : (test : ℕ → Global → Bool) (owing : ℕ → Global → Owing) (i : ℕ) (globals : List Global) (x : Global)
+    → i < length globals → x ≡ get_or globals i x → test (i + 1) x ≡ true
+    → owings test owing (i + 1) (drop i globals) ≡ owing (i + 1) x
+    ∷ owings test owing (i + 1 + 1) (drop (i + 1) globals)
+owings-take test owing i globals x l e t = rw (drop-cons globals i x l, ← e, t) (rw (add-one, add-one) refl)
+
+pub owings-end : (test : ℕ → Global → Bool) (owing : ℕ → Global → Owing) (i n : ℕ) (globals : List Global)
+    → length globals ≤ i → owings test owing n (drop i globals) ≡ []
+owings-end test owing i n globals l = ap (owings test owing n) (drop_all i globals l)
+
+-- tests that are alike from this name on
+owings-same : (test other : ℕ → Global → Bool) (owing : ℕ → Global → Owing) (n : ℕ) (globals : List Global)
+    → ((k : ℕ) (x : Global) → n ≤ k → test k x ≡ other k x) → owings test owing n globals ≡ owings other owing n globals
+owings-same test other owing n [] h = refl
+owings-same test other owing n (x ∷ globals) h =
+    let more : owings test owing (suc n) globals ≡ owings other owing (suc n) globals =
+    owings-same test other owing (suc n) globals (λ k y l. h k y (omega (arith, l))) in
+    ap (λ (b : Bool). if b then owing n x ∷ owings test owing (suc n) globals else owings test owing (suc n) globals)
+    (h n x (omega arith))
+    ∙ ap (λ (l : List Owing). if other n x then owing n x ∷ l else l) more
+
+-- the mark of one name is no other's
+mark-other : (marks : List Bool) (n k : ℕ) → 0 < n → n < k → mark_of (with_mark marks n) k ≡ mark_of marks k
+mark-other marks n k p l =
+    let other : k - 1 ≢ n - 1 = λ e. omega (arith, e) in
+    unwrap_or-slice_get (with_mark marks n) (k - 1) false
+    ∙ (get_or-set_other marks (n - 1) (k - 1) true false other ∙ sym (unwrap_or-slice_get marks (k - 1) false))
+
+-- a name that is marked changes nothing for the names behind it
+pub removals-behind : (r : Registry) (owing : ℕ → Global → Owing) (n m : ℕ) (globals : List Global) → 0 < n → n < m
+    → owings (owes_removal r) owing m globals ≡ owings (owes_removal (marked (Removal n) r)) owing m globals
+removals-behind r owing n m globals p l =
+    owings-same (owes_removal r) (owes_removal (marked (Removal n) r)) owing m globals
+    (λ k x h. ap (λ (b : Bool). (mark_of r.told k && not x.present) && not b)
+    (sym (mark-other r.removed n k p (omega (arith, h)))))
+
+pub tellings-behind : (r : Registry) (x : Global) (owing : ℕ → Global → Owing) (n m : ℕ) (globals : List Global) → 0 < n
+    → n < m
+    → owings (owes_telling r) owing m globals ≡ owings (owes_telling (marked (Telling n x) r)) owing m globals
+tellings-behind r x owing n m globals p l =
+    owings-same (owes_telling r) (owes_telling (marked (Telling n x) r)) owing m globals
+    (λ k y h. ap (λ (b : Bool). y.present && not b) (sym (mark-other r.told n k p (omega (arith, h)))))

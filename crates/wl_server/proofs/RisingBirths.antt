@@ -1,0 +1,37 @@
+-- The births of registries go on rising.
+use Rattle.std.proofs.Common.{ℕ, suc, ◌+◌, ◌≤◌, Bool, true, false, List, [], ◌∷◌, ◌++◌, arith}
+use Rattle.std.specs.Prelude.{nat_eq, if◌then◌else◌}
+use Rattle.wl_server.specs.State.{Registry, RiseFrom, untold}
+use Rattle.wl_server.specs.Registries.{without_registry, registry_birth}
+
+-- the number that they are below may be greater
+pub rise-below : (low high more : ℕ) (registries : List Registry) → high ≤ more → RiseFrom low high registries
+    → RiseFrom low more registries
+rise-below low high more [] h r = omega (arith, h, r)
+rise-below low high more (x ∷ registries) h r = (r.0, rise-below (suc x.object.birth) high more registries h r.1)
+
+-- and the first one less
+rise-above : (low least high : ℕ) (registries : List Registry) → least ≤ low → RiseFrom low high registries
+    → RiseFrom least high registries
+rise-above low least high [] h r = omega (arith, h, r)
+rise-above low least high (x ∷ registries) h r = (omega (arith, h, r.0), r.1)
+
+-- a new registry has the next birth
+pub rise-new : (low id high : ℕ) (registries : List Registry) → RiseFrom low high registries
+    → RiseFrom low (high + 1) (registries ++ untold (record { id = id; birth = high }) ∷ [])
+rise-new low id high [] r = (r, omega arith)
+rise-new low id high (x ∷ registries) r = (r.0, rise-new (suc x.object.birth) id high registries r.1)
+
+-- without one they rise
+pub rise-without : (low high birth : ℕ) (registries : List Registry) → RiseFrom low high registries
+    → RiseFrom low high (without_registry registry_birth true birth registries)
+rise-without low high birth [] r = r
+rise-without low high birth (x ∷ registries) r = by_test (nat_eq x.object.birth birth)
+    (rise-without (suc x.object.birth) high birth registries r.1)
+  where
+    by_test : (b : Bool) → RiseFrom (suc x.object.birth) high (without_registry registry_birth true birth registries)
+        → RiseFrom low high (if b then without_registry registry_birth true birth registries
+        else x ∷ without_registry registry_birth true birth registries)
+    by_test true h = rise-above (suc x.object.birth) low high (without_registry registry_birth true birth registries)
+        (omega (arith, r.0)) h
+    by_test false h = (r.0, h)

@@ -1,0 +1,215 @@
+-- The telling goes on by one event, or by one registry, and comes to its end.
+use Rattle.std.proofs.Common.{◌≡◌, ℕ, ◌+◌, ◌-◌, ◌<◌, ◌≤◌, Bool, true, false, List, [], ◌∷◌, ◌++◌}
+use Rattle.std.proofs.Common.{length, take, drop, get_or, set, refl, sym, subst, ◌∙◌, ap, arith}
+use Rattle.std.proofs.Common.{add-one, append_assoc, drop-cons, length-append}
+use Rattle.std.specs.Bool.{MatchBool}
+use Rattle.std.proofs.Common.{inl, inr}
+use Rattle.std.proofs.lemmas.Bool.{cases_lt}
+use Rattle.std.proofs.lemmas.List.{drop_all, drop-set-lt, take_at}
+use Rattle.wl_message.specs.Outgoing.{room_of}
+use Rattle.wl_object_map.specs.View.{View}
+use Rattle.wl_objects.specs.Writing.{message_len}
+use Rattle.wl_connection.specs.Core.{Core, IsOrdinary}
+use Rattle.wl_connection.specs.Sending.{with_sent}
+use Rattle.wl_server.specs.declared.announce.Announced.{Announced}
+use Rattle.wl_server.specs.State.{State, Global, Registry, RiseFrom}
+use Rattle.wl_server.specs.Announcing.{Due, Fitting, due_len, due_to, owed, owed_in, opcode_of}
+use Rattle.wl_server.specs.Announcing.{values_of, with_dues, marked, all_marked, after_announce}
+use Rattle.wl_server.specs.Tellings.{Progress, IsBlocked, IsTold}
+use Rattle.wl_server.proofs.OwedEvents.{all-marked-at, all_marked-append, due_len-append}
+use Rattle.wl_server.proofs.OwedEvents.{due_len-take, front-for, length-dues, marked_in-own}
+use Rattle.wl_server.proofs.OwedEvents.{rising-all, room-dues, tables-dues, view-dues}
+use Rattle.wl_server.proofs.OwedEvents.{with_dues-append}
+
+pub begun : (core : Core) (rs : List Registry) (all : List Due) → Progress core rs all 0 core rs all
+begun core rs all = record { done = []; whole = refl; number = refl; written = refl; marks = refl; fit = omega arith }
+
+-- so few events fit
+pub count-small : (core : Core) (rs : List Registry) (all : List Due) (count : ℕ) (now : Core) (ms : List Registry)
+    (rest : List Due) → IsOrdinary core.outbox → Progress core rs all count now ms rest → count ≤ 16777216
+count-small core rs all count now ms rest o p = omega (arith, p.number, p.fit, length-dues core.tables p.done, o.2)
+
+-- one event more, for the one registry
+pub told-one : (core : Core) (rs : List Registry) (all : List Due) (count : ℕ) (now new : Core) (r : Registry) (d : Due)
+    (rest : List Due) → IsOrdinary core.outbox
+    → Progress core rs all count now (r ∷ []) (d ∷ rest) → d.object ≡ r.object
+    → message_len (values_of now.tables d.owing) ≤ room_of now.outbox
+    → new ≡ with_sent now d.object.id (opcode_of d.owing) (values_of now.tables d.owing) []
+    → Progress core rs all (count + 1) new (marked d.owing r ∷ []) rest
+told-one core rs all count now new r d rest o p own len w =
+    let tables : now.tables ≡ core.tables = ap (λ (c : Core). c.tables) p.written ∙ tables-dues core p.done in
+    let room : room_of now.outbox ≡ room_of core.outbox - due_len core.tables p.done =
+    ap (λ (c : Core). room_of c.outbox) p.written ∙ room-dues core p.done o in
+    let short : message_len (values_of core.tables d.owing) ≤ room_of now.outbox =
+    subst (λ t. message_len (values_of t d.owing) ≤ room_of now.outbox) tables len in
+    record {
+      done = p.done ++ d ∷ [];
+      whole = p.whole ∙ sym (append_assoc p.done (d ∷ []) rest);
+      number = length-append p.done (d ∷ []) ∙ ap (λ n. n + 1) p.number;
+      written = w ∙ ap (λ (c : Core). with_sent c d.object.id (opcode_of d.owing) (values_of c.tables d.owing) [])
+          p.written ∙ sym (with_dues-append core p.done (d ∷ []));
+      marks = sym (marked_in-own d r own) ∙ ap (all_marked (d ∷ [])) p.marks
+          ∙ sym (all_marked-append p.done (d ∷ []) rs);
+      fit = omega (arith, due_len-append core.tables p.done (d ∷ []), p.fit, room, short);
+    }
+
+-- what one registry was told is told of all
+pub told-registry : (core : Core) (rs : List Registry) (all : List Due) (count : ℕ) (now : Core) (ms : List Registry)
+    (globals : List Global) (i low high : ℕ) (r after : Registry) (k : ℕ) (new : Core) (rest more : List Due)
+    → IsOrdinary core.outbox → RiseFrom low high rs → Progress core rs all count now ms (due_to globals r ++ more)
+    → i < length ms → r ≡ get_or ms i r
+    → Progress now (r ∷ []) (due_to globals r) k new (after ∷ []) rest
+    → Progress core rs all (count + k) new (set ms i after) (rest ++ more)
+told-registry core rs all count now ms globals i low high r after k new rest more o rise p l at q =
+    let tables : now.tables ≡ core.tables = ap (λ (c : Core). c.tables) p.written ∙ tables-dues core p.done in
+    let room : room_of now.outbox ≡ room_of core.outbox - due_len core.tables p.done =
+    ap (λ (c : Core). room_of c.outbox) p.written ∙ room-dues core p.done o in
+    let fit : due_len core.tables q.done ≤ room_of now.outbox =
+    subst (λ t. due_len t q.done ≤ room_of now.outbox) tables q.fit in
+    let rising : RiseFrom low high ms = subst (RiseFrom low high) (sym p.marks) (rising-all p.done low high rs rise) in
+    let own = front-for r.object _ q.done rest q.whole in
+    record {
+      done = p.done ++ q.done;
+      whole = p.whole ∙ (ap (λ (l : List Due). p.done ++ (l ++ more)) q.whole
+          ∙ (ap (λ (l : List Due). p.done ++ l) (append_assoc q.done rest more)
+          ∙ sym (append_assoc p.done q.done (rest ++ more))));
+      number = omega (arith, length-append p.done q.done, p.number, q.number);
+      written = q.written ∙ (ap (λ (c : Core). with_dues c q.done) p.written
+          ∙ sym (with_dues-append core p.done q.done));
+      marks = sym (all-marked-at q.done low high ms i r after rising l at own (sym q.marks))
+          ∙ (ap (all_marked q.done) p.marks ∙ sym (all_marked-append p.done q.done rs));
+      fit = omega (arith, due_len-append core.tables p.done q.done, p.fit, room, fit);
+    }
+
+pub blocked-more : (core : Core) (rest more : List Due) → IsBlocked core rest → IsBlocked core (rest ++ more)
+blocked-more core [] more b = absurd b
+blocked-more core (d ∷ rest) more b = b
+
+-- where the next event does not fit, no more would
+most : (core now : Core) (done rest : List Due) (n : ℕ) → now ≡ with_dues core done → IsOrdinary core.outbox
+    → due_len core.tables done ≤ room_of core.outbox → IsBlocked now rest
+    → due_len core.tables (take n (done ++ rest)) ≤ room_of core.outbox → n ≤ length done
+most core now done [] n w o fit b f = absurd b
+most core now done (d ∷ ds) n w o fit b f =
+    let tables : now.tables ≡ core.tables = ap (λ (c : Core). c.tables) w ∙ tables-dues core done in
+    let room : room_of now.outbox ≡ room_of core.outbox - due_len core.tables done =
+    ap (λ (c : Core). room_of c.outbox) w ∙ room-dues core done o in
+    let long : room_of now.outbox < message_len (values_of core.tables d.owing) =
+    subst (λ t. room_of now.outbox < message_len (values_of t d.owing)) tables b in
+    elim (cases_lt (length done) n) [
+      | inl over ↦ absurd (omega (arith, due_len-take core.tables done d ds n over))
+      | inr within ↦ within
+    ]
+
+-- the end of the telling
+pub finished : (state : State) (told : Announced) (now : Core) (ms : List Registry) → IsOrdinary state.core.outbox
+    → IsTold state.core state.registries (owed state) told now ms
+    → Fitting state told.count × (record { core = now; globals = state.globals; registries = ms }
+    ≡ after_announce state told.count)
+finished state told now ms o t =
+    let p = t.progress in
+    let front : take told.count (owed state) ≡ p.done =
+    ap (take told.count) p.whole ∙ take_at p.done t.rest told.count p.number in
+    let len : length (owed state) ≡ length p.done + length t.rest = ap length p.whole ∙ length-append p.done t.rest in (
+      record {
+        there = omega (arith, len, p.number);
+        fits = subst (λ (l : List Due). due_len state.core.tables l ≤ room_of state.core.outbox) (sym front) p.fit;
+        most = λ n there fits. by_end told.all refl t.end n there
+            (subst (λ (l : List Due). due_len state.core.tables (take n l) ≤ room_of state.core.outbox) p.whole fits);
+      },
+      λ i. record state {
+        core = (p.written ∙ ap (with_dues state.core) (sym front)) i;
+        registries = (p.marks ∙ ap (λ (l : List Due). all_marked l state.registries) (sym front)) i;
+      },
+    )
+  where
+    by_end : (b : Bool) → told.all ≡ b → MatchBool b (t.rest ≡ []) (IsBlocked now t.rest) → (n : ℕ)
+        → n ≤ length (owed state)
+        → due_len state.core.tables (take n (t.progress.done ++ t.rest)) ≤ room_of state.core.outbox → n ≤ told.count
+    by_end true a e n there fits =
+        let none : length t.rest ≡ 0 = ap length e in
+        omega (arith, there, none, t.progress.number, ap length t.progress.whole, length-append t.progress.done t.rest)
+    by_end false a b n there fits = omega (
+      arith,
+      most state.core now t.progress.done t.rest n t.progress.written o
+          t.progress.fit b fits,
+      t.progress.number,
+    )
+
+-- ---- all registries
+
+-- what is left is owed to the next registry and to those behind it
+pub owed-next : (globals : List Global) (i : ℕ) (ms : List Registry) (r : Registry) → i < length ms → r ≡ get_or ms i r
+    → owed_in globals (drop i ms) ≡ due_to globals r ++ owed_in globals (drop (i + 1) ms)
+owed-next globals i ms r l e = rw (drop-cons ms i r l, ← e, add-one) refl
+
+-- the telling once the next registry was told
+pub told-next : (core : Core) (rs : List Registry) (all : List Due) (count : ℕ) (now : Core) (ms : List Registry)
+    (globals : List Global) (i high : ℕ) (r after : Registry) (told : Announced) (new : Core)
+    → IsOrdinary core.outbox → RiseFrom 0 high rs → Progress core rs all count now ms (owed_in globals (drop i ms))
+    → i < length ms → r ≡ get_or ms i r
+    → (t : IsTold now (r ∷ []) (due_to globals r) told new (after ∷ []))
+    → Progress core rs all (count + told.count) new (set ms i after) (t.rest ++ owed_in globals (drop (i + 1) ms))
+told-next core rs all count now ms globals i high r after told new o rise p l e t =
+    told-registry core rs all count now ms globals i 0 high r after told.count new t.rest
+    (owed_in globals (drop (i + 1) ms)) o rise
+    (subst (λ (list : List Due). Progress core rs all count now ms list) (owed-next globals i ms r l e) p) l e
+    t.progress
+
+none-left : (b : Bool) (now : Core) (rest : List Due) → b ≡ true → MatchBool b (rest ≡ []) (IsBlocked now rest)
+    → rest ≡ []
+none-left true now rest e h = h
+none-left false now rest e h = absurd (cc)
+
+some-left : (b : Bool) (now : Core) (rest : List Due) → b ≡ false → MatchBool b (rest ≡ []) (IsBlocked now rest)
+    → IsBlocked now rest
+some-left true now rest e h = absurd (cc)
+some-left false now rest e h = h
+
+-- where all was told, the registries behind are left
+pub told-whole : (core : Core) (rs : List Registry) (all : List Due) (count : ℕ) (now : Core) (ms : List Registry)
+    (globals : List Global) (i high : ℕ) (r after : Registry) (told : Announced) (new : Core)
+    → IsOrdinary core.outbox → RiseFrom 0 high rs → Progress core rs all count now ms (owed_in globals (drop i ms))
+    → i < length ms → r ≡ get_or ms i r
+    → (t : IsTold now (r ∷ []) (due_to globals r) told new (after ∷ [])) → told.all ≡ true
+    → Progress core rs all (count + told.count) new (set ms i after) (owed_in globals (drop (i + 1) (set ms i after)))
+told-whole core rs all count now ms globals i high r after told new o rise p l e t whole =
+    let none : t.rest ≡ [] = none-left told.all new t.rest whole t.end in
+    subst (λ (list : List Registry). Progress core rs all (count + told.count) new (set ms i after)
+    (owed_in globals list)) (sym (drop-set-lt (i + 1) ms i after (omega arith)))
+    (subst (λ (list : List Due). Progress core rs all (count + told.count) new (set ms i after)
+    (list ++ owed_in globals (drop (i + 1) ms))) none
+    (told-next core rs all count now ms globals i high r after told new o rise p l e t))
+
+-- where it was not, the telling ends
+pub told-part : (core : Core) (rs : List Registry) (all : List Due) (count : ℕ) (now : Core) (ms : List Registry)
+    (globals : List Global) (i high : ℕ) (r after : Registry) (told : Announced) (new : Core)
+    → IsOrdinary core.outbox → RiseFrom 0 high rs → Progress core rs all count now ms (owed_in globals (drop i ms))
+    → i < length ms → r ≡ get_or ms i r
+    → (t : IsTold now (r ∷ []) (due_to globals r) told new (after ∷ [])) → told.all ≡ false
+    → IsTold core rs all (record { count = count + told.count; all = false }) new (set ms i after)
+told-part core rs all count now ms globals i high r after told new o rise p l e t part = record {
+  rest = t.rest ++ owed_in globals (drop (i + 1) ms);
+  progress = told-next core rs all count now ms globals i high r after told new o rise p l e t;
+  end = blocked-more new t.rest (owed_in globals (drop (i + 1) ms)) (some-left told.all new t.rest part t.end);
+}
+
+pub told-end : (core : Core) (rs : List Registry) (all : List Due) (count : ℕ) (now : Core) (ms : List Registry)
+    (globals : List Global) (i : ℕ) → Progress core rs all count now ms (owed_in globals (drop i ms)) → length ms ≤ i
+    → IsTold core rs all (record { count = count; all = true }) now ms
+told-end core rs all count now ms globals i p l = record {
+  rest = [];
+  progress = subst (λ (list : List Registry). Progress core rs all count now ms (owed_in globals list))
+      (drop_all i ms l) p;
+  end = refl;
+}
+
+-- the registries' births still rise
+pub rising-told : (core : Core) (rs : List Registry) (all : List Due) (told : Announced) (now : Core)
+    (ms : List Registry) → IsTold core rs all told now ms → RiseFrom 0 core.view.births rs
+    → RiseFrom 0 now.view.births ms
+rising-told core rs all told now ms t h =
+    let view : now.view ≡ core.view = ap (λ (c : Core). c.view) t.progress.written ∙ view-dues core t.progress.done in
+    subst (λ (v : View). RiseFrom 0 v.births ms) (sym view)
+    (subst (RiseFrom 0 core.view.births) (sym t.progress.marks)
+    (rising-all t.progress.done 0 core.view.births rs h))

@@ -1,0 +1,16 @@
+use Rattle.std.proofs.Common.{◌≡◌, length, subst, arith}
+use Rattle.std.specs.Prelude.{IfOk}
+use Rattle.wl_server.specs.Requests.{Report}
+use Rattle.wl_server.specs.Seen.{report_of}
+use Rattle.wl_server.proofs.AfterRequest.{front-told}
+use Rattle.wl_server.proofs.receive.copy.Goals as goal
+
+pub returns-clause-ok : goal.returns-clause-ok
+returns-clause-ok g c =
+    let all : length c.first_tokens-tokens.result ≡ 20 = omega (arith, c.first_tokens-tokens.type_inv) in
+    subst (λ (r : Report). IfOk c.to_owned.result (λ report. report_of report ≡ r))
+    (front-told c.args.end.now.core _ c.args.end.now.args _ c.args.request.now c.in-Ok-Some.field-0 c.in-Ok-Some.frame
+    c.first_tokens-tokens.result (λ i. (c.end.view_is i).core)
+    (λ i. (c.end.view_is i).args) c.requires c.in-Ok-Some.field-0-is c.in-Ok-Some.ensures.tells all
+    c.first_tokens-tokens.ensures)
+    c.to_owned.ensures.ok

@@ -1,0 +1,72 @@
+use Rattle.std.proofs.Common.{◌≡◌, sym, ap, subst, ◌∙◌, rules}
+use Rattle.std.specs.Prelude.{IsTrue}
+use Rattle.wl_object_map.specs.View.{View}
+use Rattle.wl_objects.specs.Messages.{opens}
+use Rattle.wl_message.specs.Outgoing.{Outgoing}
+use Rattle.wl_connection.specs.Core.{Core, past, with_view}
+use Rattle.wl_connection.specs.Sending.{delete_id_len, fits}
+use Rattle.wl_server.specs.Steps.{core_by, core_without, pending_in, registries_by, registries_without}
+use Rattle.wl_server.proofs.Closings.{row_opened, sound_opened}
+use Rattle.wl_server.proofs.Registries.{sound_now}
+use Rattle.wl_server.proofs.receive.take.Goals as goal
+
+pub close_object-requires-clause-row : goal.close_object-requires-clause-row
+close_object-requires-clause-row g c =
+    let core = c.args.end.now.core in
+    let made = c.args.request.now.change.made in
+    let object = c.in-Some.object in
+    let view : c.pass.new.self.view ≡ opens core.view made =
+    ap (λ (k : Core). k.view) c.pass.ensures ∙ ap (λ (k : Core). k.view) c.in_ok-open_new_object.ensures.core in
+    row_opened core.view c.pass.new.self.view made object view c.in_ok-open_new_object.ensures.fresh
+    (c.requires.can.ended object c.in-Some.is).row
+
+pub close_object-requires-clause-sound : goal.close_object-requires-clause-sound
+close_object-requires-clause-sound g c =
+    let core = c.args.end.now.core in
+    let made = c.args.request.now.change.made in
+    let opened = c.in_ok-open_new_object.ensures in
+    let view : c.pass.new.self.view ≡ opens core.view made =
+    ap (λ (k : Core). k.view) c.pass.ensures ∙ ap (λ (k : Core). k.view) opened.core in
+    sound_opened core c.pass.new.self c.args.registries.now.items c.open_new_object.new.registries.items made view
+    opened.registries opened.fresh c.requires.sound
+
+pub close_object-requires-clause-not_display : goal.close_object-requires-clause-not_display
+close_object-requires-clause-not_display g c = (c.requires.can.ended c.in-Some.object c.in-Some.is).not_display
+
+pub close_object-requires-clause-room : goal.close_object-requires-clause-room
+close_object-requires-clause-room g c =
+    let outbox : c.pass.new.self.outbox ≡ c.args.end.now.core.outbox =
+    ap (λ (k : Core). k.outbox) c.pass.ensures ∙ ap (λ (k : Core). k.outbox) c.in_ok-open_new_object.ensures.core in
+    subst (λ (o : Outgoing). IsTrue (fits o delete_id_len 0)) (sym outbox)
+    (c.requires.can.ended c.in-Some.object c.in-Some.is).room
+
+pub returns-in-Some-clause-sound : goal.returns-in-Some-clause-sound
+returns-in-Some-clause-sound g c =
+    let core = c.args.end.now.core in
+    let registries = c.args.registries.now.items in
+    let request = c.args.request.now in
+    let step = pending_in core c.args.end.now.args request in
+    let opened = c.in_ok-open_new_object.ensures in
+    let passed : c.pass.new.self ≡ past (with_view core (opens core.view request.change.made)) request.size
+    request.tokens = search rules in
+    let now : c.close_object.new.core ≡ core_by core step =
+    c.close_object.ensures.core ∙ (λ i. core_without (sym c.in-Some.is i) (passed i)) in
+    let left : c.close_object.new.registries.items ≡ registries_by core registries step =
+    c.close_object.ensures.registries ∙ (λ i. registries_without (sym c.in-Some.is i) (opened.registries i)) in
+    sound_now core c.close_object.new.core registries c.close_object.new.registries.items step c.requires.can now left
+    opened.fresh c.requires.sound
+
+pub returns-in_default-clause-sound : goal.returns-in_default-clause-sound
+returns-in_default-clause-sound g c =
+    let core = c.args.end.now.core in
+    let registries = c.args.registries.now.items in
+    let request = c.args.request.now in
+    let step = pending_in core c.args.end.now.args request in
+    let opened = c.in_ok-open_new_object.ensures in
+    let passed : c.pass.new.self ≡ past (with_view core (opens core.view request.change.made)) request.size
+    request.tokens = search rules in
+    let now : c.pass.new.self ≡ core_by core step = (λ i. core_without (sym c.in_default.is i) (passed i)) in
+    let left : c.open_new_object.new.registries.items ≡ registries_by core registries step =
+    (λ i. registries_without (sym c.in_default.is i) (opened.registries i)) in
+    sound_now core c.pass.new.self registries c.open_new_object.new.registries.items step c.requires.can now left
+    opened.fresh c.requires.sound

@@ -1,0 +1,55 @@
+//! Marks of the names of globals, a bit for each.
+ghost use Rattle.std.specs.Prelude.{◌≡◌, ◌≤◌, ◌<◌, false, replicate};
+ghost use Rattle.wl_server.specs.State.{mark_of, with_mark};
+
+use std::marker::Model;
+
+/// How many marks a word has.
+const WORD_LEN: usize = 64;
+
+/// How many words have a mark for each name, of which there are 1,024.
+const WORD_COUNT: usize = 16;
+
+/// A mark for each of the names 1 to 1,024. That of a name stands at the name less 1.
+#[derive(Debug, Drop)]
+pub(crate) struct Marks {
+    words: [u64; WORD_COUNT],
+}
+
+impl Model for Marks {
+    ghost use Rattle.std.specs.Prelude.{List, Bool};
+    ghost use Rattle.wl_server.specs.Bits.{bits};
+
+    ghost Value = { List Bool };
+
+    ghost view = { λ m. bits 1024 0 m.words };
+}
+
+impl Marks {
+    /// No name is marked.
+    pub(crate) fn new() -> Marks
+        ensures { result ≡ replicate 1024 false }
+    {
+        Marks {
+            words: [0; WORD_COUNT],
+        }
+    }
+
+    /// Whether a name is marked.
+    pub(crate) fn has(&self, name: u32) -> bool
+        requires { (0 < name) × (name ≤ 1024) }
+        ensures { result ≡ mark_of self.now name }
+    {
+        let place = name as usize - 1;
+        self.words[place / WORD_LEN] >> (place % WORD_LEN) & 1 == 1
+    }
+
+    /// Marks a name.
+    pub(crate) fn set(&mut self, name: u32)
+        requires { (0 < name) × (name ≤ 1024) }
+        ensures { self.new ≡ with_mark self.old name }
+    {
+        let place = name as usize - 1;
+        self.words[place / WORD_LEN] |= 1 << (place % WORD_LEN);
+    }
+}

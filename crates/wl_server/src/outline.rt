@@ -1,0 +1,59 @@
+//! The report of a request without its arguments, which it lends or copies.
+ghost use Rattle.std.specs.Prelude.{◌≡◌, ◌≢◌, [], IfOk, OnErr};
+ghost use Rattle.wl_server.specs.Seen.{lent_report, report_of};
+ghost use Rattle.wl_server.specs.Steps.{outlined};
+
+use crate::report::{OwnedRequest, Request};
+use std::alloc::{AllocError, Allocator};
+use wl_objects::{Args, Object, ParsedArgs};
+
+/// What is reported of a request. Where its arguments and its tokens lie is said when the report is
+/// lent or copied.
+#[derive(Clone, Copy, Debug)]
+pub(crate) struct Outline {
+    pub(crate) target: Object,
+    pub(crate) opcode: u16,
+    /// The birth of the object that the request opens.
+    pub(crate) birth: u64,
+}
+
+impl Outline {
+    /// The report of a request with these arguments, this body and these tokens, which are lent.
+    pub(crate) fn lend<'a>(
+        &self,
+        args: &'a ParsedArgs,
+        body: &'a [u8],
+        tokens: &'a [u32],
+    ) -> Request<'a>
+        ensures { lent_report result ≡ outlined body.now args.now tokens.now self.now }
+    {
+        Request {
+            target: self.target,
+            opcode: self.opcode,
+            args: Args::new(args, body, tokens, self.birth),
+        }
+    }
+
+    /// The report of a request with these arguments, this body and these tokens, in memory of its
+    /// own, which is taken only where there are arguments.
+    pub(crate) fn to_owned<A: Allocator + Clone + Drop>(
+        &self,
+        alloc: &A,
+        args: &ParsedArgs,
+        body: &[u8],
+        tokens: &[u32],
+    ) -> Result<OwnedRequest<A>, AllocError>
+        ensures ok { IfOk result
+            (λ report. report_of report ≡ outlined body.now args.now tokens.now self.now) }
+        ensures err { OnErr result (args.now ≢ []) }
+    {
+        match Args::new(args, body, tokens, self.birth).to_owned(alloc) {
+            Ok(args) => Ok(OwnedRequest {
+                target: self.target,
+                opcode: self.opcode,
+                args,
+            }),
+            Err(error) => Err(error),
+        }
+    }
+}

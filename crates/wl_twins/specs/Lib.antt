@@ -1,0 +1,2 @@
+pub mod Twins
+pub mod Forwarding

@@ -1,0 +1,8 @@
+//! What a proxy keeps of objects: it is a server towards a client and a client towards a
+//! compositor, and each object of the one end has a twin at the other.
+#![tactic(auto)]
+
+mod forward;
+mod twins;
+
+pub use twins::Twins;

@@ -1,0 +1,186 @@
+/* Connections that are broken or closed while descriptors wait: each descriptor is closed, and none twice. */
+#define _GNU_SOURCE
+#include "must.h"
+#include "transport.h"
+
+#include <dirent.h>
+#include <errno.h>
+#include <fcntl.h>
+#include <sys/socket.h>
+#include <unistd.h>
+
+static const waywire_sizes sizes = { 4096, 64, 4096, 64 };
+static waywire_tables *tables;
+
+static size_t count_open(void)
+{
+	size_t count = 0;
+	DIR *folder = opendir("/proc/self/fd");
+	MUST(folder);
+	while (readdir(folder))
+		count++;
+	closedir(folder);
+	return count;
+}
+
+static int new_descriptor(void)
+{
+	int descriptor = open("/dev/null", O_RDONLY | O_CLOEXEC);
+	MUST(descriptor >= 0);
+	return descriptor;
+}
+
+/* A server at one end of a new pair of sockets; returns the other. */
+static int serve(struct link *link)
+{
+	int sockets[2];
+	MUST(!socketpair(AF_UNIX, SOCK_STREAM | SOCK_CLOEXEC, 0, sockets));
+	memset(link, 0, sizeof *link);
+	link->socket = sockets[0];
+	MUST(!waywire_server_new(tables, &sizes, &link->server));
+	return sockets[1];
+}
+
+static void end_server(struct link *link)
+{
+	link_close(link);
+	waywire_server_free(link->server);
+}
+
+/* Sends bytes with as many descriptors as go at once. */
+static void send_with_descriptors(int socket, const void *bytes, size_t length)
+{
+	int descriptors[LINK_DESCRIPTORS];
+	union {
+		char bytes[CMSG_SPACE(sizeof descriptors)];
+		struct cmsghdr aligned;
+	} control = { { 0 } };
+	struct iovec data = { (void *)bytes, length };
+	struct msghdr message = { .msg_iov = &data, .msg_iovlen = 1, .msg_control = control.bytes,
+		.msg_controllen = sizeof control.bytes };
+	struct cmsghdr *header = CMSG_FIRSTHDR(&message);
+	for (int each = 0; each < LINK_DESCRIPTORS; each++)
+		descriptors[each] = new_descriptor();
+	header->cmsg_level = SOL_SOCKET;
+	header->cmsg_type = SCM_RIGHTS;
+	header->cmsg_len = CMSG_LEN(sizeof descriptors);
+	memcpy(CMSG_DATA(header), descriptors, sizeof descriptors);
+	MUST(sendmsg(socket, &message, 0) == (ssize_t)length);
+	for (int each = 0; each < LINK_DESCRIPTORS; each++)
+		close(descriptors[each]);
+}
+
+/* A client that breaks a rule is told so; its descriptors are closed. */
+static void broken(const void *bytes, size_t length)
+{
+	struct link link;
+	waywire_report report;
+	unsigned char told[256];
+	int client = serve(&link);
+	size_t before = count_open();
+	send_with_descriptors(client, bytes, length);
+	MUST(link_fill(&link) == 1 && count_open() == before + LINK_DESCRIPTORS);
+	MUST(waywire_is_fault(waywire_server_next(link.server, &report)));
+	MUST(!link_drain(&link, 1000) && recv(client, told, sizeof told, MSG_DONTWAIT) >= 20);
+	end_server(&link);
+	MUST(count_open() == before - 1);
+	close(client);
+}
+
+/* A client goes before its message is whole. */
+static void cut_off(void)
+{
+	static const unsigned char half[] = { 1, 0, 0, 0 };
+	struct link link;
+	waywire_report report;
+	int client = serve(&link);
+	send_with_descriptors(client, half, sizeof half);
+	close(client);
+	MUST(link_fill(&link) == 1);
+	MUST(!waywire_server_next(link.server, &report) && report.kind == WAYWIRE_NOTHING);
+	MUST(link_fill(&link) == -1 && !errno);
+	end_server(&link);
+}
+
+/* All that one end wrote is read by the other. */
+static waywire_report pass(struct link *from, struct link *to)
+{
+	waywire_report report, last = { 0 };
+	MUST(!link_flush(from) && link_fill(to) == 1);
+	for (;;) {
+		MUST(!(to->client ? waywire_client_next(to->client, &report)
+			: waywire_server_next(to->server, &report)));
+		if (report.kind == WAYWIRE_NOTHING)
+			return last;
+		last = report;
+	}
+}
+
+/* A client gives up with descriptors in its outbox, of which some messages have one and others none. */
+static void not_sent(void)
+{
+	struct link one = { 0 }, other;
+	waywire_object display, registry, shm, pool;
+	uint16_t place;
+	one.socket = serve(&other);
+	MUST(!waywire_client_new(tables, &sizes, &one.client));
+	MUST(!waywire_client_display(one.client, &display));
+	registry = waywire_wl_display_get_registry(one.client, display, NULL);
+	pass(&one, &other);
+	MUST(!waywire_tables_interface(tables, WAYWIRE_WL_SHM_NAME, &place));
+	MUST(!waywire_server_add_global(other.server, place, 1, NULL));
+	MUST(!waywire_server_announce(other.server, NULL));
+	pass(&other, &one);
+	shm = waywire_wl_registry_bind(one.client, registry, 1, WAYWIRE_WL_SHM_NAME, 1, NULL);
+	for (int each = 0; each < 40; each++) {
+		pool = waywire_wl_shm_create_pool(one.client, shm, new_descriptor(), 4096, NULL);
+		MUST(pool.id && !waywire_wl_shm_pool_destroy(one.client, pool));
+	}
+	link_close(&one);
+	waywire_client_free(one.client);
+	end_server(&other);
+}
+
+/* The tokens that wait, in order: those that came, then those that were not sent. Nothing is read or written
+ * afterwards. */
+static void in_order(void)
+{
+	static const unsigned char bytes[] = { 9, 0, 0, 0 };
+	uint32_t tokens[3], fed[LINK_DESCRIPTORS];
+	waywire_amounts amounts;
+	waywire_object display;
+	waywire_server *server;
+	size_t count;
+	for (uint32_t each = 0; each < LINK_DESCRIPTORS; each++)
+		fed[each] = 100 + each;
+	MUST(!waywire_server_new(tables, &sizes, &server) && !waywire_server_display(server, &display));
+	MUST(!waywire_server_feed(server, bytes, 4, fed, LINK_DESCRIPTORS, &amounts));
+	for (uint32_t next = 100; next < 100 + LINK_DESCRIPTORS; next += (uint32_t)count) {
+		MUST(!waywire_server_take_waiting_tokens(server, tokens, 3, &count) && count);
+		for (uint32_t each = 0; each < count; each++)
+			MUST(tokens[each] == next + each);
+	}
+	MUST(!waywire_server_take_waiting_tokens(server, tokens, 3, &count) && !count);
+	MUST(waywire_server_feed(server, bytes, 4, fed, 1, &amounts) == WAYWIRE_FAILED);
+	MUST(waywire_server_post_error(server, display, 0, "") == WAYWIRE_FAILED);
+	waywire_server_free(server);
+}
+
+int main(void)
+{
+	static const unsigned char bad_size[] = { 1, 0, 0, 0, 0, 0, 4, 0 };
+	static const unsigned char unknown[] = { 9, 0, 0, 0, 0, 0, 8, 0 };
+	MUST(!waywire_tables_core(&tables));
+	size_t before = count_open();
+	for (int each = 0; each < 20; each++) {
+		broken(bad_size, sizeof bad_size);
+		broken(unknown, sizeof unknown);
+		cut_off();
+		not_sent();
+		MUST(count_open() == before);
+	}
+	in_order();
+	waywire_tables_free(tables);
+	printf("closing: ok\n");
+	return 0;
+}
