@@ -19,7 +19,7 @@ use Rattle.wl_server.specs.State.{Global, global_of}
 use Rattle.wl_server.specs.Requests.{can_bind as bind_fits, name_fits}
 use Rattle.wl_server.specs.Calls.{version_in}
 use Rattle.wl_recording.specs.declared.piece.Direction.TheVariants.{ToServer}
-use Rattle.wl_check.specs.Effects.{first_number}
+use Rattle.wl_check.specs.Changes.{first_number}
 use Rattle.wl_check.specs.Places.{Known as Knows}
 use Rattle.wl_check.specs.Rules.{version_of, can_bind as may_bind, is_bad_bind}
 use Rattle.theory_connection.specs.Meant.{Known, Message, Coming, Event, Delete, Arg, made_in, wire}

@@ -11,7 +11,7 @@ use Rattle.wl_object_map.specs.declared.object.State.TheVariants.{Live}
 use Rattle.wl_objects.specs.Messages.{NewObject, ended_id, is_error}
 use Rattle.wl_recording.specs.declared.piece.Direction.{Direction}
 use Rattle.wl_check.specs.Merged.{mark, framed, same_direction}
-use Rattle.wl_check.specs.Effects.{Call, effect, destroyed, side_of}
+use Rattle.wl_check.specs.Changes.{Call, changes, destroyed, side_of}
 use Rattle.wl_check.specs.Places.{is_id, is_made, frees, entry_of, new_of, used_by, unless_deleted}
 use Rattle.wl_check.specs.Rules.{judged}
 use Rattle.wl_check.specs.Session.{Judged}
@@ -74,7 +74,7 @@ other_taken tables e call x apart =
 pub call_grows : (tables : List Interface) (e : List Judged) (call : Call) → Grows (knowledge tables e) (knowledge tables (e ++ Ok call ∷ []))
 call_grows tables e call name iface =
     let is = (behind_one tables e call).advertised_is name iface in
-    let more = advertised_more (effect tables call) name iface ((knowledge tables e).advertised_version name iface) in
+    let more = advertised_more (changes tables call) name iface ((knowledge tables e).advertised_version name iface) in
     omega (arith, is, more)
 
 -- ---- the objects
@@ -86,7 +86,7 @@ destroyed_as b id (Some x) f h = λ i. destroyed (f i) (sym h i)
 -- behind a message that fits, the checker knows the rows that it leaves
 pub known_call : (tables : List Interface) (e : List Judged) (here : Rows Row) (d : Direction) (m : Message Known) (entry : Entry) (f : Fits tables (side_of d) m) (n : Option Known)
     → Valid tables → KnownAs (knowledge tables e) (places tables e) here → IfThere (Fresh here) n → Held here m.target → Each (Held here) (objects m.args)
-    → (effect tables (call_as d m entry f.signature)).made ≡ option_map made_of n → (effect tables (call_as d m entry f.signature)).deleted ≡ None
+    → (changes tables (call_as d m entry f.signature)).made ≡ option_map made_of n → (changes tables (call_as d m entry f.signature)).deleted ≡ None
     → KnownAs (knowledge tables (e ++ Ok (call_as d m entry f.signature) ∷ [])) (places tables (e ++ Ok (call_as d m entry f.signature) ∷ [])) (client_ends m.ends (client_makes here n))
 known_call tables e here d m entry f n valid a fresh target args made_is deleted_is =
     let call = call_as d m entry f.signature in
@@ -96,7 +96,7 @@ known_call tables e here d m entry f n valid a fresh target args made_is deleted
     let b = behind_one tables e call in
     let held : IfThere (Held here) m.ends = ends_have (Held here) tables (side_of d) m f target args in
     let ended = ends_as tables (side_of d) m f valid in
-    let destroyed_is : (effect tables call).destroyed ≡ ended_ids m.ends = destroyed_as (destroys_one f.signature.destroys) (ended_id f.signature.destroys m.target.id (map wire m.args)) m.ends ended.flag ended.same in
+    let destroyed_is : (changes tables call).destroyed ≡ ended_ids m.ends = destroyed_as (destroys_one f.signature.destroys) (ended_id f.signature.destroys m.target.id (map wire m.args)) m.ends ended.flag ended.same in
     let known = known_behind k k' (places tables e) p here n m.ends a fresh held
     (λ id. b.objects id ∙ (λ i. cond (is_made (made_is i) id) (Some (entry_of p Live (new_of (made_is i)))) (unless_deleted (frees (deleted_is i) id) (is_id (destroyed_is i) id) (k.object id))))
     (b.used_is ∙ ap (λ (o : Option NewObject). used_by o k.used) made_is) in

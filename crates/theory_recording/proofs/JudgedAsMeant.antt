@@ -18,9 +18,9 @@ use Rattle.wl_objects.specs.Writing.{spelled as spelled_values, message_len}
 use Rattle.wl_objects.proofs.Wholes.{length-message, length-spelled}
 use Rattle.wl_recording.specs.declared.piece.Direction.{Direction}
 use Rattle.wl_check.specs.Merged.{mark, framed}
-use Rattle.wl_check.specs.Effects.{Call, side_of}
+use Rattle.wl_check.specs.Changes.{Call, side_of}
 use Rattle.wl_check.specs.Places.{Known as Knows}
-use Rattle.wl_check.specs.Rules.{reader, called, judged, judged_as, is_bad_bind}
+use Rattle.wl_check.specs.Rules.{reader, called, judged, judged_message, is_bad_bind}
 use Rattle.theory_connection.specs.Meant.{Known, Message, Arg, objects, new_in, wire, tokens, spelled}
 use Rattle.theory_connection.specs.World.{Each, IfThere}
 use Rattle.theory_connection.specs.Stands.{Fits}
@@ -70,9 +70,9 @@ frame_called limit tables k d m stream more p t o f whole e args w good =
     let q = parted (drop p stream) more m.target.id m.opcode vs e (omega (arith, f.low)) f.opcode f.len in
     let enough : length (tokens m.args) ≤ t - k.taken d = omega (arith, w) in
     let read = received_by_any tables (side_of d) (reader k d) m header (t - k.taken d) o f q.object q.opcode_is args enough in
-    let whole_one = judged_as tables k (framed d t (mark p n)) header (take (n - 8) (drop (p + 8) stream)) in
+    let whole_one = judged_message tables k (framed d t (mark p n)) header (take (n - 8) (drop (p + 8) stream)) in
     ap (λ (b : Bool). cond b whole_one (Err BadSize)) size
-    ∙ ap (judged_as tables k (framed d t (mark p n)) header) (body_is m stream more p e)
+    ∙ ap (judged_message tables k (framed d t (mark p n)) header) (body_is m stream more p e)
     ∙ ap (called tables k d header.opcode) read
     ∙ ap (λ (opcode : ℕ). called tables k d opcode (Ok (call_as d m o.entry f.signature).received)) q.opcode_is
     ∙ rw good refl

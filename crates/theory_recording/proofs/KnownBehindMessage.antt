@@ -10,11 +10,11 @@ use Rattle.wl_sigs.specs.Tables.{Interface}
 use Rattle.wl_object_map.specs.declared.object.Entry.{Entry}
 use Rattle.wl_object_map.specs.declared.object.State.TheVariants.{Live}
 use Rattle.wl_objects.specs.Messages.{NewObject}
-use Rattle.wl_check.specs.Effects.{Call, effect}
+use Rattle.wl_check.specs.Changes.{Call, changes}
 use Rattle.wl_check.specs.Places.{Known as Knows, is_id, is_made, frees, entry_of, new_of, used_by, unless_deleted}
-use Rattle.wl_check.specs.Session.{Judged, effects}
-use Rattle.wl_check.proofs.Reading.{effects_same}
-use Rattle.wl_check.proofs.Growing.{length_last, effect_last}
+use Rattle.wl_check.specs.Session.{Judged, changes_at}
+use Rattle.wl_check.proofs.Reading.{changes_at_same}
+use Rattle.wl_check.proofs.Growing.{length_last, changes_last}
 use Rattle.theory_connection.specs.Meant.{Known}
 use Rattle.theory_connection.specs.World.{Row, Open, Ending, put, IfThere}
 use Rattle.theory_connection.specs.Stands.{birth_in}
@@ -210,14 +210,14 @@ makers_same f g (suc n) h =
     λ i. front i ++ maker (last i) n
 
 -- behind one more message there is one more place where it makes an object
-pub places_behind : (tables : List Interface) (e : List Judged) (call : Call) → places tables (e ++ Ok call ∷ []) ≡ places tables e ++ maker (effect tables call).made (suc (length e))
+pub places_behind : (tables : List Interface) (e : List Judged) (call : Call) → places tables (e ++ Ok call ∷ []) ≡ places tables e ++ maker (changes tables call).made (suc (length e))
 unfolding makers
 places_behind tables e call =
     let all = e ++ Ok call ∷ [] in
     let n : suc (length all) ≡ suc (suc (length e)) = ap suc (length_last e (Ok call)) in
-    let last = effect_last tables e call in
-    let front = makers_same (λ q. (effects tables all q).made) (λ q. (effects tables e q).made) (suc (length e)) (λ q l. (let s = effects_same tables e (Ok call ∷ []) q l in λ i. (s i).made)) in
-    ap (makers (λ q. (effects tables all q).made)) n ∙ (λ i. front i ++ maker ((last i).made) (suc (length e)))
+    let last = changes_last tables e call in
+    let front = makers_same (λ q. (changes_at tables all q).made) (λ q. (changes_at tables e q).made) (suc (length e)) (λ q l. (let s = changes_at_same tables e (Ok call ∷ []) q l in λ i. (s i).made)) in
+    ap (makers (λ q. (changes_at tables all q).made)) n ∙ (λ i. front i ++ maker ((last i).made) (suc (length e)))
 
 -- wl_display is one of them
 makers_some : (made : ℕ → Option NewObject) (n : ℕ) (first : NewObject) → made 0 ≡ Some first → 0 < length (makers made (suc n))
@@ -227,4 +227,4 @@ makers_some made (suc n) first e = let r = makers_some made n first e in omega (
 
 -- wl_display is always made
 pub some_place : (tables : List Interface) (e : List Judged) → 0 < length (places tables e)
-some_place tables e = makers_some (λ place. (effects tables e place).made) (length e) _ refl
+some_place tables e = makers_some (λ place. (changes_at tables e place).made) (length e) _ refl

@@ -16,7 +16,7 @@ use Rattle.wl_recording.specs.declared.piece.Direction.{Direction}
 use Rattle.wl_recording.specs.declared.piece.Direction.TheVariants.{ToServer, ToClient}
 use Rattle.wl_check.specs.Merged.{merged_within, cutting}
 use Rattle.wl_check.specs.Places.{Known as Knows, known}
-use Rattle.wl_check.specs.Session.{Judged, effects, judged_after, session_of}
+use Rattle.wl_check.specs.Session.{Judged, changes_at, judged_after, session_of}
 use Rattle.wl_check.proofs.Examined.{known_first}
 use Rattle.theory_connection.specs.World.{Row, Open, opening}
 use Rattle.theory_connection.specs.Pair.{new_pair}
@@ -44,7 +44,7 @@ first_known = record { object = λ id. first_entry (nat_eq id 1); used = 1; adve
 known_none : (limit : ℕ) (tables : List Interface) → first_known ≡ knowledge tables []
 known_none limit tables =
     known_first tables (session_of limit []) first_known (record { objects = λ id. refl; used_is = refl; advertised_is = λ n i. refl; taken_is = λ d. refl })
-    ∙ ap (λ (ms : List Judged). known (effects tables ms) 1) (none_judged limit tables)
+    ∙ ap (λ (ms : List Judged). known (changes_at tables ms) 1) (none_judged limit tables)
 
 first_places : (tables : List Interface) → places tables [] ≡ 0 ∷ []
 unfolding makers

@@ -19,7 +19,7 @@ use Rattle.wl_client.specs.State.{is_named}
 use Rattle.wl_server.specs.State.{Global, Registry}
 use Rattle.wl_server.specs.Announcing.{name_at}
 use Rattle.wl_recording.specs.declared.piece.Direction.TheVariants.{ToServer, ToClient}
-use Rattle.wl_check.specs.Effects.{first_number}
+use Rattle.wl_check.specs.Changes.{first_number}
 use Rattle.wl_check.specs.Places.{Known as Knows}
 use Rattle.theory_connection.specs.Meant.{Born, Known, Message, Coming, Event, Delete, Arg, made_in, objects, wire, spelled, spelled_coming}
 use Rattle.theory_connection.specs.World.{World, Row, Each, IfThere, delete, is_registry}

@@ -16,7 +16,7 @@ use Rattle.wl_objects.specs.Messages.{is_delete_id, ended_id}
 use Rattle.wl_client.specs.declared.globals.Global.{Global as Remembered}
 use Rattle.wl_server.specs.State.{Global}
 use Rattle.wl_recording.specs.declared.piece.Direction.TheVariants.{ToClient}
-use Rattle.wl_check.specs.Effects.{effect, destroyed, is_global, first_number}
+use Rattle.wl_check.specs.Changes.{changes, destroyed, is_global, first_number}
 use Rattle.wl_check.specs.Places.{is_id, unless_deleted, frees}
 use Rattle.wl_check.specs.Rules.{reader}
 use Rattle.wl_check.specs.Session.{Judged}
@@ -90,8 +90,8 @@ own_global tables e m entry signature same is name version text iface args place
     let call = call_as ToClient m entry signature in
     let k = knowledge tables e in
     let global : is_global event_side entry.iface m.opcode ≡ true = ap (λ (i : Iface). is_global event_side i m.opcode) same ∙ is in
-    let told : (effect tables call).advertised ≡ Some (record { name = name; iface = iface; version = version }) = rw (global, args, place) refl in
-    let own = advertised_own (effect tables call) name iface version (k.advertised_version name iface.0) told in
+    let told : (changes tables call).advertised ≡ Some (record { name = name; iface = iface; version = version }) = rw (global, args, place) refl in
+    let own = advertised_own (changes tables call) name iface version (k.advertised_version name iface.0) told in
     let next = (behind_one tables e call).advertised_is name iface.0 in
     omega (arith, own, next)
 
@@ -116,7 +116,7 @@ event_one limit tables given asked_seen asked_later told client server remembere
     let e' = e ++ Ok call ∷ [] in
     let k' = knowledge tables e' in
     let deletes : is_delete_id event_side o.entry.iface m.opcode ≡ false = ap (λ (i : Iface). is_delete_id event_side i m.opcode) o.iface ∙ fit.no_delete_id in
-    let deleted_is : (effect tables call).deleted ≡ None = rw deletes refl in
+    let deleted_is : (changes tables call).deleted ≡ None = rw deletes refl in
     let grows = call_grows tables e call in
     record {
       call = call;
@@ -153,8 +153,8 @@ known_delete tables e here x entry signature a mortal iface keeps =
     let k = knowledge tables e in
     let k' = knowledge tables (e ++ Ok call ∷ []) in
     let b = behind_one tables e call in
-    let deleted_is : (effect tables call).deleted ≡ Some x.id = ap (λ (i : Iface). cond (is_delete_id event_side i 1) (first_number (map wire (deleting x).args)) None) iface in
-    let destroyed_is : (effect tables call).destroyed ≡ None = ap (λ (d : Destroys). destroyed (destroys_one d) (ended_id d 1 (map wire (deleting x).args))) keeps in
+    let deleted_is : (changes tables call).deleted ≡ Some x.id = ap (λ (i : Iface). cond (is_delete_id event_side i 1) (first_number (map wire (deleting x).args)) None) iface in
+    let destroyed_is : (changes tables call).destroyed ≡ None = ap (λ (d : Destroys). destroyed (destroys_one d) (ended_id d 1 (map wire (deleting x).args))) keeps in
     let known = known_deleted k k' (places tables e) here x a mortal
     (λ id. b.objects id ∙ (λ i. unless_deleted (frees (deleted_is i) id) (is_id (destroyed_is i) id) (k.object id))) b.used_is in
     subst (λ (ps : List ℕ). KnownAs k' ps (at here x.id None)) (sym (places_behind tables e call ∙ append-nil (places tables e))) known

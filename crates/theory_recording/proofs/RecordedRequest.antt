@@ -9,7 +9,7 @@ use Rattle.wl_objects.specs.Messages.{made}
 use Rattle.wl_client.specs.declared.globals.Global.{Global as Remembered}
 use Rattle.wl_server.specs.State.{Global}
 use Rattle.wl_recording.specs.declared.piece.Direction.TheVariants.{ToServer}
-use Rattle.wl_check.specs.Effects.{effect}
+use Rattle.wl_check.specs.Changes.{changes}
 use Rattle.wl_check.specs.Rules.{reader}
 use Rattle.wl_check.specs.Session.{Judged}
 use Rattle.theory_connection.specs.Meant.{Known, Message, Coming, objects, made_in, wire, tokens, spelled}
@@ -41,7 +41,7 @@ ask_one limit tables given told_seen client remembered stream more t p e m ms va
     let call = call_as ToServer m o.entry fit.fits.signature in
     let e' = e ++ Ok call ∷ [] in
     let kinds = fit.fits.signature.kinds in
-    let made_is : (effect tables call).made ≡ option_map made_of (made_in m.args) =
+    let made_is : (changes tables call).made ≡ option_map made_of (made_in m.args) =
     ap (λ (n : ℕ). made tables n kinds (map wire m.args)) o.version ∙ made_read tables m.target.born.version kinds m.args fit.fits.args in
     let grows = call_grows tables e call in
     record {

@@ -10,9 +10,9 @@ use Rattle.wl_object_map.specs.declared.object.Entry.{Entry}
 use Rattle.wl_object_map.specs.declared.object.State.TheVariants as states
 use Rattle.wl_objects.specs.Messages.{NewObject, is_bind}
 use Rattle.wl_client.specs.declared.globals.Global.{Global}
-use Rattle.wl_check.specs.Effects.{Call, first_number, is_global}
+use Rattle.wl_check.specs.Changes.{Call, first_number, is_global}
 use Rattle.wl_check.specs.Places.{Known as Knows, known}
-use Rattle.wl_check.specs.Session.{Judged, effects, ends_session}
+use Rattle.wl_check.specs.Session.{Judged, changes_at, ends_session}
 use Rattle.theory_connection.specs.Meant.{Known, Message, Coming, Event, Delete, made_in, wire}
 use Rattle.theory_connection.specs.World.{Row, Open, Ending, Each}
 use Rattle.theory_connection.specs.Flight.{Rows, all_asks, all_tells}
@@ -30,7 +30,7 @@ AllGoOn judged = (k : ℕ) (one : Judged) → slice_get judged k ≡ Some one �
 
 -- what is known behind messages, each judged at its place
 abbrev pub knowledge : List Interface → List Judged → Knows
-knowledge tables judged = known (effects tables judged) (suc (length judged))
+knowledge tables judged = known (changes_at tables judged) (suc (length judged))
 
 -- The places of what makes an object, in their order: wl_display, of birth 0, is made at place 0,
 -- and the object of birth b by the b-th request that makes one.
@@ -43,7 +43,7 @@ makers made zero = []
 makers made (suc place) = makers made place ++ maker (made place) place
 
 abbrev pub places : List Interface → List Judged → List ℕ
-places tables judged = makers (λ place. (effects tables judged place).made) (suc (length judged))
+places tables judged = makers (λ place. (changes_at tables judged place).made) (suc (length judged))
 
 -- an object as the checker has it: its birth is told by its place
 abbrev pub entry_at : List ℕ → Row → Entry

@@ -16,22 +16,22 @@ use Rattle.wl_object_map.specs.declared.object.Entry.{Entry}
 use Rattle.wl_object_map.specs.declared.object.State.TheVariants.{Live}
 use Rattle.wl_recording.specs.declared.piece.Direction.{Direction}
 use Rattle.wl_recording.specs.declared.piece.Direction.TheVariants.{ToServer, ToClient}
-use Rattle.wl_check.specs.declared.effect.Effect.{Effect}
-use Rattle.wl_check.specs.declared.frames.Frame.{Frame}
+use Rattle.wl_check.specs.declared.changes.MessageChanges.{MessageChanges}
+use Rattle.wl_check.specs.declared.frames.FramedMessage.{FramedMessage}
 use Rattle.wl_check.specs.declared.progress.Tally.{Tally}
 use Rattle.wl_check.specs.declared.progress.Progress.{Progress}
 use Rattle.wl_check.specs.declared.verdict.Verdict.{Verdict}
 use Rattle.wl_check.specs.declared.verdict.Verdict.TheVariants.{Lawful, Broken}
 use Rattle.wl_check.specs.Merged.{same_direction}
-use Rattle.wl_check.specs.Effects.{Call, effect, beginning}
+use Rattle.wl_check.specs.Changes.{Call, changes, beginning}
 use Rattle.wl_check.specs.Places.{holder, is_ending, used, advertised_version, taken, taken_after, deletes, unless_deleted, object_after, Known, known, IsNext, IsFirst}
-use Rattle.wl_check.specs.Rules.{judged, judged_as, judged_front}
+use Rattle.wl_check.specs.Rules.{judged, judged_message, judged_front}
 use Rattle.wl_message.specs.Cut.{is_size}
 use Rattle.wl_wire.specs.Word.{header_at}
 use Rattle.wl_objects.specs.declared.error.Fault.TheVariants.{BadSize}
-use Rattle.wl_check.specs.Session.{Session, Judged, effects, messages, ends_session, examined, fault_of, breaks, IsLawful, count_in, end_after, Answers, SaysLawful}
+use Rattle.wl_check.specs.Session.{Session, Judged, changes_at, messages, ends_session, examined, fault_of, breaks, IsLawful, count_in, end_after, Answers, SaysLawful}
 use Rattle.wl_check.specs.Seen.{known_in, tally_after, tally_in, no_tally}
-use Rattle.wl_check.specs.Course.{IsTallied, IsAt}
+use Rattle.wl_check.specs.SessionState.{IsTallied, IsAt}
 use Rattle.wl_check.specs.Session.{Passed, ArePassed}
 use Rattle.wl_check.specs.Text.{IsExamined}
 use Rattle.wl_check.proofs.Stepping.{known_next, named_next}
@@ -101,18 +101,18 @@ lawful_end tables s k call e ends a j = elim (cases_order j k) [
 
 -- ---- what is counted
 
-count_more : (d : Direction) (fs : List Frame) (k : ℕ) (f : Frame) → slice_get fs k ≡ Some f → count_in d (take (k + 1) fs) ≡ count_in d (take k fs) + cond (same_direction f.direction d) 1 0
+count_more : (d : Direction) (fs : List FramedMessage) (k : ℕ) (f : FramedMessage) → slice_get fs k ≡ Some f → count_in d (take (k + 1) fs) ≡ count_in d (take k fs) + cond (same_direction f.direction d) 1 0
 count_more d fs k f e =
     let h = slice_get_within fs k f e in
     let is : get_or fs k f ≡ f = (let g = slice_get-get_or fs k f h in cc) in
-    sum_by_more (λ (x : Frame). cond (same_direction x.direction d) 1 0) fs k f h ∙ ap (λ (x : Frame). count_in d (take k fs) + cond (same_direction x.direction d) 1 0) is
+    sum_by_more (λ (x : FramedMessage). cond (same_direction x.direction d) 1 0) fs k f h ∙ ap (λ (x : FramedMessage). count_in d (take k fs) + cond (same_direction x.direction d) 1 0) is
 
-end_more : (d : Direction) (p : ℕ) (fs : List Frame) (k : ℕ) (f : Frame) → slice_get fs k ≡ Some f → end_after d p (take (suc k) fs) ≡ cond (same_direction f.direction d) (f.start + f.size) (end_after d p (take k fs))
+end_more : (d : Direction) (p : ℕ) (fs : List FramedMessage) (k : ℕ) (f : FramedMessage) → slice_get fs k ≡ Some f → end_after d p (take (suc k) fs) ≡ cond (same_direction f.direction d) (f.start + f.size) (end_after d p (take k fs))
 end_more d p [] k f e = absurd (cc)
-end_more d p (x ∷ xs) zero f e = let is : x ≡ f = cc in ap (λ (y : Frame). cond (same_direction y.direction d) (y.start + y.size) p) is
+end_more d p (x ∷ xs) zero f e = let is : x ≡ f = cc in ap (λ (y : FramedMessage). cond (same_direction y.direction d) (y.start + y.size) p) is
 end_more d p (x ∷ xs) (suc k) f e = end_more d (cond (same_direction x.direction d) (x.start + x.size) p) xs k f e
 
-tallied_step : (s : Session) (k : ℕ) (d : Direction) (t : Tally) (f : Frame) (b : Bool) → slice_get s.frames k ≡ Some f → same_direction f.direction d ≡ b → (b ≡ true → f.start + f.size ≤ length (s.streams d)) → IsTallied s k d t
+tallied_step : (s : Session) (k : ℕ) (d : Direction) (t : Tally) (f : FramedMessage) (b : Bool) → slice_get s.frames k ≡ Some f → same_direction f.direction d ≡ b → (b ≡ true → f.start + f.size ≤ length (s.streams d)) → IsTallied s k d t
     → IsTallied s (k + 1) d (cond b (record { count = t.count + 1; end = f.start + f.size }) t)
 tallied_step s k d t f true e same h i = record {
   count_is = ap (λ (n : ℕ). n + 1) i.count_is ∙ sym (count_more d s.frames k f e ∙ rw same refl);
@@ -131,14 +131,14 @@ same_is ToClient ToClient e = refl
 same_is ToServer ToClient e = absurd (cc)
 same_is ToClient ToServer e = absurd (cc)
 
-tallied_next : (s : Session) (k : ℕ) (d : Direction) (t u : Tally) (f : Frame) → slice_get s.frames k ≡ Some f → f.start + f.size ≤ length (s.streams f.direction) → u ≡ tally_after d f t → IsTallied s k d t → IsTallied s (k + 1) d u
+tallied_next : (s : Session) (k : ℕ) (d : Direction) (t u : Tally) (f : FramedMessage) → slice_get s.frames k ≡ Some f → f.start + f.size ≤ length (s.streams f.direction) → u ≡ tally_after d f t → IsTallied s k d t → IsTallied s (k + 1) d u
 tallied_next s k d t u f e h is i =
     rw is (tallied_step s k d t f (same_direction f.direction d) e refl (λ same. subst (λ (x : Direction). f.start + f.size ≤ length (s.streams x)) (same_is f.direction d same) h) i)
 
 -- ---- a place of the session
 
 -- the message is judged by what is known
-pub message_is : {A : Type 0} (tables : List Interface) (s : Session) (k : ℕ) (f : Frame) (p : Progress A) → slice_get s.frames k ≡ Some f → IsAt tables s k p
+pub message_is : {A : Type 0} (tables : List Interface) (s : Session) (k : ℕ) (f : FramedMessage) (p : Progress A) → slice_get s.frames k ≡ Some f → IsAt tables s k p
     → slice_get (messages tables s) k ≡ Some (judged s.limit tables (known_in p.known) (s.streams f.direction) f)
 message_is tables s k f p e at = reading tables s k f e ∙ ap (λ (x : Known). Some (judged s.limit tables x (s.streams f.direction) f)) (sym at.known_is)
 
@@ -160,10 +160,10 @@ first_taken : (d : Direction) → taken_after beginning d 0 ≡ 0
 first_taken ToServer = refl
 first_taken ToClient = refl
 
-pub known_first : (tables : List Interface) (s : Session) (k : Known) → IsFirst k → k ≡ known (effects tables (messages tables s)) 1
+pub known_first : (tables : List Interface) (s : Session) (k : Known) → IsFirst k → k ≡ known (changes_at tables (messages tables s)) 1
 unfolding holder is_ending used advertised_version taken
 known_first tables s k h =
-    let o = fun_ext (λ id. h.objects id ∙ sym (named_next (effects tables (messages tables s)) 0 id ∙ first_object id)) in
+    let o = fun_ext (λ id. h.objects id ∙ sym (named_next (changes_at tables (messages tables s)) 0 id ∙ first_object id)) in
     let u = h.used_is in
     let t = fun_ext (λ n. fun_ext (λ i. h.advertised_is n i)) in
     let d = fun_ext (λ x. h.taken_is x ∙ sym (first_taken x)) in
@@ -179,14 +179,14 @@ at_first tables s p k a b c d = record {
 }
 
 -- behind a message that keeps the rules
-pub at_next : {A : Type 0} (tables : List Interface) (s : Session) (k : ℕ) (f : Frame) (call : Call) (d : Effect) (p q : Progress A) → d ≡ effect tables call → slice_get s.frames k ≡ Some f → slice_get (messages tables s) k ≡ Some (Ok call)
+pub at_next : {A : Type 0} (tables : List Interface) (s : Session) (k : ℕ) (f : FramedMessage) (call : Call) (d : MessageChanges) (p q : Progress A) → d ≡ changes tables call → slice_get s.frames k ≡ Some f → slice_get (messages tables s) k ≡ Some (Ok call)
     → f.start + f.size ≤ length (s.streams f.direction) → IsNext (k + 1) d (known_in p.known) (known_in q.known) → q.to_server ≡ tally_after ToServer f p.to_server → q.to_client ≡ tally_after ToClient f p.to_client
     → q.known.taken_to_server < p.known.taken_to_server + 2 ^ 64 → q.known.taken_to_client < p.known.taken_to_client + 2 ^ 64 → IsAt tables s k p → IsAt tables s (k + 1) q
 at_next tables s k f call what p q what_is e m h n a b c d at =
-    let is : effects tables (messages tables s) (suc k) ≡ what = rw (m, what_is) refl in
-    let next : IsNext (suc k) (effects tables (messages tables s) (suc k)) (known_in p.known) (known_in q.known) = rw (is, ← add-one) n in
+    let is : changes_at tables (messages tables s) (suc k) ≡ what = rw (m, what_is) refl in
+    let next : IsNext (suc k) (changes_at tables (messages tables s) (suc k)) (known_in p.known) (known_in q.known) = rw (is, ← add-one) n in
     record {
-      known_is = rw add-one (known_next (effects tables (messages tables s)) (suc k) (known_in p.known) (known_in q.known) at.known_is next);
+      known_is = rw add-one (known_next (changes_at tables (messages tables s)) (suc k) (known_in p.known) (known_in q.known) at.known_is next);
       to_server = tallied_next s k ToServer p.to_server q.to_server f e h a at.to_server;
       to_client = tallied_next s k ToClient p.to_client q.to_client f e h b at.to_client;
       taken_to_server = (let t = at.taken_to_server in omega (arith, c, t));
@@ -200,19 +200,19 @@ passed_next ms k call a e on j h = elim (cases_order j k) [
 ]
 
 -- the bytes from a message on are enough
-from_front : (limit : ℕ) (tables : List Interface) (k : Known) (stream rest : List ℕ) (f : Frame) → drop f.start stream ≡ rest → judged_front limit tables k rest f ≡ judged limit tables k stream f
+from_front : (limit : ℕ) (tables : List Interface) (k : Known) (stream rest : List ℕ) (f : FramedMessage) → drop f.start stream ≡ rest → judged_front limit tables k rest f ≡ judged limit tables k stream f
 from_front limit tables k stream rest f e =
     ap (λ (b : List ℕ). judged_front limit tables k b f) (sym e)
-    ∙ ap (λ (b : List ℕ). cond (is_size limit f.size) (judged_as tables k f (header_at (drop f.start stream)) (take (f.size - 8) b)) (Err BadSize)) (drop-drop 8 f.start stream)
+    ∙ ap (λ (b : List ℕ). cond (is_size limit f.size) (judged_message tables k f (header_at (drop f.start stream)) (take (f.size - 8) b)) (Err BadSize)) (drop-drop 8 f.start stream)
 
 -- what the code finds at a place
-pub found_is : {A : Type 0} (tables : List Interface) (s : Session) (k : ℕ) (f : Frame) (p : Progress A) (rest : List ℕ) (x : Judged) → slice_get s.frames k ≡ Some f → IsAt tables s k p
+pub found_is : {A : Type 0} (tables : List Interface) (s : Session) (k : ℕ) (f : FramedMessage) (p : Progress A) (rest : List ℕ) (x : Judged) → slice_get s.frames k ≡ Some f → IsAt tables s k p
     → drop f.start (s.streams f.direction) ≡ rest → x ≡ judged_front s.limit tables (known_in p.known) rest f → slice_get (messages tables s) k ≡ Some x
 found_is tables s k f p rest x e at rest_is is =
     message_is tables s k f p e at ∙ ap (λ (y : Judged). Some y) (sym (is ∙ from_front s.limit tables (known_in p.known) (s.streams f.direction) rest f rest_is))
 
-pub ends_is : (tables : List Interface) (call : Call) (d : Effect) (b : Bool) → d ≡ effect tables call → d.is_error ≡ b → ends_session (Ok call) ≡ b
-ends_is tables call d b is e = sym (ap (λ (x : Effect). x.is_error) is) ∙ e
+pub ends_is : (tables : List Interface) (call : Call) (d : MessageChanges) (b : Bool) → d ≡ changes tables call → d.is_error ≡ b → ends_session (Ok call) ≡ b
+ends_is tables call d b is e = sym (ap (λ (x : MessageChanges). x.is_error) is) ∙ e
 
 pub if_ok_to : {X E : Type 0} (r : Result X E) (P Q : X → Type 0) → ((x : X) → P x → Q x) → IfOk r P → IfOk r Q
 if_ok_to (Ok x) P Q f h = f x h
@@ -248,7 +248,7 @@ tally_of : {A : Type 0} (s : Session) (k : ℕ) (p : Progress A) (d : Direction)
 tally_of s k p ToServer a b = a.count_is
 tally_of s k p ToClient a b = b.count_is
 
-pub answers_broken : {A : Type 0} (tables : List Interface) (s : Session) (k : ℕ) (f : Frame) (fault : Fault) (p : Progress A) → slice_get s.frames k ≡ Some f → slice_get (messages tables s) k ≡ Some (Err fault) → ArePassed (messages tables s) k
+pub answers_broken : {A : Type 0} (tables : List Interface) (s : Session) (k : ℕ) (f : FramedMessage) (fault : Fault) (p : Progress A) → slice_get s.frames k ≡ Some f → slice_get (messages tables s) k ≡ Some (Err fault) → ArePassed (messages tables s) k
     → IsAt tables s k p → Answers tables s (Broken f.direction ((tally_in p f.direction).count + 1) f.start fault)
 answers_broken tables s k f fault p e m a at = record {
   place = k;

@@ -26,15 +26,15 @@ use Rattle.wl_objects.specs.Reading.{Reader, kind_at, forgiving, new_fault, valu
 use Rattle.wl_objects.specs.Messages.{Received, NewObject, made, made_by, or_else, is_empty, is_error, received_whole, received_as, received_by, received, new_id_of}
 use Rattle.wl_recording.specs.declared.piece.Direction.{Direction}
 use Rattle.wl_recording.specs.declared.piece.Direction.TheVariants.{ToServer, ToClient}
-use Rattle.wl_check.specs.declared.effect.Effect.{Effect}
-use Rattle.wl_check.specs.declared.frames.Frame.{Frame}
-use Rattle.wl_check.specs.Effects.{Call, effect, beginning, if_request, side_of}
+use Rattle.wl_check.specs.declared.changes.MessageChanges.{MessageChanges}
+use Rattle.wl_check.specs.declared.frames.FramedMessage.{FramedMessage}
+use Rattle.wl_check.specs.Changes.{Call, changes, beginning, if_request, side_of}
 use Rattle.wl_check.specs.Places.{Known, known, holder, is_ending, state_of, object_of, named, used}
-use Rattle.wl_check.specs.Session.{Session, Judged, effect_of, effects, messages}
+use Rattle.wl_check.specs.Session.{Session, Judged, changes_of, changes_at, messages}
 use Rattle.wl_check.proofs.Holding.{IsFresh}
 use Rattle.wl_check.proofs.Reading.{reading, length_messages}
 use Rattle.std.proofs.lemmas.Option.{slice_get_within}
-use Rattle.wl_check.specs.Rules.{reader, is_free, is_bad_bind, called, judged_as, judged}
+use Rattle.wl_check.specs.Rules.{reader, is_free, is_bad_bind, called, judged_message, judged}
 
 new_free : (place : ℕ) (n : NewId) → new_fault place n ≡ None → n ≡ Free
 new_free place Free e = refl
@@ -117,9 +117,9 @@ free_by tables side r header body waiting (Some entry) = free_as tables side r h
 
 -- ---- judged
 
-abbrev pub Free_effect : List Interface → Known → Result Call Fault → Type 0
-Free_effect tables k (Err fault) = Unit {0}
-Free_effect tables k (Ok call) = (m : NewObject) → (effect tables call).made ≡ Some m → is_free k m.id ≡ true
+abbrev pub Free_changes : List Interface → Known → Result Call Fault → Type 0
+Free_changes tables k (Err fault) = Unit {0}
+Free_changes tables k (Ok call) = (m : NewObject) → (changes tables call).made ≡ Some m → is_free k m.id ≡ true
 
 free_id : (a b : Bool) → new_id_of a b ≡ Free → a ≡ true
 free_id true b e = refl
@@ -129,24 +129,24 @@ request_made : (d : Direction) (o : Option NewObject) (m : NewObject) → if_req
 request_made ToServer o m e = e
 request_made ToClient o m e = absurd (cc)
 
-free_called : (tables : List Interface) (k : Known) (d : Direction) (opcode : ℕ) (x : Result Received Fault) → Free_made tables (reader k d) x → Free_effect tables k (called tables k d opcode x)
+free_called : (tables : List Interface) (k : Known) (d : Direction) (opcode : ℕ) (x : Result Received Fault) → Free_made tables (reader k d) x → Free_changes tables k (called tables k d opcode x)
 free_called tables k d opcode (Err fault) h = tt
 free_called tables k d opcode (Ok r) h = elim (cases_Bool (is_bad_bind tables k (side_of d) opcode r)) [
   | inl bad ↦ rw bad tt
   | inr fine ↦ rw fine (λ m e. free_id (is_free k m.id) (nat_le m.id max_ids) (h m (request_made d (made tables r.entry.version r.signature.kinds r.values) m e)))
 ]
 
-free_size : (tables : List Interface) (k : Known) (b : Bool) (x : Result Call Fault) → Free_effect tables k x → Free_effect tables k (cond b x (Err BadSize))
+free_size : (tables : List Interface) (k : Known) (b : Bool) (x : Result Call Fault) → Free_changes tables k x → Free_changes tables k (cond b x (Err BadSize))
 free_size tables k true x h = h
 free_size tables k false x h = tt
 
-pub judged_free : (limit : ℕ) (tables : List Interface) (k : Known) (stream : List ℕ) (frame : Frame) → Free_effect tables k (judged limit tables k stream frame)
+pub judged_free : (limit : ℕ) (tables : List Interface) (k : Known) (stream : List ℕ) (frame : FramedMessage) → Free_changes tables k (judged limit tables k stream frame)
 judged_free limit tables k stream frame =
     let header = header_at (drop frame.start stream) in
     let body = take (frame.size - 8) (drop (frame.start + 8) stream) in
     let waiting = frame.tokens - k.taken frame.direction in
     let r = reader k frame.direction in
-    free_size tables k (is_size limit frame.size) (judged_as tables k frame header body)
+    free_size tables k (is_size limit frame.size) (judged_message tables k frame header body)
     (free_called tables k frame.direction header.opcode (received tables (side_of frame.direction) r header body waiting) (free_by tables (side_of frame.direction) r header body waiting (r.object header.object)))
 
 -- ---- each place
@@ -156,7 +156,7 @@ some_at [] k h = absurd (omega arith)
 some_at (x ∷ xs) zero h = (x, refl)
 some_at (x ∷ xs) (suc k) h = some_at xs k (omega arith)
 
-named_none : (s : ℕ → Effect) (p i : ℕ) (o : Option ℕ) → is_none (option_map (λ m. object_of s m (state_of (is_ending s m p i))) o) ≡ true → o ≡ None
+named_none : (s : ℕ → MessageChanges) (p i : ℕ) (o : Option ℕ) → is_none (option_map (λ m. object_of s m (state_of (is_ending s m p i))) o) ≡ true → o ≡ None
 named_none s p i None h = refl
 named_none s p i (Some m) h = absurd (cc)
 
@@ -166,7 +166,7 @@ positive n h = grind (arith, nat_tests)
 first_id : (new : NewObject) → beginning.made ≡ Some new → new.id ≡ 1
 first_id new e = cc
 
-fresh_made : (s : ℕ → Effect) (p : ℕ) (o : Option NewObject) → (s p).made ≡ o → ((new : NewObject) → o ≡ Some new → is_free (known s p) new.id ≡ true) → IsFresh s p
+fresh_made : (s : ℕ → MessageChanges) (p : ℕ) (o : Option NewObject) → (s p).made ≡ o → ((new : NewObject) → o ≡ Some new → is_free (known s p) new.id ≡ true) → IsFresh s p
 fresh_made s p None e free = record { no_holder = λ i m. absurd (let no : false ≡ true = rw e at m in cc); next = λ new is. absurd (cc) }
 fresh_made s p (Some new) e free =
     let f = free new refl in
@@ -179,23 +179,23 @@ fresh_made s p (Some new) e free =
           subst (λ (m : NewObject). (0 < m.id) × (m.id ≤ used s p + 1)) same (positive new.id b.0, leb-true new.id (used s p + 1) a.1));
     }
 
-fresh_judged : (tables : List Interface) (k : Known) (p : ℕ) (s : ℕ → Effect) (x : Judged) → known s p ≡ k → s p ≡ effect_of tables (Some x) → Free_effect tables k x → IsFresh s p
+fresh_judged : (tables : List Interface) (k : Known) (p : ℕ) (s : ℕ → MessageChanges) (x : Judged) → known s p ≡ k → s p ≡ changes_of tables (Some x) → Free_changes tables k x → IsFresh s p
 fresh_judged tables k p s (Err fault) known_is e h = fresh_made s p (s p).made refl (λ new is. absurd (let no : None ≡ Some new = rw e at is in cc))
-fresh_judged tables k p s (Ok call) known_is e h = fresh_made s p (s p).made refl (λ new is. subst (λ (x : Known). is_free x new.id ≡ true) (sym known_is) (h new (sym (ap (λ (d : Effect). d.made) e) ∙ is)))
+fresh_judged tables k p s (Ok call) known_is e h = fresh_made s p (s p).made refl (λ new is. subst (λ (x : Known). is_free x new.id ≡ true) (sym known_is) (h new (sym (ap (λ (d : MessageChanges). d.made) e) ∙ is)))
 
-fresh_place : (tables : List Interface) (session : Session) (k : ℕ) (o : Option Judged) → slice_get (messages tables session) k ≡ o → IsFresh (effects tables (messages tables session)) (suc k)
-fresh_place tables session k None e = fresh_made (effects tables (messages tables session)) (suc k) None (rw e refl) (λ new is. absurd (cc))
+fresh_place : (tables : List Interface) (session : Session) (k : ℕ) (o : Option Judged) → slice_get (messages tables session) k ≡ o → IsFresh (changes_at tables (messages tables session)) (suc k)
+fresh_place tables session k None e = fresh_made (changes_at tables (messages tables session)) (suc k) None (rw e refl) (λ new is. absurd (cc))
 fresh_place tables session k (Some x) e =
-    let s = effects tables (messages tables session) in
+    let s = changes_at tables (messages tables session) in
     let f = some_at session.frames k (let w = slice_get_within (messages tables session) k x e in let l = length_messages tables session in omega (arith, w, l)) in
     let is : Some x ≡ Some (judged session.limit tables (known s (suc k)) (session.streams f.0.direction) f.0) = sym e ∙ reading tables session k f.0 f.1 in
     let same : judged session.limit tables (known s (suc k)) (session.streams f.0.direction) f.0 ≡ x = cc in
-    fresh_judged tables (known s (suc k)) (suc k) s x refl (rw e refl) (subst (Free_effect tables (known s (suc k))) same (judged_free session.limit tables (known s (suc k)) (session.streams f.0.direction) f.0))
+    fresh_judged tables (known s (suc k)) (suc k) s x refl (rw e refl) (subst (Free_changes tables (known s (suc k))) same (judged_free session.limit tables (known s (suc k)) (session.streams f.0.direction) f.0))
 
-fresh_first : (tables : List Interface) (ms : List Judged) → IsFresh (effects tables ms) 0
+fresh_first : (tables : List Interface) (ms : List Judged) → IsFresh (changes_at tables ms) 0
 unfolding holder used
 fresh_first tables ms = record { no_holder = λ i m. refl; next = λ new is. (let one : new.id ≡ 1 = first_id new is in (omega (arith, one), omega (arith, one))) }
 
-pub fresh : (tables : List Interface) (session : Session) (p : ℕ) → IsFresh (effects tables (messages tables session)) p
+pub fresh : (tables : List Interface) (session : Session) (p : ℕ) → IsFresh (changes_at tables (messages tables session)) p
 fresh tables session zero = fresh_first tables (messages tables session)
 fresh tables session (suc k) = fresh_place tables session k (slice_get (messages tables session) k) refl

@@ -12,14 +12,14 @@ use Rattle.wl_sigs.specs.Tables.{Interface}
 use Rattle.wl_message.specs.Cut.{is_size}
 use Rattle.wl_recording.specs.declared.piece.Direction.{Direction}
 use Rattle.wl_recording.specs.Piece.{Piece}
-use Rattle.wl_check.specs.declared.effect.Advertised.{Advertised}
-use Rattle.wl_check.specs.declared.effect.Effect.{Effect}
-use Rattle.wl_check.specs.declared.frames.Frame.{Frame}
+use Rattle.wl_check.specs.declared.changes.AdvertisedGlobal.{AdvertisedGlobal}
+use Rattle.wl_check.specs.declared.changes.MessageChanges.{MessageChanges}
+use Rattle.wl_check.specs.declared.frames.FramedMessage.{FramedMessage}
 use Rattle.wl_check.specs.Merged.{stream_of, tokens_of, completed, completed_at, merged, merged_within}
-use Rattle.wl_check.specs.Effects.{Call, effect}
+use Rattle.wl_check.specs.Changes.{Call, changes}
 use Rattle.wl_check.specs.Places.{Known, known, named, object_after, used, used_after, advertised_version, advertised_after, advertised_by, advertises, taken, taken_after, IsNext}
-use Rattle.wl_check.specs.Rules.{judged, judged_as}
-use Rattle.wl_check.specs.Session.{Judged, effect_of, effects, judged_after, messages, session_of, IsWithin}
+use Rattle.wl_check.specs.Rules.{judged, judged_message}
+use Rattle.wl_check.specs.Session.{Judged, changes_of, changes_at, judged_after, messages, session_of, IsWithin}
 use Rattle.wl_check.proofs.Stepping.{named_next}
 use Rattle.wl_check.proofs.Reading.{front_known, get_front}
 use Rattle.wl_check.proofs.Merging.{own, own_tokens}
@@ -50,7 +50,7 @@ body_more p n xs ys h =
 pub size_least : (limit n : ℕ) → is_size limit n ≡ true → 8 ≤ n
 size_least limit n e = grind (arith, nat_tests)
 
-judged_if : (limit : ℕ) (tables : List Interface) (k : Known) (xs ys : List ℕ) (f : Frame) (b : Bool) → is_size limit f.size ≡ b → IsWithin limit (length xs) f
+judged_if : (limit : ℕ) (tables : List Interface) (k : Known) (xs ys : List ℕ) (f : FramedMessage) (b : Bool) → is_size limit f.size ≡ b → IsWithin limit (length xs) f
     → judged limit tables k (xs ++ ys) f ≡ judged limit tables k xs f
 judged_if limit tables k xs ys f false e w = rw e refl
 judged_if limit tables k xs ys f true e w =
@@ -60,19 +60,19 @@ judged_if limit tables k xs ys f true e w =
     let head : header_at (drop f.start (xs ++ ys)) ≡ header_at (drop f.start xs) =
     ap header_at (drop-append-le f.start xs ys (let g = w.header in omega (arith, g))) ∙ header_more (drop f.start xs) ys long in
     let body = body_more (f.start + 8) (f.size - 8) xs ys (omega (arith, whole, l)) in
-    rw e (λ i. judged_as tables k f (head i) (body i))
+    rw e (λ i. judged_message tables k f (head i) (body i))
 
 -- ---- the judgements of more frames
 
-abbrev judged_along : (limit : ℕ) → List Interface → (Direction → List ℕ) → (Direction → List ℕ) → List Frame → Type 0
-judged_along limit tables old new fs = AllByRecursion (λ (f : Frame). (k : Known) → judged limit tables k (new f.direction) f ≡ judged limit tables k (old f.direction) f) fs
+abbrev judged_along : (limit : ℕ) → List Interface → (Direction → List ℕ) → (Direction → List ℕ) → List FramedMessage → Type 0
+judged_along limit tables old new fs = AllByRecursion (λ (f : FramedMessage). (k : Known) → judged limit tables k (new f.direction) f ≡ judged limit tables k (old f.direction) f) fs
 
-pub after_more : (limit : ℕ) (tables : List Interface) (old new : Direction → List ℕ) (e : List Judged) (fs gs : List Frame) → judged_along limit tables old new fs
+pub after_more : (limit : ℕ) (tables : List Interface) (old new : Direction → List ℕ) (e : List Judged) (fs gs : List FramedMessage) → judged_along limit tables old new fs
     → judged_after limit tables new e (fs ++ gs) ≡ judged_after limit tables new (judged_after limit tables old e fs) gs
 unfolding judged_after
 after_more limit tables old new e [] gs a = refl
 after_more limit tables old new e (f ∷ fs) gs a =
-    let k = known (effects tables e) (suc (length e)) in
+    let k = known (changes_at tables e) (suc (length e)) in
     ap (λ (j : Judged). judged_after limit tables new (e ++ j ∷ []) (fs ++ gs)) (a.0 k)
     ∙ after_more limit tables old new (e ++ judged limit tables k (old f.direction) f ∷ []) fs gs a.1
 
@@ -91,7 +91,7 @@ unfolding merged_within
 merged_front limit ps more zero h = refl
 merged_front limit ps more (suc k) h =
     rw (merged_front limit ps more k (omega arith), get_front ps more k (omega arith))
-    (ap (λ (l : List Frame). merged_within limit ps k ++ l) (completed_front limit ps (ps ++ more) k (slice_get ps k) (take-append-le k ps more (omega arith))))
+    (ap (λ (l : List FramedMessage). merged_within limit ps k ++ l) (completed_front limit ps (ps ++ more) k (slice_get ps k) (take-append-le k ps more (omega arith))))
 
 merged_last : (limit : ℕ) (ps : List Piece) (p : Piece) → merged_within limit (ps ++ p ∷ []) (suc (length ps)) ≡ merged_within limit ps (length ps) ++ completed limit ps p
 unfolding merged_within
@@ -110,13 +110,13 @@ pub tokens_last : (d : Direction) (ps : List Piece) (p : Piece) → tokens_of d 
 tokens_last d [] p = omega arith
 tokens_last d (x ∷ xs) p = omega (arith, tokens_last d xs p)
 
-frame_more : (limit : ℕ) (tables : List Interface) (ps : List Piece) (p : Piece) (f : Frame) (k : Known) → LiesIn limit ps f
+frame_more : (limit : ℕ) (tables : List Interface) (ps : List Piece) (p : Piece) (f : FramedMessage) (k : Known) → LiesIn limit ps f
     → judged limit tables k (stream_of f.direction (ps ++ p ∷ [])) f ≡ judged limit tables k (stream_of f.direction ps) f
 frame_more limit tables ps p f k w =
     ap (λ (l : List ℕ). judged limit tables k l f) (stream_last f.direction ps p)
     ∙ judged_if limit tables k (stream_of f.direction ps) (own f.direction p) f (is_size limit f.size) refl w
 
-all_along : (limit : ℕ) (tables : List Interface) (ps : List Piece) (p : Piece) (fs : List Frame) → AllByRecursion (LiesIn limit ps) fs
+all_along : (limit : ℕ) (tables : List Interface) (ps : List Piece) (p : Piece) (fs : List FramedMessage) → AllByRecursion (LiesIn limit ps) fs
     → judged_along limit tables (λ d. stream_of d ps) (λ d. stream_of d (ps ++ p ∷ [])) fs
 all_along limit tables ps p [] a = tt
 all_along limit tables ps p (f ∷ fs) a = ((λ k. frame_more limit tables ps p f k a.0), all_along limit tables ps p fs a.1)
@@ -125,7 +125,7 @@ all_along limit tables ps p (f ∷ fs) a = ((λ k. frame_more limit tables ps p 
 pub messages_more : (limit : ℕ) (tables : List Interface) (ps : List Piece) (p : Piece)
     → messages tables (session_of limit (ps ++ p ∷ [])) ≡ judged_after limit tables (λ d. stream_of d (ps ++ p ∷ [])) (messages tables (session_of limit ps)) (completed limit ps p)
 messages_more limit tables ps p =
-    ap (λ (fs : List Frame). judged_after limit tables (λ d. stream_of d (ps ++ p ∷ [])) [] fs) (merged_with limit ps p)
+    ap (λ (fs : List FramedMessage). judged_after limit tables (λ d. stream_of d (ps ++ p ∷ [])) [] fs) (merged_with limit ps p)
     ∙ after_more limit tables (λ d. stream_of d ps) (λ d. stream_of d (ps ++ p ∷ [])) [] (merged limit ps) (completed limit ps p) (all_along limit tables ps p (merged limit ps) (merged_lies limit ps (length ps)))
 
 -- ---- one message more
@@ -133,19 +133,19 @@ messages_more limit tables ps p =
 pub length_last : (e : List Judged) (j : Judged) → length (e ++ j ∷ []) ≡ suc (length e)
 length_last e j = omega (arith, length-append e (j ∷ []))
 
-pub effect_last : (tables : List Interface) (e : List Judged) (call : Call) → effects tables (e ++ Ok call ∷ []) (suc (length e)) ≡ effect tables call
-effect_last tables e call = ap (effect_of tables) (get_seam e (Ok call))
+pub changes_last : (tables : List Interface) (e : List Judged) (call : Call) → changes_at tables (e ++ Ok call ∷ []) (suc (length e)) ≡ changes tables call
+changes_last tables e call = ap (changes_of tables) (get_seam e (Ok call))
 
 pub behind_one : (tables : List Interface) (e : List Judged) (call : Call)
-    → IsNext (suc (length e)) (effect tables call) (known (effects tables e) (suc (length e))) (known (effects tables (e ++ Ok call ∷ [])) (suc (length (e ++ Ok call ∷ []))))
+    → IsNext (suc (length e)) (changes tables call) (known (changes_at tables e) (suc (length e))) (known (changes_at tables (e ++ Ok call ∷ [])) (suc (length (e ++ Ok call ∷ []))))
 unfolding used advertised_version taken
 behind_one tables e call =
     let all = e ++ Ok call ∷ [] in
-    let s = effects tables all in
+    let s = changes_at tables all in
     let p = suc (length e) in
     let n : suc (length all) ≡ suc p = ap suc (length_last e (Ok call)) in
-    let here : s p ≡ effect tables call = effect_last tables e call in
-    let front : known s p ≡ known (effects tables e) p = sym (front_known tables e (Ok call ∷ [])) in
+    let here : s p ≡ changes tables call = changes_last tables e call in
+    let front : known s p ≡ known (changes_at tables e) p = sym (front_known tables e (Ok call ∷ [])) in
     record {
       objects = λ id. ap (λ m. named s m id) n ∙ named_next s p id ∙ (λ i. object_after p (here i) id ((front i).object id));
       used_is = ap (used s) n ∙ (λ i. used_after (here i) ((front i).used));
@@ -159,17 +159,17 @@ once_more : (b : Bool) (v w : ℕ) → w ≤ cond b (max v w) w
 once_more true v w = omega arith
 once_more false v w = omega arith
 
-by_more : (o : Option Advertised) (name iface v : ℕ) → v ≤ advertised_by o name iface v
+by_more : (o : Option AdvertisedGlobal) (name iface v : ℕ) → v ≤ advertised_by o name iface v
 by_more None name iface v = omega arith
 by_more (Some global) name iface v = once_more (advertises name iface global) global.version v
 
-pub advertised_more : (effect : Effect) (name iface v : ℕ) → v ≤ advertised_after effect name iface v
-advertised_more effect name iface v = by_more effect.advertised name iface v
+pub advertised_more : (changes : MessageChanges) (name iface v : ℕ) → v ≤ advertised_after changes name iface v
+advertised_more changes name iface v = by_more changes.advertised name iface v
 
-pub advertised_own : (effect : Effect) (name : ℕ) (iface : Iface) (version v : ℕ) → effect.advertised ≡ Some (record { name = name; iface = iface; version = version })
-    → version ≤ advertised_after effect name iface.0 v
-advertised_own effect name iface version v e =
+pub advertised_own : (changes : MessageChanges) (name : ℕ) (iface : Iface) (version v : ℕ) → changes.advertised ≡ Some (record { name = name; iface = iface; version = version })
+    → version ≤ advertised_after changes name iface.0 v
+advertised_own changes name iface version v e =
     let a : nat_eq name name ≡ true = grind (arith, nat_tests) in
     let b : nat_eq iface.0 iface.0 ≡ true = grind (arith, nat_tests) in
-    let there : advertised_by effect.advertised name iface.0 v ≡ max version v = rw (e, a, b) refl in
+    let there : advertised_by changes.advertised name iface.0 v ≡ max version v = rw (e, a, b) refl in
     omega (arith, there)

@@ -3,25 +3,25 @@ use Rattle.std.proofs.Common.{◌≡◌, ℕ, zero, suc, ◌+◌, ◌<◌, ◌�
 use Rattle.std.specs.Prelude.{Option}
 use Rattle.std.proofs.lemmas.Bool.{cases_Bool, cases_order, cases_lt, lt-ltb, ltb-true, and_parts, eqb-true, eq-eqb}
 use Rattle.wl_objects.specs.Messages.{NewObject}
-use Rattle.wl_check.specs.declared.effect.Advertised.{Advertised}
-use Rattle.wl_check.specs.declared.effect.Effect.{Effect}
+use Rattle.wl_check.specs.declared.changes.AdvertisedGlobal.{AdvertisedGlobal}
+use Rattle.wl_check.specs.declared.changes.MessageChanges.{MessageChanges}
 use Rattle.wl_check.specs.Places.{makes, is_made, deletes, destroys, holder, is_ending, used, used_by, advertised_version, advertises, advertised_once, advertised_by}
 use Rattle.wl_check.specs.Text.{Held, IsOpen, WasUsed, WasAdvertised}
 
 -- no object is made with an id that is held, and each new id was used before or is the next
-pub record IsFresh (s : ℕ → Effect) (p : ℕ) : Type 0 where
+pub record IsFresh (s : ℕ → MessageChanges) (p : ℕ) : Type 0 where
   pub no_holder : (i : ℕ) → makes (s p) i ≡ true → holder s p i ≡ None
   pub next : (new : NewObject) → (s p).made ≡ Some new → (0 < new.id) × (new.id ≤ used s p + 1)
 
-abbrev pub AreFresh : (ℕ → Effect) → ℕ → Type 0
+abbrev pub AreFresh : (ℕ → MessageChanges) → ℕ → Type 0
 AreFresh s p = (q : ℕ) → q < p → IsFresh s q
 
 -- ---- held
 
-held_before : (s : ℕ → Effect) (p m i : ℕ) → m < p → Held s (suc p) m i → Held s p m i
+held_before : (s : ℕ → MessageChanges) (p m i : ℕ) → m < p → Held s (suc p) m i → Held s p m i
 held_before s p m i below h = record { before = below; made = h.made; kept = λ q a b. h.kept q a (omega arith) }
 
-to_step : (s : ℕ → Effect) (p m i : ℕ) (made del : Bool) (o : Option ℕ) → makes (s p) i ≡ made → deletes (s p) i ≡ del → (made ≡ true → o ≡ None) → (Held s p m i → o ≡ Some m) → Held s (suc p) m i
+to_step : (s : ℕ → MessageChanges) (p m i : ℕ) (made del : Bool) (o : Option ℕ) → makes (s p) i ≡ made → deletes (s p) i ≡ del → (made ≡ true → o ≡ None) → (Held s p m i → o ≡ Some m) → Held s (suc p) m i
     → cond made (Some p) (cond del None o) ≡ Some m
 to_step s p m i made del o is_made is_del fresh ih h = elim (cases_order m p) [
   | inl e ↦ (let now : made ≡ true = sym is_made ∙ subst (λ (x : ℕ). makes (s x) i ≡ true) e h.made in rw now (ap (λ x. Some x) (sym e)))
@@ -34,12 +34,12 @@ to_step s p m i made del o is_made is_del fresh ih h = elim (cases_order m p) [
   ]
 ]
 
-held_to : (s : ℕ → Effect) (p m i : ℕ) → AreFresh s p → Held s p m i → holder s p i ≡ Some m
+held_to : (s : ℕ → MessageChanges) (p m i : ℕ) → AreFresh s p → Held s p m i → holder s p i ≡ Some m
 unfolding holder
 held_to s zero m i fresh h = absurd (omega (arith, h.before))
 held_to s (suc p) m i fresh h = to_step s p m i (makes (s p) i) (deletes (s p) i) (holder s p i) refl refl ((fresh p (omega arith)).no_holder i) (held_to s p m i (λ q b. fresh q (omega arith))) h
 
-from_step : (s : ℕ → Effect) (p m i : ℕ) (made del : Bool) (o : Option ℕ) → makes (s p) i ≡ made → deletes (s p) i ≡ del → (o ≡ Some m → Held s p m i) → cond made (Some p) (cond del None o) ≡ Some m → Held s (suc p) m i
+from_step : (s : ℕ → MessageChanges) (p m i : ℕ) (made del : Bool) (o : Option ℕ) → makes (s p) i ≡ made → deletes (s p) i ≡ del → (o ≡ Some m → Held s p m i) → cond made (Some p) (cond del None o) ≡ Some m → Held s (suc p) m i
 from_step s p m i true del o is_made is_del ih e = let same : p ≡ m = cc in record { before = omega arith; made = subst (λ (x : ℕ). makes (s x) i ≡ true) same is_made; kept = λ q a b. absurd (omega arith) }
 from_step s p m i false true o is_made is_del ih e = absurd (cc)
 from_step s p m i false false o is_made is_del ih e = let h : Held s p m i = ih e in record {
@@ -48,17 +48,17 @@ from_step s p m i false false o is_made is_del ih e = let h : Held s p m i = ih 
   kept = λ q a b. elim (cases_order q p) [ inl same ↦ rw same is_del | inr w ↦ elim w [ inl below ↦ h.kept q a below | inr above ↦ absurd (omega arith) ] ];
 }
 
-held_from : (s : ℕ → Effect) (p m i : ℕ) → holder s p i ≡ Some m → Held s p m i
+held_from : (s : ℕ → MessageChanges) (p m i : ℕ) → holder s p i ≡ Some m → Held s p m i
 unfolding holder
 held_from s zero m i e = absurd (cc)
 held_from s (suc p) m i e = from_step s p m i (makes (s p) i) (deletes (s p) i) (holder s p i) refl refl (held_from s p m i) e
 
-pub held_is : (s : ℕ → Effect) (p m i : ℕ) → AreFresh s p → (holder s p i ≡ Some m) ↔ Held s p m i
+pub held_is : (s : ℕ → MessageChanges) (p m i : ℕ) → AreFresh s p → (holder s p i ≡ Some m) ↔ Held s p m i
 held_is s p m i fresh = (held_from s p m i, held_to s p m i fresh)
 
 -- ---- open
 
-whole_step : (s : ℕ → Effect) (m p i : ℕ) (b : Bool) → destroys (s p) i ≡ b → ((nat_lt m p && b) || is_ending s m p i) ≡ false → (is_ending s m p i ≡ false → IsOpen s p m i) → IsOpen s (suc p) m i
+whole_step : (s : ℕ → MessageChanges) (m p i : ℕ) (b : Bool) → destroys (s p) i ≡ b → ((nat_lt m p && b) || is_ending s m p i) ≡ false → (is_ending s m p i ≡ false → IsOpen s p m i) → IsOpen s (suc p) m i
 whole_step s m p i b is h ih q a c = elim (cases_order q p) [
   | inl e ↦ rw e (elim (cases_Bool b) [
     | inl so ↦ absurd (let lt : nat_lt m p ≡ true = lt-ltb m p (omega arith) in let g : ((true && true) || is_ending s m p i) ≡ false = rw (lt, so) at h in cc)
@@ -73,12 +73,12 @@ whole_step s m p i b is h ih q a c = elim (cases_order q p) [
   ]
 ]
 
-whole_from : (s : ℕ → Effect) (m p i : ℕ) → is_ending s m p i ≡ false → IsOpen s p m i
+whole_from : (s : ℕ → MessageChanges) (m p i : ℕ) → is_ending s m p i ≡ false → IsOpen s p m i
 unfolding is_ending
 whole_from s m zero i h = λ q a b. absurd (omega arith)
 whole_from s m (suc p) i h = whole_step s m p i (destroys (s p) i) refl h (whole_from s m p i)
 
-whole_to : (s : ℕ → Effect) (m p i : ℕ) → IsOpen s p m i → is_ending s m p i ≡ false
+whole_to : (s : ℕ → MessageChanges) (m p i : ℕ) → IsOpen s p m i → is_ending s m p i ≡ false
 unfolding is_ending
 whole_to s m zero i h = refl
 whole_to s m (suc p) i h = elim (cases_Bool (nat_lt m p)) [
@@ -86,18 +86,18 @@ whole_to s m (suc p) i h = elim (cases_Bool (nat_lt m p)) [
   | inr not_so ↦ rw (not_so, whole_to s m p i (λ q a b. h q a (omega arith))) refl
 ]
 
-pub open_is : (s : ℕ → Effect) (p m i : ℕ) → (is_ending s m p i ≡ false) ↔ IsOpen s p m i
+pub open_is : (s : ℕ → MessageChanges) (p m i : ℕ) → (is_ending s m p i ≡ false) ↔ IsOpen s p m i
 open_is s p m i = (whole_from s m p i, whole_to s m p i)
 
 -- ---- used
 
-later_used : (s : ℕ → Effect) (p i : ℕ) → WasUsed s p i → WasUsed s (suc p) i
+later_used : (s : ℕ → MessageChanges) (p i : ℕ) → WasUsed s p i → WasUsed s (suc p) i
 later_used s p i w = record { birth = w.birth; before = (let b = w.before in omega (arith, b)); made = w.made }
 
 made_id : (o : Option NewObject) (new : NewObject) → o ≡ Some new → is_made o new.id ≡ true
 made_id o new e = rw e (eq-eqb new.id new.id refl)
 
-used_step : (s : ℕ → Effect) (p i : ℕ) (o : Option NewObject) → (s p).made ≡ o → ((new : NewObject) → o ≡ Some new → new.id ≤ used s p + 1) → (i ≤ used s p → WasUsed s p i) → i ≤ used_by o (used s p) → WasUsed s (suc p) i
+used_step : (s : ℕ → MessageChanges) (p i : ℕ) (o : Option NewObject) → (s p).made ≡ o → ((new : NewObject) → o ≡ Some new → new.id ≤ used s p + 1) → (i ≤ used s p → WasUsed s p i) → i ≤ used_by o (used s p) → WasUsed s (suc p) i
 used_step s p i None e next ih h = later_used s p i (ih h)
 used_step s p i (Some new) e next ih h = elim (cases_lt (used s p) i) [
   | inl above ↦ (let n = next new refl in let same : new.id ≡ i = omega arith in
@@ -105,7 +105,7 @@ used_step s p i (Some new) e next ih h = elim (cases_lt (used s p) i) [
   | inr fine ↦ later_used s p i (ih fine)
 ]
 
-used_from : (s : ℕ → Effect) (p i : ℕ) → AreFresh s p → 0 < i → i ≤ used s p → WasUsed s p i
+used_from : (s : ℕ → MessageChanges) (p i : ℕ) → AreFresh s p → 0 < i → i ≤ used s p → WasUsed s p i
 unfolding used
 used_from s zero i fresh pos h = absurd (omega arith)
 used_from s (suc p) i fresh pos h = used_step s p i (s p).made refl (λ new e. ((fresh p (omega arith)).next new e).1) (used_from s p i (λ q b. fresh q (omega arith)) pos) h
@@ -118,7 +118,7 @@ made_used : (o : Option NewObject) (n i : ℕ) → is_made o i ≡ true → i �
 made_used None n i h = absurd (cc)
 made_used (Some new) n i h = let e = eqb-true new.id i h in omega (arith, e)
 
-used_at : (s : ℕ → Effect) (p q i : ℕ) → q < p → makes (s q) i ≡ true → i ≤ used s p
+used_at : (s : ℕ → MessageChanges) (p q i : ℕ) → q < p → makes (s q) i ≡ true → i ≤ used s p
 unfolding used
 used_at s zero q i b m = absurd (omega arith)
 used_at s (suc p) q i b m = elim (cases_order q p) [
@@ -133,7 +133,7 @@ made_some : (o : Option NewObject) (i : ℕ) → is_made o i ≡ true → (new :
 made_some None i h = absurd (cc)
 made_some (Some new) i h = (new, refl, eqb-true new.id i h)
 
-pub used_is : (s : ℕ → Effect) (p i : ℕ) → AreFresh s p → ((0 < i) × (i ≤ used s p)) ↔ WasUsed s p i
+pub used_is : (s : ℕ → MessageChanges) (p i : ℕ) → AreFresh s p → ((0 < i) × (i ≤ used s p)) ↔ WasUsed s p i
 used_is s p i fresh = (
   λ h. used_from s p i fresh h.0 h.1,
   λ w. (let n = made_some (s w.birth).made i w.made in let f = (fresh w.birth w.before).next n.0 n.1 in let pos = f.0 in let e = n.2 in omega (arith, pos, e), used_at s p w.birth i w.before w.made),
@@ -141,10 +141,10 @@ used_is s p i fresh = (
 
 -- ---- advertised
 
-later_advertised : (s : ℕ → Effect) (p n i v : ℕ) → WasAdvertised s p n i v → WasAdvertised s (suc p) n i v
+later_advertised : (s : ℕ → MessageChanges) (p n i v : ℕ) → WasAdvertised s p n i v → WasAdvertised s (suc p) n i v
 later_advertised s p n i v w = record { event = w.event; before = (let b = w.before in omega (arith, b)); global = w.global; is = w.is; name_is = w.name_is; iface_is = w.iface_is; version_is = w.version_is }
 
-advertised_step : (s : ℕ → Effect) (p n i v t : ℕ) (o : Option Advertised) → (s p).advertised ≡ o → (v ≤ t → WasAdvertised s p n i v) → v ≤ advertised_by o n i t → WasAdvertised s (suc p) n i v
+advertised_step : (s : ℕ → MessageChanges) (p n i v t : ℕ) (o : Option AdvertisedGlobal) → (s p).advertised ≡ o → (v ≤ t → WasAdvertised s p n i v) → v ≤ advertised_by o n i t → WasAdvertised s (suc p) n i v
 advertised_step s p n i v t None e ih h = later_advertised s p n i v (ih h)
 advertised_step s p n i v t (Some g) e ih h = elim (cases_Bool (advertises n i g)) [
   | inl both ↦ elim (cases_lt t v) [
@@ -155,22 +155,22 @@ advertised_step s p n i v t (Some g) e ih h = elim (cases_Bool (advertises n i g
   | inr other ↦ (let m : v ≤ t = rw other at h in later_advertised s p n i v (ih m))
 ]
 
-advertised_from : (s : ℕ → Effect) (p n i v : ℕ) → 0 < v → v ≤ advertised_version s p n i → WasAdvertised s p n i v
+advertised_from : (s : ℕ → MessageChanges) (p n i v : ℕ) → 0 < v → v ≤ advertised_version s p n i → WasAdvertised s p n i v
 unfolding advertised_version
 advertised_from s zero n i v pos h = absurd (omega arith)
 advertised_from s (suc p) n i v pos h = advertised_step s p n i v (advertised_version s p n i) (s p).advertised refl (advertised_from s p n i v pos) h
 
-advertised_keeps_once : (g : Advertised) (n i t : ℕ) → t ≤ advertised_once g n i t
+advertised_keeps_once : (g : AdvertisedGlobal) (n i t : ℕ) → t ≤ advertised_once g n i t
 advertised_keeps_once g n i t = elim (cases_Bool (advertises n i g)) [ inl both ↦ rw both (omega arith) | inr other ↦ rw other (omega arith) ]
 
-advertised_keeps : (o : Option Advertised) (n i t : ℕ) → t ≤ advertised_by o n i t
+advertised_keeps : (o : Option AdvertisedGlobal) (n i t : ℕ) → t ≤ advertised_by o n i t
 advertised_keeps None n i t = omega arith
 advertised_keeps (Some g) n i t = advertised_keeps_once g n i t
 
-advertised_here : (o : Option Advertised) (g : Advertised) (n i v t : ℕ) → o ≡ Some g → g.name ≡ n → g.iface.0 ≡ i → v ≤ g.version → v ≤ advertised_by o n i t
+advertised_here : (o : Option AdvertisedGlobal) (g : AdvertisedGlobal) (n i v t : ℕ) → o ≡ Some g → g.name ≡ n → g.iface.0 ≡ i → v ≤ g.version → v ≤ advertised_by o n i t
 advertised_here o g n i v t e a b h = rw (e, eq-eqb g.name n a, eq-eqb g.iface.0 i b) (omega arith)
 
-advertised_at : (s : ℕ → Effect) (p n i v : ℕ) → WasAdvertised s p n i v → v ≤ advertised_version s p n i
+advertised_at : (s : ℕ → MessageChanges) (p n i v : ℕ) → WasAdvertised s p n i v → v ≤ advertised_version s p n i
 unfolding advertised_version
 advertised_at s zero n i v w = absurd (let b = w.before in omega (arith, b))
 advertised_at s (suc p) n i v w = elim (cases_order w.event p) [
@@ -182,5 +182,5 @@ advertised_at s (suc p) n i v w = elim (cases_order w.event p) [
   ]
 ]
 
-pub advertised_is : (s : ℕ → Effect) (p n i v : ℕ) → 0 < v → (v ≤ advertised_version s p n i) ↔ WasAdvertised s p n i v
+pub advertised_is : (s : ℕ → MessageChanges) (p n i v : ℕ) → 0 < v → (v ≤ advertised_version s p n i) ↔ WasAdvertised s p n i v
 advertised_is s p n i v pos = (advertised_from s p n i v pos, advertised_at s p n i v)

@@ -17,12 +17,12 @@ use Rattle.wl_objects.specs.declared.error.Fault.TheVariants.{BadBind, BadSize}
 use Rattle.wl_objects.specs.Reading.{Reader, descriptors, is_descriptor_kind, arguments_at, forgiving}
 use Rattle.wl_objects.specs.Messages.{Received, is_error, received_whole, received_as, received_by, received}
 use Rattle.wl_recording.specs.declared.piece.Direction.{Direction}
-use Rattle.wl_check.specs.declared.frames.Frame.{Frame}
-use Rattle.wl_check.specs.Effects.{Call, side_of}
+use Rattle.wl_check.specs.declared.frames.FramedMessage.{FramedMessage}
+use Rattle.wl_check.specs.Changes.{Call, side_of}
 use Rattle.wl_check.specs.Places.{Known}
 use Rattle.wl_message.specs.Cut.{is_size}
 use Rattle.wl_wire.specs.Word.{header_at}
-use Rattle.wl_check.specs.Rules.{reader, is_bad_bind, called, judged_as, judged_front}
+use Rattle.wl_check.specs.Rules.{reader, is_bad_bind, called, judged_message, judged_front}
 
 few_step : (b : Bool) (n m : ℕ) → n ≤ m → cond b 1 0 + n ≤ m + 1
 few_step true n m h = omega arith
@@ -56,9 +56,9 @@ pub received_same : (tables : List Interface) (side : Side) (r : Reader) (header
 received_same tables side r header body w n valid is = rw is (by_same tables side r header body w (r.object header.object) valid)
 
 -- what the code found, with what the rules say
-pub judged_is : (tables : List Interface) (k : Known) (frame : Frame) (header : Header) (body : List ℕ) (n w : ℕ) (x : Result Received Fault) → Valid tables
+pub judged_is : (tables : List Interface) (k : Known) (frame : FramedMessage) (header : Header) (body : List ℕ) (n w : ℕ) (x : Result Received Fault) → Valid tables
     → n ≡ min w 18446744073709551615 → w ≡ frame.tokens - k.taken frame.direction
-    → x ≡ received tables (side_of frame.direction) (reader k frame.direction) header body n → judged_as tables k frame header body ≡ called tables k frame.direction header.opcode x
+    → x ≡ received tables (side_of frame.direction) (reader k frame.direction) header body n → judged_message tables k frame header body ≡ called tables k frame.direction header.opcode x
 judged_is tables k frame header body n w x valid n_is w_is x_is =
     ap (λ (y : Result Received Fault). called tables k frame.direction header.opcode y)
     (sym (x_is ∙ received_same tables (side_of frame.direction) (reader k frame.direction) header body w n valid n_is ∙ ap (received tables (side_of frame.direction) (reader k frame.direction) header body) w_is))
@@ -75,13 +75,13 @@ pub from_side : (tables : List Interface) (k : Known) (d : Direction) (header : 
 from_side tables k d header body n side x is h = h ∙ ap (λ (s : Side). received tables s (reader k d) header body n) is
 
 -- the parts of a message, as the code lends them
-pub parts_are : (limit : ℕ) (tables : List Interface) (k : Known) (bytes : List ℕ) (frame : Frame) (header : Header) (body : List ℕ) (x : Result Call Fault) → is_size limit frame.size ≡ true
-    → header ≡ header_at bytes → body ≡ take (frame.size - 8) (drop 8 bytes) → x ≡ judged_as tables k frame header body → x ≡ judged_front limit tables k bytes frame
-parts_are limit tables k bytes frame header body x good h b x_is = x_is ∙ (λ i. judged_as tables k frame (h i) (b i)) ∙ rw good refl
+pub parts_are : (limit : ℕ) (tables : List Interface) (k : Known) (bytes : List ℕ) (frame : FramedMessage) (header : Header) (body : List ℕ) (x : Result Call Fault) → is_size limit frame.size ≡ true
+    → header ≡ header_at bytes → body ≡ take (frame.size - 8) (drop 8 bytes) → x ≡ judged_message tables k frame header body → x ≡ judged_front limit tables k bytes frame
+parts_are limit tables k bytes frame header body x good h b x_is = x_is ∙ (λ i. judged_message tables k frame (h i) (b i)) ∙ rw good refl
 
-pub size_bad : (limit : ℕ) (tables : List Interface) (k : Known) (bytes : List ℕ) (frame : Frame) → is_size limit frame.size ≡ false → Err BadSize ≡ judged_front limit tables k bytes frame
+pub size_bad : (limit : ℕ) (tables : List Interface) (k : Known) (bytes : List ℕ) (frame : FramedMessage) → is_size limit frame.size ≡ false → Err BadSize ≡ judged_front limit tables k bytes frame
 size_bad limit tables k bytes frame bad = rw bad refl
 
-pub size_good : (limit : ℕ) (tables : List Interface) (k : Known) (bytes : List ℕ) (frame : Frame) (call : Call) (b : Bool) → is_size limit frame.size ≡ b → Ok call ≡ judged_front limit tables k bytes frame → is_size limit frame.size ≡ true
+pub size_good : (limit : ℕ) (tables : List Interface) (k : Known) (bytes : List ℕ) (frame : FramedMessage) (call : Call) (b : Bool) → is_size limit frame.size ≡ b → Ok call ≡ judged_front limit tables k bytes frame → is_size limit frame.size ≡ true
 size_good limit tables k bytes frame call true e h = e
 size_good limit tables k bytes frame call false e h = let bad = size_bad limit tables k bytes frame e in absurd (cc (h, bad))

@@ -13,10 +13,12 @@ pub mod Once
 pub mod Ordering
 pub mod Growing
 pub mod Passing
-pub mod Coursing
+pub mod StateFacts
 pub mod Piecing
 pub mod Telling
 pub mod Verdicts
 pub mod Outcomes
 pub mod Printing
 pub mod Copies
+pub mod Readying
+pub mod Slots

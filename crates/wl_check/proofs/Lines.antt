@@ -5,14 +5,14 @@ use Rattle.std.specs.declared.result.Result.TheVariants.{Ok, Err}
 use Rattle.wl_sigs.specs.Tables.{Interface}
 use Rattle.wl_objects.specs.declared.error.Fault.{Fault}
 use Rattle.wl_check.specs.declared.progress.Progress.{Progress}
-use Rattle.wl_check.specs.declared.course.Output.{Output}
-use Rattle.wl_check.specs.declared.course.Output.TheVariants.{Nothing, Lines}
-use Rattle.wl_check.specs.Effects.{Call}
+use Rattle.wl_check.specs.declared.session_state.Output.{Output}
+use Rattle.wl_check.specs.declared.session_state.Output.TheVariants.{Nothing, Lines}
+use Rattle.wl_check.specs.Changes.{Call}
 use Rattle.wl_check.specs.Places.{Known, known}
-use Rattle.wl_check.specs.Session.{Session, Judged, messages, effects, ends_session}
+use Rattle.wl_check.specs.Session.{Session, Judged, messages, changes_at, ends_session}
 use Rattle.wl_check.specs.Trace.{call_line, judged_line, lines_within, lasting, trace_of, wanted}
 use Rattle.wl_check.specs.Seen.{known_in}
-use Rattle.wl_check.specs.Course.{IsAt}
+use Rattle.wl_check.specs.SessionState.{IsAt}
 use Rattle.wl_check.specs.Session.{ArePassed}
 use Rattle.wl_check.specs.Text.{IsPrinted}
 use Rattle.wl_check.proofs.Examined.{behind, first_call, first_some}
@@ -89,9 +89,9 @@ line_more : {A : Type 0} (tables : List Interface) (s : Session) (k : ℕ) (call
     → lines_within tables s k ++ call_line tables (known_in p.known) call ≡ lines_within tables s (k + 1)
 unfolding lines_within
 line_more tables s k call p m at =
-    let w : known (effects tables (messages tables s)) (suc k) ≡ known_in p.known = sym at.known_is in
-    let l : judged_line tables (known (effects tables (messages tables s)) (suc k)) (slice_get (messages tables s) k) ≡ call_line tables (known_in p.known) call =
-    ap (λ (o : Option Judged). judged_line tables (known (effects tables (messages tables s)) (suc k)) o) m ∙ ap (λ (x : Known). call_line tables x call) w in
+    let w : known (changes_at tables (messages tables s)) (suc k) ≡ known_in p.known = sym at.known_is in
+    let l : judged_line tables (known (changes_at tables (messages tables s)) (suc k)) (slice_get (messages tables s) k) ≡ call_line tables (known_in p.known) call =
+    ap (λ (o : Option Judged). judged_line tables (known (changes_at tables (messages tables s)) (suc k)) o) m ∙ ap (λ (x : Known). call_line tables x call) w in
     ap (λ (x : List ℕ). lines_within tables s k ++ x) (sym l) ∙ ap (λ (n : ℕ). lines_within tables s n) (sym (add-one k))
 
 wanted_more : (o : Output) (lines line : List ℕ) → wanted o lines ++ wanted o line ≡ wanted o (lines ++ line)

@@ -4,7 +4,7 @@ use Rattle.std.specs.Prelude.{Option}
 use Rattle.std.proofs.lemmas.List.{take_all}
 use Rattle.wl_recording.specs.declared.piece.Direction.{Direction}
 use Rattle.wl_recording.specs.Piece.{Piece}
-use Rattle.wl_check.specs.declared.frames.Frame.{Frame}
+use Rattle.wl_check.specs.declared.frames.FramedMessage.{FramedMessage}
 use Rattle.wl_check.specs.Merged.{Mark, mark, Cutting, cutting, cut, same_direction, stream_of, tokens_of, framed, completed_at, merged_within, merged}
 use Rattle.wl_check.specs.Text.{marks_in}
 use Rattle.wl_check.proofs.Cutting.{more, goes_on, drop_whole, drop_front}
@@ -12,7 +12,7 @@ use Rattle.wl_check.proofs.Merging.{stream_more}
 use Rattle.wl_check.proofs.Examined.{same_is}
 use Rattle.wl_check.proofs.Fresh.{some_at}
 
-marks-append : (d : Direction) (fs gs : List Frame) → marks_in d (fs ++ gs) ≡ marks_in d fs ++ marks_in d gs
+marks-append : (d : Direction) (fs gs : List FramedMessage) → marks_in d (fs ++ gs) ≡ marks_in d fs ++ marks_in d gs
 marks-append d [] gs = refl
 marks-append d (f ∷ fs) gs = ap (λ (l : List Mark). cond (same_direction f.direction d) (mark f.start f.size ∷ []) [] ++ l) (marks-append d fs gs)
     ∙ sym (append_assoc (cond (same_direction f.direction d) (mark f.start f.size ∷ []) []) (marks_in d fs) (marks_in d gs))

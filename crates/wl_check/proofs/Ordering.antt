@@ -5,7 +5,7 @@ use Rattle.std.proofs.lemmas.List.{drop-drop, drop_all}
 use Rattle.wl_message.specs.Cut.{is_size, front, Front, More, Bad, Whole, cut_within, rest_of}
 use Rattle.wl_message.proofs.Cuts.{front_none}
 use Rattle.wl_recording.specs.Piece.{Piece}
-use Rattle.wl_check.specs.declared.frames.Frame.{Frame}
+use Rattle.wl_check.specs.declared.frames.FramedMessage.{FramedMessage}
 use Rattle.wl_check.specs.Merged.{Mark, mark, cutting, cut_at, cut, finish, stream_of, tokens_of, framed, completed, merged_within, merged}
 use Rattle.wl_check.specs.Text.{EndsWith, messages, bad_size, Brings, ComesWith, ComeInOrder}
 use Rattle.wl_check.proofs.Cutting.{next_within}
@@ -15,11 +15,11 @@ use Rattle.wl_check.proofs.Fresh.{some_at}
 
 -- ---- the order of the pieces
 
-all_with : (limit : ℕ) (ps : List Piece) (k from : ℕ) (fs : List Frame) → from ≤ k → AllByRecursion (ComesWith limit ps k) fs → ComeInOrder limit ps from (suc k) fs
+all_with : (limit : ℕ) (ps : List Piece) (k from : ℕ) (fs : List FramedMessage) → from ≤ k → AllByRecursion (ComesWith limit ps k) fs → ComeInOrder limit ps from (suc k) fs
 all_with limit ps k from [] l h = tt
 all_with limit ps k from (f ∷ fs) l h = (k, l, omega arith, h.0, all_with limit ps k k fs (omega arith) h.1)
 
-order_more : (limit : ℕ) (ps : List Piece) (k from : ℕ) (fs gs : List Frame) → from ≤ k → ComeInOrder limit ps from k fs → AllByRecursion (ComesWith limit ps k) gs → ComeInOrder limit ps from (suc k) (fs ++ gs)
+order_more : (limit : ℕ) (ps : List Piece) (k from : ℕ) (fs gs : List FramedMessage) → from ≤ k → ComeInOrder limit ps from k fs → AllByRecursion (ComesWith limit ps k) gs → ComeInOrder limit ps from (suc k) (fs ++ gs)
 order_more limit ps k from [] gs l h g = all_with limit ps k from gs l g
 order_more limit ps k from (f ∷ fs) gs l h g =
     let less = h.2 in

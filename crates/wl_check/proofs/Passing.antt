@@ -4,7 +4,7 @@ use Rattle.std.proofs.lemmas.Bool.Decides.{nat_tests}
 use Rattle.wl_sigs.specs.Tables.{Interface}
 use Rattle.wl_recording.specs.declared.piece.Direction.{Direction}
 use Rattle.wl_recording.specs.Piece.{Piece, passed}
-use Rattle.wl_check.specs.declared.frames.Frame.{Frame}
+use Rattle.wl_check.specs.declared.frames.FramedMessage.{FramedMessage}
 use Rattle.wl_check.specs.Merged.{cut, same_direction, stream_of, tokens_of, framed}
 use Rattle.wl_check.specs.Session.{Judged, judged_after, messages, session_of}
 use Rattle.wl_check.proofs.Cutting.{drop_whole}
@@ -15,7 +15,7 @@ abbrev pub piece_of : Direction → List ℕ → ℕ → Piece
 piece_of d bytes tokens = record { direction = d; bytes = bytes; tokens = tokens }
 
 -- the messages that bytes more complete
-abbrev pub new_frames : (limit : ℕ) → Direction → List ℕ → List ℕ → ℕ → List Frame
+abbrev pub new_frames : (limit : ℕ) → Direction → List ℕ → List ℕ → ℕ → List FramedMessage
 new_frames limit d stream bytes tokens = map (framed d tokens) (drop (length (cut limit stream).marks) (cut limit (stream ++ bytes)).marks)
 
 -- These pieces bring so many bytes and tokens more in a direction, and the messages that they complete come behind the others.

@@ -9,37 +9,37 @@ use Rattle.wl_sigs.specs.Tables.{Interface}
 use Rattle.wl_recording.specs.declared.piece.Direction.{Direction}
 use Rattle.wl_recording.specs.declared.piece.Direction.TheVariants.{ToServer, ToClient}
 use Rattle.wl_recording.specs.Piece.{Piece}
-use Rattle.wl_check.specs.declared.course.Course.{Course}
-use Rattle.wl_check.specs.declared.course.Output.{Output}
-use Rattle.wl_check.specs.declared.course.Stage.{Stage}
-use Rattle.wl_check.specs.declared.course.Stage.TheVariants.{Open, Ended, Broken}
-use Rattle.wl_check.specs.declared.frames.Frame.{Frame}
+use Rattle.wl_check.specs.declared.session_state.SessionState.{SessionState}
+use Rattle.wl_check.specs.declared.session_state.Output.{Output}
+use Rattle.wl_check.specs.declared.session_state.SessionStatus.{SessionStatus}
+use Rattle.wl_check.specs.declared.session_state.SessionStatus.TheVariants.{Open, Ended, Broken}
+use Rattle.wl_check.specs.declared.frames.FramedMessage.{FramedMessage}
 use Rattle.wl_check.specs.declared.frames.Stream.{Stream}
 use Rattle.wl_check.specs.declared.progress.Progress.{Progress}
 use Rattle.wl_check.specs.declared.progress.Tally.{Tally}
 use Rattle.wl_check.specs.declared.scanning.Scanner.{Scanner}
 use Rattle.wl_check.specs.declared.verdict.Verdict.{Verdict}
 use Rattle.wl_check.specs.declared.verdict.Verdict.TheVariants.{Lawful, Broken as BrokenAt}
-use Rattle.wl_check.specs.Course.{IsTallied, IsAt, is_open, IsEnd, IsFault, StageIs, end_in, IsJudged, IsFresh, Follows, IsLeft, AllJudged, IsStream, Along, IsAfter}
+use Rattle.wl_check.specs.SessionState.{IsTallied, IsAt, is_open, IsEnd, IsFault, StatusIs, end_in, IsJudged, IsFresh, Follows, IsLeft, AllJudged, IsStream, Along, IsAfter}
 use Rattle.wl_check.specs.Session.{ArePassed}
 use Rattle.wl_check.specs.Merged.{Cutting, cut, cutting, framed, same_direction, stream_of, tokens_of, completed, merged, merged_within}
 use Rattle.wl_check.specs.Places.{known}
 use Rattle.wl_check.specs.Seen.{tally_in}
-use Rattle.wl_check.specs.Session.{Session, Judged, count_in, effects, end_after, messages, session_of, Answers}
+use Rattle.wl_check.specs.Session.{Session, Judged, count_in, changes_at, end_after, messages, session_of, Answers}
 use Rattle.wl_check.specs.Trace.{judged_line, lines_within, trace_of, wanted}
-use Rattle.wl_check.proofs.Coursing.{end_within, open_passed}
+use Rattle.wl_check.proofs.StateFacts.{end_within, open_passed}
 use Rattle.wl_check.proofs.Cutting.{fed_good, new_marks}
 use Rattle.wl_check.proofs.Examined.{answers_all, answers_end, answers_broken, at_first}
 use Rattle.wl_check.proofs.Growing.{merged_with, messages_more, stream_last, tokens_last}
 use Rattle.wl_check.proofs.Lines.{lines_none, trace_all, trace_broken, trace_end}
 use Rattle.wl_check.proofs.Merging.{own, same_is}
-use Rattle.wl_check.proofs.Reading.{after_front, effects_same, get_front, known_same, length_messages}
+use Rattle.wl_check.proofs.Reading.{after_front, changes_at_same, get_front, known_same, length_messages}
 
 -- ---- a session that goes on: its first messages stay
 
 -- One session begins another.
 pub record Begins (tables : List Interface) (s t : Session) : Type 0 where
-  pub more : List Frame
+  pub more : List FramedMessage
   pub frames : t.frames ≡ s.frames ++ more
   pub later : List Judged
   pub judged : messages tables t ≡ messages tables s ++ later
@@ -74,11 +74,11 @@ tallied_more tables s t k d x b h i =
       within = (let w = i.within in let l = b.streams d in omega (arith, w, l));
     }
 
-known_more : (tables : List Interface) (s t : Session) (k : ℕ) → Begins tables s t → k ≤ length s.frames → known (effects tables (messages tables s)) (suc k) ≡ known (effects tables (messages tables t)) (suc k)
+known_more : (tables : List Interface) (s t : Session) (k : ℕ) → Begins tables s t → k ≤ length s.frames → known (changes_at tables (messages tables s)) (suc k) ≡ known (changes_at tables (messages tables t)) (suc k)
 known_more tables s t k b h =
     let l = length_messages tables s in
-    known_same (effects tables (messages tables s)) (effects tables (messages tables t)) (suc k)
-    (λ q below. sym (ap (λ (m : List Judged). effects tables m q) b.judged ∙ effects_same tables (messages tables s) b.later q (omega (arith, l, h, below))))
+    known_same (changes_at tables (messages tables s)) (changes_at tables (messages tables t)) (suc k)
+    (λ q below. sym (ap (λ (m : List Judged). changes_at tables m q) b.judged ∙ changes_at_same tables (messages tables s) b.later q (omega (arith, l, h, below))))
 
 at_more : {A : Type 0} (tables : List Interface) (s t : Session) (k : ℕ) (p : Progress A) → Begins tables s t → k ≤ length s.frames → IsAt tables s k p → IsAt tables t k p
 at_more tables s t k p b h at = record {
@@ -99,9 +99,9 @@ lines_same tables s t (suc k) b h =
     let here = sym (get_more (messages tables t) (messages tables s) b.later k b.judged (omega (arith, l, h))) in
     λ i. first i ++ judged_line tables (knows i) (here i)
 
-stage_more : (tables : List Interface) (s t : Session) (k : ℕ) (stage : Stage) → Begins tables s t → k ≤ length s.frames → StageIs tables s k stage → StageIs tables t k stage
-stage_more tables s t k Open b h i = passed_more tables s t k b h i
-stage_more tables s t k Ended b h i =
+status_more : (tables : List Interface) (s t : Session) (k : ℕ) (status : SessionStatus) → Begins tables s t → k ≤ length s.frames → StatusIs tables s k status → StatusIs tables t k status
+status_more tables s t k Open b h i = passed_more tables s t k b h i
+status_more tables s t k Ended b h i =
     let l = length_messages tables s in
     let last = i.last in
     record {
@@ -112,7 +112,7 @@ stage_more tables s t k Ended b h i =
       ends = i.ends;
       passed = passed_more tables s t i.before b (omega (arith, h, last)) i.passed;
     }
-stage_more tables s t k (Broken frame fault) b h i =
+status_more tables s t k (Broken frame fault) b h i =
     let l = length_messages tables s in
     let below = slice_get_within s.frames k frame i.stands in
     record {
@@ -121,12 +121,12 @@ stage_more tables s t k (Broken frame fault) b h i =
       passed = passed_more tables s t k b h i.passed;
     }
 
-judged_more : {A : Type 0} (tables : List Interface) (s t : Session) (o : Output) (c : Course A) → Begins tables s t → IsJudged tables s o c → IsJudged tables t o c
+judged_more : {A : Type 0} (tables : List Interface) (s t : Session) (o : Output) (c : SessionState A) → Begins tables s t → IsJudged tables s o c → IsJudged tables t o c
 judged_more tables s t o c b j = record {
   at = at_more tables s t c.count c.progress b j.within j.at;
-  stage = stage_more tables s t c.count c.stage b j.within j.stage;
+  status = status_more tables s t c.count c.status b j.within j.status;
   text_is = j.text_is ∙ ap (wanted o) (lines_same tables s t c.count b j.within);
-  within = (let w = j.within in let l = ap (λ (f : List Frame). length f) b.frames in let a = length-append s.frames b.more in omega (arith, w, l, a));
+  within = (let w = j.within in let l = ap (λ (f : List FramedMessage). length f) b.frames in let a = length-append s.frames b.more in omega (arith, w, l, a));
   few = j.few;
   small_to_server = j.small_to_server;
   small_to_client = j.small_to_client;
@@ -148,8 +148,8 @@ own_tokens_of : (ps : List Piece) (p : Piece) → tokens_of p.direction (ps ++ p
 own_tokens_of ps p = tokens_last p.direction ps p ∙ ap (λ (b : Bool). tokens_of p.direction ps + cond b p.tokens 0) (same_is p.direction)
 
 -- what the piece brings is there to be judged
-pub follows_piece : {A : Type 0} (limit : ℕ) (tables : List Interface) (o : Output) (ps : List Piece) (p : Piece) (c : Course A) (stream : Stream A) (len tokens : ℕ) (bytes : List ℕ)
-    → Along limit tables o p.direction ps c stream → is_open c.stage ≡ true → len ≡ stream.len + length p.bytes → len < 2 ^ 64 → tokens ≡ stream.tokens + p.tokens → bytes ≡ stream.bytes.items ++ p.bytes
+pub follows_piece : {A : Type 0} (limit : ℕ) (tables : List Interface) (o : Output) (ps : List Piece) (p : Piece) (c : SessionState A) (stream : Stream A) (len tokens : ℕ) (bytes : List ℕ)
+    → Along limit tables o p.direction ps c stream → is_open c.status ≡ true → len ≡ stream.len + length p.bytes → len < 2 ^ 64 → tokens ≡ stream.tokens + p.tokens → bytes ≡ stream.bytes.items ++ p.bytes
     → Follows limit tables (session_of limit (ps ++ p ∷ [])) o c p.direction tokens bytes
 follows_piece limit tables o ps p c stream len tokens bytes h going len_is small tokens_is bytes_is =
     let d = p.direction in
@@ -180,7 +180,7 @@ follows_piece limit tables o ps p c stream len tokens bytes h going len_is small
     }
 
 -- it was judged
-pub along_piece : {A : Type 0} (limit : ℕ) (tables : List Interface) (o : Output) (ps : List Piece) (p : Piece) (c n : Course A) (stream after : Stream A) (rest : List ℕ)
+pub along_piece : {A : Type 0} (limit : ℕ) (tables : List Interface) (o : Output) (ps : List Piece) (p : Piece) (c n : SessionState A) (stream after : Stream A) (rest : List ℕ)
     → Along limit tables o p.direction ps c stream → AllJudged limit tables (session_of limit (ps ++ p ∷ [])) o n p.direction rest → after.len ≡ stream.len + length p.bytes → after.tokens ≡ stream.tokens + p.tokens
     → after.bytes.items ≡ rest → Along limit tables o p.direction (ps ++ p ∷ []) n after
 along_piece limit tables o ps p c n stream after rest h j len tokens bytes =
@@ -198,8 +198,8 @@ along_piece limit tables o ps p c n stream after rest h j len tokens bytes =
     }
 
 -- there was nothing to judge any more
-pub along_closed : {A : Type 0} (limit : ℕ) (tables : List Interface) (o : Output) (ps : List Piece) (p : Piece) (c : Course A) (stream after : Stream A)
-    → Along limit tables o p.direction ps c stream → is_open c.stage ≡ false → after.len ≡ stream.len + length p.bytes → after.tokens ≡ stream.tokens + p.tokens
+pub along_closed : {A : Type 0} (limit : ℕ) (tables : List Interface) (o : Output) (ps : List Piece) (p : Piece) (c : SessionState A) (stream after : Stream A)
+    → Along limit tables o p.direction ps c stream → is_open c.status ≡ false → after.len ≡ stream.len + length p.bytes → after.tokens ≡ stream.tokens + p.tokens
     → Along limit tables o p.direction (ps ++ p ∷ []) c after
 along_closed limit tables o ps p c stream after h away len tokens =
     let l = ap (λ (b : List ℕ). length b) (own_stream ps p) in
@@ -216,8 +216,8 @@ along_closed limit tables o ps p c stream after h away len tokens =
     }
 
 -- the other direction
-other_stream : {A : Type 0} (limit : ℕ) (d : Direction) (ps : List Piece) (p : Piece) (c n : Course A) (stream : Stream A) → same_direction p.direction d ≡ false → IsStream limit d ps c stream
-    → (is_open n.stage ≡ true → is_open c.stage ≡ true) → end_in n d ≡ end_in c d → IsStream limit d (ps ++ p ∷ []) n stream
+other_stream : {A : Type 0} (limit : ℕ) (d : Direction) (ps : List Piece) (p : Piece) (c n : SessionState A) (stream : Stream A) → same_direction p.direction d ≡ false → IsStream limit d ps c stream
+    → (is_open n.status ≡ true → is_open c.status ≡ true) → end_in n d ≡ end_in c d → IsStream limit d (ps ++ p ∷ []) n stream
 other_stream limit d ps p c n stream away h going end =
     let same : stream_of d (ps ++ p ∷ []) ≡ stream_of d ps = stream_last d ps p ∙ ap (λ (b : Bool). stream_of d ps ++ cond b p.bytes []) away ∙ append-nil (stream_of d ps) in
     let count : tokens_of d (ps ++ p ∷ []) ≡ tokens_of d ps = tokens_last d ps p ∙ ap (λ (b : Bool). tokens_of d ps + cond b p.tokens 0) away ∙ omega arith in
@@ -231,39 +231,39 @@ other_stream limit d ps p c n stream away h going end =
       });
     }
 
-pub after_server : {A : Type 0} (limit : ℕ) (tables : List Interface) (o : Output) (ps : List Piece) (p : Piece) (s : Scanner A) (n : Course A) (after : Stream A) → p.direction ≡ ToServer → IsAfter limit tables o ps s
-    → (Along limit tables o p.direction ps s.course s.to_server → Along limit tables o p.direction (ps ++ p ∷ []) n after) → (is_open n.stage ≡ true → is_open s.course.stage ≡ true)
-    → ((d : Direction) → same_direction p.direction d ≡ false → end_in n d ≡ end_in s.course d) → IsAfter limit tables o (ps ++ p ∷ []) (record { course = n; to_server = after; to_client = s.to_client })
+pub after_server : {A : Type 0} (limit : ℕ) (tables : List Interface) (o : Output) (ps : List Piece) (p : Piece) (s : Scanner A) (n : SessionState A) (after : Stream A) → p.direction ≡ ToServer → IsAfter limit tables o ps s
+    → (Along limit tables o p.direction ps s.state s.to_server → Along limit tables o p.direction (ps ++ p ∷ []) n after) → (is_open n.status ≡ true → is_open s.state.status ≡ true)
+    → ((d : Direction) → same_direction p.direction d ≡ false → end_in n d ≡ end_in s.state d) → IsAfter limit tables o (ps ++ p ∷ []) (record { state = n; to_server = after; to_client = s.to_client })
 after_server limit tables o ps p s n after is h step going other =
-    let own : Along limit tables o p.direction ps s.course s.to_server = record { judged = h.judged; all = h.all; stream = subst (λ (d : Direction). IsStream limit d ps s.course s.to_server) (sym is) h.to_server } in
+    let own : Along limit tables o p.direction ps s.state s.to_server = record { judged = h.judged; all = h.all; stream = subst (λ (d : Direction). IsStream limit d ps s.state s.to_server) (sym is) h.to_server } in
     let a = step own in
     let away : same_direction p.direction ToClient ≡ false = rw is refl in
     record {
       judged = a.judged;
       all = a.all;
       to_server = subst (λ (d : Direction). IsStream limit d (ps ++ p ∷ []) n after) is a.stream;
-      to_client = other_stream limit ToClient ps p s.course n s.to_client away h.to_client going (other ToClient away);
+      to_client = other_stream limit ToClient ps p s.state n s.to_client away h.to_client going (other ToClient away);
     }
 
-pub after_client : {A : Type 0} (limit : ℕ) (tables : List Interface) (o : Output) (ps : List Piece) (p : Piece) (s : Scanner A) (n : Course A) (after : Stream A) → p.direction ≡ ToClient → IsAfter limit tables o ps s
-    → (Along limit tables o p.direction ps s.course s.to_client → Along limit tables o p.direction (ps ++ p ∷ []) n after) → (is_open n.stage ≡ true → is_open s.course.stage ≡ true)
-    → ((d : Direction) → same_direction p.direction d ≡ false → end_in n d ≡ end_in s.course d) → IsAfter limit tables o (ps ++ p ∷ []) (record { course = n; to_server = s.to_server; to_client = after })
+pub after_client : {A : Type 0} (limit : ℕ) (tables : List Interface) (o : Output) (ps : List Piece) (p : Piece) (s : Scanner A) (n : SessionState A) (after : Stream A) → p.direction ≡ ToClient → IsAfter limit tables o ps s
+    → (Along limit tables o p.direction ps s.state s.to_client → Along limit tables o p.direction (ps ++ p ∷ []) n after) → (is_open n.status ≡ true → is_open s.state.status ≡ true)
+    → ((d : Direction) → same_direction p.direction d ≡ false → end_in n d ≡ end_in s.state d) → IsAfter limit tables o (ps ++ p ∷ []) (record { state = n; to_server = s.to_server; to_client = after })
 after_client limit tables o ps p s n after is h step going other =
-    let own : Along limit tables o p.direction ps s.course s.to_client = record { judged = h.judged; all = h.all; stream = subst (λ (d : Direction). IsStream limit d ps s.course s.to_client) (sym is) h.to_client } in
+    let own : Along limit tables o p.direction ps s.state s.to_client = record { judged = h.judged; all = h.all; stream = subst (λ (d : Direction). IsStream limit d ps s.state s.to_client) (sym is) h.to_client } in
     let a = step own in
     let away : same_direction p.direction ToServer ≡ false = rw is refl in
     record {
       judged = a.judged;
       all = a.all;
-      to_server = other_stream limit ToServer ps p s.course n s.to_server away h.to_server going (other ToServer away);
+      to_server = other_stream limit ToServer ps p s.state n s.to_server away h.to_server going (other ToServer away);
       to_client = subst (λ (d : Direction). IsStream limit d (ps ++ p ∷ []) n after) is a.stream;
     }
 
-pub along_server : {A : Type 0} (limit : ℕ) (tables : List Interface) (o : Output) (ps : List Piece) (d : Direction) (s : Scanner A) → d ≡ ToServer → IsAfter limit tables o ps s → Along limit tables o d ps s.course s.to_server
-along_server limit tables o ps d s is h = record { judged = h.judged; all = h.all; stream = subst (λ (x : Direction). IsStream limit x ps s.course s.to_server) (sym is) h.to_server }
+pub along_server : {A : Type 0} (limit : ℕ) (tables : List Interface) (o : Output) (ps : List Piece) (d : Direction) (s : Scanner A) → d ≡ ToServer → IsAfter limit tables o ps s → Along limit tables o d ps s.state s.to_server
+along_server limit tables o ps d s is h = record { judged = h.judged; all = h.all; stream = subst (λ (x : Direction). IsStream limit x ps s.state s.to_server) (sym is) h.to_server }
 
-pub along_client : {A : Type 0} (limit : ℕ) (tables : List Interface) (o : Output) (ps : List Piece) (d : Direction) (s : Scanner A) → d ≡ ToClient → IsAfter limit tables o ps s → Along limit tables o d ps s.course s.to_client
-along_client limit tables o ps d s is h = record { judged = h.judged; all = h.all; stream = subst (λ (x : Direction). IsStream limit x ps s.course s.to_client) (sym is) h.to_client }
+pub along_client : {A : Type 0} (limit : ℕ) (tables : List Interface) (o : Output) (ps : List Piece) (d : Direction) (s : Scanner A) → d ≡ ToClient → IsAfter limit tables o ps s → Along limit tables o d ps s.state s.to_client
+along_client limit tables o ps d s is h = record { judged = h.judged; all = h.all; stream = subst (λ (x : Direction). IsStream limit x ps s.state s.to_client) (sym is) h.to_client }
 
 -- ---- before the first piece
 
@@ -271,19 +271,19 @@ left_none : (limit : ℕ) (d : Direction) → IsLeft limit [] 0 []
 unfolding cutting
 left_none limit d = record { rest_is = refl; place = refl; is_bad = refl }
 
-pub none_judged : {A : Type 0} (limit : ℕ) (tables : List Interface) (o : Output) (s : Scanner A) → IsFresh s.course → s.to_server.bytes.items ≡ [] → s.to_server.len ≡ 0 → s.to_server.tokens ≡ 0
+pub none_judged : {A : Type 0} (limit : ℕ) (tables : List Interface) (o : Output) (s : Scanner A) → IsFresh s.state → s.to_server.bytes.items ≡ [] → s.to_server.len ≡ 0 → s.to_server.tokens ≡ 0
     → s.to_client.bytes.items ≡ [] → s.to_client.len ≡ 0 → s.to_client.tokens ≡ 0 → IsAfter limit tables o [] s
 unfolding merged_within
 none_judged limit tables o s f bytes len tokens bytes2 len2 tokens2 =
     let t = session_of limit [] in
-    let c = s.course in
+    let c = s.state in
     let a : (tally_in c.progress ToServer).end ≡ 0 = ap (λ (x : Tally). x.end) f.to_server in
     let b : (tally_in c.progress ToClient).end ≡ 0 = ap (λ (x : Tally). x.end) f.to_client in
     let n = f.count in
     record {
       judged = record {
         at = subst (λ (k : ℕ). IsAt tables t k c.progress) (sym n) (at_first tables t c.progress f.known f.to_server f.to_client f.taken_to_server f.taken_to_client);
-        stage = subst (λ (x : Stage). StageIs tables t c.count x) (sym f.stage) (λ j below. absurd (omega (arith, below, n)));
+        status = subst (λ (x : SessionStatus). StatusIs tables t c.count x) (sym f.status) (λ j below. absurd (omega (arith, below, n)));
         text_is = f.text ∙ lines_none tables t o ∙ ap (λ (k : ℕ). wanted o (lines_within tables t k)) (sym n);
         within = omega (arith, n);
         few = omega (arith, n);
@@ -311,57 +311,57 @@ take_mapped f xs k h = take_all k (map f xs) (let l = length_mapped f xs in omeg
 
 -- ---- behind the last piece
 
-abbrev pub verdict_of : {A : Type 0} → Stage → Scanner A → Verdict
-verdict_of Open s = Lawful s.course.progress.to_server.count s.course.progress.to_client.count (s.to_server.len - s.course.progress.to_server.end) (s.to_client.len - s.course.progress.to_client.end)
-verdict_of Ended s = Lawful s.course.progress.to_server.count s.course.progress.to_client.count (s.to_server.len - s.course.progress.to_server.end) (s.to_client.len - s.course.progress.to_client.end)
-verdict_of (Broken f fault) s = BrokenAt f.direction ((tally_in s.course.progress f.direction).count + 1) f.start fault
+abbrev pub verdict_of : {A : Type 0} → SessionStatus → Scanner A → Verdict
+verdict_of Open s = Lawful s.state.progress.to_server.count s.state.progress.to_client.count (s.to_server.len - s.state.progress.to_server.end) (s.to_client.len - s.state.progress.to_client.end)
+verdict_of Ended s = Lawful s.state.progress.to_server.count s.state.progress.to_client.count (s.to_server.len - s.state.progress.to_server.end) (s.to_client.len - s.state.progress.to_client.end)
+verdict_of (Broken f fault) s = BrokenAt f.direction ((tally_in s.state.progress f.direction).count + 1) f.start fault
 
 lens_are : {A : Type 0} (limit : ℕ) (tables : List Interface) (o : Output) (ps : List Piece) (s : Scanner A) → IsAfter limit tables o ps s
-    → Lawful s.course.progress.to_server.count s.course.progress.to_client.count (s.to_server.len - s.course.progress.to_server.end) (s.to_client.len - s.course.progress.to_client.end)
-    ≡ Lawful s.course.progress.to_server.count s.course.progress.to_client.count (length (stream_of ToServer ps) - s.course.progress.to_server.end) (length (stream_of ToClient ps) - s.course.progress.to_client.end)
+    → Lawful s.state.progress.to_server.count s.state.progress.to_client.count (s.to_server.len - s.state.progress.to_server.end) (s.to_client.len - s.state.progress.to_client.end)
+    ≡ Lawful s.state.progress.to_server.count s.state.progress.to_client.count (length (stream_of ToServer ps) - s.state.progress.to_server.end) (length (stream_of ToClient ps) - s.state.progress.to_client.end)
 lens_are limit tables o ps s h =
     let a = h.to_server.len in
     let b = h.to_client.len in
-    λ i. Lawful s.course.progress.to_server.count s.course.progress.to_client.count (a i - s.course.progress.to_server.end) (b i - s.course.progress.to_client.end)
+    λ i. Lawful s.state.progress.to_server.count s.state.progress.to_client.count (a i - s.state.progress.to_server.end) (b i - s.state.progress.to_client.end)
 
-answers_as : {A : Type 0} (limit : ℕ) (tables : List Interface) (o : Output) (ps : List Piece) (s : Scanner A) (stage : Stage) → s.course.stage ≡ stage → IsAfter limit tables o ps s → Answers tables (session_of limit ps) (verdict_of stage s)
+answers_as : {A : Type 0} (limit : ℕ) (tables : List Interface) (o : Output) (ps : List Piece) (s : Scanner A) (status : SessionStatus) → s.state.status ≡ status → IsAfter limit tables o ps s → Answers tables (session_of limit ps) (verdict_of status s)
 answers_as limit tables o ps s Open e h =
     let t = session_of limit ps in
-    let going : is_open s.course.stage ≡ true = ap is_open e in
-    subst (Answers tables t) (sym (lens_are limit tables o ps s h)) (answers_all tables t s.course.count s.course.progress (h.all going) (open_passed tables t s.course.count s.course.stage going h.judged.stage) h.judged.at)
+    let going : is_open s.state.status ≡ true = ap is_open e in
+    subst (Answers tables t) (sym (lens_are limit tables o ps s h)) (answers_all tables t s.state.count s.state.progress (h.all going) (open_passed tables t s.state.count s.state.status going h.judged.status) h.judged.at)
 answers_as limit tables o ps s Ended e h =
     let t = session_of limit ps in
-    let i : IsEnd (messages tables t) s.course.count = subst (λ (x : Stage). StageIs tables t s.course.count x) e h.judged.stage in
-    subst (Answers tables t) (sym (lens_are limit tables o ps s h)) (answers_end tables t i.before i.call s.course.progress i.is i.ends i.passed (subst (λ (k : ℕ). IsAt tables t k s.course.progress) i.last h.judged.at))
+    let i : IsEnd (messages tables t) s.state.count = subst (λ (x : SessionStatus). StatusIs tables t s.state.count x) e h.judged.status in
+    subst (Answers tables t) (sym (lens_are limit tables o ps s h)) (answers_end tables t i.before i.call s.state.progress i.is i.ends i.passed (subst (λ (k : ℕ). IsAt tables t k s.state.progress) i.last h.judged.at))
 answers_as limit tables o ps s (Broken f fault) e h =
     let t = session_of limit ps in
-    let i : IsFault tables t s.course.count f fault = subst (λ (x : Stage). StageIs tables t s.course.count x) e h.judged.stage in
-    answers_broken tables t s.course.count f fault s.course.progress i.stands i.is i.passed h.judged.at
+    let i : IsFault tables t s.state.count f fault = subst (λ (x : SessionStatus). StatusIs tables t s.state.count x) e h.judged.status in
+    answers_broken tables t s.state.count f fault s.state.progress i.stands i.is i.passed h.judged.at
 
-pub answers_so : {A : Type 0} (limit : ℕ) (tables : List Interface) (o : Output) (ps : List Piece) (s : Scanner A) → IsAfter limit tables o ps s → Answers tables (session_of limit ps) (verdict_of s.course.stage s)
-answers_so limit tables o ps s h = answers_as limit tables o ps s s.course.stage refl h
+pub answers_so : {A : Type 0} (limit : ℕ) (tables : List Interface) (o : Output) (ps : List Piece) (s : Scanner A) → IsAfter limit tables o ps s → Answers tables (session_of limit ps) (verdict_of s.state.status s)
+answers_so limit tables o ps s h = answers_as limit tables o ps s s.state.status refl h
 
-lines_as : {A : Type 0} (limit : ℕ) (tables : List Interface) (o : Output) (ps : List Piece) (s : Scanner A) (stage : Stage) → s.course.stage ≡ stage → IsAfter limit tables o ps s
-    → s.course.text.items ≡ wanted o (trace_of tables (session_of limit ps))
+lines_as : {A : Type 0} (limit : ℕ) (tables : List Interface) (o : Output) (ps : List Piece) (s : Scanner A) (status : SessionStatus) → s.state.status ≡ status → IsAfter limit tables o ps s
+    → s.state.text.items ≡ wanted o (trace_of tables (session_of limit ps))
 lines_as limit tables o ps s Open e h =
     let t = session_of limit ps in
-    let going : is_open s.course.stage ≡ true = ap is_open e in
-    trace_all tables t s.course.count o s.course.text.items (h.all going) (open_passed tables t s.course.count s.course.stage going h.judged.stage) h.judged.text_is
+    let going : is_open s.state.status ≡ true = ap is_open e in
+    trace_all tables t s.state.count o s.state.text.items (h.all going) (open_passed tables t s.state.count s.state.status going h.judged.status) h.judged.text_is
 lines_as limit tables o ps s Ended e h =
     let t = session_of limit ps in
-    let i : IsEnd (messages tables t) s.course.count = subst (λ (x : Stage). StageIs tables t s.course.count x) e h.judged.stage in
-    trace_end tables t i.before o i.call s.course.text.items i.is i.ends i.passed (h.judged.text_is ∙ ap (λ (k : ℕ). wanted o (lines_within tables t k)) i.last)
+    let i : IsEnd (messages tables t) s.state.count = subst (λ (x : SessionStatus). StatusIs tables t s.state.count x) e h.judged.status in
+    trace_end tables t i.before o i.call s.state.text.items i.is i.ends i.passed (h.judged.text_is ∙ ap (λ (k : ℕ). wanted o (lines_within tables t k)) i.last)
 lines_as limit tables o ps s (Broken f fault) e h =
     let t = session_of limit ps in
-    let i : IsFault tables t s.course.count f fault = subst (λ (x : Stage). StageIs tables t s.course.count x) e h.judged.stage in
-    trace_broken tables t s.course.count o fault s.course.text.items i.is i.passed h.judged.text_is
+    let i : IsFault tables t s.state.count f fault = subst (λ (x : SessionStatus). StatusIs tables t s.state.count x) e h.judged.status in
+    trace_broken tables t s.state.count o fault s.state.text.items i.is i.passed h.judged.text_is
 
-pub lines_so : {A : Type 0} (limit : ℕ) (tables : List Interface) (o : Output) (ps : List Piece) (s : Scanner A) → IsAfter limit tables o ps s → s.course.text.items ≡ wanted o (trace_of tables (session_of limit ps))
-lines_so limit tables o ps s h = lines_as limit tables o ps s s.course.stage refl h
+pub lines_so : {A : Type 0} (limit : ℕ) (tables : List Interface) (o : Output) (ps : List Piece) (s : Scanner A) → IsAfter limit tables o ps s → s.state.text.items ≡ wanted o (trace_of tables (session_of limit ps))
+lines_so limit tables o ps s h = lines_as limit tables o ps s s.state.status refl h
 
 -- where the counted messages end is within what came
 pub ends_within : {A : Type 0} (limit : ℕ) (tables : List Interface) (o : Output) (ps : List Piece) (s : Scanner A) → IsAfter limit tables o ps s
-    → (s.course.progress.to_server.end ≤ s.to_server.len) × (s.course.progress.to_client.end ≤ s.to_client.len)
+    → (s.state.progress.to_server.end ≤ s.to_server.len) × (s.state.progress.to_client.end ≤ s.to_client.len)
 ends_within limit tables o ps s h =
     let a = h.judged.at.to_server.within in
     let b = h.judged.at.to_client.within in
@@ -370,16 +370,16 @@ ends_within limit tables o ps s h =
     (omega (arith, a, c), omega (arith, b, d))
 
 -- both directions at once, in the form in which the code has it
-pub takes_server : {A E : Type 0} (limit : ℕ) (tables : List Interface) (o : Output) (p : Piece) (s : Scanner A) (n : Course A) (after : Stream A) (r : Result (Unit {0}) E) → p.direction ≡ ToServer
-    → OnOk r ((ps : List Piece) → Along limit tables o p.direction ps s.course s.to_server → Along limit tables o p.direction (ps ++ p ∷ []) n after)
-    → OnOk r (is_open n.stage ≡ true → is_open s.course.stage ≡ true) → OnOk r ((d : Direction) → same_direction p.direction d ≡ false → end_in n d ≡ end_in s.course d)
-    → OnOk r ((ps : List Piece) → IsAfter limit tables o ps s → IsAfter limit tables o (ps ++ p ∷ []) (record { course = n; to_server = after; to_client = s.to_client }))
+pub takes_server : {A E : Type 0} (limit : ℕ) (tables : List Interface) (o : Output) (p : Piece) (s : Scanner A) (n : SessionState A) (after : Stream A) (r : Result (Unit {0}) E) → p.direction ≡ ToServer
+    → OnOk r ((ps : List Piece) → Along limit tables o p.direction ps s.state s.to_server → Along limit tables o p.direction (ps ++ p ∷ []) n after)
+    → OnOk r (is_open n.status ≡ true → is_open s.state.status ≡ true) → OnOk r ((d : Direction) → same_direction p.direction d ≡ false → end_in n d ≡ end_in s.state d)
+    → OnOk r ((ps : List Piece) → IsAfter limit tables o ps s → IsAfter limit tables o (ps ++ p ∷ []) (record { state = n; to_server = after; to_client = s.to_client }))
 takes_server limit tables o p s n after (Ok x) is a b d = λ ps h. after_server limit tables o ps p s n after is h (a ps) b d
 takes_server limit tables o p s n after (Err e) is a b d = tt
 
-pub takes_client : {A E : Type 0} (limit : ℕ) (tables : List Interface) (o : Output) (p : Piece) (s : Scanner A) (n : Course A) (after : Stream A) (r : Result (Unit {0}) E) → p.direction ≡ ToClient
-    → OnOk r ((ps : List Piece) → Along limit tables o p.direction ps s.course s.to_client → Along limit tables o p.direction (ps ++ p ∷ []) n after)
-    → OnOk r (is_open n.stage ≡ true → is_open s.course.stage ≡ true) → OnOk r ((d : Direction) → same_direction p.direction d ≡ false → end_in n d ≡ end_in s.course d)
-    → OnOk r ((ps : List Piece) → IsAfter limit tables o ps s → IsAfter limit tables o (ps ++ p ∷ []) (record { course = n; to_server = s.to_server; to_client = after }))
+pub takes_client : {A E : Type 0} (limit : ℕ) (tables : List Interface) (o : Output) (p : Piece) (s : Scanner A) (n : SessionState A) (after : Stream A) (r : Result (Unit {0}) E) → p.direction ≡ ToClient
+    → OnOk r ((ps : List Piece) → Along limit tables o p.direction ps s.state s.to_client → Along limit tables o p.direction (ps ++ p ∷ []) n after)
+    → OnOk r (is_open n.status ≡ true → is_open s.state.status ≡ true) → OnOk r ((d : Direction) → same_direction p.direction d ≡ false → end_in n d ≡ end_in s.state d)
+    → OnOk r ((ps : List Piece) → IsAfter limit tables o ps s → IsAfter limit tables o (ps ++ p ∷ []) (record { state = n; to_server = s.to_server; to_client = after }))
 takes_client limit tables o p s n after (Ok x) is a b d = λ ps h. after_client limit tables o ps p s n after is h (a ps) b d
 takes_client limit tables o p s n after (Err e) is a b d = tt

@@ -4,55 +4,55 @@ use Rattle.std.specs.Prelude.{Option, option_map}
 use Rattle.std.proofs.Math.Path.{fun_ext}
 use Rattle.wl_sigs.specs.Tables.{Interface}
 use Rattle.wl_recording.specs.declared.piece.Direction.{Direction}
-use Rattle.wl_check.specs.declared.effect.Effect.{Effect}
-use Rattle.wl_check.specs.declared.frames.Frame.{Frame}
+use Rattle.wl_check.specs.declared.changes.MessageChanges.{MessageChanges}
+use Rattle.wl_check.specs.declared.frames.FramedMessage.{FramedMessage}
 use Rattle.wl_check.specs.Places.{holder, is_ending, state_of, object_of, named, used, advertised_version, taken, Known, known}
 use Rattle.wl_check.specs.Rules.{judged}
-use Rattle.wl_check.specs.Session.{Judged, effect_of, effects, judged_after, messages, Session}
+use Rattle.wl_check.specs.Session.{Judged, changes_of, changes_at, judged_after, messages, Session}
 use Rattle.wl_check.proofs.Stepping.{holder_before}
 
 -- ---- what stands before a place fixes all that is known there
 
-abbrev Agree : (ℕ → Effect) → (ℕ → Effect) → ℕ → Type 0
+abbrev Agree : (ℕ → MessageChanges) → (ℕ → MessageChanges) → ℕ → Type 0
 Agree s t p = (q : ℕ) → q < p → s q ≡ t q
 
-less : (s t : ℕ → Effect) (p : ℕ) → Agree s t (suc p) → Agree s t p
+less : (s t : ℕ → MessageChanges) (p : ℕ) → Agree s t (suc p) → Agree s t p
 less s t p a q h = a q (omega arith)
 
-holder_same : (s t : ℕ → Effect) (p i : ℕ) → Agree s t p → holder s p i ≡ holder t p i
+holder_same : (s t : ℕ → MessageChanges) (p i : ℕ) → Agree s t p → holder s p i ≡ holder t p i
 unfolding holder
 holder_same s t zero i a = refl
 holder_same s t (suc p) i a = rw (a p (omega arith), holder_same s t p i (less s t p a)) refl
 
-is_ending_same : (s t : ℕ → Effect) (m p i : ℕ) → Agree s t p → is_ending s m p i ≡ is_ending t m p i
+is_ending_same : (s t : ℕ → MessageChanges) (m p i : ℕ) → Agree s t p → is_ending s m p i ≡ is_ending t m p i
 unfolding is_ending
 is_ending_same s t m zero i a = refl
 is_ending_same s t m (suc p) i a = rw (a p (omega arith), is_ending_same s t m p i (less s t p a)) refl
 
-object_same : (s t : ℕ → Effect) (p i : ℕ) (o : Option ℕ) → Agree s t p → IfSome o (λ m. m < p)
+object_same : (s t : ℕ → MessageChanges) (p i : ℕ) (o : Option ℕ) → Agree s t p → IfSome o (λ m. m < p)
     → option_map (λ m. object_of s m (state_of (is_ending s m p i))) o ≡ option_map (λ m. object_of t m (state_of (is_ending t m p i))) o
 object_same s t p i None a h = refl
 object_same s t p i (Some m) a h = rw (a m h, is_ending_same s t m p i a) refl
 
-named_same : (s t : ℕ → Effect) (p i : ℕ) → Agree s t p → named s p i ≡ named t p i
+named_same : (s t : ℕ → MessageChanges) (p i : ℕ) → Agree s t p → named s p i ≡ named t p i
 named_same s t p i a = rw (holder_same s t p i a) (object_same s t p i (holder t p i) a (holder_before t p i))
 
-used_same : (s t : ℕ → Effect) (p : ℕ) → Agree s t p → used s p ≡ used t p
+used_same : (s t : ℕ → MessageChanges) (p : ℕ) → Agree s t p → used s p ≡ used t p
 unfolding used
 used_same s t zero a = refl
 used_same s t (suc p) a = rw (a p (omega arith), used_same s t p (less s t p a)) refl
 
-advertised_same : (s t : ℕ → Effect) (p n i : ℕ) → Agree s t p → advertised_version s p n i ≡ advertised_version t p n i
+advertised_same : (s t : ℕ → MessageChanges) (p n i : ℕ) → Agree s t p → advertised_version s p n i ≡ advertised_version t p n i
 unfolding advertised_version
 advertised_same s t zero n i a = refl
 advertised_same s t (suc p) n i a = rw (a p (omega arith), advertised_same s t p n i (less s t p a)) refl
 
-taken_same : (s t : ℕ → Effect) (p : ℕ) (d : Direction) → Agree s t p → taken s p d ≡ taken t p d
+taken_same : (s t : ℕ → MessageChanges) (p : ℕ) (d : Direction) → Agree s t p → taken s p d ≡ taken t p d
 unfolding taken
 taken_same s t zero d a = refl
 taken_same s t (suc p) d a = rw (a p (omega arith), taken_same s t p d (less s t p a)) refl
 
-pub known_same : (s t : ℕ → Effect) (p : ℕ) → Agree s t p → known s p ≡ known t p
+pub known_same : (s t : ℕ → MessageChanges) (p : ℕ) → Agree s t p → known s p ≡ known t p
 known_same s t p a =
     let o = fun_ext (λ i. named_same s t p i a) in
     let u = used_same s t p a in
@@ -71,18 +71,18 @@ get_end : {A : Type 0} (xs ys : List A) (y : A) → slice_get (xs ++ y ∷ ys) (
 get_end [] ys y = refl
 get_end (x ∷ xs) ys y = get_end xs ys y
 
-pub effects_same : (tables : List Interface) (e ys : List Judged) (q : ℕ) → q < suc (length e) → effects tables (e ++ ys) q ≡ effects tables e q
-effects_same tables e ys zero below = refl
-effects_same tables e ys (suc j) below = ap (effect_of tables) (get_front e ys j (omega arith))
+pub changes_at_same : (tables : List Interface) (e ys : List Judged) (q : ℕ) → q < suc (length e) → changes_at tables (e ++ ys) q ≡ changes_at tables e q
+changes_at_same tables e ys zero below = refl
+changes_at_same tables e ys (suc j) below = ap (changes_of tables) (get_front e ys j (omega arith))
 
-pub front_known : (tables : List Interface) (e ys : List Judged) → known (effects tables e) (suc (length e)) ≡ known (effects tables (e ++ ys)) (suc (length e))
-front_known tables e ys = known_same (effects tables e) (effects tables (e ++ ys)) (suc (length e)) (λ q h. sym (effects_same tables e ys q h))
+pub front_known : (tables : List Interface) (e ys : List Judged) → known (changes_at tables e) (suc (length e)) ≡ known (changes_at tables (e ++ ys)) (suc (length e))
+front_known tables e ys = known_same (changes_at tables e) (changes_at tables (e ++ ys)) (suc (length e)) (λ q h. sym (changes_at_same tables e ys q h))
 
 -- the judgement of the next frame
-abbrev next_of : (limit : ℕ) → List Interface → (Direction → List ℕ) → List Judged → Frame → Judged
-next_of limit tables streams e f = judged limit tables (known (effects tables e) (suc (length e))) (streams f.direction) f
+abbrev next_of : (limit : ℕ) → List Interface → (Direction → List ℕ) → List Judged → FramedMessage → Judged
+next_of limit tables streams e f = judged limit tables (known (changes_at tables e) (suc (length e))) (streams f.direction) f
 
-pub after_front : (limit : ℕ) (tables : List Interface) (streams : Direction → List ℕ) (e : List Judged) (fs : List Frame) → (ys : List Judged) × (judged_after limit tables streams e fs ≡ e ++ ys)
+pub after_front : (limit : ℕ) (tables : List Interface) (streams : Direction → List ℕ) (e : List Judged) (fs : List FramedMessage) → (ys : List Judged) × (judged_after limit tables streams e fs ≡ e ++ ys)
 unfolding judged_after
 after_front limit tables streams e [] = ([], sym (append-nil e))
 after_front limit tables streams e (f ∷ fs) =
@@ -90,15 +90,15 @@ after_front limit tables streams e (f ∷ fs) =
     let rest = after_front limit tables streams (e ++ m ∷ []) fs in
     (m ∷ rest.0, rest.1 ∙ append_assoc e (m ∷ []) rest.0)
 
-length_after : (limit : ℕ) (tables : List Interface) (streams : Direction → List ℕ) (e : List Judged) (fs : List Frame) → length (judged_after limit tables streams e fs) ≡ length e + length fs
+length_after : (limit : ℕ) (tables : List Interface) (streams : Direction → List ℕ) (e : List Judged) (fs : List FramedMessage) → length (judged_after limit tables streams e fs) ≡ length e + length fs
 unfolding judged_after
 length_after limit tables streams e [] = omega arith
 length_after limit tables streams e (f ∷ fs) =
     let m = next_of limit tables streams e f in
     omega (arith, length_after limit tables streams (e ++ m ∷ []) fs, length-append e (m ∷ []))
 
-reading_after : (limit : ℕ) (tables : List Interface) (streams : Direction → List ℕ) (e : List Judged) (fs : List Frame) (k n : ℕ) (f : Frame) → slice_get fs k ≡ Some f → n ≡ length e + k
-    → slice_get (judged_after limit tables streams e fs) n ≡ Some (judged limit tables (known (effects tables (judged_after limit tables streams e fs)) (suc n)) (streams f.direction) f)
+reading_after : (limit : ℕ) (tables : List Interface) (streams : Direction → List ℕ) (e : List Judged) (fs : List FramedMessage) (k n : ℕ) (f : FramedMessage) → slice_get fs k ≡ Some f → n ≡ length e + k
+    → slice_get (judged_after limit tables streams e fs) n ≡ Some (judged limit tables (known (changes_at tables (judged_after limit tables streams e fs)) (suc n)) (streams f.direction) f)
 unfolding judged_after
 reading_after limit tables streams e [] k n f is at = absurd (cc)
 reading_after limit tables streams e (x ∷ fs) zero n f is at =
@@ -113,8 +113,8 @@ reading_after limit tables streams e (x ∷ fs) (suc k) n f is at =
     reading_after limit tables streams (e ++ m ∷ []) fs k n f is (omega (arith, length-append e (m ∷ [])))
 
 -- a message is judged by what is known at its place
-pub reading : (tables : List Interface) (session : Session) (k : ℕ) (f : Frame) → slice_get session.frames k ≡ Some f
-    → slice_get (messages tables session) k ≡ Some (judged session.limit tables (known (effects tables (messages tables session)) (suc k)) (session.streams f.direction) f)
+pub reading : (tables : List Interface) (session : Session) (k : ℕ) (f : FramedMessage) → slice_get session.frames k ≡ Some f
+    → slice_get (messages tables session) k ≡ Some (judged session.limit tables (known (changes_at tables (messages tables session)) (suc k)) (session.streams f.direction) f)
 reading tables session k f is = reading_after session.limit tables session.streams [] session.frames k k f is (omega arith)
 
 pub length_messages : (tables : List Interface) (session : Session) → length (messages tables session) ≡ length session.frames

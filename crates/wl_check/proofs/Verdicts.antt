@@ -3,7 +3,7 @@ use Rattle.std.proofs.Common.{◌≡◌, ℕ, suc, ◌<◌, List, Bool, true, fa
 use Rattle.std.proofs.lemmas.Bool.Decides.{nat_tests}
 use Rattle.wl_sigs.specs.Tables.{Interface}
 use Rattle.wl_objects.specs.declared.error.Fault.{Fault}
-use Rattle.wl_check.specs.declared.frames.Frame.{Frame}
+use Rattle.wl_check.specs.declared.frames.FramedMessage.{FramedMessage}
 use Rattle.wl_check.specs.declared.verdict.Verdict.{Verdict}
 use Rattle.wl_check.specs.declared.verdict.Verdict.TheVariants.{Lawful, Broken}
 use Rattle.wl_check.specs.Session.{Session, Answers, Breaks, breaks, count_in}
@@ -32,9 +32,9 @@ verdict_once tables s (Broken d i o f) (Broken e j q g) x y =
     let frame : x.frame ≡ y.frame = cc found in
     let broken : Some f ≡ Some g = sym x.broken ∙ ap (breaks tables s) place ∙ y.broken in
     let fault : f ≡ g = cc broken in
-    let direction : d ≡ e = x.direction_is ∙ ap (λ (r : Frame). r.direction) frame ∙ sym y.direction_is in
+    let direction : d ≡ e = x.direction_is ∙ ap (λ (r : FramedMessage). r.direction) frame ∙ sym y.direction_is in
     let count : suc (count_in d (take x.place s.frames)) ≡ suc (count_in e (take y.place s.frames)) =
     (λ k. suc (count_in (direction k) (take (place k) s.frames))) in
     let index : i ≡ j = x.index_is ∙ count ∙ sym y.index_is in
-    let offset : o ≡ q = x.offset_is ∙ ap (λ (r : Frame). r.start) frame ∙ sym y.offset_is in
+    let offset : o ≡ q = x.offset_is ∙ ap (λ (r : FramedMessage). r.start) frame ∙ sym y.offset_is in
     λ k. Broken (direction k) (index k) (offset k) (fault k)

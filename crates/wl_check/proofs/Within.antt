@@ -8,7 +8,7 @@ use Rattle.wl_recording.specs.declared.piece.Direction.TheVariants.{ToServer, To
 use Rattle.wl_recording.specs.Piece.{Piece}
 use Rattle.wl_message.specs.Cut.{is_size, front, Front, More, Bad, Whole}
 use Rattle.wl_message.proofs.Cuts.{front_spoiled}
-use Rattle.wl_check.specs.declared.frames.Frame.{Frame}
+use Rattle.wl_check.specs.declared.frames.FramedMessage.{FramedMessage}
 use Rattle.wl_check.specs.Merged.{Mark, cutting, cut_at, cut, same_direction, stream_of, tokens_of, framed, completed_at, merged_within, merged}
 use Rattle.wl_check.specs.Session.{session_of, IsWithin, AreWithin}
 use Rattle.wl_check.proofs.Cutting.{next_within}
@@ -56,7 +56,7 @@ stream_le d (x ∷ xs) (suc k) p e same =
     let i = stream_le d xs k p e same in
     omega (arith, i, length-append own (stream_of d xs), length-append (own ++ stream_of d (take k xs)) p.bytes, length-append own (stream_of d (take k xs)), length-append (stream_of d (take k xs)) p.bytes)
 
-abbrev pub LiesIn : (limit : ℕ) → List Piece → Frame → Type 0
+abbrev pub LiesIn : (limit : ℕ) → List Piece → FramedMessage → Type 0
 LiesIn limit ps f = IsWithin limit (length (stream_of f.direction ps)) f
 
 frames_step : (limit : ℕ) (ps : List Piece) (d : Direction) (t n : ℕ) (ms : List Mark) → n ≤ length (stream_of d ps) → AllByRecursion (FitsIn limit n) ms → AllByRecursion (LiesIn limit ps) (map (framed d t) ms)

@@ -1,10 +1,10 @@
 -- What a copy has of its source.
 use Rattle.std.specs.Prelude.{◌≡◌}
-use Rattle.wl_check.specs.declared.known.Knowledge.{Knowledge}
+use Rattle.wl_check.specs.declared.known.KnownState.{KnownState}
 use Rattle.wl_check.specs.declared.frames.Stream.{Stream}
 
-pub record IsSameKnowledge {A : Type 0} (known copy : Knowledge A) : Type 0 where
-  pub objects : copy.objects.entries ≡ known.objects.entries
+pub record IsSameKnownState {A : Type 0} (known copy : KnownState A) : Type 0 where
+  pub objects : copy.objects.items ≡ known.objects.items
   pub used : copy.used ≡ known.used
   pub globals : copy.globals.entries ≡ known.globals.entries
   pub taken_to_server : copy.taken_to_server ≡ known.taken_to_server

@@ -2,9 +2,9 @@
 use Rattle.std.specs.Prelude.{◌≡◌, ℕ, List, [], ◌∷◌, ◌++◌}
 use Rattle.wl_sigs.specs.Tables.{Interface}
 use Rattle.wl_recording.specs.Piece.{Piece}
-use Rattle.wl_check.specs.declared.course.Output.TheVariants.{Nothing}
+use Rattle.wl_check.specs.declared.session_state.Output.TheVariants.{Nothing}
 use Rattle.wl_check.specs.declared.inspector.Inspector.{Inspector}
-use Rattle.wl_check.specs.Course.{IsAfter}
+use Rattle.wl_check.specs.SessionState.{IsAfter}
 use Rattle.wl_check.specs.Printed.{AreOwnLines}
 
 -- the lines that its last call printed

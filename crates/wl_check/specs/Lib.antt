@@ -1,11 +1,11 @@
 pub mod Merged
-pub mod Effects
+pub mod Changes
 pub mod Places
 pub mod Rules
 pub mod Session
 pub mod Seen
 pub mod Trace
-pub mod Course
+pub mod SessionState
 pub mod Text
 pub mod Copied
 pub mod Printed

@@ -5,7 +5,7 @@ use Rattle.wl_recording.specs.declared.piece.Direction.{Direction}
 use Rattle.wl_recording.specs.declared.piece.Direction.TheVariants.{ToServer, ToClient}
 use Rattle.wl_recording.specs.Piece.{Piece}
 use Rattle.wl_message.specs.Cut.{is_size, front, Front, More, Bad, Whole}
-use Rattle.wl_check.specs.declared.frames.Frame.{Frame}
+use Rattle.wl_check.specs.declared.frames.FramedMessage.{FramedMessage}
 
 -- where a message begins in its direction, and the size in its header
 pub record Mark : Type 0 where
@@ -70,31 +70,31 @@ tokens_of direction (piece ∷ pieces) =
 
 -- a message in the merged list: the tokens are those that its direction brought with the pieces up
 -- to its own
-abbrev pub framed : Direction → ℕ → Mark → Frame
+abbrev pub framed : Direction → ℕ → Mark → FramedMessage
 framed direction tokens m =
     record { direction = direction; start = m.start; size = m.size; tokens = tokens }
 
 -- The messages that a piece completes, where these pieces came before it: those of its direction's
 -- bytes with it that were not there without it.
-abbrev pub completed : ℕ → List Piece → Piece → List Frame
+abbrev pub completed : ℕ → List Piece → Piece → List FramedMessage
 completed limit before piece =
     map (framed piece.direction (tokens_of piece.direction before + piece.tokens))
     (drop (length (cut limit (stream_of piece.direction before)).marks)
     (cut limit (stream_of piece.direction before ++ piece.bytes)).marks)
 
-abbrev pub completed_at : ℕ → List Piece → ℕ → Option Piece → List Frame
+abbrev pub completed_at : ℕ → List Piece → ℕ → Option Piece → List FramedMessage
 completed_at limit pieces k None = []
 completed_at limit pieces k (Some piece) = completed limit (take k pieces) piece
 
 -- the messages that the first pieces complete, in the order of the pieces, and those of one piece
 -- in the order of the stream
-unfoldable pub merged_within : ℕ → List Piece → ℕ → List Frame
+unfoldable pub merged_within : ℕ → List Piece → ℕ → List FramedMessage
 merged_within limit pieces zero = []
 merged_within limit pieces (suc k) =
     merged_within limit pieces k ++ completed_at limit pieces k (slice_get pieces k)
 
 -- the merged list
-abbrev pub merged : ℕ → List Piece → List Frame
+abbrev pub merged : ℕ → List Piece → List FramedMessage
 merged limit pieces = merged_within limit pieces (length pieces)
 
 -- where the last byte of a message stands, or that of its header where the size is bad

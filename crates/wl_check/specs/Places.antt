@@ -9,8 +9,8 @@ use Rattle.wl_object_map.specs.declared.object.State.TheVariants.{Live, Zombie}
 use Rattle.wl_objects.specs.Messages.{NewObject}
 use Rattle.wl_sigs.specs.Fixed.{display}
 use Rattle.wl_recording.specs.declared.piece.Direction.{Direction}
-use Rattle.wl_check.specs.declared.effect.Advertised.{Advertised}
-use Rattle.wl_check.specs.declared.effect.Effect.{Effect}
+use Rattle.wl_check.specs.declared.changes.AdvertisedGlobal.{AdvertisedGlobal}
+use Rattle.wl_check.specs.declared.changes.MessageChanges.{MessageChanges}
 use Rattle.wl_check.specs.Merged.{same_direction}
 
 abbrev pub is_id : Option ℕ → ℕ → Bool
@@ -26,20 +26,20 @@ is_made None id = false
 is_made (Some new) id = nat_eq new.id id
 
 -- it makes an object with this id
-abbrev pub makes : Effect → ℕ → Bool
-makes effect id = is_made effect.made id
+abbrev pub makes : MessageChanges → ℕ → Bool
+makes changes id = is_made changes.made id
 
 -- it is the delete_id of this id, and that of 1 changes nothing
-abbrev pub deletes : Effect → ℕ → Bool
-deletes effect id = frees effect.deleted id
+abbrev pub deletes : MessageChanges → ℕ → Bool
+deletes changes id = frees changes.deleted id
 
 -- it destroys the object with this id
-abbrev pub destroys : Effect → ℕ → Bool
-destroys effect id = is_id effect.destroyed id
+abbrev pub destroys : MessageChanges → ℕ → Bool
+destroys changes id = is_id changes.destroyed id
 
 -- The object that is held at a place with this id: the last that was made, unless a delete_id
 -- stands between.
-unfoldable pub holder : (ℕ → Effect) → ℕ → ℕ → Option ℕ
+unfoldable pub holder : (ℕ → MessageChanges) → ℕ → ℕ → Option ℕ
 holder session zero id = None
 holder session (suc place) id =
     if makes (session place) id then Some place
@@ -47,7 +47,7 @@ holder session (suc place) id =
 
 -- whether a message that destroys the object with this id stands between the place of its making
 -- and another
-unfoldable pub is_ending : (ℕ → Effect) → ℕ → ℕ → ℕ → Bool
+unfoldable pub is_ending : (ℕ → MessageChanges) → ℕ → ℕ → ℕ → Bool
 is_ending session birth zero id = false
 is_ending session birth (suc place) id =
     (nat_lt birth place && destroys (session place) id) || is_ending session birth place id
@@ -65,11 +65,11 @@ new_of None = record { id = 0; iface = display; version = 0 }
 new_of (Some new) = new
 
 -- the object made at a place
-abbrev pub object_of : (ℕ → Effect) → ℕ → State → Entry
+abbrev pub object_of : (ℕ → MessageChanges) → ℕ → State → Entry
 object_of session birth state = entry_of birth state (new_of (session birth).made)
 
 -- the object that an id names at a place: one that is held, open or ending
-abbrev pub named : (ℕ → Effect) → ℕ → ℕ → Option Entry
+abbrev pub named : (ℕ → MessageChanges) → ℕ → ℕ → Option Entry
 named session place id =
     option_map (λ birth. object_of session birth (state_of (is_ending session birth place id)))
     (holder session place id)
@@ -79,41 +79,41 @@ abbrev pub used_by : Option NewObject → ℕ → ℕ
 used_by None count = count
 used_by (Some new) count = max new.id count
 
-abbrev pub used_after : Effect → ℕ → ℕ
-used_after effect count = used_by effect.made count
+abbrev pub used_after : MessageChanges → ℕ → ℕ
+used_after changes count = used_by changes.made count
 
-abbrev pub advertises : ℕ → ℕ → Advertised → Bool
+abbrev pub advertises : ℕ → ℕ → AdvertisedGlobal → Bool
 advertises name iface global = nat_eq global.name name && nat_eq global.iface.0 iface
 
-abbrev pub advertised_once : Advertised → ℕ → ℕ → ℕ → ℕ
+abbrev pub advertised_once : AdvertisedGlobal → ℕ → ℕ → ℕ → ℕ
 advertised_once global name iface version =
     if advertises name iface global then max global.version version else version
 
-abbrev pub advertised_by : Option Advertised → ℕ → ℕ → ℕ → ℕ
+abbrev pub advertised_by : Option AdvertisedGlobal → ℕ → ℕ → ℕ → ℕ
 advertised_by None name iface version = version
 advertised_by (Some global) name iface version = advertised_once global name iface version
 
-abbrev pub advertised_after : Effect → ℕ → ℕ → ℕ → ℕ
-advertised_after effect name iface version = advertised_by effect.advertised name iface version
+abbrev pub advertised_after : MessageChanges → ℕ → ℕ → ℕ → ℕ
+advertised_after changes name iface version = advertised_by changes.advertised name iface version
 
-abbrev pub taken_after : Effect → Direction → ℕ → ℕ
-taken_after effect direction count =
-    count + (if same_direction effect.direction direction then effect.tokens else 0)
+abbrev pub taken_after : MessageChanges → Direction → ℕ → ℕ
+taken_after changes direction count =
+    count + (if same_direction changes.direction direction then changes.tokens else 0)
 
 -- the greatest id used before a place
-unfoldable pub used : (ℕ → Effect) → ℕ → ℕ
+unfoldable pub used : (ℕ → MessageChanges) → ℕ → ℕ
 used session zero = 0
 used session (suc place) = used_after (session place) (used session place)
 
 -- the greatest version that an event before a place advertised for this name and this interface; 0
 -- where none did
-unfoldable pub advertised_version : (ℕ → Effect) → ℕ → ℕ → ℕ → ℕ
+unfoldable pub advertised_version : (ℕ → MessageChanges) → ℕ → ℕ → ℕ → ℕ
 advertised_version session zero name iface = 0
 advertised_version session (suc place) name iface =
     advertised_after (session place) name iface (advertised_version session place name iface)
 
 -- how many tokens the messages of a direction took before a place
-unfoldable pub taken : (ℕ → Effect) → ℕ → Direction → ℕ
+unfoldable pub taken : (ℕ → MessageChanges) → ℕ → Direction → ℕ
 taken session zero direction = 0
 taken session (suc place) direction =
     taken_after (session place) direction (taken session place direction)
@@ -125,7 +125,7 @@ pub record Known : Type 0 where
   pub advertised_version : ℕ → ℕ → ℕ
   pub taken : Direction → ℕ
 
-abbrev pub known : (ℕ → Effect) → ℕ → Known
+abbrev pub known : (ℕ → MessageChanges) → ℕ → Known
 known session place = record {
   object = named session place;
   used = used session place;
@@ -143,19 +143,19 @@ unless_deleted deleted destroyed entry =
     if deleted then None else (if destroyed then option_map ending entry else entry)
 
 -- what an id names behind a message that stands at a place
-abbrev pub object_after : ℕ → Effect → ℕ → Option Entry → Option Entry
-object_after place effect id entry =
-    if makes effect id then Some (entry_of place Live (new_of effect.made))
-    else unless_deleted (deletes effect id) (destroys effect id) entry
+abbrev pub object_after : ℕ → MessageChanges → ℕ → Option Entry → Option Entry
+object_after place changes id entry =
+    if makes changes id then Some (entry_of place Live (new_of changes.made))
+    else unless_deleted (deletes changes id) (destroys changes id) entry
 
 -- all that is known behind a message that stands at a place
-pub record IsNext (p : ℕ) (effect : Effect) (before after : Known) : Type 0 where
-  pub objects : (id : ℕ) → after.object id ≡ object_after p effect id (before.object id)
-  pub used_is : after.used ≡ used_after effect before.used
+pub record IsNext (p : ℕ) (changes : MessageChanges) (before after : Known) : Type 0 where
+  pub objects : (id : ℕ) → after.object id ≡ object_after p changes id (before.object id)
+  pub used_is : after.used ≡ used_after changes before.used
   pub advertised_is : (name iface : ℕ) → after.advertised_version name iface
-      ≡ advertised_after effect name iface (before.advertised_version name iface)
+      ≡ advertised_after changes name iface (before.advertised_version name iface)
   pub taken_is : (direction : Direction) → after.taken direction
-      ≡ taken_after effect direction (before.taken direction)
+      ≡ taken_after changes direction (before.taken direction)
 
 -- all that is known before the first message
 pub record IsFirst (k : Known) : Type 0 where

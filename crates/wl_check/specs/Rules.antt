@@ -18,8 +18,8 @@ use Rattle.wl_objects.specs.Reading.{Reader}
 use Rattle.wl_objects.specs.Messages.{Received, NewObject, made, received, is_bind, new_id_of}
 use Rattle.wl_recording.specs.declared.piece.Direction.{Direction}
 use Rattle.wl_recording.specs.declared.piece.Direction.TheVariants.{ToServer, ToClient}
-use Rattle.wl_check.specs.declared.frames.Frame.{Frame}
-use Rattle.wl_check.specs.Effects.{Call, side_of, first_number}
+use Rattle.wl_check.specs.declared.frames.FramedMessage.{FramedMessage}
+use Rattle.wl_check.specs.Changes.{Call, side_of, first_number}
 use Rattle.wl_check.specs.Places.{Known}
 
 -- an object that is open
@@ -74,24 +74,24 @@ called tables k direction opcode (Ok r) =
     else Ok (record { direction = direction; opcode = opcode; received = r })
 
 -- the message with this header, and what stands behind it
-abbrev pub judged_as : List Interface → Known → Frame → Header → List ℕ → Result Call Fault
-judged_as tables k frame header body =
+abbrev pub judged_message : List Interface → Known → FramedMessage → Header → List ℕ → Result Call Fault
+judged_message tables k frame header body =
     called tables k frame.direction header.opcode
     (received tables (side_of frame.direction) (reader k frame.direction) header body
     (frame.tokens - k.taken frame.direction))
 
 -- A message of a direction's stream, judged by what is known at its place: what it is, or the first
 -- rule that it breaks.
-abbrev pub judged : ℕ → List Interface → Known → List ℕ → Frame → Result Call Fault
+abbrev pub judged : ℕ → List Interface → Known → List ℕ → FramedMessage → Result Call Fault
 judged limit tables k stream frame =
     if is_size limit frame.size
-    then judged_as tables k frame (header_at (drop frame.start stream))
+    then judged_message tables k frame (header_at (drop frame.start stream))
     (take (frame.size - 8) (drop (frame.start + 8) stream))
     else Err BadSize
 
 -- the same, where these are the bytes of the stream from the message on
-abbrev pub judged_front : ℕ → List Interface → Known → List ℕ → Frame → Result Call Fault
+abbrev pub judged_front : ℕ → List Interface → Known → List ℕ → FramedMessage → Result Call Fault
 judged_front limit tables k bytes frame =
     if is_size limit frame.size
-    then judged_as tables k frame (header_at bytes) (take (frame.size - 8) (drop 8 bytes))
+    then judged_message tables k frame (header_at bytes) (take (frame.size - 8) (drop 8 bytes))
     else Err BadSize

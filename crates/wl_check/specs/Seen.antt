@@ -1,5 +1,5 @@
 -- What the code's own types stand for.
-use Rattle.std.specs.Prelude.{ℕ, ◌+◌, if◌then◌else◌, Option, Some, None, List}
+use Rattle.std.specs.Prelude.{ℕ, ◌+◌, get_or, if◌then◌else◌, Option, Some, None, List}
 use Rattle.std.specs.declared.cmp.Ordering.{Ordering}
 use Rattle.std.specs.Ordering.{nat_cmp, ordering_then}
 use Rattle.std.specs.BTreeMap.{get}
@@ -10,14 +10,14 @@ use Rattle.wl_message.specs.Cut.{Front, More, Bad, Whole}
 use Rattle.wl_objects.specs.declared.error.Fault.{Fault}
 use Rattle.wl_recording.specs.declared.piece.Direction.{Direction}
 use Rattle.wl_recording.specs.declared.piece.Direction.TheVariants.{ToServer, ToClient}
-use Rattle.wl_check.specs.declared.known.Knowledge.{Knowledge}
-use Rattle.wl_check.specs.declared.effect.Effect.{Effect}
+use Rattle.wl_check.specs.declared.known.KnownState.{KnownState}
+use Rattle.wl_check.specs.declared.changes.MessageChanges.{MessageChanges}
 use Rattle.wl_objects.specs.declared.reading.Received.{Received}
 use Rattle.wl_objects.specs.Seen.{message_of}
 use Rattle.wl_sigs.specs.Tables.{Interface}
-use Rattle.wl_check.specs.Effects.{Call, effect}
+use Rattle.wl_check.specs.Changes.{Call, changes}
 use Rattle.wl_check.specs.Places.{Known}
-use Rattle.wl_check.specs.declared.frames.Frame.{Frame}
+use Rattle.wl_check.specs.declared.frames.FramedMessage.{FramedMessage}
 use Rattle.wl_check.specs.declared.progress.Progress.{Progress}
 use Rattle.wl_check.specs.declared.progress.Tally.{Tally}
 use Rattle.wl_check.specs.Merged.{same_direction}
@@ -32,13 +32,13 @@ size_of (Whole size) = Some size
 abbrev pub pair_cmp : ℕ × ℕ → ℕ × ℕ → Ordering
 pair_cmp a b = ordering_then (nat_cmp a.0 b.0) (nat_cmp a.1 b.1)
 
-abbrev pub taken_in : {A : Type 0} → Knowledge A → Direction → ℕ
+abbrev pub taken_in : {A : Type 0} → KnownState A → Direction → ℕ
 taken_in k ToServer = k.taken_to_server
 taken_in k ToClient = k.taken_to_client
 
-abbrev pub known_in : {A : Type 0} → Knowledge A → Known
+abbrev pub known_in : {A : Type 0} → KnownState A → Known
 known_in k = record {
-  object = get nat_cmp k.objects;
+  object = λ id. get_or k.objects.items id None;
   used = k.used;
   advertised_version = λ name iface. unwrap_or (get pair_cmp k.globals (name, iface)) 0;
   taken = taken_in k;
@@ -50,12 +50,12 @@ call_of direction opcode received =
     record { direction = direction; opcode = opcode; received = message_of received }
 
 -- what a judged message does, or the first rule that it breaks
-abbrev pub effect_in : List Interface → Result Call Fault → Result Effect Fault
-effect_in tables (Err fault) = Err fault
-effect_in tables (Ok call) = Ok (effect tables call)
+abbrev pub changes_in : List Interface → Result Call Fault → Result MessageChanges Fault
+changes_in tables (Err fault) = Err fault
+changes_in tables (Ok call) = Ok (changes tables call)
 
 -- what is counted of a direction behind a message
-abbrev pub tally_after : Direction → Frame → Tally → Tally
+abbrev pub tally_after : Direction → FramedMessage → Tally → Tally
 tally_after direction frame tally =
     if same_direction frame.direction direction
     then record { count = tally.count + 1; end = frame.start + frame.size } else tally

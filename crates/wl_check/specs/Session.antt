@@ -11,12 +11,12 @@ use Rattle.wl_objects.specs.Messages.{is_error}
 use Rattle.wl_recording.specs.declared.piece.Direction.{Direction}
 use Rattle.wl_recording.specs.declared.piece.Direction.TheVariants.{ToServer, ToClient}
 use Rattle.wl_recording.specs.Piece.{Piece}
-use Rattle.wl_check.specs.declared.effect.Effect.{Effect}
-use Rattle.wl_check.specs.declared.frames.Frame.{Frame}
+use Rattle.wl_check.specs.declared.changes.MessageChanges.{MessageChanges}
+use Rattle.wl_check.specs.declared.frames.FramedMessage.{FramedMessage}
 use Rattle.wl_check.specs.declared.verdict.Verdict.{Verdict}
 use Rattle.wl_check.specs.declared.verdict.Verdict.TheVariants.{Lawful, Broken}
 use Rattle.wl_check.specs.Merged.{merged, stream_of, same_direction}
-use Rattle.wl_check.specs.Effects.{Call, effect, nothing, beginning, side_of}
+use Rattle.wl_check.specs.Changes.{Call, changes, nothing, beginning, side_of}
 use Rattle.wl_check.specs.Places.{known}
 use Rattle.wl_check.specs.Rules.{judged}
 
@@ -24,7 +24,7 @@ use Rattle.wl_check.specs.Rules.{judged}
 -- have
 pub record Session : Type 0 where
   pub limit : ℕ
-  pub frames : List Frame
+  pub frames : List FramedMessage
   pub streams : Direction → List ℕ
 
 abbrev pub session_of : ℕ → List Piece → Session
@@ -38,23 +38,23 @@ session_of limit pieces = record {
 abbrev pub Judged : Type 0
 Judged = Result Call Fault
 
-abbrev pub effect_of : List Interface → Option Judged → Effect
-effect_of tables (Some (Ok call)) = effect tables call
-effect_of tables _ = nothing
+abbrev pub changes_of : List Interface → Option Judged → MessageChanges
+changes_of tables (Some (Ok call)) = changes tables call
+changes_of tables _ = nothing
 
 -- What stands at each place. A message that breaks a rule does nothing.
-abbrev pub effects : List Interface → List Judged → ℕ → Effect
-effects tables messages zero = beginning
-effects tables messages (suc k) = effect_of tables (slice_get messages k)
+abbrev pub changes_at : List Interface → List Judged → ℕ → MessageChanges
+changes_at tables messages zero = beginning
+changes_at tables messages (suc k) = changes_of tables (slice_get messages k)
 
 -- these messages, and behind them those of the frames, each judged by what stands at the places
 -- before it
-unfoldable pub judged_after : ℕ → List Interface → (Direction → List ℕ) → List Judged → List Frame
+unfoldable pub judged_after : ℕ → List Interface → (Direction → List ℕ) → List Judged → List FramedMessage
     → List Judged
 judged_after limit tables streams earlier [] = earlier
 judged_after limit tables streams earlier (frame ∷ frames) =
     judged_after limit tables streams
-    (earlier ++ judged limit tables (known (effects tables earlier) (suc (length earlier)))
+    (earlier ++ judged limit tables (known (changes_at tables earlier) (suc (length earlier)))
     (streams frame.direction) frame ∷ []) frames
 
 -- the messages of a session
@@ -101,16 +101,16 @@ abbrev pub IsLawful : List Interface → Session → Type 0
 IsLawful tables session = (k : ℕ) → breaks tables session k ≡ None
 
 -- the messages that are counted
-abbrev pub counted : List Interface → Session → List Frame
+abbrev pub counted : List Interface → Session → List FramedMessage
 counted tables session = take (examined (messages tables session)) session.frames
 
 -- how many messages go in one direction
-abbrev pub count_in : Direction → List Frame → ℕ
+abbrev pub count_in : Direction → List FramedMessage → ℕ
 count_in direction frames =
-    count_by (λ (frame : Frame). same_direction frame.direction direction) frames
+    count_by (λ (frame : FramedMessage). same_direction frame.direction direction) frames
 
 -- where the last message of a direction ends; without one, at this place
-abbrev pub end_after : Direction → ℕ → List Frame → ℕ
+abbrev pub end_after : Direction → ℕ → List FramedMessage → ℕ
 end_after direction place [] = place
 end_after direction place (frame ∷ frames) =
     end_after direction
@@ -134,7 +134,7 @@ pub record IsCounted (tables : List Interface) (session : Session)
 pub record IsFirstBroken (tables : List Interface) (session : Session) (direction : Direction)
     (index offset : ℕ) (fault : Fault) : Type 0 where
   pub place : ℕ
-  pub frame : Frame
+  pub frame : FramedMessage
   pub stands : slice_get session.frames place ≡ Some frame
   pub broken : Breaks tables session place fault
   pub least : (earlier : ℕ) → earlier < place → breaks tables session earlier ≡ None
@@ -156,10 +156,10 @@ SaysLawful (Lawful requests events left_to_server left_to_client) = Unit {0}
 SaysLawful (Broken direction index offset fault) = ⊥
 
 -- A message lies within its stream; where its size is bad, its header does.
-pub record IsWithin (limit len : ℕ) (frame : Frame) : Type 0 where
+pub record IsWithin (limit len : ℕ) (frame : FramedMessage) : Type 0 where
   pub header : frame.start + 8 ≤ len
   pub whole : is_size limit frame.size ≡ true → frame.start + frame.size ≤ len
 
 abbrev pub AreWithin : Session → Type 0
-AreWithin session = (k : ℕ) (frame : Frame) → slice_get session.frames k ≡ Some frame
+AreWithin session = (k : ℕ) (frame : FramedMessage) → slice_get session.frames k ≡ Some frame
     → IsWithin session.limit (length (session.streams frame.direction)) frame

@@ -5,40 +5,40 @@ use Rattle.std.specs.Prelude.{if◌then◌else◌, length, slice_get, drop, take
 use Rattle.std.specs.declared.result.Result.TheVariants.{Ok}
 use Rattle.std.specs.List.{filter, AllByRecursion}
 use Rattle.wl_message.specs.Cut.{is_size, front, Bad}
-use Rattle.wl_check.specs.declared.effect.Advertised.{Advertised}
+use Rattle.wl_check.specs.declared.changes.AdvertisedGlobal.{AdvertisedGlobal}
 use Rattle.wl_recording.specs.declared.piece.Direction.{Direction}
-use Rattle.wl_check.specs.declared.frames.Frame.{Frame}
-use Rattle.wl_check.specs.declared.effect.Effect.{Effect}
+use Rattle.wl_check.specs.declared.frames.FramedMessage.{FramedMessage}
+use Rattle.wl_check.specs.declared.changes.MessageChanges.{MessageChanges}
 use Rattle.wl_recording.specs.Piece.{Piece}
 use Rattle.wl_check.specs.Merged.{Mark, mark, finish, same_direction, stream_of, tokens_of}
 use Rattle.wl_check.specs.Places.{makes, deletes, destroys}
-use Rattle.wl_check.specs.Effects.{Call}
+use Rattle.wl_check.specs.Changes.{Call}
 use Rattle.wl_check.specs.Session.{ArePassed, Judged, ends_session}
 
 -- The object that was made at a place, its birth, is held at a later one: no delete_id of its id
 -- stands between.
-pub record Held (session : ℕ → Effect) (place birth id : ℕ) : Type 0 where
+pub record Held (session : ℕ → MessageChanges) (place birth id : ℕ) : Type 0 where
   pub before : birth < place
   pub made : makes (session birth) id ≡ true
   pub kept : (between : ℕ) → birth < between → between < place
       → deletes (session between) id ≡ false
 
 -- It is open where no message that destroys it stands between.
-abbrev pub IsOpen : (ℕ → Effect) → ℕ → ℕ → ℕ → Type 0
+abbrev pub IsOpen : (ℕ → MessageChanges) → ℕ → ℕ → ℕ → Type 0
 IsOpen session place birth id =
     (between : ℕ) → birth < between → between < place → destroys (session between) id ≡ false
 
 -- an id was used before a place
-pub record WasUsed (session : ℕ → Effect) (place id : ℕ) : Type 0 where
+pub record WasUsed (session : ℕ → MessageChanges) (place id : ℕ) : Type 0 where
   pub birth : ℕ
   pub before : birth < place
   pub made : makes (session birth) id ≡ true
 
 -- one event before a place advertised this name, this interface and at least this version
-pub record WasAdvertised (session : ℕ → Effect) (place name iface version : ℕ) : Type 0 where
+pub record WasAdvertised (session : ℕ → MessageChanges) (place name iface version : ℕ) : Type 0 where
   pub event : ℕ
   pub before : event < place
-  pub global : Advertised
+  pub global : AdvertisedGlobal
   pub is : (session event).advertised ≡ Some global
   pub name_is : global.name ≡ name
   pub iface_is : global.iface.0 ≡ iface
@@ -84,7 +84,7 @@ pub record IsPrinted (messages : List Judged) (k : ℕ) : Type 0 where
   pub passed : ArePassed messages k
 
 -- the messages of one direction in a merged list, in its order
-abbrev pub marks_in : Direction → List Frame → List Mark
+abbrev pub marks_in : Direction → List FramedMessage → List Mark
 marks_in direction [] = []
 marks_in direction (frame ∷ frames) =
     (if same_direction frame.direction direction then mark frame.start frame.size ∷ [] else [])
@@ -92,7 +92,7 @@ marks_in direction (frame ∷ frames) =
 
 -- A message comes with the piece of its direction that brings its last byte, and counts the tokens
 -- that its direction brought with the pieces up to that one.
-pub record ComesWith (limit : ℕ) (pieces : List Piece) (k : ℕ) (frame : Frame) : Type 0 where
+pub record ComesWith (limit : ℕ) (pieces : List Piece) (k : ℕ) (frame : FramedMessage) : Type 0 where
   pub piece : Piece
   pub there : slice_get pieces k ≡ Some piece
   pub direction : piece.direction ≡ frame.direction
@@ -103,7 +103,7 @@ pub record ComesWith (limit : ℕ) (pieces : List Piece) (k : ℕ) (frame : Fram
   pub tokens : frame.tokens ≡ tokens_of frame.direction (take (suc k) pieces)
 
 -- These messages come with the pieces in their order, from one piece on and before another.
-abbrev pub ComeInOrder : ℕ → List Piece → ℕ → ℕ → List Frame → Type 0
+abbrev pub ComeInOrder : ℕ → List Piece → ℕ → ℕ → List FramedMessage → Type 0
 ComeInOrder limit pieces from to [] = Unit {0}
 ComeInOrder limit pieces from to (frame ∷ frames) =
     (k : ℕ) × (from ≤ k) × (k < to) × ComesWith limit pieces k frame

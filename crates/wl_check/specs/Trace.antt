@@ -4,12 +4,12 @@ use Rattle.std.specs.Prelude.{Some}
 use Rattle.std.specs.declared.result.Result.TheVariants.{Ok, Err}
 use Rattle.wl_sigs.specs.Tables.{Interface}
 use Rattle.wl_trace_line.specs.Line.{line}
-use Rattle.wl_check.specs.declared.course.Output.{Output}
-use Rattle.wl_check.specs.declared.course.Output.TheVariants.{Nothing, Lines}
-use Rattle.wl_check.specs.Effects.{Call, side_of}
+use Rattle.wl_check.specs.declared.session_state.Output.{Output}
+use Rattle.wl_check.specs.declared.session_state.Output.TheVariants.{Nothing, Lines}
+use Rattle.wl_check.specs.Changes.{Call, side_of}
 use Rattle.wl_check.specs.Places.{Known, known}
 use Rattle.wl_check.specs.Rules.{reader}
-use Rattle.wl_check.specs.Session.{Session, Judged, messages, effects, ends_session}
+use Rattle.wl_check.specs.Session.{Session, Judged, messages, changes_at, ends_session}
 
 -- the line of a message, by what is known at its place
 abbrev pub call_line : List Interface → Known → Call → List ℕ
@@ -31,7 +31,7 @@ unfoldable pub lines_within : List Interface → Session → ℕ → List ℕ
 lines_within tables session zero = []
 lines_within tables session (suc k) =
     lines_within tables session k
-    ++ judged_line tables (known (effects tables (messages tables session)) (suc k))
+    ++ judged_line tables (known (changes_at tables (messages tables session)) (suc k))
     (slice_get (messages tables session) k)
 
 -- How many messages stand before the verdict's end: all before the first that breaks a rule, or up

@@ -5,8 +5,8 @@ ghost use Rattle.wl_recording.specs.Piece.{Piece};
 ghost use Rattle.wl_recording.specs.Text.{IsFirstBad, Recorded};
 ghost use Rattle.wl_check.specs.Session.{session_of, Answers, IsLawful, SaysLawful};
 
-use crate::course::Output;
 use crate::scanning::{scan, scan_text};
+use crate::session_state::Output;
 use crate::verdict::Verdict;
 use std::alloc::{AllocError, Allocator};
 use wl_message::Limit;

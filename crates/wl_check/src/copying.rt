@@ -2,16 +2,17 @@
 ghost use Rattle.std.specs.Prelude.{◌≡◌, ℕ, List, IfOk};
 ghost use Rattle.wl_recording.specs.Piece.{Piece};
 ghost use Rattle.wl_sigs.specs.Tables.{Interface};
-ghost use Rattle.wl_check.specs.declared.course.Output.{Output as Wish};
-ghost use Rattle.wl_check.specs.Course.{IsAfter};
-ghost use Rattle.wl_check.specs.Copied.{AreSameBytes, IsSameKnowledge};
+ghost use Rattle.wl_check.specs.declared.session_state.Output.{Output as Wish};
+ghost use Rattle.wl_check.specs.SessionState.{IsAfter};
+ghost use Rattle.wl_check.specs.Copied.{AreSameBytes, IsSameKnownState};
 
-use crate::course::Course;
 use crate::frames::Stream;
-use crate::known::Knowledge;
+use crate::known::KnownState;
 use crate::progress::Progress;
 use crate::scanning::Scanner;
+use crate::session_state::SessionState;
 use std::alloc::{AllocError, Allocator};
+use wl_objects::{Entry, ParsedArgs};
 
 fn copy_of_bytes<A: Allocator + Clone>(bytes: &Vec<u8, A>) -> Result<Vec<u8, A>, AllocError>
     ensures { IfOk result (λ copy. copy.items ≡ bytes.now.items) }
@@ -19,11 +20,19 @@ fn copy_of_bytes<A: Allocator + Clone>(bytes: &Vec<u8, A>) -> Result<Vec<u8, A>,
     bytes.clone()
 }
 
-fn copy_of_known<A: Allocator + Clone>(known: &Knowledge<A>) -> Result<Knowledge<A>, AllocError>
-    ensures { IfOk result (λ copy. IsSameKnowledge known.now copy) }
+fn copy_of_objects<A: Allocator + Clone>(
+    objects: &Vec<Option<Entry>, A>,
+) -> Result<Vec<Option<Entry>, A>, AllocError>
+    ensures { IfOk result (λ copy. copy.items ≡ objects.now.items) }
 {
-    Ok(Knowledge {
-        objects: known.objects.clone()?,
+    Vec::from_slice(objects.allocator().clone()?, objects.as_slice())
+}
+
+fn copy_of_known<A: Allocator + Clone>(known: &KnownState<A>) -> Result<KnownState<A>, AllocError>
+    ensures { IfOk result (λ copy. IsSameKnownState known.now copy) }
+{
+    Ok(KnownState {
+        objects: copy_of_objects(&known.objects)?,
         used: known.used,
         globals: known.globals.clone()?,
         taken_to_server: known.taken_to_server,
@@ -47,18 +56,19 @@ pub(crate) fn copy_of<A: Allocator + Clone>(scanner: &Scanner<A>) -> Result<Scan
         (ps : List Piece)
         → IsAfter limit tables output ps scanner.now → IsAfter limit tables output ps copy) }
 {
-    let course = &scanner.course;
-    let progress = &course.progress;
+    let state = &scanner.state;
+    let progress = &state.progress;
     Ok(Scanner {
-        course: Course {
+        state: SessionState {
             progress: Progress {
                 known: copy_of_known(&progress.known)?,
                 to_server: progress.to_server,
                 to_client: progress.to_client,
             },
-            count: course.count,
-            text: copy_of_bytes(&course.text)?,
-            stage: course.stage,
+            count: state.count,
+            text: copy_of_bytes(&state.text)?,
+            status: state.status,
+            args: ParsedArgs::new(),
         },
         to_server: copy_of_stream(&scanner.to_server)?,
         to_client: copy_of_stream(&scanner.to_client)?,

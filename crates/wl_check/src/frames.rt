@@ -10,7 +10,7 @@ use wl_wire::Header;
 
 /// A message of the list.
 #[derive(Clone, Copy, Debug)]
-pub(crate) struct Frame {
+pub(crate) struct FramedMessage {
     pub direction: Direction,
     /// Where it begins within its direction.
     pub start: usize,
@@ -66,5 +66,9 @@ pub(crate) fn remove_front<A: Allocator>(bytes: &mut Vec<u8, A>, count: usize)
     requires { count ≤ length bytes.old.items }
     ensures { bytes.new.items ≡ drop count bytes.old.items }
 {
-    drop(bytes.drain(..count));
+    if count == bytes.len() {
+        bytes.clear();
+    } else if count > 0 {
+        drop(bytes.drain(..count));
+    }
 }

@@ -4,16 +4,16 @@ ghost use Rattle.std.specs.Prelude.{OnOk, IfOk};
 ghost use Rattle.wl_recording.specs.Piece.{Piece};
 ghost use Rattle.wl_sigs.specs.Tables.{Interface};
 ghost use Rattle.wl_sigs.specs.Valid.{Valid};
-ghost use Rattle.wl_check.specs.declared.course.Output.TheVariants.{Nothing};
-ghost use Rattle.wl_check.specs.Course.{is_open, AllJudged, Along, Comes, Follows, IsAfter};
-ghost use Rattle.wl_check.specs.Course.{IsJudged, OthersStay, WentOn};
+ghost use Rattle.wl_check.specs.declared.session_state.Output.TheVariants.{Nothing};
+ghost use Rattle.wl_check.specs.SessionState.{is_open, AllJudged, Along, Comes, Follows, IsAfter};
+ghost use Rattle.wl_check.specs.SessionState.{IsJudged, OthersStay, WentOn};
 ghost use Rattle.wl_check.specs.Printed.{piece_of, AreOwnLines, PrintsOn};
 ghost use Rattle.wl_check.specs.Session.{session_of, Answers, Session};
 
-use crate::course::{Course, Output, Stage};
-use crate::frames::{Frame, Stream, remove_front, size_in_front};
+use crate::frames::{FramedMessage, Stream, remove_front, size_in_front};
 use crate::judging::judge;
 use crate::scanning::Scanner;
+use crate::session_state::{Output, SessionState, SessionStatus};
 use crate::verdict::Verdict;
 use std::alloc::{AllocError, Allocator};
 use wl_message::Limit;
@@ -22,40 +22,50 @@ use wl_sigs::Tables;
 
 /// Judges the next message, which begins these bytes, and appends its line.
 fn print_next<A: Allocator + Clone>(
-    course: &mut Course<A>,
+    state: &mut SessionState<A>,
     bytes: &[u8],
-    frame: &Frame,
+    frame: &FramedMessage,
     tables: &Tables,
     limit: Limit,
     lines: &mut Vec<u8, A>,
 ) -> Result<(), AllocError>
     requires valid { Valid tables.now }
     requires comes { ∥ ((s : Session)
-        × Comes limit.bytes tables.now s Nothing course.old frame.now bytes.now) ∥₁ }
+        × Comes limit.bytes tables.now s Nothing state.old frame.now bytes.now) ∥₁ }
     ensures judged { OnOk result ((s : Session)
-        → Comes limit.bytes tables.now s Nothing course.old frame.now bytes.now
-        → IsJudged tables.now s Nothing course.new) }
+        → Comes limit.bytes tables.now s Nothing state.old frame.now bytes.now
+        → IsJudged tables.now s Nothing state.new) }
     ensures lines { OnOk result ((s : Session)
-        → Comes limit.bytes tables.now s Nothing course.old frame.now bytes.now
-        → PrintsOn tables.now s course.old.count course.new.count lines.old.items
+        → Comes limit.bytes tables.now s Nothing state.old frame.now bytes.now
+        → PrintsOn tables.now s state.old.count state.new.count lines.old.items
         lines.new.items) }
-    ensures on { OnOk result (is_open course.new.stage ≡ true
-        → WentOn limit.bytes frame.now course.old course.new) }
-    ensures other { OnOk result (OthersStay frame.now.direction course.old course.new) }
+    ensures on { OnOk result (is_open state.new.status ≡ true
+        → WentOn limit.bytes frame.now state.old state.new) }
+    ensures other { OnOk result (OthersStay frame.now.direction state.old state.new) }
 {
-    let known = &course.progress.known;
-    let effect = match judge(tables, known, bytes, frame, limit, lines, Output::Lines)? {
-        Ok(effect) => effect,
+    let known = &state.progress.known;
+    let args = &mut state.args;
+    let changes = match judge(
+        args,
+        tables,
+        known,
+        bytes,
+        frame,
+        limit,
+        lines,
+        Output::Lines,
+    )? {
+        Ok(changes) => changes,
         Err(fault) => {
-            course.stage = Stage::Broken(*frame, fault);
+            state.status = SessionStatus::Broken(*frame, fault);
             return Ok(());
         }
     };
-    let place = course.count + 1;
-    course.progress.advance(place, frame, &effect)?;
-    course.count = place;
-    if effect.is_error {
-        course.stage = Stage::Ended;
+    let place = state.count + 1;
+    state.progress.advance(place, frame, &changes)?;
+    state.count = place;
+    if changes.is_error {
+        state.status = SessionStatus::Ended;
     }
     Ok(())
 }
@@ -64,7 +74,7 @@ fn print_next<A: Allocator + Clone>(
 /// returns where the bytes of the next begin. One that breaks a rule or ends the session is the
 /// last.
 fn print_all<A: Allocator + Clone>(
-    course: &mut Course<A>,
+    state: &mut SessionState<A>,
     bytes: &[u8],
     direction: Direction,
     tokens: u128,
@@ -74,17 +84,17 @@ fn print_all<A: Allocator + Clone>(
 ) -> Result<usize, AllocError>
     requires valid { Valid tables.now }
     requires follows { ∥ ((s : Session)
-        × Follows limit.bytes tables.now s Nothing course.old direction tokens bytes.now) ∥₁ }
+        × Follows limit.bytes tables.now s Nothing state.old direction tokens bytes.now) ∥₁ }
     ensures place { IfOk result (λ place. place ≤ length bytes.now) }
     ensures judged { IfOk result (λ place. (s : Session)
-        → Follows limit.bytes tables.now s Nothing course.old direction tokens bytes.now
-        → AllJudged limit.bytes tables.now s Nothing course.new direction
+        → Follows limit.bytes tables.now s Nothing state.old direction tokens bytes.now
+        → AllJudged limit.bytes tables.now s Nothing state.new direction
         (drop place bytes.now)) }
     ensures lines { OnOk result ((s : Session)
-        → Follows limit.bytes tables.now s Nothing course.old direction tokens bytes.now
-        → PrintsOn tables.now s course.old.count course.new.count lines.old.items
+        → Follows limit.bytes tables.now s Nothing state.old direction tokens bytes.now
+        → PrintsOn tables.now s state.old.count state.new.count lines.old.items
         lines.new.items) }
-    ensures other { OnOk result (OthersStay direction course.old course.new) }
+    ensures other { OnOk result (OthersStay direction state.old state.new) }
 {
     let mut place = 0;
     'messages: loop {
@@ -92,14 +102,14 @@ fn print_all<A: Allocator + Clone>(
         let Some(size) = size_in_front(rest, limit) else {
             return Ok(place);
         };
-        let frame = Frame {
+        let frame = FramedMessage {
             direction,
-            start: course.progress.tally(direction).end,
+            start: state.progress.tally(direction).end,
             size,
             tokens,
         };
-        print_next(course, rest, &frame, tables, limit, lines)?;
-        if !course.is_open() {
+        print_next(state, rest, &frame, tables, limit, lines)?;
+        if !state.is_open() {
             return Ok(place);
         }
         place += size as usize;
@@ -109,7 +119,7 @@ fn print_all<A: Allocator + Clone>(
 /// Judges the messages that a piece of a direction completes, and appends their lines. It keeps
 /// what is left, unless the session has ended or a message broke a rule; then it only counts.
 fn print_stream<A: Allocator + Clone>(
-    course: &mut Course<A>,
+    state: &mut SessionState<A>,
     stream: &mut Stream<A>,
     direction: Direction,
     bytes: &[u8],
@@ -120,19 +130,19 @@ fn print_stream<A: Allocator + Clone>(
 ) -> Result<(), AllocError>
     requires valid { Valid tables.now }
     requires along { ∥ ((ps : List Piece)
-        × Along limit.bytes tables.now Nothing direction ps course.old stream.old) ∥₁ }
+        × Along limit.bytes tables.now Nothing direction ps state.old stream.old) ∥₁ }
     ensures along { OnOk result ((ps : List Piece)
-        → Along limit.bytes tables.now Nothing direction ps course.old stream.old
+        → Along limit.bytes tables.now Nothing direction ps state.old stream.old
         → Along limit.bytes tables.now Nothing direction
-        (ps ++ piece_of direction bytes.now tokens ∷ []) course.new stream.new) }
+        (ps ++ piece_of direction bytes.now tokens ∷ []) state.new stream.new) }
     ensures lines { OnOk result ((ps : List Piece)
-        → Along limit.bytes tables.now Nothing direction ps course.old stream.old
+        → Along limit.bytes tables.now Nothing direction ps state.old stream.old
         → PrintsOn tables.now
         (session_of limit.bytes (ps ++ piece_of direction bytes.now tokens ∷ []))
-        course.old.count course.new.count lines.old.items lines.new.items) }
-    ensures going { OnOk result (is_open course.new.stage ≡ true
-        → is_open course.old.stage ≡ true) }
-    ensures other { OnOk result (OthersStay direction course.old course.new) }
+        state.old.count state.new.count lines.old.items lines.new.items) }
+    ensures going { OnOk result (is_open state.new.status ≡ true
+        → is_open state.old.status ≡ true) }
+    ensures other { OnOk result (OthersStay direction state.old state.new) }
 {
     // More than these numbers count does not fit into any memory.
     let Some(len) = stream.len.checked_add(bytes.len()) else {
@@ -143,12 +153,12 @@ fn print_stream<A: Allocator + Clone>(
     };
     stream.len = len;
     stream.tokens = tokens;
-    if !course.is_open() {
+    if !state.is_open() {
         return Ok(());
     }
     stream.bytes.extend_from_slice(bytes)?;
     let place = print_all(
-        course,
+        state,
         stream.bytes.as_slice(),
         direction,
         tokens,
@@ -185,7 +195,7 @@ pub(crate) fn print_piece<A: Allocator + Clone>(
 {
     match direction {
         Direction::ToServer => print_stream(
-            &mut scanner.course,
+            &mut scanner.state,
             &mut scanner.to_server,
             direction,
             bytes,
@@ -195,7 +205,7 @@ pub(crate) fn print_piece<A: Allocator + Clone>(
             lines,
         ),
         Direction::ToClient => print_stream(
-            &mut scanner.course,
+            &mut scanner.state,
             &mut scanner.to_client,
             direction,
             bytes,
@@ -215,10 +225,10 @@ pub(crate) fn verdict_on<A: Allocator>(scanner: &Scanner<A>) -> Verdict
         → IsAfter limit tables Nothing ps scanner.now
         → Answers tables (session_of limit ps) result }
 {
-    let progress = &scanner.course.progress;
-    match &scanner.course.stage {
-        Stage::Broken(frame, fault) => progress.broken(frame, *fault),
-        Stage::Open | Stage::Ended => {
+    let progress = &scanner.state.progress;
+    match &scanner.state.status {
+        SessionStatus::Broken(frame, fault) => progress.broken(frame, *fault),
+        SessionStatus::Open | SessionStatus::Ended => {
             progress.lawful(scanner.to_server.len, scanner.to_client.len)
         }
     }

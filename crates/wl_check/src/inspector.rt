@@ -2,8 +2,8 @@
 ghost use Rattle.std.specs.Prelude.{◌≡◌, ℕ, List, [], OnOk, OnErr, IfOk};
 ghost use Rattle.wl_recording.specs.Piece.{Piece};
 ghost use Rattle.wl_sigs.specs.Tables.{Interface};
-ghost use Rattle.wl_check.specs.declared.course.Output.TheVariants.{Nothing};
-ghost use Rattle.wl_check.specs.Course.{IsAfter};
+ghost use Rattle.wl_check.specs.declared.session_state.Output.TheVariants.{Nothing};
+ghost use Rattle.wl_check.specs.SessionState.{IsAfter};
 
 use crate::copying::copy_of;
 use crate::inspecting::{print_piece, verdict_on};

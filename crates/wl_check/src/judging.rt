@@ -5,16 +5,16 @@ ghost use Rattle.wl_message.specs.Cut.{is_size};
 ghost use Rattle.wl_objects.specs.Messages.{is_error};
 ghost use Rattle.wl_objects.specs.Reading.{descriptors};
 ghost use Rattle.wl_objects.specs.Seen.{message_of};
-ghost use Rattle.wl_check.specs.Effects.{advertised, effect, first_number, is_global, side_of};
+ghost use Rattle.wl_check.specs.Changes.{advertised, changes, first_number, is_global, side_of};
 ghost use Rattle.wl_trace_line.specs.Line.{line};
-ghost use Rattle.wl_check.specs.Rules.{can_bind, is_bad_bind, judged_as, judged_front, reader};
-ghost use Rattle.wl_check.specs.Seen.{call_of, effect_in, known_in, taken_in};
+ghost use Rattle.wl_check.specs.Rules.{can_bind, is_bad_bind, judged_message, judged_front, reader};
+ghost use Rattle.wl_check.specs.Seen.{call_of, changes_in, known_in, taken_in};
 ghost use Rattle.wl_check.specs.Trace.{judged_line, wanted};
 
-use crate::course::Output;
-use crate::effect::{Advertised, Effect};
-use crate::frames::Frame;
-use crate::known::{Knowledge, ReaderLookup};
+use crate::changes::{AdvertisedGlobal, MessageChanges};
+use crate::frames::FramedMessage;
+use crate::known::{KnownState, ReaderLookup};
+use crate::session_state::Output;
 use std::alloc::{AllocError, Allocator};
 use wl_message::Limit;
 use wl_objects::{
@@ -38,22 +38,24 @@ pub(crate) fn side_of(direction: Direction) -> Side
 }
 
 /// Judges the message of a frame, which begins these bytes: what it does, or the first rule that it
-/// breaks. What is wanted of a message that keeps the rules is appended to the text.
+/// breaks. What is wanted of a message that keeps the rules is appended to the text. Its arguments are
+/// parsed into the array, in place of those of the message before.
 pub(crate) fn judge<A: Allocator>(
+    args: &mut ParsedArgs,
     tables: &Tables,
-    known: &Knowledge<A>,
+    known: &KnownState<A>,
     bytes: &[u8],
-    frame: &Frame,
+    frame: &FramedMessage,
     limit: Limit,
     text: &mut Vec<u8, A>,
     output: Output,
-) -> Result<Result<Effect, Fault>, AllocError>
+) -> Result<Result<MessageChanges, Fault>, AllocError>
     requires valid { Valid tables.now }
     requires header { 8 ≤ length bytes.now }
     requires whole { is_size limit.bytes frame.now.size ≡ true
         → frame.now.size ≤ length bytes.now }
     requires taken { taken_in known.now frame.now.direction < 2 ^ 127 }
-    ensures effect { IfOk result (λ r. r ≡ effect_in tables.now
+    ensures changes { IfOk result (λ r. r ≡ changes_in tables.now
         (judged_front limit.bytes tables.now (known_in known.now) bytes.now frame.now)) }
     ensures text { OnOk result (text.new.items ≡ text.old.items
         ++ wanted output (judged_line tables.now (known_in known.now)
@@ -63,7 +65,8 @@ pub(crate) fn judge<A: Allocator>(
         return Ok(Err(Fault::BadSize));
     }
     let body = &bytes[8..frame.size as usize];
-    judge_as(
+    judge_message(
+        args,
         tables,
         known,
         frame,
@@ -75,37 +78,29 @@ pub(crate) fn judge<A: Allocator>(
 }
 
 /// Judges a whole message, its header and what stands behind that.
-fn judge_as<A: Allocator>(
+fn judge_message<A: Allocator>(
+    args: &mut ParsedArgs,
     tables: &Tables,
-    known: &Knowledge<A>,
-    frame: &Frame,
+    known: &KnownState<A>,
+    frame: &FramedMessage,
     header: Header,
     body: &[u8],
     text: &mut Vec<u8, A>,
     output: Output,
-) -> Result<Result<Effect, Fault>, AllocError>
+) -> Result<Result<MessageChanges, Fault>, AllocError>
     requires valid { Valid tables.now }
     requires taken { taken_in known.now frame.now.direction < 2 ^ 127 }
-    ensures effect { IfOk result (λ r. r ≡ effect_in tables.now
-        (judged_as tables.now (known_in known.now) frame.now header body.now)) }
+    ensures changes { IfOk result (λ r. r ≡ changes_in tables.now
+        (judged_message tables.now (known_in known.now) frame.now header body.now)) }
     ensures text { OnOk result (text.new.items ≡ text.old.items
         ++ wanted output (judged_line tables.now (known_in known.now)
-        (Some (judged_as tables.now (known_in known.now) frame.now header body.now)))) }
+        (Some (judged_message tables.now (known_in known.now) frame.now header body.now)))) }
 {
     let direction = frame.direction;
     let side = side_of(direction);
     let lookup = ReaderLookup { known, direction };
     let waiting = frame.tokens.saturating_sub(known.taken(direction));
-    let mut args = ParsedArgs::new();
-    let received = receive(
-        &mut args,
-        tables,
-        side,
-        &lookup,
-        header,
-        body,
-        count(waiting),
-    );
+    let received = receive(args, tables, side, &lookup, header, body, count(waiting));
     let message = match received {
         Ok(message) => message,
         Err(fault) => return Ok(Err(fault)),
@@ -114,14 +109,14 @@ fn judge_as<A: Allocator>(
         return Ok(Err(Fault::BadBind));
     }
     write(text, tables, known, direction, &message, output)?;
-    Ok(Ok(effect_of(tables, direction, header.opcode, &message)))
+    Ok(Ok(changes_of(tables, direction, header.opcode, &message)))
 }
 
 /// Appends what is wanted of a message, before the message changes what is known.
 fn write<A: Allocator>(
     text: &mut Vec<u8, A>,
     tables: &Tables,
-    known: &Knowledge<A>,
+    known: &KnownState<A>,
     direction: Direction,
     message: &Received<'_, '_>,
     output: Output,
@@ -152,7 +147,7 @@ fn count(tokens: u128) -> usize
 /// Whether a message is a bind that no `global` event allows.
 fn is_bad_bind<A: Allocator>(
     tables: &Tables,
-    known: &Knowledge<A>,
+    known: &KnownState<A>,
     side: Side,
     opcode: u16,
     received: &Received<'_, '_>,
@@ -172,7 +167,7 @@ fn is_bad_bind<A: Allocator>(
 /// Whether a bind of this name may make this object.
 fn can_bind<A: Allocator>(
     tables: &Tables,
-    known: &Knowledge<A>,
+    known: &KnownState<A>,
     name: Option<u32>,
     new: Option<NewObject>,
 ) -> bool
@@ -206,7 +201,7 @@ fn is_global(side: Side, iface: Iface, opcode: u16) -> bool
 }
 
 /// The global that a `global` event advertises, if its interface is in the tables.
-fn advertised(tables: &Tables, values: &Values<'_>) -> Option<Advertised>
+fn advertised(tables: &Tables, values: &Values<'_>) -> Option<AdvertisedGlobal>
     ensures { result ≡ advertised tables.now values.now }
 {
     let mut left = values.clone();
@@ -218,7 +213,7 @@ fn advertised(tables: &Tables, values: &Values<'_>) -> Option<Advertised>
             None,
         ) => {
             let iface = tables.interface(iface)?;
-            Some(Advertised {
+            Some(AdvertisedGlobal {
                 name,
                 iface,
                 version,
@@ -229,21 +224,21 @@ fn advertised(tables: &Tables, values: &Values<'_>) -> Option<Advertised>
 }
 
 /// What a message that was read does.
-fn effect_of(
+fn changes_of(
     tables: &Tables,
     direction: Direction,
     opcode: u16,
     message: &Received<'_, '_>,
-) -> Effect
+) -> MessageChanges
     requires tokens { message.now.tokens ≡ descriptors message.now.signature.now.kinds }
     requires error { message.now.is_error
         ≡ is_error (side_of direction) message.now.entry.iface opcode }
-    ensures { result ≡ effect tables.now (call_of direction opcode message.now) }
+    ensures { result ≡ changes tables.now (call_of direction opcode message.now) }
 {
     let side = side_of(direction);
     let iface = message.entry.iface;
     let values = &message.values();
-    Effect {
+    MessageChanges {
         direction,
         made: match direction {
             Direction::ToServer => {

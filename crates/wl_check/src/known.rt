@@ -1,7 +1,6 @@
 //! What is known at a place of a session.
 ghost use Rattle.std.specs.Prelude.{◌≡◌, ℕ, ◌+◌, ◌^◌, ◌<◌, OnOk, IfOk, cond, nat_eq, Some, None};
-ghost use Rattle.std.specs.Prelude.{option_map};
-ghost use Rattle.std.specs.Ordering.{nat_cmp};
+ghost use Rattle.std.specs.Prelude.{get_or, length, option_map, set};
 ghost use Rattle.std.specs.BTreeMap.{get};
 ghost use Rattle.std.specs.Option.{unwrap_or};
 ghost use Rattle.wl_object_map.specs.declared.object.State.TheVariants.{Live};
@@ -12,7 +11,7 @@ ghost use Rattle.wl_check.specs.Places.{used_after, advertised_once, IsFirst, Is
 ghost use Rattle.wl_check.specs.Rules.{is_free, reader};
 ghost use Rattle.wl_check.specs.Seen.{known_in, pair_cmp, taken_in};
 
-use crate::effect::{Advertised, Effect};
+use crate::changes::{AdvertisedGlobal, MessageChanges};
 use std::alloc::{AllocError, Allocator, Global};
 use std::collections::BTreeMap;
 use wl_object_map::{DISPLAY_ID, MAX_IDS};
@@ -24,8 +23,10 @@ use wl_wire::Iface;
 /// What is known at a place: the objects that are held, where those that are ending are zombies;
 /// the greatest id that was used; the globals that were advertised; how many tokens were taken.
 #[derive(Drop)]
-pub(crate) struct Knowledge<A: Allocator = Global> {
-    pub objects: BTreeMap<u32, Entry, A>,
+pub(crate) struct KnownState<A: Allocator = Global> {
+    /// What stands at each id. Ids are used in their order, so no more slots are kept than were
+    /// used.
+    pub objects: Vec<Option<Entry>, A>,
     pub used: u32,
     /// For each name and each interface of the tables, the greatest advertised version.
     pub globals: BTreeMap<(u32, u16), u32, A>,
@@ -33,41 +34,77 @@ pub(crate) struct Knowledge<A: Allocator = Global> {
     pub taken_to_client: u128,
 }
 
+/// What stands at an id.
+fn slot_of(objects: &[Option<Entry>], id: u32) -> Option<Entry>
+    ensures { result ≡ get_or objects.now id None }
+{
+    match objects.get(id as usize) {
+        Some(slot) => *slot,
+        None => None,
+    }
+}
+
+/// Writes over what stands at an id, if there is a slot for it.
+fn put<A: Allocator>(objects: &mut Vec<Option<Entry>, A>, id: u32, entry: Option<Entry>)
+    ensures { objects.new.items ≡ set objects.old.items id entry }
+{
+    if (id as usize) < objects.len() {
+        objects[id as usize] = entry;
+    }
+}
+
 /// Frees an id, unless it is that of wl_display.
-fn free_id<A: Allocator + Clone>(objects: &mut BTreeMap<u32, Entry, A>, id: Option<u32>)
-    ensures { (other : ℕ) → get nat_cmp objects.new other
-        ≡ cond (frees id other) None (get nat_cmp objects.old other) }
+fn free_id<A: Allocator>(objects: &mut Vec<Option<Entry>, A>, id: Option<u32>)
+    ensures { (other : ℕ) → get_or objects.new.items other None
+        ≡ cond (frees id other) None (get_or objects.old.items other None) }
 {
     if let Some(id) = id {
         if id != DISPLAY_ID {
-            let _ = objects.remove(&id);
+            put(objects, id, None);
         }
     }
 }
 
 /// Makes a zombie of an object.
-fn make_zombie<A: Allocator>(objects: &mut BTreeMap<u32, Entry, A>, id: Option<u32>)
-    ensures { (other : ℕ) → get nat_cmp objects.new other
-        ≡ cond (is_id id other) (option_map ending (get nat_cmp objects.old other))
-        (get nat_cmp objects.old other) }
+fn make_zombie<A: Allocator>(objects: &mut Vec<Option<Entry>, A>, id: Option<u32>)
+    ensures { (other : ℕ) → get_or objects.new.items other None
+        ≡ cond (is_id id other) (option_map ending (get_or objects.old.items other None))
+        (get_or objects.old.items other None) }
 {
     if let Some(id) = id {
-        if let Some(entry) = objects.get_mut(&id) {
-            entry.state = State::Zombie;
+        if let Some(entry) = slot_of(objects.as_slice(), id) {
+            let ending = Entry {
+                state: State::Zombie,
+                ..entry
+            };
+            put(objects, id, Some(ending));
         }
     }
 }
 
+/// Makes slots up to an id, if they are not there.
+fn reach<A: Allocator>(objects: &mut Vec<Option<Entry>, A>, id: u32) -> Result<(), AllocError>
+    ensures same { OnOk result ((other : ℕ)
+        → get_or objects.new.items other None ≡ get_or objects.old.items other None) }
+    ensures room { OnOk result (id < length objects.new.items) }
+{
+    let len = id as usize + 1;
+    if objects.len() < len {
+        objects.resize(len, None)?;
+    }
+    Ok(())
+}
+
 /// Opens an object that was made at a place.
-fn open_object<A: Allocator + Clone>(
-    objects: &mut BTreeMap<u32, Entry, A>,
+fn open_object<A: Allocator>(
+    objects: &mut Vec<Option<Entry>, A>,
     place: u64,
     made: Option<NewObject>,
 ) -> Result<(), AllocError>
     ensures { OnOk result ((other : ℕ)
-        → get nat_cmp objects.new other
+        → get_or objects.new.items other None
         ≡ cond (is_made made other) (Some (entry_of place Live (new_of made)))
-        (get nat_cmp objects.old other)) }
+        (get_or objects.old.items other None)) }
 {
     if let Some(new) = made {
         let entry = Entry {
@@ -76,7 +113,8 @@ fn open_object<A: Allocator + Clone>(
             version: new.version,
             state: State::Live,
         };
-        objects.insert(new.id, entry)?;
+        reach(objects, new.id)?;
+        put(objects, new.id, Some(entry));
     }
     Ok(())
 }
@@ -84,7 +122,7 @@ fn open_object<A: Allocator + Clone>(
 /// Remembers a global that an event advertises.
 fn remember_global<A: Allocator + Clone>(
     globals: &mut BTreeMap<(u32, u16), u32, A>,
-    global: &Advertised,
+    global: &AdvertisedGlobal,
 ) -> Result<(), AllocError>
     ensures { OnOk result ((q : ℕ × ℕ)
         → unwrap_or (get pair_cmp globals.new q) 0
@@ -97,7 +135,7 @@ fn remember_global<A: Allocator + Clone>(
     Ok(())
 }
 
-impl<A: Allocator + Clone> Knowledge<A> {
+impl<A: Allocator + Clone> KnownState<A> {
     /// What is known before the first message: wl_display is there, with id 1.
     pub(crate) fn new(alloc: &A, tables: &Tables) -> Result<Self, AllocError>
         ensures valid { OnOk result (Valid tables.now) }
@@ -105,15 +143,16 @@ impl<A: Allocator + Clone> Knowledge<A> {
         ensures to_server { IfOk result (λ k. k.taken_to_server ≡ 0) }
         ensures to_client { IfOk result (λ k. k.taken_to_client ≡ 0) }
     {
-        let mut objects = BTreeMap::new(alloc.clone()?);
+        let mut objects = Vec::new(alloc.clone()?);
         let entry = Entry {
             birth: 0,
             iface: DISPLAY,
             version: tables.version(DISPLAY).unwrap_or(1),
             state: State::Live,
         };
-        objects.insert(DISPLAY_ID, entry)?;
-        Ok(Knowledge {
+        objects.push(None)?;
+        objects.push(Some(entry))?;
+        Ok(KnownState {
             objects,
             used: DISPLAY_ID,
             globals: BTreeMap::new(alloc.clone()?),
@@ -123,42 +162,42 @@ impl<A: Allocator + Clone> Knowledge<A> {
     }
 
     /// What is known behind a message that stands at a place. Where memory runs out, a part of the
-    /// effect may have been applied, and the value is of no more use.
-    pub(crate) fn apply(&mut self, place: u64, effect: &Effect) -> Result<(), AllocError>
+    /// changes may have been applied, and the value is of no more use.
+    pub(crate) fn apply(&mut self, place: u64, changes: &MessageChanges) -> Result<(), AllocError>
         requires to_server { self.old.taken_to_server + 2 ^ 64 < 2 ^ 128 }
         requires to_client { self.old.taken_to_client + 2 ^ 64 < 2 ^ 128 }
         ensures known { OnOk result
-            (IsNext place effect.now (known_in self.old) (known_in self.new)) }
+            (IsNext place changes.now (known_in self.old) (known_in self.new)) }
         ensures few_to_server { OnOk result
             (self.new.taken_to_server < self.old.taken_to_server + 2 ^ 64) }
         ensures few_to_client { OnOk result
             (self.new.taken_to_client < self.old.taken_to_client + 2 ^ 64) }
     {
-        free_id(&mut self.objects, effect.deleted);
-        make_zombie(&mut self.objects, effect.destroyed);
-        open_object(&mut self.objects, place, effect.made)?;
-        if let Some(global) = &effect.advertised {
+        free_id(&mut self.objects, changes.deleted);
+        make_zombie(&mut self.objects, changes.destroyed);
+        open_object(&mut self.objects, place, changes.made)?;
+        if let Some(global) = &changes.advertised {
             remember_global(&mut self.globals, global)?;
         }
-        self.used = used_after(self.used, effect);
-        match effect.direction {
-            Direction::ToServer => self.taken_to_server += effect.tokens as u128,
-            Direction::ToClient => self.taken_to_client += effect.tokens as u128,
+        self.used = used_after(self.used, changes);
+        match changes.direction {
+            Direction::ToServer => self.taken_to_server += changes.tokens as u128,
+            Direction::ToClient => self.taken_to_client += changes.tokens as u128,
         }
         Ok(())
     }
 }
 
-fn used_after(used: u32, effect: &Effect) -> u32
-    ensures { result ≡ used_after effect.now used }
+fn used_after(used: u32, changes: &MessageChanges) -> u32
+    ensures { result ≡ used_after changes.now used }
 {
-    match effect.made {
+    match changes.made {
         Some(new) => new.id.max(used),
         None => used,
     }
 }
 
-impl<A: Allocator> Knowledge<A> {
+impl<A: Allocator> KnownState<A> {
     /// How many tokens the messages of a direction took.
     pub(crate) fn taken(&self, direction: Direction) -> u128
         ensures { result ≡ taken_in self.now direction }
@@ -176,19 +215,26 @@ impl<A: Allocator> Knowledge<A> {
         self.globals.get(&(name, iface.0)).copied().unwrap_or(0)
     }
 
+    /// The object that is held with this id.
+    fn object(&self, id: u32) -> Option<Entry>
+        ensures { result ≡ (known_in self.now).object id }
+    {
+        slot_of(self.objects.as_slice(), id)
+    }
+
     /// Whether an id can be that of a new object: it is not 0, no object holds it, and it was used
     /// before or is the next one.
     fn is_free(&self, id: u32) -> bool
         ensures { result ≡ is_free (known_in self.now) id }
     {
-        id != 0 && self.objects.get(&id).is_none() && u64::from(id) <= u64::from(self.used) + 1
+        id != 0 && self.object(id).is_none() && u64::from(id) <= u64::from(self.used) + 1
     }
 }
 
 /// What the reader of a message knows: of a request, only the open objects.
 #[derive(Drop)]
 pub(crate) struct ReaderLookup<'a, A: Allocator = Global> {
-    pub known: &'a Knowledge<A>,
+    pub known: &'a KnownState<A>,
     pub direction: Direction,
 }
 
@@ -196,7 +242,7 @@ impl<'a, A: Allocator> Lookup for ReaderLookup<'a, A> {
     ghost reader = { λ lookup. reader (known_in lookup.known.now) lookup.direction };
 
     fn object(&self, id: u32) -> Option<Entry> {
-        let entry = *self.known.objects.get(&id)?;
+        let entry = self.known.object(id)?;
         match (self.direction, entry.state) {
             (Direction::ToServer, State::Zombie) => None,
             _ => Some(entry),

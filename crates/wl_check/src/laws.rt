@@ -6,7 +6,7 @@ ghost use Rattle.wl_sigs.specs.Tables.{Interface};
 ghost use Rattle.wl_message.specs.Cut.{messages_of, rest_of};
 ghost use Rattle.wl_check.specs.Merged.{cut, stream_of};
 ghost use Rattle.wl_check.specs.Places.{holder, is_ending, used, advertised_version};
-ghost use Rattle.wl_check.specs.Session.{Answers, AreWithin, Session, effects, examined, messages};
+ghost use Rattle.wl_check.specs.Session.{Answers, AreWithin, Session, changes_at, examined, messages};
 ghost use Rattle.wl_check.specs.Session.{session_of};
 ghost use Rattle.wl_check.specs.Inspected.{HasPassed, Inspected};
 ghost use Rattle.wl_check.specs.declared.inspector.Inspector.{Inspector as Inspectors};
@@ -55,22 +55,22 @@ pub fn a_piece_brings_last_bytes()
 /// An id names the object that was made with it, until its delete_id.
 pub fn an_id_names_what_is_held()
     ensures { (tables : List Interface) (session : Session) (place birth id : ℕ)
-        → (holder (effects tables (messages tables session)) place id ≡ Some birth)
-        ↔ Held (effects tables (messages tables session)) place birth id }
+        → (holder (changes_at tables (messages tables session)) place id ≡ Some birth)
+        ↔ Held (changes_at tables (messages tables session)) place birth id }
 {}
 
 /// An object is ending where a message destroyed it.
 pub fn an_object_is_open_until_destroyed()
     ensures { (tables : List Interface) (session : Session) (place birth id : ℕ)
-        → (is_ending (effects tables (messages tables session)) birth place id ≡ false)
-        ↔ IsOpen (effects tables (messages tables session)) place birth id }
+        → (is_ending (changes_at tables (messages tables session)) birth place id ≡ false)
+        ↔ IsOpen (changes_at tables (messages tables session)) place birth id }
 {}
 
 /// The ids used before a place are those from 1 to the greatest.
 pub fn ids_are_used_in_order()
     ensures { (tables : List Interface) (session : Session) (place id : ℕ)
-        → ((0 < id) × (id ≤ used (effects tables (messages tables session)) place))
-        ↔ WasUsed (effects tables (messages tables session)) place id }
+        → ((0 < id) × (id ≤ used (changes_at tables (messages tables session)) place))
+        ↔ WasUsed (changes_at tables (messages tables session)) place id }
 {}
 
 /// A version of a global was advertised where one event advertised the name, the interface and at
@@ -78,8 +78,8 @@ pub fn ids_are_used_in_order()
 pub fn one_event_advertises_a_version()
     ensures { (tables : List Interface) (session : Session) (place name iface version : ℕ)
         → 0 < version
-        → (version ≤ advertised_version (effects tables (messages tables session)) place name iface)
-        ↔ WasAdvertised (effects tables (messages tables session)) place name iface version }
+        → (version ≤ advertised_version (changes_at tables (messages tables session)) place name iface)
+        ↔ WasAdvertised (changes_at tables (messages tables session)) place name iface version }
 {}
 
 /// A message lies within the bytes of its direction; where its size is bad, its header does.

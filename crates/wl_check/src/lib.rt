@@ -5,10 +5,9 @@
 //! breaks a rule.
 #![tactic(auto)]
 
+mod changes;
 mod checking;
 mod copying;
-mod course;
-mod effect;
 mod frames;
 mod inspecting;
 mod inspector;
@@ -17,6 +16,7 @@ mod known;
 pub mod laws;
 mod progress;
 mod scanning;
+mod session_state;
 mod tracing;
 mod verdict;
 

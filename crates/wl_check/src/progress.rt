@@ -6,9 +6,9 @@ ghost use Rattle.wl_check.specs.Places.{IsFirst, IsNext};
 ghost use Rattle.wl_sigs.specs.Valid.{Valid};
 ghost use Rattle.wl_check.specs.Seen.{known_in, no_tally, tally_after, tally_in};
 
-use crate::effect::Effect;
-use crate::frames::Frame;
-use crate::known::Knowledge;
+use crate::changes::MessageChanges;
+use crate::frames::FramedMessage;
+use crate::known::KnownState;
 use crate::verdict::Verdict;
 use std::alloc::{AllocError, Allocator, Global};
 use wl_objects::Fault;
@@ -27,12 +27,12 @@ pub(crate) struct Tally {
 /// What is known at a place, and what was counted before it.
 #[derive(Drop)]
 pub(crate) struct Progress<A: Allocator = Global> {
-    pub known: Knowledge<A>,
+    pub known: KnownState<A>,
     pub to_server: Tally,
     pub to_client: Tally,
 }
 
-fn tally_after(direction: Direction, frame: &Frame, tally: Tally) -> Tally
+fn tally_after(direction: Direction, frame: &FramedMessage, tally: Tally) -> Tally
     requires count { tally.count + 1 < 2 ^ 64 }
     requires end { frame.now.start + frame.now.size < 2 ^ 64 }
     ensures { result ≡ tally_after direction frame.now tally }
@@ -58,7 +58,7 @@ impl<A: Allocator + Clone> Progress<A> {
     {
         let none = Tally { count: 0, end: 0 };
         Ok(Progress {
-            known: Knowledge::new(alloc, tables)?,
+            known: KnownState::new(alloc, tables)?,
             to_server: none,
             to_client: none,
         })
@@ -68,8 +68,8 @@ impl<A: Allocator + Clone> Progress<A> {
     pub(crate) fn advance(
         &mut self,
         place: u64,
-        frame: &Frame,
-        effect: &Effect,
+        frame: &FramedMessage,
+        changes: &MessageChanges,
     ) -> Result<(), AllocError>
         requires taken_to_server { self.old.known.taken_to_server + 2 ^ 64 < 2 ^ 128 }
         requires taken_to_client { self.old.known.taken_to_client + 2 ^ 64 < 2 ^ 128 }
@@ -77,7 +77,7 @@ impl<A: Allocator + Clone> Progress<A> {
         requires to_client { self.old.to_client.count + 1 < 2 ^ 64 }
         requires end { frame.now.start + frame.now.size < 2 ^ 64 }
         ensures known { OnOk result
-            (IsNext place effect.now (known_in self.old.known) (known_in self.new.known)) }
+            (IsNext place changes.now (known_in self.old.known) (known_in self.new.known)) }
         ensures to_server { OnOk result
             (self.new.to_server ≡ tally_after ToServer frame.now self.old.to_server) }
         ensures to_client { OnOk result
@@ -87,7 +87,7 @@ impl<A: Allocator + Clone> Progress<A> {
         ensures few_to_client { OnOk result
             (self.new.known.taken_to_client < self.old.known.taken_to_client + 2 ^ 64) }
     {
-        self.known.apply(place, effect)?;
+        self.known.apply(place, changes)?;
         self.to_server = tally_after(Direction::ToServer, frame, self.to_server);
         self.to_client = tally_after(Direction::ToClient, frame, self.to_client);
         Ok(())
@@ -122,7 +122,7 @@ impl<A: Allocator> Progress<A> {
     }
 
     /// The verdict where this message breaks a rule.
-    pub(crate) fn broken(&self, frame: &Frame, fault: Fault) -> Verdict
+    pub(crate) fn broken(&self, frame: &FramedMessage, fault: Fault) -> Verdict
         requires { (tally_in self.now frame.now.direction).count + 1 < 2 ^ 64 }
         ensures { result ≡ Broken frame.now.direction
             ((tally_in self.now frame.now.direction).count + 1) frame.now.start fault }

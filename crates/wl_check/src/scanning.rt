@@ -6,51 +6,51 @@ ghost use Rattle.wl_recording.specs.Piece.{Piece, plain};
 ghost use Rattle.wl_recording.specs.Text.{IsFirstBad, Recorded};
 ghost use Rattle.wl_sigs.specs.Tables.{Interface};
 ghost use Rattle.wl_sigs.specs.Valid.{Valid};
-ghost use Rattle.wl_check.specs.declared.course.Output.{Output as Wish};
-ghost use Rattle.wl_check.specs.Course.{is_open, Along, IsAfter, IsFresh, OthersStay};
+ghost use Rattle.wl_check.specs.declared.session_state.Output.{Output as Wish};
+ghost use Rattle.wl_check.specs.SessionState.{is_open, Along, HasCome, IsAfter, IsFresh};
+ghost use Rattle.wl_check.specs.SessionState.{IsReady, OthersStay};
 ghost use Rattle.wl_check.specs.Session.{session_of, Answers};
 ghost use Rattle.wl_check.specs.Trace.{trace_of, wanted};
 
-use crate::course::{Course, Output, Stage};
 use crate::frames::{Stream, empty_stream, remove_front};
+use crate::session_state::{Output, SessionState, SessionStatus};
 use crate::verdict::Verdict;
 use std::alloc::{AllocError, Allocator, Global};
 use wl_message::Limit;
-use wl_recording::{Direction, Passed, PieceReader, RecordingError};
+use wl_recording::{Appended, Direction, Passed, PieceReader, RecordingError};
 use wl_sigs::Tables;
 
 /// A session that is judged as its pieces come. Of its bytes it keeps those of started messages.
 #[derive(Drop)]
 pub(crate) struct Scanner<A: Allocator = Global> {
-    pub course: Course<A>,
+    pub state: SessionState<A>,
     pub to_server: Stream<A>,
     pub to_client: Stream<A>,
 }
 
-/// Judges the messages that a piece completes. It keeps what is left, unless the session has ended
-/// or a message broke a rule; then it only counts.
-fn take_piece<A: Allocator + Clone>(
-    course: &mut Course<A>,
+/// Judges the messages that a piece completes, whose bytes were appended to its stream. What is
+/// left is kept, unless the session has ended or a message broke a rule; then pieces are only
+/// counted.
+fn judge_piece<A: Allocator + Clone>(
+    state: &mut SessionState<A>,
     stream: &mut Stream<A>,
-    piece: &Passed<A>,
+    piece: &Appended,
     tables: &Tables,
     limit: Limit,
     output: Output,
 ) -> Result<(), AllocError>
     requires valid { Valid tables.now }
-    requires along { (ps : List Piece) × Along limit.bytes tables.now output piece.now.direction ps
-        course.old stream.old }
-    ensures along { OnOk result ((ps : List Piece)
-        → Along limit.bytes tables.now output piece.now.direction ps course.old stream.old
-        → Along limit.bytes tables.now output piece.now.direction (ps ++ plain piece.now ∷ [])
-        course.new stream.new) }
-    ensures going { OnOk result (is_open course.new.stage ≡ true
-        → is_open course.old.stage ≡ true) }
-    ensures other { OnOk result (OthersStay piece.now.direction course.old course.new) }
+    requires come { (ps : List Piece) × (p : Piece)
+        × HasCome limit.bytes tables.now output ps p piece.now state.old stream.old }
+    ensures along { OnOk result ((ps : List Piece) (p : Piece)
+        → HasCome limit.bytes tables.now output ps p piece.now state.old stream.old
+        → Along limit.bytes tables.now output p.direction (ps ++ p ∷ []) state.new stream.new) }
+    ensures going { OnOk result (is_open state.new.status ≡ true
+        → is_open state.old.status ≡ true) }
+    ensures other { OnOk result (OthersStay piece.now.direction state.old state.new) }
 {
-    let bytes = piece.bytes.as_slice();
     // More than these numbers count does not fit into any memory.
-    let Some(len) = stream.len.checked_add(bytes.len()) else {
+    let Some(len) = stream.len.checked_add(piece.len) else {
         return Err(AllocError);
     };
     let Some(tokens) = stream.tokens.checked_add(u128::from(piece.tokens)) else {
@@ -58,11 +58,11 @@ fn take_piece<A: Allocator + Clone>(
     };
     stream.len = len;
     stream.tokens = tokens;
-    if !course.is_open() {
+    if !state.is_open() {
+        stream.bytes.clear();
         return Ok(());
     }
-    stream.bytes.extend_from_slice(bytes)?;
-    let place = course.judge_all(
+    let place = state.judge_all(
         stream.bytes.as_slice(),
         piece.direction,
         tokens,
@@ -82,37 +82,39 @@ impl<A: Allocator + Clone> Scanner<A> {
             → IsAfter limit tables.now output [] s) }
     {
         Ok(Scanner {
-            course: Course::new(alloc, tables)?,
+            state: SessionState::new(alloc, tables)?,
             to_server: empty_stream(alloc.clone()?),
             to_client: empty_stream(alloc.clone()?),
         })
     }
 
-    /// Judges the messages that a piece completes.
-    fn take_in(
+    /// Judges the messages that a piece completes, whose bytes were appended to the stream of its
+    /// direction.
+    fn judge(
         &mut self,
-        piece: &Passed<A>,
+        piece: &Appended,
         tables: &Tables,
         limit: Limit,
         output: Output,
     ) -> Result<(), AllocError>
         requires valid { Valid tables.now }
-        requires after { (ps : List Piece) × IsAfter limit.bytes tables.now output ps self.old }
-        ensures { OnOk result ((ps : List Piece)
-            → IsAfter limit.bytes tables.now output ps self.old
-            → IsAfter limit.bytes tables.now output (ps ++ plain piece.now ∷ []) self.new) }
+        requires ready { (ps : List Piece) × (p : Piece)
+            × IsReady limit.bytes tables.now output ps p piece.now self.old }
+        ensures { OnOk result ((ps : List Piece) (p : Piece)
+            → IsReady limit.bytes tables.now output ps p piece.now self.old
+            → IsAfter limit.bytes tables.now output (ps ++ p ∷ []) self.new) }
     {
         match piece.direction {
-            Direction::ToServer => take_piece(
-                &mut self.course,
+            Direction::ToServer => judge_piece(
+                &mut self.state,
                 &mut self.to_server,
                 piece,
                 tables,
                 limit,
                 output,
             ),
-            Direction::ToClient => take_piece(
-                &mut self.course,
+            Direction::ToClient => judge_piece(
+                &mut self.state,
                 &mut self.to_client,
                 piece,
                 tables,
@@ -135,12 +137,15 @@ impl<A: Allocator> Scanner<A> {
             → IsAfter limit tables output ps self
             → Answers tables (session_of limit ps) result.1 }
     {
-        let progress = &self.course.progress;
-        let verdict = match &self.course.stage {
-            Stage::Broken(frame, fault) => progress.broken(frame, *fault),
-            Stage::Open | Stage::Ended => progress.lawful(self.to_server.len, self.to_client.len),
+        let progress = &self.state.progress;
+        let verdict = match &self.state.status {
+            SessionStatus::Broken(frame, fault) => progress.broken(frame, *fault),
+            SessionStatus::Open | SessionStatus::Ended => progress.lawful(
+                self.to_server.len,
+                self.to_client.len,
+            ),
         };
-        (self.course.text, verdict)
+        (self.state.text, verdict)
     }
 }
 
@@ -159,7 +164,8 @@ pub(crate) fn scan<A: Allocator + Clone>(
 {
     let mut scanner = Scanner::new(alloc, tables)?;
     'pieces: for piece in pieces {
-        scanner.take_in(piece, tables, limit, output)?;
+        let appended = piece.append_to(&mut scanner.to_server.bytes, &mut scanner.to_client.bytes)?;
+        scanner.judge(&appended, tables, limit, output)?;
     }
     Ok(scanner.finish())
 }
@@ -180,8 +186,11 @@ pub(crate) fn scan_text<A: Allocator + Clone>(
 {
     let mut scanner = Scanner::new(alloc, tables)?;
     let mut reader = PieceReader::new(text);
-    'pieces: while let Some(piece) = reader.next_piece(alloc)? {
-        scanner.take_in(&piece, tables, limit, output)?;
+    'pieces: while let Some(piece) = reader.append_next(
+        &mut scanner.to_server.bytes,
+        &mut scanner.to_client.bytes,
+    )? {
+        scanner.judge(&piece, tables, limit, output)?;
     }
     Ok(scanner.finish())
 }

@@ -1,4 +1,5 @@
 pub mod FillLemmas
+mod DigitLemmas
 mod PieceLemmas
 mod Progress
 pub mod TextLemmas

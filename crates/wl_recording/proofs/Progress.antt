@@ -1,11 +1,11 @@
 -- How far a text has been read.
-use Rattle.std.proofs.Common.{◌≡◌, ℕ, ◌+◌, ◌<◌, List, [], ◌∷◌, ◌++◌, length, refl, sym, ap, ◌∙◌, inl, inr, append_assoc, append-nil, arith}
+use Rattle.std.proofs.Common.{◌≡◌, ℕ, ◌+◌, ◌<◌, List, [], ◌∷◌, ◌++◌, length, refl, sym, ap, subst, ◌∙◌, inl, inr, append_assoc, append-nil, arith}
 use Rattle.std.specs.Str.Lines.{lines}
 use Rattle.std.proofs.lemmas.List.{length_push}
 use Rattle.wl_recording.specs.Piece.{Piece}
 use Rattle.wl_line_text.specs.Lines.{IsSkipped}
 use Rattle.wl_recording.specs.Line.{IsPiece}
-use Rattle.wl_recording.specs.Text.{Tell, ends, skips, tells, Recorded, IsFirstBad, IsRead}
+use Rattle.wl_recording.specs.Text.{Tell, ends, skips, tells, Recorded, IsFirstBad, IsRead, IsReached}
 use Rattle.wl_recording.proofs.TextLemmas.{tell_append, tell_good}
 
 pub started : (text : List ℕ) → IsRead text text 0 []
@@ -54,3 +54,15 @@ bad_line text rest after number line pieces p first not_skipped not_piece = reco
 pub all_read : (text rest : List ℕ) (number : ℕ) (pieces : List Piece) → IsRead text rest number pieces → length rest ≡ 0 → Recorded text pieces
 all_read text [] number pieces p none = rw (p.whole, append-nil) p.told
 all_read text (byte ∷ rest) number pieces p none = absurd (omega arith)
+
+-- a line that was reached tells a piece
+pub reached_piece : (text rest : List ℕ) (number : ℕ) (line : List ℕ) (pieces : List Piece) (piece : Piece) → IsReached text rest number line pieces → IsPiece line piece
+    → IsRead text rest number (pieces ++ piece ∷ [])
+reached_piece text rest number line pieces piece r told =
+    subst (λ (n : ℕ). IsRead text rest n (pieces ++ piece ∷ [])) (sym r.next) (told_line text r.front rest r.before line pieces piece r.read r.first r.shorter told)
+
+-- or it is bad
+pub reached_bad : (text rest : List ℕ) (number : ℕ) (line : List ℕ) (pieces : List Piece) → IsReached text rest number line pieces → ((piece : Piece) → IsPiece line piece → ⊥)
+    → IsFirstBad text number
+reached_bad text rest number line pieces r never =
+    subst (IsFirstBad text) (sym r.next) (bad_line text r.front rest r.before line pieces r.read r.first r.inked never)

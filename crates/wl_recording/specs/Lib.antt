@@ -2,3 +2,4 @@ pub mod Piece
 pub mod Line
 pub mod Text
 pub mod Errors
+pub mod Digits

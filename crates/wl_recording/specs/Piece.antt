@@ -1,8 +1,10 @@
 -- What passes between two ends, one piece at a time.
-use Rattle.std.specs.Prelude.{ℕ, ◌-◌, ◌≤◌, ◌==◌, ◌&&◌, nat_lt, if◌then◌else◌, List, [], ◌∷◌, length}
+use Rattle.std.specs.Prelude.{◌≡◌, ℕ, ◌-◌, ◌≤◌, ◌==◌, ◌&&◌, nat_lt, if◌then◌else◌, List, [], ◌∷◌, ◌++◌, length}
 use Rattle.hex.specs.Hex.{IsBytes}
 use Rattle.wl_recording.specs.declared.piece.Direction.{Direction}
+use Rattle.wl_recording.specs.declared.piece.Direction.TheVariants.{ToServer, ToClient}
 use Rattle.wl_recording.specs.declared.piece.Passed.{Passed}
+use Rattle.wl_recording.specs.declared.piece.Appended.{Appended}
 
 -- one piece: which way it went, its bytes, and how many descriptor tokens came with it
 pub record Piece : Type 0 where
@@ -13,6 +15,23 @@ pub record Piece : Type 0 where
 -- a kept piece, without where its bytes lie
 abbrev pub plain : {A : Type 0} → Passed A → Piece
 plain kept = record { direction = kept.direction; bytes = kept.bytes; tokens = kept.tokens }
+
+-- of these bytes those that go a way, where they all go another or this one
+abbrev pub own : Direction → Direction → List ℕ → List ℕ
+own ToServer ToServer bytes = bytes
+own ToServer ToClient bytes = []
+own ToClient ToServer bytes = []
+own ToClient ToClient bytes = bytes
+
+-- This piece was appended: its bytes stand behind those of its direction, and those of the other
+-- are as before.
+pub record IsAppended (piece : Piece) (appended : Appended)
+    (server server_after client client_after : List ℕ) : Type 0 where
+  pub direction : appended.direction ≡ piece.direction
+  pub len : appended.len ≡ length piece.bytes
+  pub tokens : appended.tokens ≡ piece.tokens
+  pub to_server : server_after ≡ server ++ own ToServer piece.direction piece.bytes
+  pub to_client : client_after ≡ client ++ own ToClient piece.direction piece.bytes
 
 -- a line can tell it: its bytes are below 256, and its tokens at most 65,535
 pub record IsTellable (piece : Piece) : Type 0 where

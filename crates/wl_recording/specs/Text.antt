@@ -1,5 +1,5 @@
 -- Recordings as text.
-use Rattle.std.specs.Prelude.{◌≡◌, ℕ, ◌+◌, ◌≤◌, ◌⊎◌, List, [], ◌∷◌, ◌++◌, length}
+use Rattle.std.specs.Prelude.{◌≡◌, ℕ, ◌+◌, ◌<◌, ◌≤◌, ◌⊎◌, List, [], ◌∷◌, ◌++◌, length}
 use Rattle.std.specs.List.{All}
 use Rattle.std.specs.Str.Lines.{lines}
 use Rattle.wl_recording.specs.Piece.{Piece}
@@ -42,6 +42,18 @@ pub record IsRead (text rest : List ℕ) (number : ℕ) (pieces : List Piece) : 
   pub count : number ≡ length done
   pub told : Tell done pieces
   pub room : number + length rest ≤ length text
+
+-- A text was read up to this rest, whose last line is this one, the one of this number. It is not
+-- skipped, and the lines before it tell these pieces.
+pub record IsReached (text rest : List ℕ) (number : ℕ) (line : List ℕ) (pieces : List Piece)
+    : Type 0 where
+  pub before : ℕ
+  pub front : List ℕ
+  pub read : IsRead text front before pieces
+  pub next : number ≡ before + 1
+  pub first : lines front ≡ line ∷ lines rest
+  pub shorter : length rest < length front
+  pub inked : ¬ IsSkipped line
 
 -- the one text that a writer gives: each piece's line, ended by a line feed
 abbrev pub text_of : List Piece → List ℕ

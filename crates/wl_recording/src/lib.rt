@@ -11,12 +11,13 @@
 //! ```
 #![tactic(auto)]
 
+mod digits;
 mod line;
 mod piece;
 mod reader;
 mod recording;
 mod write;
 
-pub use piece::{Direction, Passed};
+pub use piece::{Appended, Direction, Passed};
 pub use reader::PieceReader;
 pub use recording::{Recording, RecordingError};

@@ -1,11 +1,13 @@
 //! Reading the lines of a recording.
-ghost use Rattle.std.specs.Prelude.{◌≡◌, ◌≢◌, ℕ, List, ◌∷◌, IfOk, MatchOption};
-ghost use Rattle.wl_recording.specs.Piece.{Piece, plain};
+ghost use Rattle.std.specs.Prelude.{◌≡◌, ◌≢◌, ℕ, List, ◌∷◌, ◌++◌, length, IfOk, IfSome};
+ghost use Rattle.std.specs.Prelude.{MatchOption};
+ghost use Rattle.wl_recording.specs.Piece.{IsAppended, Piece, own, plain};
 ghost use Rattle.wl_recording.specs.declared.piece.Direction.{Direction as Way};
+ghost use Rattle.wl_recording.specs.declared.piece.Direction.TheVariants.{ToServer, ToClient};
 ghost use Rattle.wl_recording.specs.Line.{IsPiece, SpellsBytes, SpellsTokens, sign};
 
-use crate::piece::{Direction, Passed};
-use hex::FromHexError;
+use crate::digits::append_bytes;
+use crate::piece::{Appended, Direction, Passed};
 use std::alloc::{AllocError, Allocator};
 use wl_line_text::{decimal_number, split_before};
 use wl_wire::Bytes;
@@ -13,26 +15,96 @@ use wl_wire::Bytes;
 /// The most tokens that one piece can count.
 pub const MOST_TOKENS: u32 = 65_535;
 
+/// A line in its parts.
+#[derive(Clone, Copy)]
+struct Parts<'a> {
+    direction: Direction,
+    /// What stands for the bytes.
+    digits: &'a [u8],
+    tokens: u32,
+}
+
 /// The piece of a line, if the line is one.
 pub fn read_piece<A: Allocator>(alloc: A, line: &[u8]) -> Result<Option<Passed<A>>, AllocError>
     ensures { IfOk result (λ found. MatchOption found ((piece : Piece) → IsPiece line.now piece → ⊥)
         (λ kept. IsPiece line.now (plain kept))) }
 {
-    let Some((direction, rest)) = strip_sign(line) else {
+    let Some(parts) = parts_of(line) else {
         return Ok(None);
     };
-    let (digits, count) = split_before(rest, b' ');
-    let Some(tokens) = read_tokens(count) else {
-        return Ok(None);
-    };
-    let Some(bytes) = read_bytes(alloc, digits)? else {
+    let Some(bytes) = read_bytes(alloc, parts.digits)? else {
         return Ok(None);
     };
     Ok(Some(Passed {
-        direction,
+        direction: parts.direction,
         bytes,
-        tokens,
+        tokens: parts.tokens,
     }))
+}
+
+/// Appends the bytes of a line's piece to those of its direction, if the line is one.
+pub fn append_piece<A: Allocator>(
+    line: &[u8],
+    to_server: &mut Vec<u8, A>,
+    to_client: &mut Vec<u8, A>,
+) -> Result<Option<Appended>, AllocError>
+    ensures { IfOk result (λ found. MatchOption found ((piece : Piece) → IsPiece line.now piece → ⊥)
+        (λ appended. (piece : Piece) × IsPiece line.now piece
+        × IsAppended piece appended to_server.old.items to_server.new.items to_client.old.items
+        to_client.new.items)) }
+{
+    let Some(parts) = parts_of(line) else {
+        return Ok(None);
+    };
+    let Some(len) = append_parts(&parts, to_server, to_client)? else {
+        return Ok(None);
+    };
+    Ok(Some(Appended {
+        direction: parts.direction,
+        len,
+        tokens: parts.tokens,
+    }))
+}
+
+// Appends the bytes of a line's parts to those of their direction, if the digits stand for any, and
+// returns how many they are.
+fn append_parts<A: Allocator>(
+    parts: &Parts<'_>,
+    to_server: &mut Vec<u8, A>,
+    to_client: &mut Vec<u8, A>,
+) -> Result<Option<usize>, AllocError>
+    ensures { IfOk result (λ found. MatchOption found
+        ((more : List ℕ) → SpellsBytes parts.now.digits.now more → ⊥)
+        (λ len. (more : List ℕ) × SpellsBytes parts.now.digits.now more × (length more ≡ len)
+        × (to_server.new.items ≡ to_server.old.items ++ own ToServer parts.now.direction more)
+        × (to_client.new.items ≡ to_client.old.items ++ own ToClient parts.now.direction more))) }
+{
+    match parts.direction {
+        Direction::ToServer => append_digits(parts.digits, to_server),
+        Direction::ToClient => append_digits(parts.digits, to_client),
+    }
+}
+
+// The parts of a line, whatever its digits stand for, unless it is no piece for another reason.
+fn parts_of(line: &[u8]) -> Option<Parts<'_>>
+    ensures parts { MatchOption result ((piece : Piece) → IsPiece line.now piece → ⊥)
+        (λ parts. (bytes : List ℕ) → SpellsBytes parts.digits.now bytes
+        → IsPiece line.now (record {
+          direction = parts.direction;
+          bytes = bytes;
+          tokens = parts.tokens;
+        })) }
+    ensures only { IfSome result (λ parts. (piece : Piece) → IsPiece line.now piece
+        → SpellsBytes parts.digits.now piece.bytes) }
+{
+    let (direction, rest) = strip_sign(line)?;
+    let (digits, count) = split_before(rest, b' ');
+    let tokens = read_tokens(count)?;
+    Some(Parts {
+        direction,
+        digits,
+        tokens,
+    })
 }
 
 // The direction whose sign and a space begin a line, and the rest of the line.
@@ -73,13 +145,34 @@ fn read_bytes<A: Allocator>(alloc: A, digits: &[u8]) -> Result<Option<Bytes<A>>,
         ((bytes : List ℕ) → SpellsBytes digits.now bytes → ⊥)
         (λ bytes. SpellsBytes digits.now bytes)) }
 {
+    let mut bytes = Vec::new(alloc);
+    let Some(_len) = append_digits(digits, &mut bytes)? else {
+        return Ok(None);
+    };
+    Ok(Some(Bytes::from_vec(bytes)))
+}
+
+// Appends the bytes that these digits stand for, if they stand for any, and returns how many these
+// are.
+fn append_digits<A: Allocator>(
+    digits: &[u8],
+    bytes: &mut Vec<u8, A>,
+) -> Result<Option<usize>, AllocError>
+    ensures { IfOk result (λ found. MatchOption found
+        ((more : List ℕ) → SpellsBytes digits.now more → ⊥)
+        (λ len. (more : List ℕ) × SpellsBytes digits.now more × (length more ≡ len)
+        × (bytes.new.items ≡ bytes.old.items ++ more))) }
+{
     match digits {
         [] => Ok(None),
-        [b'-'] => Ok(Some(Bytes::from_vec(Vec::new(alloc)))),
-        _ => match hex::decode(alloc, digits) {
-            Ok(bytes) => Ok(Some(Bytes::from_vec(bytes))),
-            Err(FromHexError::OutOfMemory) => Err(AllocError),
-            Err(_) => Ok(None),
-        },
+        [b'-'] => Ok(Some(0)),
+        _ if digits.len() % 2 != 0 => Ok(None),
+        _ => {
+            if append_bytes(digits, bytes)? {
+                Ok(Some(digits.len() / 2))
+            } else {
+                Ok(None)
+            }
+        }
     }
 }

@@ -1,6 +1,9 @@
 //! What passes between two ends.
+ghost use Rattle.std.specs.Prelude.{◌≡◌, ◌++◌, OnOk, IfOk};
+ghost use Rattle.wl_recording.specs.declared.piece.Direction.TheVariants.{ToServer, ToClient};
+ghost use Rattle.wl_recording.specs.Piece.{IsAppended, own, plain};
 
-use std::alloc::{Allocator, Global};
+use std::alloc::{AllocError, Allocator, Global};
 use wl_wire::Bytes;
 
 /// Which way a piece went.
@@ -21,4 +24,53 @@ pub struct Passed<A: Allocator = Global> {
     pub bytes: Bytes<A>,
     /// How many tokens came with it, each for one file descriptor.
     pub tokens: u32,
+}
+
+/// A piece whose bytes were appended to those of its direction.
+#[derive(Clone, Copy, Debug)]
+pub struct Appended {
+    /// Which way it went.
+    pub direction: Direction,
+    /// How many bytes it has.
+    pub len: usize,
+    /// How many tokens came with it.
+    pub tokens: u32,
+}
+
+impl<A: Allocator> Passed<A> {
+    /// Appends its bytes to those of its direction.
+    pub fn append_to(
+        &self,
+        to_server: &mut Vec<u8, A>,
+        to_client: &mut Vec<u8, A>,
+    ) -> Result<Appended, AllocError>
+        ensures { IfOk result (λ appended. IsAppended (plain self.now) appended
+            to_server.old.items to_server.new.items to_client.old.items to_client.new.items) }
+    {
+        let bytes = self.bytes.as_slice();
+        extend_own(self.direction, bytes, to_server, to_client)?;
+        Ok(Appended {
+            direction: self.direction,
+            len: bytes.len(),
+            tokens: self.tokens,
+        })
+    }
+}
+
+// Appends bytes to those of their direction.
+fn extend_own<A: Allocator>(
+    direction: Direction,
+    bytes: &[u8],
+    to_server: &mut Vec<u8, A>,
+    to_client: &mut Vec<u8, A>,
+) -> Result<(), AllocError>
+    ensures to_server { OnOk result
+        (to_server.new.items ≡ to_server.old.items ++ own ToServer direction bytes.now) }
+    ensures to_client { OnOk result
+        (to_client.new.items ≡ to_client.old.items ++ own ToClient direction bytes.now) }
+{
+    match direction {
+        Direction::ToServer => to_server.extend_from_slice(bytes),
+        Direction::ToClient => to_client.extend_from_slice(bytes),
+    }
 }

@@ -1,12 +1,12 @@
 //! The pieces of a text, one after another.
 ghost use Rattle.std.specs.Prelude.{◌≡◌, ℕ, ◌+◌, ◌^◌, ◌<◌, List, [], ◌∷◌, ◌++◌, ◌⊎◌, length};
-ghost use Rattle.std.specs.Prelude.{IfOk, IfErr, IfSome, MatchOption};
+ghost use Rattle.std.specs.Prelude.{IfOk, IfErr, IfSome, IfNone, MatchOption};
 ghost use Rattle.wl_recording.specs.declared.recording.RecordingError.TheVariants.{BadLine, Memory};
-ghost use Rattle.wl_recording.specs.Piece.{Piece, plain};
-ghost use Rattle.wl_recording.specs.Text.{IsFirstBad, IsRead, Recorded};
+ghost use Rattle.wl_recording.specs.Piece.{IsAppended, Piece, plain};
+ghost use Rattle.wl_recording.specs.Text.{IsFirstBad, IsReached, IsRead, Recorded};
 
-use crate::line::read_piece;
-use crate::piece::Passed;
+use crate::line::{append_piece, read_piece};
+use crate::piece::{Appended, Passed};
 use crate::recording::RecordingError;
 use std::alloc::Allocator;
 use wl_line_text::{first_line, is_skipped};
@@ -49,17 +49,68 @@ impl<'a> PieceReader<'a> {
         ensures shorter { IfOk result (λ found. IfSome found
             (λ kept. length self.new.rest.now < length self.old.rest.now)) }
     {
+        let Some(line) = self.next_line() else {
+            return Ok(None);
+        };
+        match read_piece(alloc.clone()?, line)? {
+            Some(piece) => Ok(Some(piece)),
+            None => Err(RecordingError::BadLine { line: self.number }),
+        }
+    }
+
+    /// Reads on to the next piece, if there is one, and appends its bytes to those of its
+    /// direction.
+    ///
+    /// `BadLine` and `Memory` come as from `Recording::parse`; what was appended then says nothing.
+    pub fn append_next<A: Allocator>(
+        &mut self,
+        to_server: &mut Vec<u8, A>,
+        to_client: &mut Vec<u8, A>,
+    ) -> Result<Option<Appended>, RecordingError>
+        requires { self.old.number + length self.old.rest.now < 2 ^ 64 }
+        ensures read { IfOk result (λ found. (text : List ℕ) (pieces : List Piece)
+            → IsRead text self.old.rest.now self.old.number pieces
+            → MatchOption found (Recorded text pieces)
+            (λ appended. (piece : Piece)
+            × IsRead text self.new.rest.now self.new.number (pieces ++ piece ∷ [])
+            × IsAppended piece appended to_server.old.items to_server.new.items
+            to_client.old.items to_client.new.items)) }
+        ensures none { IfOk result (λ found. IfNone found
+            ((to_server.new.items ≡ to_server.old.items)
+            × (to_client.new.items ≡ to_client.old.items))) }
+        ensures bad { IfErr result (λ e. (text : List ℕ) (pieces : List Piece)
+            → IsRead text self.old.rest.now self.old.number pieces
+            → (e ≡ Memory) ⊎ ((n : ℕ) × (e ≡ BadLine n) × IsFirstBad text n)) }
+        ensures shorter { IfOk result (λ found. IfSome found
+            (λ appended. length self.new.rest.now < length self.old.rest.now)) }
+    {
+        let Some(line) = self.next_line() else {
+            return Ok(None);
+        };
+        match append_piece(line, to_server, to_client)? {
+            Some(appended) => Ok(Some(appended)),
+            None => Err(RecordingError::BadLine { line: self.number }),
+        }
+    }
+
+    // The next line that is not skipped.
+    fn next_line(&mut self) -> Option<&'a [u8]>
+        requires { self.old.number + length self.old.rest.now < 2 ^ 64 }
+        ensures reached { (text : List ℕ) (pieces : List Piece)
+            → IsRead text self.old.rest.now self.old.number pieces
+            → MatchOption result (Recorded text pieces)
+            (λ line. IsReached text self.new.rest.now self.new.number line.now pieces) }
+        ensures shorter { IfSome result
+            (λ line. length self.new.rest.now < length self.old.rest.now) }
+    {
         'lines: while !self.rest.is_empty() {
             let (line, after) = first_line(self.rest);
             self.rest = after;
             self.number += 1;
             if !is_skipped(line) {
-                return match read_piece(alloc.clone()?, line)? {
-                    Some(piece) => Ok(Some(piece)),
-                    None => Err(RecordingError::BadLine { line: self.number }),
-                };
+                return Some(line);
             }
         }
-        Ok(None)
+        None
     }
 }

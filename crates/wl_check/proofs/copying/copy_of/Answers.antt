@@ -10,7 +10,7 @@ returns g c limit tables output ps h =
       counted_to_client = refl;
       count = refl;
       text = c.in_ok-copy_of_bytes.ensures;
-      stage = refl;
+      status = refl;
       to_server = c.in_ok-copy_of_stream.ensures;
       to_client = c.in_ok-copy_of_stream-2.ensures;
     }) h

@@ -3,10 +3,10 @@ use Rattle.std.proofs.Math.Logic.{∥∥₁_elim, ∥∥₁_map}
 use Rattle.std.specs.Coded.{le_prop}
 use Rattle.std.proofs.lemmas.List.{length-drop, drop-drop}
 use Rattle.wl_message.specs.Cut.{front}
-use Rattle.wl_check.specs.declared.course.Output.TheVariants.{Nothing}
-use Rattle.wl_check.specs.Course.{Comes, Follows}
+use Rattle.wl_check.specs.declared.session_state.Output.TheVariants.{Nothing}
+use Rattle.wl_check.specs.SessionState.{Comes, Follows}
 use Rattle.wl_check.specs.Seen.{size_of}
-use Rattle.wl_check.proofs.Coursing.{all_judged, closed, comes_next, follows_next, frame_of, in_front, rest_is}
+use Rattle.wl_check.proofs.StateFacts.{all_judged, closed, comes_next, follows_next, frame_of, in_front, rest_is}
 use Rattle.wl_check.proofs.Growing.{size_least}
 use Rattle.wl_check.proofs.inspecting.print_all.Goals as goal
 
@@ -15,7 +15,7 @@ returns-in_default-clause-judged g c s h =
     let b = c.args.bytes.now in
     let p = c.messages.place in
     let none : None ≡ size_of (front c.args.limit.bytes (drop p b)) = sym c.in_default.is ∙ c.size_in_front.ensures ∙ ap (λ (r : List ℕ). size_of (front c.args.limit.bytes r)) (rest_is b p c.messages.invariant.within) in
-    all_judged c.args.limit.bytes c.args.tables.now s Nothing c.messages.course c.args.direction c.args.tokens (drop p b) (c.messages.invariant.follows s h) none
+    all_judged c.args.limit.bytes c.args.tables.now s Nothing c.messages.state c.args.direction c.args.tokens (drop p b) (c.messages.invariant.follows s h) none
 
 pub print_next-requires-clause-comes : goal.print_next-requires-clause-comes
 print_next-requires-clause-comes g c =
@@ -25,8 +25,8 @@ print_next-requires-clause-comes g c =
     let some : Some c.in-Some.size ≡ size_of (front c.args.limit.bytes (drop p b)) = sym c.in-Some.is ∙ c.size_in_front.ensures ∙ ap (λ (r : List ℕ). size_of (front c.args.limit.bytes r)) is in
     ∥∥₁_map c.requires.follows (λ x. (
       x.0,
-      subst (λ (r : List ℕ). Comes c.args.limit.bytes c.args.tables.now x.0 Nothing c.messages.course (frame_of c.args.direction c.tally.result.end c.in-Some.size c.args.tokens) r) (sym is)
-          (comes_next c.args.limit.bytes c.args.tables.now x.0 Nothing c.messages.course c.args.direction c.args.tokens c.in-Some.size c.tally.result.end (drop p b)
+      subst (λ (r : List ℕ). Comes c.args.limit.bytes c.args.tables.now x.0 Nothing c.messages.state (frame_of c.args.direction c.tally.result.end c.in-Some.size c.args.tokens) r) (sym is)
+          (comes_next c.args.limit.bytes c.args.tables.now x.0 Nothing c.messages.state c.args.direction c.args.tokens c.in-Some.size c.tally.result.end (drop p b)
           (c.messages.invariant.follows x.0 x.1) some (ap (λ t. t.end) c.tally.ensures)),
     ))
 
@@ -36,10 +36,10 @@ returns-then-not-is_open-clause-judged g c s h =
     let p = c.messages.place in
     let is = rest_is b p c.messages.invariant.within in
     let some : Some c.in-Some.size ≡ size_of (front c.args.limit.bytes (drop p b)) = sym c.in-Some.is ∙ c.size_in_front.ensures ∙ ap (λ (r : List ℕ). size_of (front c.args.limit.bytes r)) is in
-    let comes = subst (λ (r : List ℕ). Comes c.args.limit.bytes c.args.tables.now s Nothing c.messages.course (frame_of c.args.direction c.tally.result.end c.in-Some.size c.args.tokens) r) (sym is)
-    (comes_next c.args.limit.bytes c.args.tables.now s Nothing c.messages.course c.args.direction c.args.tokens c.in-Some.size c.tally.result.end (drop p b)
+    let comes = subst (λ (r : List ℕ). Comes c.args.limit.bytes c.args.tables.now s Nothing c.messages.state (frame_of c.args.direction c.tally.result.end c.in-Some.size c.args.tokens) r) (sym is)
+    (comes_next c.args.limit.bytes c.args.tables.now s Nothing c.messages.state c.args.direction c.args.tokens c.in-Some.size c.tally.result.end (drop p b)
     (c.messages.invariant.follows s h) some (ap (λ t. t.end) c.tally.ensures)) in
-    closed c.args.limit.bytes c.args.tables.now s Nothing c.print_next.new.course c.args.direction (drop p b) (c.in_ok-print_next.ensures.judged s comes) (sym c.is_open.ensures ∙ c.if-not-is_open.true)
+    closed c.args.limit.bytes c.args.tables.now s Nothing c.print_next.new.state c.args.direction (drop p b) (c.in_ok-print_next.ensures.judged s comes) (sym c.is_open.ensures ∙ c.if-not-is_open.true)
 
 pub returns-then-not-is_open-clause-lines : goal.returns-then-not-is_open-clause-lines
 returns-then-not-is_open-clause-lines g c s h =
@@ -47,8 +47,8 @@ returns-then-not-is_open-clause-lines g c s h =
     let p = c.messages.place in
     let is = rest_is b p c.messages.invariant.within in
     let some : Some c.in-Some.size ≡ size_of (front c.args.limit.bytes (drop p b)) = sym c.in-Some.is ∙ c.size_in_front.ensures ∙ ap (λ (r : List ℕ). size_of (front c.args.limit.bytes r)) is in
-    let comes = subst (λ (r : List ℕ). Comes c.args.limit.bytes c.args.tables.now s Nothing c.messages.course (frame_of c.args.direction c.tally.result.end c.in-Some.size c.args.tokens) r) (sym is)
-    (comes_next c.args.limit.bytes c.args.tables.now s Nothing c.messages.course c.args.direction c.args.tokens c.in-Some.size c.tally.result.end (drop p b)
+    let comes = subst (λ (r : List ℕ). Comes c.args.limit.bytes c.args.tables.now s Nothing c.messages.state (frame_of c.args.direction c.tally.result.end c.in-Some.size c.args.tokens) r) (sym is)
+    (comes_next c.args.limit.bytes c.args.tables.now s Nothing c.messages.state c.args.direction c.args.tokens c.in-Some.size c.tally.result.end (drop p b)
     (c.messages.invariant.follows s h) some (ap (λ t. t.end) c.tally.ensures)) in
     λ earlier e. c.in_ok-print_next.ensures.lines s comes earlier (c.messages.invariant.lines s h earlier e)
 
@@ -62,7 +62,7 @@ messages-smaller g c =
     let big = size_least c.args.limit.bytes c.in-Some.size on.size in
     let l = length-drop p b in
     ∥∥₁_elim c.requires.follows le_prop (λ x.
-    (let there = (in_front c.args.limit.bytes c.args.tables.now x.0 Nothing c.messages.course c.args.direction c.args.tokens c.in-Some.size (drop p b) (c.messages.invariant.follows x.0 x.1) some).whole on.size in
+    (let there = (in_front c.args.limit.bytes c.args.tables.now x.0 Nothing c.messages.state c.args.direction c.args.tokens c.in-Some.size (drop p b) (c.messages.invariant.follows x.0 x.1) some).whole on.size in
     omega (arith, big, there, l)))
 
 pub messages-preserved : goal.messages-preserved
@@ -78,17 +78,17 @@ messages-preserved g c =
     let here = ap (λ t. t.end) c.tally.ensures in
     record {
       within = ∥∥₁_elim c.requires.follows le_prop (λ x.
-          (let there = (in_front c.args.limit.bytes c.args.tables.now x.0 Nothing c.messages.course c.args.direction c.args.tokens c.in-Some.size (drop p b) (c.messages.invariant.follows x.0 x.1) some).whole on.size in
+          (let there = (in_front c.args.limit.bytes c.args.tables.now x.0 Nothing c.messages.state c.args.direction c.args.tokens c.in-Some.size (drop p b) (c.messages.invariant.follows x.0 x.1) some).whole on.size in
           omega (arith, big, there, l)));
       follows = λ s h.
           (let f = c.messages.invariant.follows s h in
-          let comes = subst (λ (r : List ℕ). Comes c.args.limit.bytes c.args.tables.now s Nothing c.messages.course (frame_of c.args.direction c.tally.result.end c.in-Some.size c.args.tokens) r) (sym is)
-          (comes_next c.args.limit.bytes c.args.tables.now s Nothing c.messages.course c.args.direction c.args.tokens c.in-Some.size c.tally.result.end (drop p b) f some here) in
-          subst (λ (r : List ℕ). Follows c.args.limit.bytes c.args.tables.now s Nothing c.print_next.new.course c.args.direction c.args.tokens r) (drop-drop c.in-Some.size p b)
-          (follows_next c.args.limit.bytes c.args.tables.now s Nothing c.messages.course c.print_next.new.course c.args.direction c.args.tokens c.in-Some.size c.tally.result.end (drop p b) f some here on (c.in_ok-print_next.ensures.judged s comes) going));
+          let comes = subst (λ (r : List ℕ). Comes c.args.limit.bytes c.args.tables.now s Nothing c.messages.state (frame_of c.args.direction c.tally.result.end c.in-Some.size c.args.tokens) r) (sym is)
+          (comes_next c.args.limit.bytes c.args.tables.now s Nothing c.messages.state c.args.direction c.args.tokens c.in-Some.size c.tally.result.end (drop p b) f some here) in
+          subst (λ (r : List ℕ). Follows c.args.limit.bytes c.args.tables.now s Nothing c.print_next.new.state c.args.direction c.args.tokens r) (drop-drop c.in-Some.size p b)
+          (follows_next c.args.limit.bytes c.args.tables.now s Nothing c.messages.state c.print_next.new.state c.args.direction c.args.tokens c.in-Some.size c.tally.result.end (drop p b) f some here on (c.in_ok-print_next.ensures.judged s comes) going));
       lines = λ s h earlier e.
-          (let comes = subst (λ (r : List ℕ). Comes c.args.limit.bytes c.args.tables.now s Nothing c.messages.course (frame_of c.args.direction c.tally.result.end c.in-Some.size c.args.tokens) r) (sym is)
-          (comes_next c.args.limit.bytes c.args.tables.now s Nothing c.messages.course c.args.direction c.args.tokens c.in-Some.size c.tally.result.end (drop p b) (c.messages.invariant.follows s h) some here) in
+          (let comes = subst (λ (r : List ℕ). Comes c.args.limit.bytes c.args.tables.now s Nothing c.messages.state (frame_of c.args.direction c.tally.result.end c.in-Some.size c.args.tokens) r) (sym is)
+          (comes_next c.args.limit.bytes c.args.tables.now s Nothing c.messages.state c.args.direction c.args.tokens c.in-Some.size c.tally.result.end (drop p b) (c.messages.invariant.follows s h) some here) in
           c.in_ok-print_next.ensures.lines s comes earlier (c.messages.invariant.lines s h earlier e));
       other = λ x e. c.in_ok-print_next.ensures.other x e ∙ c.messages.invariant.other x e;
     }

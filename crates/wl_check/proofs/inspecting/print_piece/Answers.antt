@@ -1,5 +1,5 @@
 use Rattle.std.proofs.Math.Logic.{∥∥₁_map}
-use Rattle.wl_check.specs.declared.course.Output.TheVariants.{Nothing}
+use Rattle.wl_check.specs.declared.session_state.Output.TheVariants.{Nothing}
 use Rattle.wl_check.specs.Printed.{piece_of}
 use Rattle.wl_check.proofs.Piecing.{along_client, along_server, takes_client, takes_server}
 use Rattle.wl_check.proofs.Printing.{on_ok, prints_own}

@@ -1,6 +1,6 @@
-use Rattle.std.proofs.Common.{◌+◌, ◌∷◌, ◌++◌, List, ℕ, [], sym, ap, ◌∙◌, drop, length, arith}
+use Rattle.std.proofs.Common.{◌+◌, ◌∷◌, ◌++◌, List, ℕ, [], sym, ap, ◌∙◌, drop, arith}
 use Rattle.std.proofs.Math.Logic.{∥∥₁_map}
-use Rattle.wl_check.specs.declared.course.Output.TheVariants.{Nothing}
+use Rattle.wl_check.specs.declared.session_state.Output.TheVariants.{Nothing}
 use Rattle.wl_check.specs.Printed.{piece_of}
 use Rattle.wl_check.specs.Session.{session_of}
 use Rattle.wl_check.proofs.Piecing.{along_closed, along_piece, follows_piece}
@@ -12,7 +12,7 @@ returns-then-not-is_open-clause-along g c ps h =
     let two = c.checked_add-2.ensures in
     let len = rw c.in-Some.is at one in
     let tokens = rw c.in-Some-checked_add.is at two in
-    along_closed c.args.limit.bytes c.args.tables.now Nothing ps (piece_of c.args.direction c.args.bytes.now c.args.tokens) c.args.course.now c.args.stream.now _ h (sym c.is_open.ensures ∙ c.if-not-is_open.true) len.1 tokens.1
+    along_closed c.args.limit.bytes c.args.tables.now Nothing ps (piece_of c.args.direction c.args.bytes.now c.args.tokens) c.args.state.now c.args.stream.now _ h (sym c.is_open.ensures ∙ c.if-not-is_open.true) len.1 tokens.1
 
 pub print_all-requires-clause-follows : goal.print_all-requires-clause-follows
 print_all-requires-clause-follows g c =
@@ -23,7 +23,7 @@ print_all-requires-clause-follows g c =
     let p = piece_of c.args.direction c.args.bytes.now c.args.tokens in
     ∥∥₁_map c.requires.along (λ x. (
       session_of c.args.limit.bytes (x.0 ++ p ∷ []),
-      follows_piece c.args.limit.bytes c.args.tables.now Nothing x.0 p c.args.course.now c.args.stream.now c.in-Some.len c.in-Some-checked_add.tokens c.as_slice.result.now
+      follows_piece c.args.limit.bytes c.args.tables.now Nothing x.0 p c.args.state.now c.args.stream.now c.in-Some.len c.in-Some-checked_add.tokens c.as_slice.result.now
           x.1 (sym c.is_open.ensures ∙ c.if-not-is_open.false) len.1 (let is = len.1 in let less = len.0 in omega (arith, is, less)) tokens.1 (c.as_slice.ensures.value ∙ c.in_ok-extend_from_slice.ensures.items),
     ))
 
@@ -35,9 +35,9 @@ returns-clause-along g c ps h =
     let tokens = rw c.in-Some-checked_add.is at two in
     let p = piece_of c.args.direction c.args.bytes.now c.args.tokens in
     let follows =
-    follows_piece c.args.limit.bytes c.args.tables.now Nothing ps p c.args.course.now c.args.stream.now c.in-Some.len c.in-Some-checked_add.tokens c.as_slice.result.now
+    follows_piece c.args.limit.bytes c.args.tables.now Nothing ps p c.args.state.now c.args.stream.now c.in-Some.len c.in-Some-checked_add.tokens c.as_slice.result.now
     h (sym c.is_open.ensures ∙ c.if-not-is_open.false) len.1 (let is = len.1 in let less = len.0 in omega (arith, is, less)) tokens.1 (c.as_slice.ensures.value ∙ c.in_ok-extend_from_slice.ensures.items) in
-    along_piece c.args.limit.bytes c.args.tables.now Nothing ps p c.args.course.now c.print_all.new.course c.args.stream.now _ (drop c.in_ok-place.place c.as_slice.result.now)
+    along_piece c.args.limit.bytes c.args.tables.now Nothing ps p c.args.state.now c.print_all.new.state c.args.stream.now _ (drop c.in_ok-place.place c.as_slice.result.now)
     h (c.in_ok-place.ensures.judged (session_of c.args.limit.bytes (ps ++ p ∷ [])) follows) len.1 tokens.1
     (c.remove_front.ensures ∙ ap (λ (b : List ℕ). drop c.in_ok-place.place b) (sym c.as_slice.ensures.value))
 
@@ -49,6 +49,6 @@ returns-clause-lines g c ps h =
     let tokens = rw c.in-Some-checked_add.is at two in
     let p = piece_of c.args.direction c.args.bytes.now c.args.tokens in
     let follows =
-    follows_piece c.args.limit.bytes c.args.tables.now Nothing ps p c.args.course.now c.args.stream.now c.in-Some.len c.in-Some-checked_add.tokens c.as_slice.result.now
+    follows_piece c.args.limit.bytes c.args.tables.now Nothing ps p c.args.state.now c.args.stream.now c.in-Some.len c.in-Some-checked_add.tokens c.as_slice.result.now
     h (sym c.is_open.ensures ∙ c.if-not-is_open.false) len.1 (let is = len.1 in let less = len.0 in omega (arith, is, less)) tokens.1 (c.as_slice.ensures.value ∙ c.in_ok-extend_from_slice.ensures.items) in
     λ earlier e. c.in_ok-place.ensures.lines (session_of c.args.limit.bytes (ps ++ p ∷ [])) follows earlier e

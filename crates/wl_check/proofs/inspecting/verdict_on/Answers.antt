@@ -1,19 +1,19 @@
 use Rattle.std.proofs.Common.{inl, inr, sym, ap, ◌∙◌, arith, subst}
 use Rattle.std.proofs.Math.Logic.{∥∥₁_elim}
 use Rattle.std.specs.Coded.{le_prop}
-use Rattle.wl_check.specs.declared.course.Output.TheVariants.{Nothing}
-use Rattle.wl_check.specs.declared.course.Stage.{Stage}
+use Rattle.wl_check.specs.declared.session_state.Output.TheVariants.{Nothing}
+use Rattle.wl_check.specs.declared.session_state.SessionStatus.{SessionStatus}
 use Rattle.wl_check.specs.Session.{Answers, session_of}
-use Rattle.wl_check.proofs.Coursing.{count_few, few_judged}
+use Rattle.wl_check.proofs.StateFacts.{count_few, few_judged}
 use Rattle.wl_check.proofs.Piecing.{answers_so, ends_within, verdict_of}
 use Rattle.wl_check.proofs.inspecting.verdict_on.Goals as goal
 
 pub broken-requires : goal.broken-requires
 broken-requires g c =
-    let course = c.args.scanner.now.course in
+    let state = c.args.scanner.now.state in
     ∥∥₁_elim c.requires le_prop (λ x.
-    (let few = few_judged x.1 (session_of x.0 x.2) Nothing course x.3.judged in
-    let count = count_few x.1 (session_of x.0 x.2) course.count course.progress c.in-Broken.frame.direction x.3.judged.at in
+    (let few = few_judged x.1 (session_of x.0 x.2) Nothing state x.3.judged in
+    let count = count_few x.1 (session_of x.0 x.2) state.count state.progress c.in-Broken.frame.direction x.3.judged.at in
     omega (arith, few, count)))
 
 pub lawful-requires-clause-to_server : goal.lawful-requires-clause-to_server
@@ -24,12 +24,12 @@ lawful-requires-clause-to_client g c = ∥∥₁_elim c.requires le_prop (λ x. 
 
 pub returns-in-Broken : goal.returns-in-Broken
 returns-in-Broken g c limit tables ps h =
-    subst (Answers tables (session_of limit ps)) (sym (c.broken.ensures ∙ sym (ap (λ (st : Stage). verdict_of st c.args.scanner.now) c.in-Broken.is))) (answers_so limit tables Nothing ps c.args.scanner.now h)
+    subst (Answers tables (session_of limit ps)) (sym (c.broken.ensures ∙ sym (ap (λ (st : SessionStatus). verdict_of st c.args.scanner.now) c.in-Broken.is))) (answers_so limit tables Nothing ps c.args.scanner.now h)
 
 pub returns-in-Open : goal.returns-in-Open
 returns-in-Open g c limit tables ps h =
     let so = answers_so limit tables Nothing ps c.args.scanner.now h in
     elim c.in-Open.is [
-      | inl is ↦ subst (Answers tables (session_of limit ps)) (sym (c.lawful.ensures ∙ sym (ap (λ (st : Stage). verdict_of st c.args.scanner.now) is))) so
-      | inr is ↦ subst (Answers tables (session_of limit ps)) (sym (c.lawful.ensures ∙ sym (ap (λ (st : Stage). verdict_of st c.args.scanner.now) is))) so
+      | inl is ↦ subst (Answers tables (session_of limit ps)) (sym (c.lawful.ensures ∙ sym (ap (λ (st : SessionStatus). verdict_of st c.args.scanner.now) is))) so
+      | inr is ↦ subst (Answers tables (session_of limit ps)) (sym (c.lawful.ensures ∙ sym (ap (λ (st : SessionStatus). verdict_of st c.args.scanner.now) is))) so
     ]

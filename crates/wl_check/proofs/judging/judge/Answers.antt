@@ -2,17 +2,17 @@ use Rattle.std.proofs.Common.{◌≡◌, refl, true}
 use Rattle.wl_message.specs.Cut.{is_size}
 use Rattle.wl_check.specs.Seen.{known_in}
 use Rattle.wl_check.proofs.JudgedMessages.{parts_are}
-use Rattle.wl_check.proofs.Outcomes.{effect_so, text_so}
+use Rattle.wl_check.proofs.Outcomes.{changes_so, text_so}
 use Rattle.wl_check.proofs.judging.judge.Goals as goal
 
-pub returns-clause-effect : goal.returns-clause-effect
-returns-clause-effect g c =
+pub returns-clause-changes : goal.returns-clause-changes
+returns-clause-changes g c =
     let good : is_size c.args.limit.bytes c.args.frame.now.size ≡ true = cc in
-    effect_so c.args.tables.now c.judge_as.result _ _
-    (parts_are c.args.limit.bytes c.args.tables.now (known_in c.args.known.now) c.args.bytes.now c.args.frame.now c.at_front_of.result _ _ good c.at_front_of.ensures.computes refl refl) c.judge_as.ensures.effect
+    changes_so c.args.tables.now c.judge_message.result _ _
+    (parts_are c.args.limit.bytes c.args.tables.now (known_in c.args.known.now) c.args.bytes.now c.args.frame.now c.at_front_of.result _ _ good c.at_front_of.ensures.computes refl refl) c.judge_message.ensures.changes
 
 pub returns-clause-text : goal.returns-clause-text
 returns-clause-text g c =
     let good : is_size c.args.limit.bytes c.args.frame.now.size ≡ true = cc in
-    text_so c.args.tables.now (known_in c.args.known.now) c.args.output c.args.text.now.items c.judge_as.new.text.items c.judge_as.result _ _
-    (parts_are c.args.limit.bytes c.args.tables.now (known_in c.args.known.now) c.args.bytes.now c.args.frame.now c.at_front_of.result _ _ good c.at_front_of.ensures.computes refl refl) c.judge_as.ensures.text
+    text_so c.args.tables.now (known_in c.args.known.now) c.args.output c.args.text.now.items c.judge_message.new.text.items c.judge_message.result _ _
+    (parts_are c.args.limit.bytes c.args.tables.now (known_in c.args.known.now) c.args.bytes.now c.args.frame.now c.at_front_of.result _ _ good c.at_front_of.ensures.computes refl refl) c.judge_message.ensures.text

@@ -1,6 +1,6 @@
 use Rattle.std.proofs.Common.{map, take}
 use Rattle.wl_recording.specs.Piece.{plain}
-use Rattle.wl_check.specs.Course.{IsAfter}
+use Rattle.wl_check.specs.SessionState.{IsAfter}
 use Rattle.wl_check.proofs.scanning.scan.Given as goal
 
 -- the messages of the pieces so far were judged

@@ -1,5 +1,6 @@
-use Rattle.std.proofs.Common.{[]}
+use Rattle.std.proofs.Common.{[], ◌∷◌, ◌++◌, refl}
 use Rattle.wl_recording.proofs.TextLemmas.{IsRefused, refused_on}
+use Rattle.wl_check.proofs.Readying.{match_none, still_after, when_none}
 use Rattle.wl_check.proofs.scanning.scan_text.Goals as goal
 
 pub pieces-init : goal.pieces-init
@@ -9,3 +10,65 @@ pub returns-in_err-piece-clause-bad : goal.returns-in_err-piece-clause-bad
 returns-in_err-piece-clause-bad g c =
     let bad = c.in_err-piece.ensures.bad c.args.text.now c.pieces.invariant.0 c.pieces.invariant.1 in
     refused_on c.from_residual-in_err-piece.result c.in_err-piece.field-0.0 _ (IsRefused c.args.text.now) c.from_residual-in_err-piece.ensures.1 (λ e h. cc h) bad
+
+pub judge-requires-clause-ready : goal.judge-requires-clause-ready
+judge-requires-clause-ready g c =
+    let more = rw c.in-Some.is at (c.in_ok-piece.ensures.read c.args.text.now c.pieces.invariant.0 c.pieces.invariant.1) in (
+      c.pieces.invariant.0,
+      more.0,
+      record {
+        before = c.pieces.scanner;
+        after = c.pieces.invariant.2;
+        state = refl;
+        len_to_server = refl;
+        len_to_client = refl;
+        tokens_to_server = refl;
+        tokens_to_client = refl;
+        appended_is = more.2;
+      },
+    )
+
+pub pieces-preserved : goal.pieces-preserved
+pieces-preserved g c =
+    let more = rw c.in-Some.is at (c.in_ok-piece.ensures.read c.args.text.now c.pieces.invariant.0 c.pieces.invariant.1) in
+    let after = c.in_ok-judge.ensures c.pieces.invariant.0 more.0 (record {
+      before = c.pieces.scanner;
+      after = c.pieces.invariant.2;
+      state = refl;
+      len_to_server = refl;
+      len_to_client = refl;
+      tokens_to_server = refl;
+      tokens_to_client = refl;
+      appended_is = more.2;
+    }) in
+    (c.pieces.invariant.0 ++ more.0 ∷ [], more.1, after)
+
+pub finish-requires : goal.finish-requires
+finish-requires g c =
+    let none = when_none c.in_ok-piece.field-0 c.in_default.not-Some c.in_ok-piece.ensures.none in
+    let s = c.pieces.scanner in (
+      c.args.limit.bytes,
+      c.args.tables.now,
+      c.args.output,
+      c.pieces.invariant.0,
+      still_after c.args.limit.bytes c.args.tables.now c.args.output c.pieces.invariant.0 s.state s.to_server _ s.to_client _
+          (record { bytes = none.0; len = refl; tokens = refl }) (record { bytes = none.1; len = refl; tokens = refl }) c.pieces.invariant.2,
+    )
+
+pub returns-clause-told : goal.returns-clause-told
+returns-clause-told g c =
+    let none = when_none c.in_ok-piece.field-0 c.in_default.not-Some c.in_ok-piece.ensures.none in
+    let s = c.pieces.scanner in
+    let pieces = c.pieces.invariant.0 in
+    let told = match_none _ c.in_ok-piece.field-0 c.in_default.not-Some (c.in_ok-piece.ensures.read c.args.text.now pieces c.pieces.invariant.1) in (
+      pieces,
+      told,
+      (
+        c.finish.ensures.lines c.args.limit.bytes c.args.tables.now c.args.output pieces
+            (still_after c.args.limit.bytes c.args.tables.now c.args.output pieces s.state s.to_server _ s.to_client _
+            (record { bytes = none.0; len = refl; tokens = refl }) (record { bytes = none.1; len = refl; tokens = refl }) c.pieces.invariant.2),
+        c.finish.ensures.verdict c.args.limit.bytes c.args.tables.now c.args.output pieces
+            (still_after c.args.limit.bytes c.args.tables.now c.args.output pieces s.state s.to_server _ s.to_client _
+            (record { bytes = none.0; len = refl; tokens = refl }) (record { bytes = none.1; len = refl; tokens = refl }) c.pieces.invariant.2),
+      ),
+    )

@@ -1,7 +1,7 @@
 use Rattle.std.proofs.Common.{List, length}
 use Rattle.wl_recording.specs.Piece.{Piece}
 use Rattle.wl_recording.specs.Text.{IsRead}
-use Rattle.wl_check.specs.Course.{IsAfter}
+use Rattle.wl_check.specs.SessionState.{IsAfter}
 use Rattle.wl_check.proofs.scanning.scan_text.Given as goal
 
 -- the lines so far tell pieces, and the messages of these were judged

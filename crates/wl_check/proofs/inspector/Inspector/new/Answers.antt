@@ -1,5 +1,5 @@
 use Rattle.std.proofs.Common.{[], refl}
-use Rattle.wl_check.specs.declared.course.Output.TheVariants.{Nothing}
+use Rattle.wl_check.specs.declared.session_state.Output.TheVariants.{Nothing}
 use Rattle.wl_check.proofs.inspector.Inspector.new.Goals as goal
 
 pub invariant_of-result : goal.invariant_of-result

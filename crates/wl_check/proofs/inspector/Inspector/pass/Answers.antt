@@ -1,8 +1,8 @@
 use Rattle.std.proofs.Common.{ℕ, List, [], ◌∷◌, ◌++◌, sym, subst}
 use Rattle.std.proofs.Math.Logic.{∥∥₁_map}
 use Rattle.wl_sigs.specs.Tables.{Interface}
-use Rattle.wl_check.specs.declared.course.Output.TheVariants.{Nothing}
-use Rattle.wl_check.specs.Course.{IsAfter}
+use Rattle.wl_check.specs.declared.session_state.Output.TheVariants.{Nothing}
+use Rattle.wl_check.specs.SessionState.{IsAfter}
 use Rattle.wl_check.specs.Printed.{piece_of, AreOwnLines}
 use Rattle.wl_check.proofs.inspector.Inspector.pass.Goals as goal
 

@@ -1,11 +1,11 @@
 use Rattle.std.proofs.Common.{◌≡◌, ℕ, Some, None, List, drop, sym, ap, ◌∙◌, arith, subst}
 use Rattle.std.proofs.lemmas.List.{length-drop, drop-drop}
 use Rattle.wl_message.specs.Cut.{front}
-use Rattle.wl_check.specs.Course.{Comes, Follows}
+use Rattle.wl_check.specs.SessionState.{Comes, Follows}
 use Rattle.wl_check.specs.Seen.{size_of}
-use Rattle.wl_check.proofs.Coursing.{all_judged, closed, comes_next, follows_next, frame_of, in_front, rest_is}
+use Rattle.wl_check.proofs.StateFacts.{all_judged, closed, comes_next, follows_next, frame_of, in_front, rest_is}
 use Rattle.wl_check.proofs.Growing.{size_least}
-use Rattle.wl_check.proofs.course.Course.judge_all.Goals as goal
+use Rattle.wl_check.proofs.session_state.SessionState.judge_all.Goals as goal
 
 pub returns-in_default-clause-judged : goal.returns-in_default-clause-judged
 returns-in_default-clause-judged g c s h =

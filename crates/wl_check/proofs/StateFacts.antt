@@ -10,17 +10,17 @@ use Rattle.wl_message.proofs.Cuts.{front_spoiled}
 use Rattle.wl_objects.specs.declared.error.Fault.{Fault}
 use Rattle.wl_recording.specs.declared.piece.Direction.{Direction}
 use Rattle.wl_recording.specs.declared.piece.Direction.TheVariants.{ToServer, ToClient}
-use Rattle.wl_check.specs.declared.course.Course.{Course}
-use Rattle.wl_check.specs.declared.course.Output.{Output}
-use Rattle.wl_check.specs.declared.course.Stage.{Stage}
-use Rattle.wl_check.specs.declared.course.Stage.TheVariants.{Open, Ended, Broken}
-use Rattle.wl_check.specs.declared.effect.Effect.{Effect}
-use Rattle.wl_check.specs.declared.frames.Frame.{Frame}
+use Rattle.wl_check.specs.declared.session_state.SessionState.{SessionState}
+use Rattle.wl_check.specs.declared.session_state.Output.{Output}
+use Rattle.wl_check.specs.declared.session_state.SessionStatus.{SessionStatus}
+use Rattle.wl_check.specs.declared.session_state.SessionStatus.TheVariants.{Open, Ended, Broken}
+use Rattle.wl_check.specs.declared.changes.MessageChanges.{MessageChanges}
+use Rattle.wl_check.specs.declared.frames.FramedMessage.{FramedMessage}
 use Rattle.wl_check.specs.declared.progress.Progress.{Progress}
 use Rattle.wl_check.specs.declared.progress.Tally.{Tally}
-use Rattle.wl_check.specs.Course.{IsAt, is_open, IsEnd, IsTallied, StageIs, end_in, IsJudged, Comes, WentOn, Follows, AllJudged}
+use Rattle.wl_check.specs.SessionState.{IsAt, is_open, IsEnd, IsTallied, StatusIs, end_in, IsJudged, Comes, WentOn, Follows, AllJudged}
 use Rattle.wl_check.specs.Session.{ArePassed}
-use Rattle.wl_check.specs.Effects.{Call, effect}
+use Rattle.wl_check.specs.Changes.{Call, changes}
 use Rattle.wl_check.specs.Merged.{Mark, mark, Cutting, cutting, cut_at, bad_at, stopped, then_cut, framed, same_direction}
 use Rattle.wl_check.specs.Places.{IsNext}
 use Rattle.wl_check.specs.Rules.{judged_front}
@@ -32,7 +32,7 @@ use Rattle.wl_check.proofs.Examined.{at_next, ends_is, found_is, passed_next}
 use Rattle.wl_check.proofs.Growing.{size_least}
 use Rattle.wl_check.proofs.Lines.{lines_more}
 
-pub open_passed : (tables : List Interface) (s : Session) (k : ℕ) (stage : Stage) → is_open stage ≡ true → StageIs tables s k stage → ArePassed (messages tables s) k
+pub open_passed : (tables : List Interface) (s : Session) (k : ℕ) (status : SessionStatus) → is_open status ≡ true → StatusIs tables s k status → ArePassed (messages tables s) k
 open_passed tables s k Open e h = h
 open_passed tables s k Ended e h = absurd (cc e)
 open_passed tables s k (Broken frame fault) e h = absurd (cc e)
@@ -44,7 +44,7 @@ end_within tables s k p ToClient at = at.to_client.within
 few_counted : (s : Session) (k : ℕ) (d : Direction) (t : Tally) → IsTallied s k d t → t.count ≤ k
 few_counted s k d t i =
     let c = i.count_is in
-    let n = count_by-le-length (λ (f : Frame). same_direction f.direction d) (take k s.frames) in
+    let n = count_by-le-length (λ (f : FramedMessage). same_direction f.direction d) (take k s.frames) in
     let l = length-take k s.frames in
     omega (arith, c, n, l)
 
@@ -55,7 +55,7 @@ count_few tables s k p ToClient at = few_counted s k ToClient p.to_client at.to_
 -- ---- the next message
 
 -- it lies within its stream
-pub message_within : {A : Type 0} (limit : ℕ) (tables : List Interface) (s : Session) (o : Output) (c : Course A) (f : Frame) (rest : List ℕ) → Comes limit tables s o c f rest → is_size limit f.size ≡ true
+pub message_within : {A : Type 0} (limit : ℕ) (tables : List Interface) (s : Session) (o : Output) (c : SessionState A) (f : FramedMessage) (rest : List ℕ) → Comes limit tables s o c f rest → is_size limit f.size ≡ true
     → f.start + f.size ≤ length (s.streams f.direction)
 message_within limit tables s o c f rest h good =
     let l = length-drop f.start (s.streams f.direction) in
@@ -64,20 +64,20 @@ message_within limit tables s o c f rest h good =
     let n = size_least limit f.size good in
     omega (arith, l, e, w, n)
 
-pub few_judged : {A : Type 0} (tables : List Interface) (s : Session) (o : Output) (c : Course A) → IsJudged tables s o c → c.count < 2 ^ 62
+pub few_judged : {A : Type 0} (tables : List Interface) (s : Session) (o : Output) (c : SessionState A) → IsJudged tables s o c → c.count < 2 ^ 62
 few_judged tables s o c j = let few = j.few in let a = j.small_to_server in let b = j.small_to_client in omega (arith, few, a, b)
 
 -- what the code finds
-pub next_is : {A : Type 0} (limit : ℕ) (tables : List Interface) (s : Session) (o : Output) (c : Course A) (f : Frame) (rest : List ℕ) (x : Judged) → Comes limit tables s o c f rest
+pub next_is : {A : Type 0} (limit : ℕ) (tables : List Interface) (s : Session) (o : Output) (c : SessionState A) (f : FramedMessage) (rest : List ℕ) (x : Judged) → Comes limit tables s o c f rest
     → x ≡ judged_front limit tables (known_in c.progress.known) rest f → slice_get (messages tables s) c.count ≡ Some x
 next_is limit tables s o c f rest x h is =
     found_is tables s c.count f c.progress rest x h.stands h.judged.at h.rest_is (is ∙ ap (λ (n : ℕ). judged_front n tables (known_in c.progress.known) rest f) (sym h.limit_is))
 
-pub judged_broken : {A : Type 0} (limit : ℕ) (tables : List Interface) (s : Session) (o : Output) (c n : Course A) (f : Frame) (rest : List ℕ) (fault : Fault) → Comes limit tables s o c f rest
-    → Err fault ≡ judged_front limit tables (known_in c.progress.known) rest f → n.text.items ≡ c.text.items → n ≡ record c { stage = Broken f fault; text = n.text } → IsJudged tables s o n
-judged_broken {A} limit tables s o c n f rest fault h is text_is n_is = subst (λ (x : Course A). IsJudged tables s o x) (sym n_is) (record {
+pub judged_broken : {A : Type 0} (limit : ℕ) (tables : List Interface) (s : Session) (o : Output) (c n : SessionState A) (f : FramedMessage) (rest : List ℕ) (fault : Fault) → Comes limit tables s o c f rest
+    → Err fault ≡ judged_front limit tables (known_in c.progress.known) rest f → n.text.items ≡ c.text.items → n ≡ record c { status = Broken f fault; text = n.text; args = n.args } → IsJudged tables s o n
+judged_broken {A} limit tables s o c n f rest fault h is text_is n_is = subst (λ (x : SessionState A). IsJudged tables s o x) (sym n_is) (record {
   at = h.judged.at;
-  stage = record { stands = h.stands; is = next_is limit tables s o c f rest (Err fault) h is; passed = open_passed tables s c.count c.stage h.going h.judged.stage };
+  status = record { stands = h.stands; is = next_is limit tables s o c f rest (Err fault) h is; passed = open_passed tables s c.count c.status h.going h.judged.status };
   text_is = text_is ∙ h.judged.text_is;
   within = h.judged.within;
   few = h.judged.few;
@@ -88,8 +88,8 @@ judged_broken {A} limit tables s o c n f rest fault h is text_is n_is = subst (�
 -- ---- behind a message that keeps the rules
 
 -- What the code has done then.
-pub record Goes {A : Type 0} (tables : List Interface) (o : Output) (c n : Course A) (f : Frame) (call : Call) (e : Effect) : Type 0 where
-  pub effect_is : e ≡ effect tables call
+pub record Goes {A : Type 0} (tables : List Interface) (o : Output) (c n : SessionState A) (f : FramedMessage) (call : Call) (e : MessageChanges) : Type 0 where
+  pub changes_are : e ≡ changes tables call
   pub known : IsNext (c.count + 1) e (known_in c.progress.known) (known_in n.progress.known)
   pub to_server : n.progress.to_server ≡ tally_after ToServer f c.progress.to_server
   pub to_client : n.progress.to_client ≡ tally_after ToClient f c.progress.to_client
@@ -98,17 +98,17 @@ pub record Goes {A : Type 0} (tables : List Interface) (o : Output) (c n : Cours
   pub count : n.count ≡ c.count + 1
   pub text : n.text.items ≡ c.text.items ++ wanted o (call_line tables (known_in c.progress.known) call)
 
-pub own_end : {A : Type 0} (c n : Course A) (f : Frame) (d : Direction) → f.direction ≡ d → n.progress.to_server ≡ tally_after ToServer f c.progress.to_server → n.progress.to_client ≡ tally_after ToClient f c.progress.to_client
+pub own_end : {A : Type 0} (c n : SessionState A) (f : FramedMessage) (d : Direction) → f.direction ≡ d → n.progress.to_server ≡ tally_after ToServer f c.progress.to_server → n.progress.to_client ≡ tally_after ToClient f c.progress.to_client
     → end_in n d ≡ f.start + f.size
 own_end c n f ToServer e a b = rw (a, e) refl
 own_end c n f ToClient e a b = rw (b, e) refl
 
-pub other_end : {A : Type 0} (c n : Course A) (f : Frame) (x : Direction) → same_direction f.direction x ≡ false → n.progress.to_server ≡ tally_after ToServer f c.progress.to_server
+pub other_end : {A : Type 0} (c n : SessionState A) (f : FramedMessage) (x : Direction) → same_direction f.direction x ≡ false → n.progress.to_server ≡ tally_after ToServer f c.progress.to_server
     → n.progress.to_client ≡ tally_after ToClient f c.progress.to_client → end_in n x ≡ end_in c x
 other_end c n f ToServer e a b = rw (a, e) refl
 other_end c n f ToClient e a b = rw (b, e) refl
 
-few_step : {A : Type 0} (c n : Course A) (f : Frame) (d : Direction) → f.direction ≡ d → n.progress.to_server ≡ tally_after ToServer f c.progress.to_server → n.progress.to_client ≡ tally_after ToClient f c.progress.to_client
+few_step : {A : Type 0} (c n : SessionState A) (f : FramedMessage) (d : Direction) → f.direction ≡ d → n.progress.to_server ≡ tally_after ToServer f c.progress.to_server → n.progress.to_client ≡ tally_after ToClient f c.progress.to_client
     → f.start ≡ end_in c d → 8 ≤ f.size → c.count * 8 ≤ c.progress.to_server.end + c.progress.to_client.end → (c.count + 1) * 8 ≤ n.progress.to_server.end + n.progress.to_client.end
 few_step c n f ToServer e a b h l few =
     let x : n.progress.to_server.end ≡ f.start + f.size = rw (a, e) refl in
@@ -119,7 +119,7 @@ few_step c n f ToClient e a b h l few =
     let y : n.progress.to_server.end ≡ c.progress.to_server.end = rw (a, e) refl in
     omega (arith, x, y, h, l, few)
 
-small_step : {A : Type 0} (c n : Course A) (f : Frame) (d : Direction) (len : ℕ) → f.direction ≡ d → n.progress.to_server ≡ tally_after ToServer f c.progress.to_server → n.progress.to_client ≡ tally_after ToClient f c.progress.to_client
+small_step : {A : Type 0} (c n : SessionState A) (f : FramedMessage) (d : Direction) (len : ℕ) → f.direction ≡ d → n.progress.to_server ≡ tally_after ToServer f c.progress.to_server → n.progress.to_client ≡ tally_after ToClient f c.progress.to_client
     → f.start + f.size ≤ len → len < 2 ^ 64 → c.progress.to_server.end < 2 ^ 64 → c.progress.to_client.end < 2 ^ 64 → (n.progress.to_server.end < 2 ^ 64) × (n.progress.to_client.end < 2 ^ 64)
 small_step c n f ToServer len e a b h l v w =
     let x : n.progress.to_server.end ≡ f.start + f.size = rw (a, e) refl in
@@ -130,20 +130,20 @@ small_step c n f ToClient len e a b h l v w =
     let y : n.progress.to_server.end ≡ c.progress.to_server.end = rw (a, e) refl in
     (omega (arith, y, v), omega (arith, x, h, l))
 
-judged_so : {A : Type 0} (limit : ℕ) (tables : List Interface) (s : Session) (o : Output) (c n : Course A) (f : Frame) (rest : List ℕ) (call : Call) (e : Effect) → Comes limit tables s o c f rest
-    → Ok call ≡ judged_front limit tables (known_in c.progress.known) rest f → is_size limit f.size ≡ true → Goes tables o c n f call e → StageIs tables s (c.count + 1) n.stage → IsJudged tables s o n
-judged_so limit tables s o c n f rest call e h is good g stage =
+judged_so : {A : Type 0} (limit : ℕ) (tables : List Interface) (s : Session) (o : Output) (c n : SessionState A) (f : FramedMessage) (rest : List ℕ) (call : Call) (e : MessageChanges) → Comes limit tables s o c f rest
+    → Ok call ≡ judged_front limit tables (known_in c.progress.known) rest f → is_size limit f.size ≡ true → Goes tables o c n f call e → StatusIs tables s (c.count + 1) n.status → IsJudged tables s o n
+judged_so limit tables s o c n f rest call e h is good g status =
     let m = next_is limit tables s o c f rest (Ok call) h is in
     let k : n.count ≡ c.count + 1 = g.count in
     let at : IsAt tables s (c.count + 1) n.progress =
-    at_next tables s c.count f call e c.progress n.progress g.effect_is h.stands m (message_within limit tables s o c f rest h good) g.known g.to_server g.to_client g.few_to_server g.few_to_client h.judged.at in
+    at_next tables s c.count f call e c.progress n.progress g.changes_are h.stands m (message_within limit tables s o c f rest h good) g.known g.to_server g.to_client g.few_to_server g.few_to_client h.judged.at in
     let lines : n.text.items ≡ wanted o (lines_within tables s (c.count + 1)) = lines_more tables s c.count o call c.progress c.text.items n.text.items m h.judged.at h.judged.text_is g.text in
     let below = slice_get_within s.frames c.count f h.stands in
     let small = small_step c n f f.direction (length (s.streams f.direction)) refl g.to_server g.to_client (message_within limit tables s o c f rest h good) h.small h.judged.small_to_server h.judged.small_to_client in
     let few = few_step c n f f.direction refl g.to_server g.to_client h.here (size_least limit f.size good) h.judged.few in
     record {
       at = subst (λ (j : ℕ). IsAt tables s j n.progress) (sym k) at;
-      stage = subst (λ (j : ℕ). StageIs tables s j n.stage) (sym k) stage;
+      status = subst (λ (j : ℕ). StatusIs tables s j n.status) (sym k) status;
       text_is = subst (λ (j : ℕ). n.text.items ≡ wanted o (lines_within tables s j)) (sym k) lines;
       within = omega (arith, k, below);
       few = omega (arith, k, few);
@@ -151,31 +151,31 @@ judged_so limit tables s o c n f rest call e h is good g stage =
       small_to_client = small.1;
     }
 
-stage_open : (stage : Stage) → is_open stage ≡ true → (tables : List Interface) (s : Session) (k : ℕ) → ArePassed (messages tables s) k → StageIs tables s k stage
-stage_open Open e tables s k h = h
-stage_open Ended e tables s k h = absurd (cc e)
-stage_open (Broken frame fault) e tables s k h = absurd (cc e)
+status_open : (status : SessionStatus) → is_open status ≡ true → (tables : List Interface) (s : Session) (k : ℕ) → ArePassed (messages tables s) k → StatusIs tables s k status
+status_open Open e tables s k h = h
+status_open Ended e tables s k h = absurd (cc e)
+status_open (Broken frame fault) e tables s k h = absurd (cc e)
 
-pub judged_on : {A : Type 0} (limit : ℕ) (tables : List Interface) (s : Session) (o : Output) (c n : Course A) (f : Frame) (rest : List ℕ) (call : Call) (e : Effect) → Comes limit tables s o c f rest
-    → Ok call ≡ judged_front limit tables (known_in c.progress.known) rest f → is_size limit f.size ≡ true → Goes tables o c n f call e → e.is_error ≡ false → n.stage ≡ c.stage → IsJudged tables s o n
-judged_on limit tables s o c n f rest call e h is good g on stage =
+pub judged_on : {A : Type 0} (limit : ℕ) (tables : List Interface) (s : Session) (o : Output) (c n : SessionState A) (f : FramedMessage) (rest : List ℕ) (call : Call) (e : MessageChanges) → Comes limit tables s o c f rest
+    → Ok call ≡ judged_front limit tables (known_in c.progress.known) rest f → is_size limit f.size ≡ true → Goes tables o c n f call e → e.is_error ≡ false → n.status ≡ c.status → IsJudged tables s o n
+judged_on limit tables s o c n f rest call e h is good g on status =
     let m = next_is limit tables s o c f rest (Ok call) h is in
-    let passed = passed_next (messages tables s) c.count call (open_passed tables s c.count c.stage h.going h.judged.stage) m (ends_is tables call e false g.effect_is on) in
-    judged_so limit tables s o c n f rest call e h is good g (subst (λ (x : Stage). StageIs tables s (c.count + 1) x) (sym stage) (stage_open c.stage h.going tables s (c.count + 1) passed))
+    let passed = passed_next (messages tables s) c.count call (open_passed tables s c.count c.status h.going h.judged.status) m (ends_is tables call e false g.changes_are on) in
+    judged_so limit tables s o c n f rest call e h is good g (subst (λ (x : SessionStatus). StatusIs tables s (c.count + 1) x) (sym status) (status_open c.status h.going tables s (c.count + 1) passed))
 
-pub judged_end : {A : Type 0} (limit : ℕ) (tables : List Interface) (s : Session) (o : Output) (c n : Course A) (f : Frame) (rest : List ℕ) (call : Call) (e : Effect) → Comes limit tables s o c f rest
-    → Ok call ≡ judged_front limit tables (known_in c.progress.known) rest f → is_size limit f.size ≡ true → Goes tables o c n f call e → e.is_error ≡ true → n.stage ≡ Ended → IsJudged tables s o n
-judged_end limit tables s o c n f rest call e h is good g ends stage =
+pub judged_end : {A : Type 0} (limit : ℕ) (tables : List Interface) (s : Session) (o : Output) (c n : SessionState A) (f : FramedMessage) (rest : List ℕ) (call : Call) (e : MessageChanges) → Comes limit tables s o c f rest
+    → Ok call ≡ judged_front limit tables (known_in c.progress.known) rest f → is_size limit f.size ≡ true → Goes tables o c n f call e → e.is_error ≡ true → n.status ≡ Ended → IsJudged tables s o n
+judged_end limit tables s o c n f rest call e h is good g ends status =
     let m = next_is limit tables s o c f rest (Ok call) h is in
     let last : IsEnd (messages tables s) (c.count + 1) = record {
       before = c.count;
       last = refl;
       call = call;
       is = m;
-      ends = ends_is tables call e true g.effect_is ends;
-      passed = open_passed tables s c.count c.stage h.going h.judged.stage;
+      ends = ends_is tables call e true g.changes_are ends;
+      passed = open_passed tables s c.count c.status h.going h.judged.status;
     } in
-    judged_so limit tables s o c n f rest call e h is good g (subst (λ (x : Stage). StageIs tables s (c.count + 1) x) (sym stage) last)
+    judged_so limit tables s o c n f rest call e h is good g (subst (λ (x : SessionStatus). StatusIs tables s (c.count + 1) x) (sym status) last)
 
 -- ---- the messages that are cut off bytes
 
@@ -228,16 +228,16 @@ in_front_as limit w rest p z (Whole y) e within is some =
       good = λ good. c2;
     }
 
-pub in_front : {A : Type 0} (limit : ℕ) (tables : List Interface) (s : Session) (o : Output) (c : Course A) (d : Direction) (tokens z : ℕ) (rest : List ℕ) → Follows limit tables s o c d tokens rest
+pub in_front : {A : Type 0} (limit : ℕ) (tables : List Interface) (s : Session) (o : Output) (c : SessionState A) (d : Direction) (tokens z : ℕ) (rest : List ℕ) → Follows limit tables s o c d tokens rest
     → Some z ≡ size_of (front limit rest) → InFront limit (s.streams d) rest (end_in c d) z
 in_front limit tables s o c d tokens z rest h some =
     in_front_as limit (s.streams d) rest (end_in c d) z (front limit (drop (end_in c d) (s.streams d))) refl (end_within tables s c.count c.progress d h.judged.at) h.rest_is
     (some ∙ ap (λ (b : List ℕ). size_of (front limit b)) (sym h.rest_is))
 
-abbrev pub frame_of : Direction → ℕ → ℕ → ℕ → Frame
+abbrev pub frame_of : Direction → ℕ → ℕ → ℕ → FramedMessage
 frame_of d start z tokens = record { direction = d; start = start; size = z; tokens = tokens }
 
-pub comes_next : {A : Type 0} (limit : ℕ) (tables : List Interface) (s : Session) (o : Output) (c : Course A) (d : Direction) (tokens z start : ℕ) (rest : List ℕ) → Follows limit tables s o c d tokens rest
+pub comes_next : {A : Type 0} (limit : ℕ) (tables : List Interface) (s : Session) (o : Output) (c : SessionState A) (d : Direction) (tokens z start : ℕ) (rest : List ℕ) → Follows limit tables s o c d tokens rest
     → Some z ≡ size_of (front limit rest) → start ≡ end_in c d → Comes limit tables s o c (frame_of d start z tokens) rest
 comes_next limit tables s o c d tokens z start rest h some here =
     let i = in_front limit tables s o c d tokens z rest h some in
@@ -254,8 +254,8 @@ comes_next limit tables s o c d tokens z start rest h some here =
       whole = i.whole;
     }
 
-pub follows_next : {A : Type 0} (limit : ℕ) (tables : List Interface) (s : Session) (o : Output) (c n : Course A) (d : Direction) (tokens z start : ℕ) (rest : List ℕ) → Follows limit tables s o c d tokens rest
-    → Some z ≡ size_of (front limit rest) → start ≡ end_in c d → WentOn limit (frame_of d start z tokens) c n → IsJudged tables s o n → is_open n.stage ≡ true → Follows limit tables s o n d tokens (drop z rest)
+pub follows_next : {A : Type 0} (limit : ℕ) (tables : List Interface) (s : Session) (o : Output) (c n : SessionState A) (d : Direction) (tokens z start : ℕ) (rest : List ℕ) → Follows limit tables s o c d tokens rest
+    → Some z ≡ size_of (front limit rest) → start ≡ end_in c d → WentOn limit (frame_of d start z tokens) c n → IsJudged tables s o n → is_open n.status ≡ true → Follows limit tables s o n d tokens (drop z rest)
 follows_next limit tables s o c n d tokens z start rest h some here went judged going =
     let i = in_front limit tables s o c d tokens z rest h some in
     let w = s.streams d in
@@ -282,7 +282,7 @@ stops_as limit w p More e within none = step limit (length w) w p within (omega 
 stops_as limit w p (Bad y) e within none = absurd (cc none)
 stops_as limit w p (Whole y) e within none = absurd (cc none)
 
-pub all_judged : {A : Type 0} (limit : ℕ) (tables : List Interface) (s : Session) (o : Output) (c : Course A) (d : Direction) (tokens : ℕ) (rest : List ℕ) → Follows limit tables s o c d tokens rest
+pub all_judged : {A : Type 0} (limit : ℕ) (tables : List Interface) (s : Session) (o : Output) (c : SessionState A) (d : Direction) (tokens : ℕ) (rest : List ℕ) → Follows limit tables s o c d tokens rest
     → None ≡ size_of (front limit rest) → AllJudged limit tables s o c d rest
 all_judged limit tables s o c d tokens rest h none =
     let w = s.streams d in
@@ -297,7 +297,7 @@ all_judged limit tables s o c d tokens rest h none =
     }
 
 -- a message ended the session, or broke a rule
-pub closed : {A : Type 0} (limit : ℕ) (tables : List Interface) (s : Session) (o : Output) (c : Course A) (d : Direction) (rest : List ℕ) → IsJudged tables s o c → is_open c.stage ≡ false → AllJudged limit tables s o c d rest
+pub closed : {A : Type 0} (limit : ℕ) (tables : List Interface) (s : Session) (o : Output) (c : SessionState A) (d : Direction) (rest : List ℕ) → IsJudged tables s o c → is_open c.status ≡ false → AllJudged limit tables s o c d rest
 closed limit tables s o c d rest judged stopped_is = record { judged = judged; all = λ going. absurd (cc (going, stopped_is)); left = λ going. absurd (cc (going, stopped_is)) }
 
 -- the rest of the bytes, as the code lends it

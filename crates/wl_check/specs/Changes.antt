@@ -12,8 +12,8 @@ use Rattle.wl_objects.specs.Messages.{Received, NewObject, made, is_error, is_de
 use Rattle.wl_objects.specs.Messages.{ended_id}
 use Rattle.wl_recording.specs.declared.piece.Direction.{Direction}
 use Rattle.wl_recording.specs.declared.piece.Direction.TheVariants.{ToServer, ToClient}
-use Rattle.wl_check.specs.declared.effect.Advertised.{Advertised}
-use Rattle.wl_check.specs.declared.effect.Effect.{Effect}
+use Rattle.wl_check.specs.declared.changes.AdvertisedGlobal.{AdvertisedGlobal}
+use Rattle.wl_check.specs.declared.changes.MessageChanges.{MessageChanges}
 
 -- requests go to the server, events to the client
 abbrev pub side_of : Direction → Side
@@ -37,7 +37,7 @@ first_number (Uint number ∷ more) = Some number
 first_number _ = None
 
 -- the global that a global event advertises, where its interface is in the tables
-abbrev pub advertised : List Interface → List Argument → Option Advertised
+abbrev pub advertised : List Interface → List Argument → Option AdvertisedGlobal
 advertised tables (Uint name ∷ Str (Some iface) ∷ Uint version ∷ []) =
     option_map (λ place. record { name = name; iface = place; version = version })
     (place_of tables iface)
@@ -55,8 +55,8 @@ destroyed true id = Some id
 -- What a message does: the object that it makes, the id of which it is the delete_id, the object
 -- that it destroys, the global that it advertises, how many tokens it takes, and whether it is
 -- wl_display.error, which ends the session.
-abbrev pub effect : List Interface → Call → Effect
-effect tables call = let r = call.received in record {
+abbrev pub changes : List Interface → Call → MessageChanges
+changes tables call = let r = call.received in record {
   direction = call.direction;
   made = if_request call.direction (made tables r.entry.version r.signature.kinds r.values);
   deleted = if is_delete_id (side_of call.direction) r.entry.iface call.opcode
@@ -70,7 +70,7 @@ effect tables call = let r = call.received in record {
 }
 
 -- what does nothing
-abbrev pub nothing : Effect
+abbrev pub nothing : MessageChanges
 nothing = record {
   direction = ToServer;
   made = None;
@@ -82,5 +82,5 @@ nothing = record {
 }
 
 -- the beginning: wl_display is there, with id 1 and version 1
-abbrev pub beginning : Effect
+abbrev pub beginning : MessageChanges
 beginning = record nothing { made = Some (record { id = 1; iface = display; version = 1 }) }

@@ -2,16 +2,16 @@
 ghost use Rattle.std.specs.Prelude.{◌≡◌, ◌≤◌, ◌++◌, ◌^◌, ◌<◌, ℕ, true, false, drop, length, OnOk};
 ghost use Rattle.std.specs.Prelude.{IfOk};
 ghost use Rattle.wl_sigs.specs.Valid.{Valid};
-ghost use Rattle.wl_check.specs.Course.{is_open, AllJudged, Comes, Follows, IsFresh, IsJudged};
-ghost use Rattle.wl_check.specs.Course.{OthersStay, WentOn};
+ghost use Rattle.wl_check.specs.SessionState.{is_open, AllJudged, Comes, Follows, IsFresh, IsJudged};
+ghost use Rattle.wl_check.specs.SessionState.{OthersStay, WentOn};
 ghost use Rattle.wl_check.specs.Session.{Session};
 
-use crate::frames::{Frame, size_in_front};
+use crate::frames::{FramedMessage, size_in_front};
 use crate::judging::judge;
 use crate::progress::Progress;
 use std::alloc::{AllocError, Allocator, Global};
 use wl_message::Limit;
-use wl_objects::Fault;
+use wl_objects::{Fault, ParsedArgs};
 use wl_recording::Direction;
 use wl_sigs::Tables;
 
@@ -25,38 +25,41 @@ pub(crate) enum Output {
 
 /// Whether there are messages to judge.
 #[derive(Clone, Copy, Debug)]
-pub(crate) enum Stage {
+pub(crate) enum SessionStatus {
     /// No message broke a rule, and none ended the session.
     Open,
     /// The last message was wl_display.error, which ends the session.
     Ended,
     /// The next message breaks a rule: this is the first that it breaks.
-    Broken(Frame, Fault),
+    Broken(FramedMessage, Fault),
 }
 
 /// How far a session was judged.
 #[derive(Drop)]
-pub(crate) struct Course<A: Allocator = Global> {
+pub(crate) struct SessionState<A: Allocator = Global> {
     /// What is known behind the messages that keep the rules, and what was counted of them.
     pub progress: Progress<A>,
     /// How many these are.
     pub count: u64,
     /// What was written of them.
     pub text: Vec<u8, A>,
-    pub stage: Stage,
+    pub status: SessionStatus,
+    /// The arguments of the last message.
+    pub args: ParsedArgs,
 }
 
-impl<A: Allocator + Clone> Course<A> {
+impl<A: Allocator + Clone> SessionState<A> {
     /// Before the first message.
     pub(crate) fn new(alloc: &A, tables: &Tables) -> Result<Self, AllocError>
         ensures valid { OnOk result (Valid tables.now) }
         ensures fresh { IfOk result IsFresh }
     {
-        Ok(Course {
+        Ok(SessionState {
             progress: Progress::new(alloc, tables)?,
             count: 0,
             text: Vec::new(alloc.clone()?),
-            stage: Stage::Open,
+            status: SessionStatus::Open,
+            args: ParsedArgs::new(),
         })
     }
 
@@ -86,7 +89,7 @@ impl<A: Allocator + Clone> Course<A> {
             let Some(size) = size_in_front(rest, limit) else {
                 return Ok(place);
             };
-            let frame = Frame {
+            let frame = FramedMessage {
                 direction,
                 start: self.progress.tally(direction).end,
                 size,
@@ -104,7 +107,7 @@ impl<A: Allocator + Clone> Course<A> {
     fn judge_next(
         &mut self,
         bytes: &[u8],
-        frame: &Frame,
+        frame: &FramedMessage,
         tables: &Tables,
         limit: Limit,
         output: Output,
@@ -115,36 +118,37 @@ impl<A: Allocator + Clone> Course<A> {
         ensures judged { OnOk result ((s : Session)
             → Comes limit.bytes tables.now s output self.old frame.now bytes.now
             → IsJudged tables.now s output self.new) }
-        ensures on { OnOk result (is_open self.new.stage ≡ true
+        ensures on { OnOk result (is_open self.new.status ≡ true
             → WentOn limit.bytes frame.now self.old self.new) }
         ensures other { OnOk result (OthersStay frame.now.direction self.old self.new) }
     {
         let known = &self.progress.known;
-        let effect = match judge(tables, known, bytes, frame, limit, &mut self.text, output)? {
-            Ok(effect) => effect,
+        let (args, text) = (&mut self.args, &mut self.text);
+        let changes = match judge(args, tables, known, bytes, frame, limit, text, output)? {
+            Ok(changes) => changes,
             Err(fault) => {
-                self.stage = Stage::Broken(*frame, fault);
+                self.status = SessionStatus::Broken(*frame, fault);
                 return Ok(());
             }
         };
         let place = self.count + 1;
-        self.progress.advance(place, frame, &effect)?;
+        self.progress.advance(place, frame, &changes)?;
         self.count = place;
-        if effect.is_error {
-            self.stage = Stage::Ended;
+        if changes.is_error {
+            self.status = SessionStatus::Ended;
         }
         Ok(())
     }
 }
 
-impl<A: Allocator> Course<A> {
+impl<A: Allocator> SessionState<A> {
     /// Whether there are messages to judge.
     pub(crate) fn is_open(&self) -> bool
-        ensures { result ≡ is_open self.now.stage }
+        ensures { result ≡ is_open self.now.status }
     {
-        match self.stage {
-            Stage::Open => true,
-            Stage::Ended | Stage::Broken(..) => false,
+        match self.status {
+            SessionStatus::Open => true,
+            SessionStatus::Ended | SessionStatus::Broken(..) => false,
         }
     }
 }

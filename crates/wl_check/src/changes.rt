@@ -5,7 +5,7 @@ use wl_wire::Iface;
 
 /// A global, as an event advertises it.
 #[derive(Clone, Copy, Debug)]
-pub(crate) struct Advertised {
+pub(crate) struct AdvertisedGlobal {
     pub name: u32,
     pub iface: Iface,
     pub version: u32,
@@ -13,7 +13,7 @@ pub(crate) struct Advertised {
 
 /// What a message does to what is known of a session.
 #[derive(Clone, Copy, Debug)]
-pub(crate) struct Effect {
+pub(crate) struct MessageChanges {
     pub direction: Direction,
     /// The object that it makes.
     pub made: Option<NewObject>,
@@ -22,7 +22,7 @@ pub(crate) struct Effect {
     /// The id of the object that it destroys.
     pub destroyed: Option<u32>,
     /// The global that it advertises, if its interface is in the tables.
-    pub advertised: Option<Advertised>,
+    pub advertised: Option<AdvertisedGlobal>,
     /// How many tokens it takes.
     pub tokens: usize,
     /// Whether it is wl_display.error, which ends the session.

@@ -1,9 +1,9 @@
 use Rattle.std.proofs.Common.{◌≡◌, ◌-◌, ◌≤◌, false, length, drop}
 use Rattle.wl_recording.specs.declared.piece.Direction.{Direction}
-use Rattle.wl_check.specs.Course.{end_in, Follows}
+use Rattle.wl_check.specs.SessionState.{end_in, Follows}
 use Rattle.wl_check.specs.Merged.{same_direction}
 use Rattle.wl_check.specs.Session.{Session}
-use Rattle.wl_check.proofs.course.Course.judge_all.Given as goal
+use Rattle.wl_check.proofs.session_state.SessionState.judge_all.Given as goal
 
 -- what is left of the bytes is what the session has behind the messages so far
 abbrev pub invariant-messages : goal.invariant-messages

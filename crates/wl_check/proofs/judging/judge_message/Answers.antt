@@ -5,15 +5,15 @@ use Rattle.wl_objects.specs.Seen.{message_of, received_in}
 use Rattle.wl_check.specs.Rules.{called}
 use Rattle.wl_check.specs.Seen.{call_of, known_in}
 use Rattle.wl_check.proofs.JudgedMessages.{judged_is, from_side, called_bad, called_good}
-use Rattle.wl_check.proofs.Outcomes.{no_effect, no_line, own_effect, own_line}
-use Rattle.wl_check.proofs.judging.judge_as.Goals as goal
+use Rattle.wl_check.proofs.Outcomes.{no_changes, no_line, own_changes, own_line}
+use Rattle.wl_check.proofs.judging.judge_message.Goals as goal
 
-pub returns-in-Err-clause-effect : goal.returns-in-Err-clause-effect
-returns-in-Err-clause-effect g c =
+pub returns-in-Err-clause-changes : goal.returns-in-Err-clause-changes
+returns-in-Err-clause-changes g c =
     let found = judged_is c.args.tables.now (known_in c.args.known.now) c.args.frame.now c.args.header c.args.body.now c.count.result c.saturating_sub-waiting.result _ c.requires.valid c.count.ensures (c.saturating_sub-waiting.ensures ∙ rw c.taken.ensures refl)
     (from_side c.args.tables.now (known_in c.args.known.now) c.args.frame.now.direction c.args.header c.args.body.now c.count.result c.side_of-side.result _ c.side_of-side.ensures c.receive-received.ensures.answer) in
     let is = sym (found ∙ rw c.in-Err.is refl) in
-    no_effect c.args.tables.now _ c.in-Err.fault is
+    no_changes c.args.tables.now _ c.in-Err.fault is
 
 pub returns-in-Err-clause-text : goal.returns-in-Err-clause-text
 returns-in-Err-clause-text g c =
@@ -22,14 +22,14 @@ returns-in-Err-clause-text g c =
     let is = sym (found ∙ rw c.in-Err.is refl) in
     no_line c.args.tables.now (known_in c.args.known.now) c.args.output c.args.text.now.items _ c.in-Err.fault is
 
-pub returns-then-is_bad_bind-clause-effect : goal.returns-then-is_bad_bind-clause-effect
-returns-then-is_bad_bind-clause-effect g c =
+pub returns-then-is_bad_bind-clause-changes : goal.returns-then-is_bad_bind-clause-changes
+returns-then-is_bad_bind-clause-changes g c =
     let found = judged_is c.args.tables.now (known_in c.args.known.now) c.args.frame.now c.args.header c.args.body.now c.count.result c.saturating_sub-waiting.result _ c.requires.valid c.count.ensures (c.saturating_sub-waiting.ensures ∙ rw c.taken.ensures refl)
     (from_side c.args.tables.now (known_in c.args.known.now) c.args.frame.now.direction c.args.header c.args.body.now c.count.result c.side_of-side.result _ c.side_of-side.ensures c.receive-received.ensures.answer) in
     let message : received_in c.receive-received.result ≡ Ok (message_of c.in-Ok.message) = rw c.in-Ok.is refl in
     let is = sym (found ∙ ap (λ r. called c.args.tables.now (known_in c.args.known.now) c.args.frame.now.direction c.args.header.opcode r) message
     ∙ called_bad c.args.tables.now (known_in c.args.known.now) c.args.frame.now.direction c.args.header.opcode (message_of c.in-Ok.message) (rw (← c.side_of-side.ensures) (sym c.is_bad_bind.ensures ∙ c.if-is_bad_bind.true))) in
-    no_effect c.args.tables.now _ BadBind is
+    no_changes c.args.tables.now _ BadBind is
 
 pub returns-then-is_bad_bind-clause-text : goal.returns-then-is_bad_bind-clause-text
 returns-then-is_bad_bind-clause-text g c =
@@ -40,14 +40,14 @@ returns-then-is_bad_bind-clause-text g c =
     ∙ called_bad c.args.tables.now (known_in c.args.known.now) c.args.frame.now.direction c.args.header.opcode (message_of c.in-Ok.message) (rw (← c.side_of-side.ensures) (sym c.is_bad_bind.ensures ∙ c.if-is_bad_bind.true))) in
     no_line c.args.tables.now (known_in c.args.known.now) c.args.output c.args.text.now.items _ BadBind is
 
-pub returns-clause-effect : goal.returns-clause-effect
-returns-clause-effect g c =
+pub returns-clause-changes : goal.returns-clause-changes
+returns-clause-changes g c =
     let found = judged_is c.args.tables.now (known_in c.args.known.now) c.args.frame.now c.args.header c.args.body.now c.count.result c.saturating_sub-waiting.result _ c.requires.valid c.count.ensures (c.saturating_sub-waiting.ensures ∙ rw c.taken.ensures refl)
     (from_side c.args.tables.now (known_in c.args.known.now) c.args.frame.now.direction c.args.header c.args.body.now c.count.result c.side_of-side.result _ c.side_of-side.ensures c.receive-received.ensures.answer) in
     let message : received_in c.receive-received.result ≡ Ok (message_of c.in-Ok.message) = rw c.in-Ok.is refl in
     let is = sym (found ∙ ap (λ r. called c.args.tables.now (known_in c.args.known.now) c.args.frame.now.direction c.args.header.opcode r) message
     ∙ called_good c.args.tables.now (known_in c.args.known.now) c.args.frame.now.direction c.args.header.opcode (message_of c.in-Ok.message) (rw (← c.side_of-side.ensures) (sym c.is_bad_bind.ensures ∙ c.if-is_bad_bind.false))) in
-    own_effect c.args.tables.now _ (call_of c.args.frame.now.direction c.args.header.opcode c.in-Ok.message) c.effect_of.result c.effect_of.ensures is
+    own_changes c.args.tables.now _ (call_of c.args.frame.now.direction c.args.header.opcode c.in-Ok.message) c.changes_of.result c.changes_of.ensures is
 
 pub returns-clause-text : goal.returns-clause-text
 returns-clause-text g c =

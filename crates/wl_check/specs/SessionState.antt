@@ -1,5 +1,5 @@
 -- How far a session was judged, message by message and piece by piece.
-use Rattle.std.specs.Prelude.{◌≡◌, ℕ, ◌+◌, ◌*◌, ◌^◌, ◌<◌, ◌≤◌, Bool, true, false, suc, List, []}
+use Rattle.std.specs.Prelude.{◌≡◌, ℕ, ◌+◌, ◌*◌, ◌^◌, ◌<◌, ◌≤◌, Bool, true, false, suc, List, [], ◌++◌}
 use Rattle.std.specs.Prelude.{map, length, drop, take, slice_get, Some}
 use Rattle.std.specs.declared.result.Result.TheVariants.{Ok, Err}
 use Rattle.wl_sigs.specs.Tables.{Interface}
@@ -7,22 +7,23 @@ use Rattle.wl_message.specs.Cut.{is_size}
 use Rattle.wl_objects.specs.declared.error.Fault.{Fault}
 use Rattle.wl_recording.specs.declared.piece.Direction.{Direction}
 use Rattle.wl_recording.specs.declared.piece.Direction.TheVariants.{ToServer, ToClient}
-use Rattle.wl_recording.specs.Piece.{Piece}
-use Rattle.wl_check.specs.declared.course.Course.{Course}
-use Rattle.wl_check.specs.declared.course.Output.{Output}
-use Rattle.wl_check.specs.declared.course.Stage.{Stage}
-use Rattle.wl_check.specs.declared.course.Stage.TheVariants.{Open, Ended, Broken}
-use Rattle.wl_check.specs.declared.frames.Frame.{Frame}
+use Rattle.wl_recording.specs.declared.piece.Appended.{Appended}
+use Rattle.wl_recording.specs.Piece.{IsAppended, Piece}
+use Rattle.wl_check.specs.declared.session_state.SessionState.{SessionState}
+use Rattle.wl_check.specs.declared.session_state.Output.{Output}
+use Rattle.wl_check.specs.declared.session_state.SessionStatus.{SessionStatus}
+use Rattle.wl_check.specs.declared.session_state.SessionStatus.TheVariants.{Open, Ended, Broken}
+use Rattle.wl_check.specs.declared.frames.FramedMessage.{FramedMessage}
 use Rattle.wl_check.specs.declared.frames.Stream.{Stream}
 use Rattle.wl_check.specs.declared.progress.Progress.{Progress}
 use Rattle.wl_check.specs.declared.progress.Tally.{Tally}
 use Rattle.wl_check.specs.declared.scanning.Scanner.{Scanner}
-use Rattle.wl_check.specs.Effects.{Call}
+use Rattle.wl_check.specs.Changes.{Call}
 use Rattle.wl_check.specs.Merged.{Cutting, cutting, cut, framed, merged, same_direction}
 use Rattle.wl_check.specs.Merged.{stream_of, tokens_of}
 use Rattle.wl_check.specs.Places.{known, IsFirst}
 use Rattle.wl_check.specs.Seen.{known_in, no_tally, tally_in}
-use Rattle.wl_check.specs.Session.{Session, ArePassed, Judged, count_in, effects, end_after}
+use Rattle.wl_check.specs.Session.{Session, ArePassed, Judged, count_in, changes_at, end_after}
 use Rattle.wl_check.specs.Session.{ends_session, messages, session_of}
 use Rattle.wl_check.specs.Trace.{lines_within, wanted}
 
@@ -37,7 +38,7 @@ pub record IsTallied (s : Session) (k : ℕ) (d : Direction) (t : Tally) : Type 
 -- a place of the session: what is known there, and what was counted before it
 pub record IsAt {A : Type 0} (tables : List Interface) (s : Session) (k : ℕ) (p : Progress A)
     : Type 0 where
-  pub known_is : known_in p.known ≡ known (effects tables (messages tables s)) (suc k)
+  pub known_is : known_in p.known ≡ known (changes_at tables (messages tables s)) (suc k)
   pub to_server : IsTallied s k ToServer p.to_server
   pub to_client : IsTallied s k ToClient p.to_client
   pub taken_to_server : p.known.taken_to_server ≤ k * 2 ^ 64
@@ -45,7 +46,7 @@ pub record IsAt {A : Type 0} (tables : List Interface) (s : Session) (k : ℕ) (
 
 -- ---- messages that were judged
 
-abbrev pub is_open : Stage → Bool
+abbrev pub is_open : SessionStatus → Bool
 is_open Open = true
 is_open Ended = false
 is_open (Broken frame fault) = false
@@ -60,31 +61,31 @@ pub record IsEnd (ms : List Judged) (k : ℕ) : Type 0 where
   pub passed : ArePassed ms before
 
 -- the message behind so many is this one, and the first that breaks a rule
-pub record IsFault (tables : List Interface) (s : Session) (k : ℕ) (frame : Frame) (fault : Fault)
+pub record IsFault (tables : List Interface) (s : Session) (k : ℕ) (frame : FramedMessage) (fault : Fault)
     : Type 0 where
   pub stands : slice_get s.frames k ≡ Some frame
   pub is : slice_get (messages tables s) k ≡ Some (Err fault)
   pub passed : ArePassed (messages tables s) k
 
-abbrev pub StageIs : List Interface → Session → ℕ → Stage → Type 0
-StageIs tables s k Open = ArePassed (messages tables s) k
-StageIs tables s k Ended = IsEnd (messages tables s) k
-StageIs tables s k (Broken frame fault) = IsFault tables s k frame fault
+abbrev pub StatusIs : List Interface → Session → ℕ → SessionStatus → Type 0
+StatusIs tables s k Open = ArePassed (messages tables s) k
+StatusIs tables s k Ended = IsEnd (messages tables s) k
+StatusIs tables s k (Broken frame fault) = IsFault tables s k frame fault
 
 -- where the last message of a direction ends that was counted
-abbrev pub end_in : {A : Type 0} → Course A → Direction → ℕ
+abbrev pub end_in : {A : Type 0} → SessionState A → Direction → ℕ
 end_in c d = (tally_in c.progress d).end
 
 -- nothing was counted of the other direction
-abbrev pub OthersStay : {A : Type 0} → Direction → Course A → Course A → Type 0
+abbrev pub OthersStay : {A : Type 0} → Direction → SessionState A → SessionState A → Type 0
 OthersStay d before after =
     (other : Direction) → same_direction d other ≡ false → end_in after other ≡ end_in before other
 
 -- The first messages of the session were judged, and this is what they come to.
-pub record IsJudged {A : Type 0} (tables : List Interface) (s : Session) (o : Output) (c : Course A)
+pub record IsJudged {A : Type 0} (tables : List Interface) (s : Session) (o : Output) (c : SessionState A)
     : Type 0 where
   pub at : IsAt tables s c.count c.progress
-  pub stage : StageIs tables s c.count c.stage
+  pub status : StatusIs tables s c.count c.status
   pub text_is : c.text.items ≡ wanted o (lines_within tables s c.count)
   pub within : c.count ≤ length s.frames
   pub few : c.count * 8 ≤ c.progress.to_server.end + c.progress.to_client.end
@@ -92,7 +93,7 @@ pub record IsJudged {A : Type 0} (tables : List Interface) (s : Session) (o : Ou
   pub small_to_client : c.progress.to_client.end < 2 ^ 64
 
 -- before the first message
-pub record IsFresh {A : Type 0} (c : Course A) : Type 0 where
+pub record IsFresh {A : Type 0} (c : SessionState A) : Type 0 where
   pub known : IsFirst (known_in c.progress.known)
   pub to_server : c.progress.to_server ≡ no_tally
   pub to_client : c.progress.to_client ≡ no_tally
@@ -100,13 +101,13 @@ pub record IsFresh {A : Type 0} (c : Course A) : Type 0 where
   pub taken_to_client : c.progress.known.taken_to_client ≡ 0
   pub count : c.count ≡ 0
   pub text : c.text.items ≡ []
-  pub stage : c.stage ≡ Open
+  pub status : c.status ≡ Open
 
 -- This frame is the next of the session, and these are the bytes of its direction from there on.
 pub record Comes {A : Type 0} (limit : ℕ) (tables : List Interface) (s : Session) (o : Output)
-    (c : Course A) (frame : Frame) (rest : List ℕ) : Type 0 where
+    (c : SessionState A) (frame : FramedMessage) (rest : List ℕ) : Type 0 where
   pub limit_is : s.limit ≡ limit
-  pub going : is_open c.stage ≡ true
+  pub going : is_open c.status ≡ true
   pub judged : IsJudged tables s o c
   pub stands : slice_get s.frames c.count ≡ Some frame
   pub here : frame.start ≡ end_in c frame.direction
@@ -116,20 +117,20 @@ pub record Comes {A : Type 0} (limit : ℕ) (tables : List Interface) (s : Sessi
   pub whole : is_size limit frame.size ≡ true → frame.size ≤ length rest
 
 -- it kept the rules, and the session goes on
-pub record WentOn {A : Type 0} (limit : ℕ) (frame : Frame) (before after : Course A) : Type 0 where
+pub record WentOn {A : Type 0} (limit : ℕ) (frame : FramedMessage) (before after : SessionState A) : Type 0 where
   pub size : is_size limit frame.size ≡ true
   pub count : after.count ≡ before.count + 1
   pub end : end_in after frame.direction ≡ frame.start + frame.size
 
 -- the messages that a direction has from where its last judged one ends
-abbrev pub cut_from : {A : Type 0} → (limit : ℕ) → Session → Course A → Direction → Cutting
+abbrev pub cut_from : {A : Type 0} → (limit : ℕ) → Session → SessionState A → Direction → Cutting
 cut_from limit s c d = cutting limit (length (s.streams d)) (s.streams d) (end_in c d)
 
 -- Behind the judged messages the session has just those that are cut off these bytes.
 pub record Follows {A : Type 0} (limit : ℕ) (tables : List Interface) (s : Session) (o : Output)
-    (c : Course A) (d : Direction) (tokens : ℕ) (rest : List ℕ) : Type 0 where
+    (c : SessionState A) (d : Direction) (tokens : ℕ) (rest : List ℕ) : Type 0 where
   pub limit_is : s.limit ≡ limit
-  pub going : is_open c.stage ≡ true
+  pub going : is_open c.status ≡ true
   pub judged : IsJudged tables s o c
   pub rest_is : drop (end_in c d) (s.streams d) ≡ rest
   pub small : length (s.streams d) < 2 ^ 64
@@ -145,31 +146,58 @@ pub record IsLeft (limit : ℕ) (stream : List ℕ) (end : ℕ) (rest : List ℕ
 
 -- All messages of the session were judged, unless one ended it or broke a rule.
 pub record AllJudged {A : Type 0} (limit : ℕ) (tables : List Interface) (s : Session) (o : Output)
-    (c : Course A) (d : Direction) (rest : List ℕ) : Type 0 where
+    (c : SessionState A) (d : Direction) (rest : List ℕ) : Type 0 where
   pub judged : IsJudged tables s o c
-  pub all : is_open c.stage ≡ true → length s.frames ≡ c.count
-  pub left : is_open c.stage ≡ true → IsLeft limit (s.streams d) (end_in c d) rest
+  pub all : is_open c.status ≡ true → length s.frames ≡ c.count
+  pub left : is_open c.status ≡ true → IsLeft limit (s.streams d) (end_in c d) rest
 
 -- ---- pieces
 
 -- What these pieces brought in a direction.
-pub record IsStream {A : Type 0} (limit : ℕ) (d : Direction) (ps : List Piece) (c : Course A)
+pub record IsStream {A : Type 0} (limit : ℕ) (d : Direction) (ps : List Piece) (c : SessionState A)
     (stream : Stream A) : Type 0 where
   pub len : stream.len ≡ length (stream_of d ps)
   pub tokens : stream.tokens ≡ tokens_of d ps
-  pub left : is_open c.stage ≡ true → IsLeft limit (stream_of d ps) (end_in c d) stream.bytes.items
+  pub left : is_open c.status ≡ true → IsLeft limit (stream_of d ps) (end_in c d) stream.bytes.items
 
 -- The messages of these pieces were judged, and this is what they brought in one direction.
 pub record Along {A : Type 0} (limit : ℕ) (tables : List Interface) (o : Output) (d : Direction)
-    (ps : List Piece) (c : Course A) (brought : Stream A) : Type 0 where
+    (ps : List Piece) (c : SessionState A) (brought : Stream A) : Type 0 where
   pub judged : IsJudged tables (session_of limit ps) o c
-  pub all : is_open c.stage ≡ true → length (merged limit ps) ≡ c.count
+  pub all : is_open c.status ≡ true → length (merged limit ps) ≡ c.count
   pub stream : IsStream limit d ps c brought
 
 -- and this in both
 pub record IsAfter {A : Type 0} (limit : ℕ) (tables : List Interface) (o : Output) (ps : List Piece)
     (s : Scanner A) : Type 0 where
-  pub judged : IsJudged tables (session_of limit ps) o s.course
-  pub all : is_open s.course.stage ≡ true → length (merged limit ps) ≡ s.course.count
-  pub to_server : IsStream limit ToServer ps s.course s.to_server
-  pub to_client : IsStream limit ToClient ps s.course s.to_client
+  pub judged : IsJudged tables (session_of limit ps) o s.state
+  pub all : is_open s.state.status ≡ true → length (merged limit ps) ≡ s.state.count
+  pub to_server : IsStream limit ToServer ps s.state s.to_server
+  pub to_client : IsStream limit ToClient ps s.state s.to_client
+
+-- These pieces were judged, and one more has come: its bytes stand behind those that were left in
+-- its direction, but it is not counted yet.
+pub record HasCome {A : Type 0} (limit : ℕ) (tables : List Interface) (o : Output)
+    (ps : List Piece) (p : Piece) (appended : Appended) (c : SessionState A) (stream : Stream A)
+    : Type 0 where
+  pub before : Stream A
+  pub along : Along limit tables o p.direction ps c before
+  pub bytes : stream.bytes.items ≡ before.bytes.items ++ p.bytes
+  pub len : stream.len ≡ before.len
+  pub tokens : stream.tokens ≡ before.tokens
+  pub direction_is : appended.direction ≡ p.direction
+  pub len_is : appended.len ≡ length p.bytes
+  pub tokens_are : appended.tokens ≡ p.tokens
+
+-- the same, in both directions
+pub record IsReady {A : Type 0} (limit : ℕ) (tables : List Interface) (o : Output)
+    (ps : List Piece) (p : Piece) (appended : Appended) (s : Scanner A) : Type 0 where
+  pub before : Scanner A
+  pub after : IsAfter limit tables o ps before
+  pub state : s.state ≡ before.state
+  pub len_to_server : s.to_server.len ≡ before.to_server.len
+  pub len_to_client : s.to_client.len ≡ before.to_client.len
+  pub tokens_to_server : s.to_server.tokens ≡ before.to_server.tokens
+  pub tokens_to_client : s.to_client.tokens ≡ before.to_client.tokens
+  pub appended_is : IsAppended p appended before.to_server.bytes.items s.to_server.bytes.items
+      before.to_client.bytes.items s.to_client.bytes.items
